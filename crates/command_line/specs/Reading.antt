@@ -147,6 +147,23 @@ AreReplayOptions rows options = IsNumberOf 32 (codes "workers") rows options.wor
     × IsNumberOf 32 (codes "shards") rows options.shards
     × IsNumberOf 32 (codes "journal") rows options.journal
 
+-- a replay is asked for one program, and for updates only where that is an image
+abbrev pub IsOfOneProgram : List Row → Type 0
+IsOfOneProgram rows = IsFalse (are_both_given (codes "image") (codes "script") rows)
+    × IsFalse (are_both_given (codes "image") (codes "program") rows)
+    × IsFalse (are_updates_alone rows)
+
+-- a file is named for journals only where their rows are kept
+pub record NamesKeptRows (rows : List Row) : Type 0 where
+  pub no_journals : Bool
+  pub switch : IsSwitchOf (codes "no-journals") rows no_journals
+  pub kept : IsFalse (no_journals && has_journals rows)
+
+-- a mistake in an update is that of a run, or of a replay that has no other mistake
+abbrev pub IsOfUpdates : Text → List Row → Type 0
+IsOfUpdates name rows =
+    is_named name (codes "run") ⊎ (is_named name (codes "replay") × IsOfOneProgram rows × NamesKeptRows rows)
+
 -- the settings are those of the command of this name, with what was found for its arguments
 abbrev pub IsReadFrom : Text → List Row → Settings → Type 0
 IsReadFrom name rows (Check image explain) = is_named name (codes "check")
@@ -185,9 +202,7 @@ IsReadFrom name rows (Replay files options ring exact summary skip_long no_journ
     × IsSwitchOf (codes "summary") rows summary
     × IsSwitchOf (codes "skip-long") rows skip_long
     × IsSwitchOf (codes "no-journals") rows no_journals
-    × IsFalse (are_both_given (codes "image") (codes "script") rows)
-    × IsFalse (are_both_given (codes "image") (codes "program") rows)
-    × IsFalse (are_updates_alone rows)
+    × IsOfOneProgram rows
     × IsFalse (no_journals && has_journals rows)
     × AreUpdates (words_of (codes "update") rows) updates.items
 
@@ -207,10 +222,10 @@ IsAsked name rows asks.UpdatesAlone = is_named name (codes "replay")
     × IsFalse (are_both_given (codes "image") (codes "program") rows)
     × IsTrue (are_updates_alone rows)
 IsAsked name rows asks.JournalsOfNone = is_named name (codes "replay")
+    × IsOfOneProgram rows
     × IsSwitchOf (codes "no-journals") rows true
     × IsTrue (has_journals rows)
-IsAsked name rows (NoUpdate place mistake) = (is_named name (codes "run") ⊎ is_named name (codes "replay"))
-    × IsBadUpdate (words_of (codes "update") rows) place mistake
+IsAsked name rows (NoUpdate place mistake) = IsOfUpdates name rows × IsBadUpdate (words_of (codes "update") rows) place mistake
 
 -- the words ask for what there is not: what a word means that is no fault, a replay of both an image and a script or of two images, one with updates and
 -- without an image, one with a file for journals whose rows are not kept, or a malformed update

@@ -210,7 +210,7 @@ where the frame was sent.
 A capture with a record of more than 2048 bytes is refused; with --skip-long
 such records are skipped, and a line on the standard error gives their number.
 With --no-journals no rows of journals are kept: a frame costs less time and no
-memory, and each shard may have 134217728 calls, whatever --journal is.";
+memory for rows, and each shard may have 134217728 calls, whatever --journal is.";
 
 /// A file, or another word, that has to be given.
 fn file<'a>(alloc: Global, id: &'a str, help: &'a str) -> Arg<'a>

@@ -1,6 +1,7 @@
 //! The command line, read.
 
-ghost use Rattle.std.specs.Prelude.{◌&&◌, ℕ, ◌≡◌, ◌≢◌, ◌⊎◌, true, MatchOption, ◌<◌, ◌+◌, ◌*◌, ◌/◌, List, [], Some, IfOk, IfErr, IsFalse, length, map, codes};
+ghost use Rattle.std.specs.Prelude.{◌&&◌, ℕ, ◌≡◌, ◌≢◌, ◌⊎◌, true, MatchOption, ◌<◌, ◌+◌, ◌*◌, ◌/◌, List, [], Some};
+ghost use Rattle.std.specs.Prelude.{IfOk, IfErr, IsFalse, length, map, codes};
 ghost use Rattle.std.specs.Str.{bytes_eq};
 ghost use Rattle.faults.specs.Explanations.{is_fault};
 ghost use Rattle.faults.specs.FaultTable.{IsRowOf};
@@ -11,7 +12,8 @@ ghost use Rattle.clap.specs.Words.{Row, Text, fault_of, found_of, rows_of, subco
 ghost use Rattle.command_line.specs.CommandLine.{program};
 ghost use Rattle.command_line.specs.Reading.{IsReadFrom, IsAsked, IsBadUpdate, IsCommand, IsSwitchOf, AreRunFiles, AreUpdates};
 ghost use Rattle.command_line.specs.Reading.{IsFirstName, IsName, Says, SaysNone, Writes};
-ghost use Rattle.command_line.specs.Reading.{AreReplayFiles, AreReplayOptions, AsksInVain, IsNumberOf, are_both_given, are_updates_alone, either, has_journals, has_updates, kind_in, text_of, word_at};
+ghost use Rattle.command_line.specs.Reading.{AreReplayFiles, AreReplayOptions, AsksInVain, IsNumberOf, IsOfOneProgram, are_both_given};
+ghost use Rattle.command_line.specs.Reading.{are_updates_alone, either, has_journals, has_updates, kind_in, text_of, word_at};
 ghost use Rattle.command_line.specs.Reading.{word_of, words_of};
 ghost use Rattle.clap.specs.declared.error.kind.ErrorKind.TheVariants.{DisplayHelp, DisplayVersion, OutOfMemory};
 
@@ -100,15 +102,7 @@ impl WordsFault<'_> {
     pub fn print<R: Print + Eprint>(&self, rt: &R) -> io::Result<()> {
         match self {
             WordsFault::Parser(error) => error.print(rt),
-            WordsFault::UnknownFault(word) => eprintln!(rt; "error: there is no fault {word}"),
-            WordsFault::Both => eprintln!(rt; "{TOGETHER}"),
-            WordsFault::TwoImages => eprintln!(rt; "{TWO_IMAGES}"),
-            WordsFault::UpdatesAlone => eprintln!(rt; "{NO_IMAGE}"),
-            WordsFault::JournalsOfNone => eprintln!(rt; "{NO_ROWS}"),
-            WordsFault::Update { place, mistake } => {
-                let number = place.saturating_add(1);
-                eprintln!(rt; "error: update {number}: {mistake}")
-            }
+            other => eprintln!(rt; "{other}"),
         }
     }
 }
@@ -134,14 +128,16 @@ impl fmt::Display for WordsFault<'_> {
 ///
 /// There is one exactly where the parser finds no fault in the words, and they don't ask what a word means that is no fault, for a
 /// replay of both an image and a script or of two images, for one with updates and without `--image`, for one with a file for journals of which
-/// no rows are kept, or for a run or a replay with a malformed update. A fault is of the first kind that the parser finds, or one of these, or memory was refused.
+/// no rows are kept, or for a run or a replay with a malformed update. Of several of these the first in this order is the fault. A fault is of the first
+/// kind that the parser finds, or one of these, or memory was refused.
 pub fn settings<'a, S: AsStr>(alloc: Global, words: &'a [S]) -> Result<Settings<'a>, WordsFault<'a>>
     ensures found { IfOk result (λ settings. (name : Text) × (rows : List Row)
         × (subcommand_of program (map S.text words.entry.now) ≡ Some (name, rows)) × IsReadFrom name rows settings) }
     ensures faultless { IfOk result (λ _. fault_of program (map S.text words.entry.now) ≡ []) }
     ensures faulty { IfErr result (λ fault. (kind_in fault ≡ OutOfMemory)
         ⊎ IsAmong (kind_in fault) (fault_of program (map S.text words.entry.now))
-        ⊎ ((name : Text) × (rows : List Row) × (subcommand_of program (map S.text words.entry.now) ≡ Some (name, rows)) × AsksInVain name rows fault)) }
+        ⊎ ((name : Text) × (rows : List Row) × (subcommand_of program (map S.text words.entry.now) ≡ Some (name, rows))
+        × AsksInVain name rows fault)) }
 {
     match parsed(alloc, words) {
         Ok(Asked::Command(settings)) => Ok(settings),
@@ -282,9 +278,7 @@ fn replay_with<'a>(
     no_journals: bool,
     updates: Vec<MapUpdate>,
 ) -> Settings<'a>
-    requires script { IsFalse (are_both_given (codes "image") (codes "script") (rows_of (found_of found.now))) }
-    requires program { IsFalse (are_both_given (codes "image") (codes "program") (rows_of (found_of found.now))) }
-    requires alone { IsFalse (are_updates_alone (rows_of (found_of found.now))) }
+    requires program { IsOfOneProgram (rows_of (found_of found.now)) }
     requires journals { IsSwitchOf (codes "no-journals") (rows_of (found_of found.now)) no_journals }
     requires rows { IsFalse (no_journals && has_journals (rows_of (found_of found.now))) }
     requires updates { AreUpdates (words_of (codes "update") (rows_of (found_of found.now))) updates.items }

@@ -425,8 +425,8 @@ pub(crate) fn shards(number: u8) -> Explanation
             name: "JournalFull",
             fields: FieldNames::One("shard"),
             meaning: "A shard's journal has no room for a call; for each run inside a place is kept for its leave.",
-            causes: "The journal was opened too small for the calls that are made: open it larger (--journal), or open more shards (--shards), over \
-                which the keys of hash maps are spread.",
+            causes: "The journal was opened too small for the calls that are made: open it larger (--journal), open more shards (--shards), over \
+                which the keys of hash maps are spread, or replay without rows (--no-journals).",
             example: "A journal of 16 entries and a run that makes twenty lookups.",
         },
         51 => Explanation {
@@ -435,7 +435,7 @@ pub(crate) fn shards(number: u8) -> Explanation
             fields: FieldNames::Empty,
             meaning: "Shards cannot be opened with these options, or there is no such worker.",
             causes: "`--workers` is 1 to 8; `--shards`, of each map, is 1, 2, 4 or 8, and each map's entries are a multiple of it; `--journal`, the entries \
-                of each shard, is 16 to 1,048,576; `--worker`, whose run it is, counts from 0.",
+                of each shard, is 16 to 1,048,576; `--worker`, whose run it is, counts from 0; a script with commands wants the maps of steering.",
             example: "`xlb run IMAGE FRAME --worker 8`.",
         },
         52 => Explanation {
@@ -614,8 +614,8 @@ pub(crate) fn scripts(number: u8) -> Explanation
             number: 93,
             name: "Refused",
             fields: FieldNames::One("answer"),
-            meaning: "A map refused what the controller set, a service's address or a value of `xlb run --update`; the answer is Linux's error \
-                number, negated.",
+            meaning: "A map refused what the controller set, a service's address or a value of `--update`; the answer is Linux's error number, \
+                negated.",
             causes: "The map is full: -7; an array has no such element: -7.",
             example: "The 65th service of one shard.",
         },
@@ -624,7 +624,7 @@ pub(crate) fn scripts(number: u8) -> Explanation
             name: "JournalFull",
             fields: FieldNames::Empty,
             meaning: "A journal was full when the controller changed maps.",
-            causes: "The journal was opened too small (`--journal`); every later command is refused alike.",
+            causes: "The journal was opened too small (`--journal`, `--no-journals`); every later command is refused alike.",
             example: "A journal of 16 entries and a ring of 251 slots.",
         },
         _ => Explanation {
@@ -648,8 +648,8 @@ pub(crate) fn stopped() -> Explanation
         name: "JournalFull",
         fields: FieldNames::One("shard"),
         meaning: "A run was stopped, since a shard's journal has no room for its next call.",
-        causes: "The journal was opened too small for the calls of all runs together: open it larger (--journal), or open more shards (--shards), \
-            over which the keys of hash maps are spread.",
+        causes: "The journal was opened too small for the calls of all runs together: open it larger (--journal), open more shards (--shards), \
+            over which the keys of hash maps are spread, or replay without rows (--no-journals).",
         example: "A program of more lookups than the journal has entries.",
     }
 }

@@ -1,7 +1,7 @@
 -- Fronts of lists.
-use Rattle.std.proofs.Common.{◌≡◌, ◌∙◌, ◌+◌, ◌-◌, ◌≤◌, ◌<◌, ℕ, zero, suc, List, [], ◌∷◌, ◌++◌, length, take, ap, sym, refl, arith}
+use Rattle.std.proofs.Common.{◌≡◌, ◌+◌, ◌-◌, ◌≤◌, ◌<◌, ℕ, zero, suc, List, [], ◌∷◌, ◌++◌, length, take, ap, sym, refl, arith}
 use Rattle.folders.specs.declared.folder.Front.{Front}
-use Rattle.folders.specs.Fronts.{IsFrontOf, HasFront, IsShortFront}
+use Rattle.folders.specs.Fronts.{HasFront, IsShortFront}
 
 abbrev zeros : ℕ → List ℕ
 zeros zero = []

@@ -1,6 +1,6 @@
 //! The system's files.
 
-ghost use Rattle.std.specs.Prelude.{◌≡◌, ◌+◌, ◌-◌, ◌<◌, ◌≤◌, ◌^◌, IfOk};
+ghost use Rattle.std.specs.Prelude.{◌≡◌, ◌+◌, ◌-◌, ◌<◌, ◌≤◌, ◌^◌, IfOk, OnOk, length};
 ghost use Rattle.folders.specs.Fronts.{IsShortFront};
 
 use crate::folder::{Folder, FolderFault, Front};
@@ -16,6 +16,10 @@ const MOST_OF_FILE: u64 = 1 << 40;
 
 /// The most bytes that are read of a device, a pipe or the standard input: one that gives more may have no end.
 const MOST_OF_STREAM: u64 = 1 << 30;
+
+/// How many bytes more than its front a device or a pipe is said to have, if it has more: as many as a slot has, so that an image of which no more is
+/// read has whole slots.
+const MORE: u64 = 8;
 
 /// Why no more is read of these, and what to do.
 const ENDLESS: &str = "it gave more than 1073741824 bytes: save it as a file, and name that";
@@ -49,6 +53,23 @@ enum Trouble {
     Memory,
 }
 
+impl From<AllocError> for Trouble {
+    fn from(_: AllocError) -> Trouble {
+        Trouble::Memory
+    }
+}
+
+/// A device or a pipe of which the front was read, and which has more.
+#[derive(Drop)]
+struct Begun<F: Drop> {
+    name: String,
+    /// All that was read.
+    bytes: Vec<u8>,
+    /// What is read on; the standard input where there is none.
+    file: Option<F>,
+    ghost few: { length bytes.items ≤ 2 ^ 30 },
+}
+
 /// The name of the program's standard input.
 pub const STANDARD_INPUT: &str = "/dev/stdin";
 
@@ -58,16 +79,18 @@ pub const STANDARD_OUTPUT: &str = "/dev/stdout";
 /// The system's files, whose bytes no contract knows. Two names are not opened: what is read of `/dev/stdin` comes from the standard input, and what is
 /// written to `/dev/stdout` goes to the standard output, behind what was written there before.
 #[derive(Drop)]
-pub struct FileFolder<'a, R, I, O> {
+pub struct FileFolder<'a, R: Files, I, O> {
     rt: &'a R,
     input: I,
     output: O,
+    /// The device or the pipe of which the front was read last, if it has more.
+    begun: Option<Begun<R::File>>,
     failures: u64,
     /// The last call that failed.
     last: Option<Failure>,
 }
 
-impl<'a, R, I, O> FileFolder<'a, R, I, O> {
+impl<'a, R: Files, I, O> FileFolder<'a, R, I, O> {
     /// The files of this runtime, with its standard input and standard output, and no failures.
     pub fn new(rt: &'a R, input: I, output: O) -> FileFolder<'a, R, I, O>
         ensures { result.failures ≡ 0 }
@@ -76,6 +99,7 @@ impl<'a, R, I, O> FileFolder<'a, R, I, O> {
             rt,
             input,
             output,
+            begun: None,
             failures: 0,
             last: None,
         }
@@ -94,28 +118,23 @@ impl Step {
     }
 }
 
-/// Reads the first bytes of what a reader gives, at most `most`, and no more. Where `most` are read, `size` says how many there are in all, if it is more.
-/// A reader that is asked for more than `limit` bytes and has them fails.
-fn read_front<S: Read>(
-    alloc: Global,
+/// Reads on what a reader gives, until `most` bytes are there or it gives no more. One that is asked for more than `limit` bytes and has them fails.
+fn read_on<S: Read>(
     reader: &mut S,
+    bytes: &mut Vec<u8>,
     most: usize,
-    size: u64,
     limit: u64,
-) -> Result<Front, Trouble>
-    requires { limit ≤ 2 ^ 40 }
-    ensures { IfOk result (IsShortFront most) }
+) -> Result<(), Trouble>
+    requires limit { limit ≤ 2 ^ 40 }
+    requires few { (length bytes.old.items ≤ most) × (length bytes.old.items ≤ limit) }
+    ensures { OnOk result ((length bytes.new.items ≤ most) × (length bytes.new.items ≤ limit)) }
 {
-    let mut bytes = Vec::new(alloc);
     let mut buffer = [0; 4096];
     'reading: loop {
         let length = bytes.len() as u64;
         let room = most - bytes.len();
         if room == 0 {
-            return Ok(Front {
-                bytes,
-                length: length.max(size),
-            });
+            return Ok(());
         }
         let asked = if room < buffer.len() {
             room
@@ -123,7 +142,7 @@ fn read_front<S: Read>(
             buffer.len()
         };
         let count = match reader.read(&mut buffer[..asked]) {
-            Ok(0) => return Ok(Front { bytes, length }),
+            Ok(0) => return Ok(()),
             Ok(count) => count,
             Err(error) => return Err(failed(Step::Reading, error)),
         };
@@ -135,6 +154,26 @@ fn read_front<S: Read>(
             return Err(Trouble::Memory);
         }
     }
+}
+
+/// The first bytes of an ordinary file, which has `size` bytes in all, if no more than `most` were added since.
+fn front_of_file<S: Read>(
+    alloc: Global,
+    file: &mut S,
+    most: usize,
+    size: u64,
+) -> Result<Front, Trouble>
+    ensures { IfOk result (IsShortFront most) }
+{
+    let mut bytes = Vec::new(alloc);
+    read_on(file, &mut bytes, most, MOST_OF_FILE)?;
+    let count = bytes.len() as u64;
+    let length = if bytes.len() == most {
+        count.max(size)
+    } else {
+        count
+    };
+    Ok(Front { bytes, length })
 }
 
 /// How many bytes an ordinary file has; none where the system does not say, as of a device or a pipe.
@@ -154,19 +193,6 @@ fn size_of<F: OpenFile>(file: &F) -> Option<u64> {
 /// A call that failed at this step.
 fn failed(step: Step, error: io::Error) -> Trouble {
     Trouble::Device(Failure { step, error })
-}
-
-/// The first bytes of a file.
-fn front_of<R: Files>(rt: &R, alloc: Global, name: &str, most: usize) -> Result<Front, Trouble>
-    ensures { IfOk result (IsShortFront most) }
-{
-    match fs::open(rt, name) {
-        Ok(mut file) => match size_of(&file) {
-            Some(size) => read_front(alloc, &mut file, most, size, MOST_OF_FILE),
-            None => read_front(alloc, &mut file, most, 0, MOST_OF_STREAM),
-        },
-        Err(error) => Err(failed(Step::Opening, error)),
-    }
 }
 
 /// Gives all bytes to a writer.
@@ -317,16 +343,84 @@ fn is_one_file<R: Files>(rt: &R, name: &str, other: &str) -> bool {
 }
 
 impl<R: Files, I: Read, O: Write> FileFolder<'_, R, I, O> {
+    /// Reads on a device or a pipe, which is the standard input where there is no file.
+    fn read_stream(
+        &mut self,
+        file: &mut Option<R::File>,
+        bytes: &mut Vec<u8>,
+        most: usize,
+    ) -> Result<(), Trouble>
+        requires few { (length bytes.old.items ≤ most) × (length bytes.old.items ≤ 2 ^ 30) }
+        ensures few { OnOk result ((length bytes.new.items ≤ most) × (length bytes.new.items ≤ 2 ^ 30)) }
+        ensures steady { self.new.failures ≡ self.old.failures }
+    {
+        match file {
+            Some(file) => read_on(file, bytes, most, MOST_OF_STREAM),
+            None => read_on(&mut self.input, bytes, most, MOST_OF_STREAM),
+        }
+    }
+
+    /// The first bytes of a device or a pipe. If it has more, what was read is kept, to be read on.
+    fn front_of_stream(
+        &mut self,
+        alloc: Global,
+        name: &str,
+        most: usize,
+        mut file: Option<R::File>,
+    ) -> Result<Front, Trouble>
+        ensures front { IfOk result (IsShortFront most) }
+        ensures steady { self.new.failures ≡ self.old.failures }
+    {
+        let mut bytes = Vec::new(alloc);
+        self.read_stream(&mut file, &mut bytes, most.saturating_add(1))?;
+        if bytes.len() <= most {
+            let length = bytes.len() as u64;
+            return Ok(Front { bytes, length });
+        }
+        let front = Vec::from_slice(alloc, &bytes[..most])?;
+        let name = String::from_str(alloc, name)?;
+        self.begun = Some(Begun { name, bytes, file });
+        Ok(Front {
+            bytes: front,
+            length: most as u64 + MORE,
+        })
+    }
+
     /// The first bytes of a file, or of the standard input, of which the system does not say how many there are.
     fn front(&mut self, alloc: Global, name: &str, most: usize) -> Result<Front, Trouble>
         ensures front { IfOk result (IsShortFront most) }
         ensures steady { self.new.failures ≡ self.old.failures }
     {
         if name == STANDARD_INPUT {
-            read_front(alloc, &mut self.input, most, 0, MOST_OF_STREAM)
-        } else {
-            front_of(self.rt, alloc, name, most)
+            return self.front_of_stream(alloc, name, most, None);
         }
+        match fs::open(self.rt, name) {
+            Ok(mut file) => match size_of(&file) {
+                Some(size) => front_of_file(alloc, &mut file, most, size),
+                None => self.front_of_stream(alloc, name, most, Some(file)),
+            },
+            Err(error) => Err(failed(Step::Opening, error)),
+        }
+    }
+
+    /// All bytes of a file: of a device or a pipe of which the front was read last, that and the rest.
+    fn whole(&mut self, alloc: Global, name: &str) -> Result<Vec<u8>, Trouble>
+        ensures steady { self.new.failures ≡ self.old.failures }
+    {
+        if let Some(
+            Begun {
+                name: begun,
+                mut bytes,
+                mut file,
+            },
+        ) = self.begun.take()
+        {
+            if begun.as_str() == name {
+                self.read_stream(&mut file, &mut bytes, usize::MAX)?;
+                return Ok(bytes);
+            }
+        }
+        Ok(self.front(alloc, name, usize::MAX)?.bytes)
     }
 
     /// Makes a file of the bytes, or gives them to the standard output.
@@ -341,7 +435,7 @@ impl<R: Files, I: Read, O: Write> FileFolder<'_, R, I, O> {
     }
 }
 
-impl<R, I, O> FileFolder<'_, R, I, O> {
+impl<R: Files, I, O> FileFolder<'_, R, I, O> {
     /// Counts a failure, and keeps it for `complaint`.
     fn fail(&mut self, failure: Failure) -> FolderFault
         requires { self.old.failures < 2 ^ 64 - 1 }
@@ -362,8 +456,8 @@ impl<R: Files, I: Read, O: Write> Folder for FileFolder<'_, R, I, O> {
     ghost failure_count = { λ folder. folder.failures };
 
     fn read(&mut self, alloc: Global, name: &str) -> Result<Vec<u8>, FolderFault> {
-        match self.front(alloc, name, usize::MAX) {
-            Ok(front) => Ok(front.bytes),
+        match self.whole(alloc, name) {
+            Ok(bytes) => Ok(bytes),
             Err(Trouble::Device(failure)) => Err(self.fail(failure)),
             Err(Trouble::Memory) => Err(FolderFault::Memory),
         }

@@ -72,8 +72,9 @@ pub trait Folder {
         ensures device { IsErrOf result FolderFault.Device ↔ (failure_count self.new ≡ failure_count self.old + 1) }
         ensures no_device { IsErrOf result FolderFault.Memory → failure_count self.new ≡ failure_count self.old };
 
-    /// The first bytes of a file, at most `most`, and how many it has. No more are read, and it takes no more memory, however long the file is. A device
-    /// or a pipe has no length: of these the bytes that were read are counted.
+    /// The first bytes of a file, at most `most`, and how many it has. It takes no memory for more, however long the file is. A device or a pipe has
+    /// no length: the front of one that has more counts as 8 bytes longer than what is returned, and `read` of the same name, if nothing else is read
+    /// before, returns the front and the rest.
     fn read_front(&mut self, alloc: Global, name: &str, most: usize) -> Result<Front, FolderFault>
         requires { failure_count self.old < 2 ^ 64 - 1 }
         ensures front { IfOk result (HasFront (holds self.old name.now) most) }

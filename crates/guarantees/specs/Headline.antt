@@ -140,7 +140,8 @@ pub record Headline (verified : Verified) (script : List Command) (options : Opt
   -- what all callers did on all shards is one order: shard by shard it is the journal, and each look at a full journal met one
   pub order : List Deed
   pub ordered : IsOrderOf plan count outcome.journals order
-  -- the controller's deeds in it are the updates of the script's commands, in the script's order over all shards, each with its answer, and
+  -- the controller's deeds in it are the updates before the first record and then those of the script's commands, in order over all shards, each with
+  -- its answer, and
   -- behind those of a command that a full journal stopped the look at that journal
   pub commands : IsScriptAccounted plan verified.maps options count outcome.updates.items script outcome.journals order outcome.refused.items
   -- and the reclaimer's are its rounds, one behind the other: in each a Reclaim of each hash and LRU shard, the lowest number first

@@ -52,8 +52,8 @@ use verifier::laws::accepted_is_safe;
 /// of events (`one_order_is_one_list`).
 ///
 /// The order fits each shard and each caller: shard by shard it is the journal; of each worker it has what its runs did, of the controller
-/// the updates of the script's commands, each with its answer, and of the reclaimer its rounds, looks at full journals among them, each in
-/// the caller's own order over all shards.
+/// the updates before the first record and those of the script's commands, each with its answer, and of the reclaimer its rounds, looks at full
+/// journals among them, each in the caller's own order over all shards.
 pub fn headline(verified: &Verified)
     ensures { ReplaysKeepIt verified.now }
 {

@@ -1,6 +1,6 @@
 //! The replay of which the headline speaks, and the law on programs that only read, made.
 
-ghost use Rattle.std.specs.Prelude.{◌≡◌, ◌⊎◌, ◌<◌, ◌≤◌, ◌↔◌, [], length, IfOk, OnOk, IsErrOf, IsFalse};
+ghost use Rattle.std.specs.Prelude.{◌≡◌, ◌<◌, ◌≤◌, ◌↔◌, [], length, IfOk, IfErr, OnOk, IsErrOf, IsFalse};
 ghost use Rattle.std.specs.List.{AllByRecursion};
 ghost use Rattle.verifier.specs.Readers.{IsReader};
 ghost use Rattle.machine.specs.Running.{program_of};
@@ -9,7 +9,8 @@ ghost use Rattle.semantics.specs.ShardPlan.{KeepsRows, are_served_options, recor
 ghost use Rattle.replay.specs.Accounts.{sent_frames};
 ghost use Rattle.replay.specs.declared.fault.ReplayFault.TheVariants.{BadOptions};
 ghost use Rattle.replay.specs.Accounted.{IsAccounted};
-ghost use Rattle.replay.specs.Parts.{HasNoTable};
+ghost use Rattle.replay.specs.Parts.{AreBadOptions};
+ghost use Rattle.replay.specs.UpdateFaults.{OfUpdate, IsWhyByPass};
 ghost use Rattle.guarantees.specs.Headline.{Headline};
 ghost use Rattle.guarantees.specs.ReaderReplays.{IsCaptured, all_sent_at_opening};
 
@@ -57,12 +58,13 @@ pub fn headline_replay<R: Threads + Wait + Sync, G: Gate + Sync>(
     gate: &G,
 ) -> Result<Outcome, ReplayFault>
     requires fit { AreFitting verified.now.maps updates.now }
-    ensures accounted { IfOk result (IsAccounted (program_of verified.now options.shards) script.now (recorded recording options) capture.now.records.items) }
+    ensures accounted { IfOk result (IsAccounted (program_of verified.now options.shards) script.now (recorded recording options)
+        capture.now.records.items) }
     ensures updates { IfOk result (λ outcome. outcome.updates.items ≡ updates.now) }
     ensures headline { IfOk result (Headline verified.now script.now (recorded recording options) capture.now.records.items) }
     ensures served { OnOk result (KeepsRows options.journal) }
-    ensures bad_options { IsErrOf result BadOptions ↔
-        (IsFalse (are_served_options verified.now.maps options) ⊎ HasNoTable verified.now.maps script.now) }
+    ensures refused { IfErr result (OfUpdate (IsWhyByPass verified.now.maps (recorded recording options) updates.now)) }
+    ensures bad_options { IsErrOf result BadOptions ↔ AreBadOptions verified.now.maps options script.now }
 {
     headline(verified);
     all_are_captured(capture);
@@ -73,8 +75,8 @@ pub fn headline_replay<R: Threads + Wait + Sync, G: Gate + Sync>(
     Ok(replayed)
 }
 
-/// `replay`, for a program that only reads and a script without commands: where no run was stopped, what is sent is frame by frame what the
-/// program's run over maps in which nothing has happened sends, and so the same for every number of workers. It shows that what
+/// `replay`, for a program that only reads, without updates and with a script without commands: where no run was stopped, what is sent is frame by
+/// frame what the program's run over maps in which nothing has happened sends, and so the same for every number of workers. It shows that what
 /// `readers_send_as_at_opening` asks for is what `replay` gives.
 pub fn reader_replay<R: Threads + Wait + Sync, G: Gate + Sync>(
     rt: &R,
@@ -88,12 +90,14 @@ pub fn reader_replay<R: Threads + Wait + Sync, G: Gate + Sync>(
 ) -> Result<Outcome, ReplayFault>
     requires reads { IsReader verified.now.code verified.now.states }
     requires no_commands { script.now ≡ [] }
-    ensures accounted { IfOk result (IsAccounted (program_of verified.now options.shards) script.now (recorded recording options) capture.now.records.items) }
+    ensures accounted { IfOk result (IsAccounted (program_of verified.now options.shards) script.now (recorded recording options)
+        capture.now.records.items) }
     ensures updates { IfOk result (λ outcome. outcome.updates.items ≡ []) }
     ensures sent { IfOk result (λ outcome. outcome.counts.stopped ≡ 0 →
         sent_frames outcome.sent.items ≡ all_sent_at_opening (program_of verified.now options.shards) capture.now.records.items
         (length capture.now.records.items)) }
     ensures served { OnOk result (KeepsRows options.journal) }
+    ensures refused { IfErr result (OfUpdate (IsWhyByPass verified.now.maps (recorded recording options) [])) }
     ensures bad_options { IsErrOf result BadOptions ↔ IsFalse (are_served_options verified.now.maps options) }
 {
     readers_send_as_at_opening(verified);

@@ -1,13 +1,20 @@
 -- What the threads of the controller and the reclaimer hand back, against the jobs that they took.
-use Rattle.std.specs.Prelude.{◌≡◌, ℕ, Bool, true, false, List, [], ◌∷◌, ◌++◌, map, replicate}
+use Rattle.std.specs.Prelude.{◌≡◌, ℕ, Bool, true, false, List, [], ◌∷◌, ◌++◌, map, length, replicate}
 use Rattle.rx_queues.specs.declared.job.Job.{Job}
 use Rattle.rx_queues.specs.declared.job.Job.TheVariants.{Command as CommandJob, Note, End}
+use Rattle.rx_queues.specs.declared.passes.Queues.{Queues}
+use Rattle.rx_queues.specs.Passes.{workers_of, commands_of}
+use Rattle.control.specs.declared.command.Command.{Command}
 use Rattle.semantics.specs.declared.plan.ShardPlan.{ShardPlan}
 use Rattle.shards.specs.Passes.{PassView}
 use Rattle.control.specs.Controlling.{ControllerState}
 use Rattle.replay.specs.declared.outcome.Applied.{Applied}
 use Rattle.replay.specs.Commands.{CommanderView, IsAccount}
 use Rattle.replay.specs.Rounds.{AreReclaimed}
+
+-- the queue at the place is the controller's, of queues for as many commands as the script has
+abbrev pub IsForCommands : List Command → Queues → ℕ → Type 0
+IsForCommands script queues place = (place ≡ workers_of queues) × (commands_of queues ≡ length script)
 
 -- the jobs that commands were handed over by
 abbrev pub command_jobs : List Applied → List Job

@@ -7,7 +7,7 @@ use Rattle.rx_queues.specs.declared.job.Job.TheVariants.{End}
 use Rattle.rx_queues.specs.declared.passes.PutPass.{PutPass}
 use Rattle.rx_queues.specs.declared.passes.TakePass.{TakePass}
 use Rattle.rx_queues.specs.declared.passes.Queues.{Queues}
-use Rattle.rx_queues.specs.Passes.{IsPutPassOf, AreTakePasses, workers_of, jobs_put}
+use Rattle.rx_queues.specs.Passes.{IsPutPassOf, AreTakePasses, workers_of, records_of, commands_of, jobs_put}
 use Rattle.replay.specs.declared.runner.RunEnd.{RunEnd}
 use Rattle.replay.specs.declared.threads.AllEnded.{AllEnded}
 use Rattle.replay.specs.declared.threads.Setting.{Setting}
@@ -23,11 +23,17 @@ pub record AreFreshPasses (queues : Queues) (workers : ℕ) (put : PutPass) (tak
   pub nothing_put : jobs_put put ≡ replicate (workers + 2) []
   pub may_take : AreTakePasses queues takes
 
--- there is a worker for each state, which may go to the worker's thread; nothing was put through the passes yet; and no more commands came first
--- than there are
+-- the queues are for as many records and commands as there are
+abbrev pub AreForAll : {W R : Type 0} → Setting W R → Type 0
+AreForAll setting =
+    (records_of setting.queues.now ≡ length setting.capture.now.records.items) × (commands_of setting.queues.now ≡ length setting.starts.now)
+
+-- there is a worker for each state, which may go to the worker's thread; nothing was put through the passes yet, and the queues are for all records
+-- and commands; and no more commands came first than there are
 pub record IsReadyToRun {S W R : Type 0} (IsNew IsIdle : W → ℕ → S → Type 0) (setting : Setting W R) (put : PutPass) (takes : List TakePass)
     (states : List S) : Type 0 where
   pub passes : AreFreshPasses setting.queues.now (length states) put takes
+  pub for_all : AreForAll setting
   pub within : setting.first ≤ length setting.starts.now
   pub states_are : Each (IsReadyAt (IsNew setting.runner.now) (IsIdle setting.runner.now)) 0 states
 

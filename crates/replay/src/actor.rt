@@ -1,6 +1,6 @@
 //! What takes jobs beside the workers: the controller and the reclaimer, each on a thread.
 
-ghost use Rattle.std.specs.Prelude.{◌≡◌, true, false, [], IfSome};
+ghost use Rattle.std.specs.Prelude.{◌≡◌, false, [], IfSome};
 ghost use Rattle.rx_queues.specs.Passes.{IsPutPassOf, IsTakePassOf, place_taken_from, jobs_taken, jobs_put};
 ghost use Rattle.replay.specs.Actors.{HasEnded, EndsOnce};
 ghost use Rattle.replay.specs.Puts.{put_at};
@@ -21,13 +21,14 @@ pub struct ActorEnded<E> {
 
 /// The controller or the reclaimer of a replay, on whichever thread: it takes the jobs of its queue until the end.
 pub trait Actor<E: Drop> {
-    ghost use Rattle.std.specs.Prelude.{List, []};
+    ghost use Rattle.std.specs.Prelude.{ℕ, List, []};
     ghost use Rattle.rx_queues.specs.declared.job.Job.{Job as Work};
+    ghost use Rattle.rx_queues.specs.declared.passes.Queues.{Queues as AllQueues};
     ghost use Rattle.rx_queues.specs.Passes.{IsTakePassOf, place_taken_from, jobs_taken};
     ghost use Rattle.replay.specs.Actors.{HasEnded};
 
-    /// What is known of it before it begins.
-    ghost is_ready: { Self → Type 0 };
+    /// What is known of it, and of the queue at the place from which it takes, before it begins.
+    ghost is_ready: { Self → AllQueues → ℕ → Type 0 };
 
     /// What it hands back for these jobs.
     ghost gives: { Self → List Work → E → Type 0 };
@@ -41,7 +42,7 @@ pub trait Actor<E: Drop> {
         take: TakePass,
     ) -> ActorEnded<E>
         requires take { IsTakePassOf queues.now take × (jobs_taken take ≡ []) }
-        requires ready { is_ready self }
+        requires ready { is_ready self queues.now (place_taken_from take) }
         ensures take { IsTakePassOf queues.now result.take × (place_taken_from result.take ≡ place_taken_from take) }
         ensures ended { HasEnded (jobs_taken result.take) }
         ensures given { (result.is_refused ≡ false) → gives self (jobs_taken result.take) result.given };
@@ -84,7 +85,7 @@ pub(crate) fn start_actor<
     take: TakePass,
 ) -> Option<ActorThread<'s, E, C>>
     requires take { IsTakePassOf queues.now take × (place_taken_from take ≡ place) × (jobs_taken take ≡ []) }
-    requires ready { C.is_ready actor }
+    requires ready { C.is_ready actor queues.now (place_taken_from take) }
     ensures { IfSome result (λ thread. (thread.promise.queues.now ≡ queues.now) × (thread.promise.place ≡ place) ×
         (thread.promise.actor.value ≡ actor)) }
 {
@@ -98,7 +99,7 @@ pub(crate) fn start_actor<
             part,
             move || -> ActorEnded<E>
                 requires take { IsTakePassOf queues.now take × (jobs_taken take ≡ []) }
-                requires ready { C.is_ready actor }
+                requires ready { C.is_ready actor queues.now (place_taken_from take) }
                 ensures take { IsTakePassOf queues.entry.now result.take × (place_taken_from result.take ≡ place_taken_from take) }
                 ensures ended { HasEnded (jobs_taken result.take) }
                 ensures given { (result.is_refused ≡ false) → C.gives actor (jobs_taken result.take) result.given }
@@ -131,14 +132,4 @@ pub(crate) fn settled_actor<E: Drop, C: Actor<E>, R: Threads + Wait>(
         return None;
     }
     Some(given)
-}
-
-/// Waits for ever where the condition does not hold: a queue does not tell by its type which jobs come, and whoever goes on knows.
-pub(crate) fn wait_unless<W: Wait>(rt: &W, condition: bool)
-    ensures { condition ≡ true }
-{
-    if !condition {
-        'never: for _ in rt.forever() {}
-        unreachable!()
-    }
 }

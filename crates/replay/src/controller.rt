@@ -1,9 +1,9 @@
 //! The controller of a replay: it applies the commands of the script, those of its queue until the end.
 
 ghost use Rattle.std.specs.Prelude.{◌≡◌, ◌<◌, ◌∷◌, ◌++◌, [], length, Option, Some, slice_get, IfOk, IfErr, OnOk, OnErr, false, MatchOption};
-ghost use Rattle.rx_queues.specs.Passes.{IsTakePassOf, jobs_taken, place_taken_from};
+ghost use Rattle.rx_queues.specs.Passes.{IsTakePassOf, jobs_taken, place_taken_from, workers_of, commands_of};
 ghost use Rattle.rx_queues.specs.declared.job.Job.TheVariants.{Command as CommandJob, End};
-ghost use Rattle.replay.specs.ActorJobs.{AreCommandsTaken, IsAccounted};
+ghost use Rattle.replay.specs.ActorJobs.{AreCommandsTaken, IsAccounted, IsForCommands};
 ghost use Rattle.replay.specs.Actors.{HasEnded, IsUnused};
 ghost use Rattle.maglev.specs.RingSize.{IsRingSize};
 ghost use Rattle.map_updates.specs.Misfits.{AreFitting};
@@ -13,7 +13,7 @@ ghost use Rattle.control.specs.declared.fault.ControlFault.{ControlFault as Faul
 ghost use Rattle.conntrack.specs.SteeringMaps.{steering_maps};
 ghost use Rattle.replay.specs.Commands.{CommanderView, HasEffect, IsAccount, HasAccount, StaysOf, ServesScript, opened_controller};
 
-use crate::actor::{Actor, ActorEnded, wait_unless};
+use crate::actor::{Actor, ActorEnded};
 use crate::fault::ReplayFault;
 use crate::first_updates::updated_port;
 use crate::outcome::Applied;
@@ -176,9 +176,10 @@ pub struct Commanded<B: Naming> {
 }
 
 impl<'a, B: Naming, W: Wait, G: Gate> Actor<Commanded<B>> for Commander<'a, B, W, G> {
+    ghost use Rattle.replay.specs.ActorJobs.{IsForCommands};
     ghost use Rattle.replay.specs.Parts.{HasCommanded};
 
-    ghost is_ready = { λ actor. Unit {0} };
+    ghost is_ready = { λ actor queues place. IsForCommands actor.script queues place };
 
     ghost gives = { λ actor jobs given. HasCommanded B.plan actor jobs given.noted.items given.pass };
 
@@ -194,8 +195,7 @@ impl<'a, B: Naming, W: Wait, G: Gate> Actor<Commanded<B>> for Commander<'a, B, W
 }
 
 /// Applies the commands that the controller is handed, in order, until the end. Where memory is refused for a note, that command and
-/// the later ones are taken and not applied. Waits while the queue is empty, and for ever where another job than a command of the
-/// script or the end comes.
+/// the later ones are taken and not applied. Waits while the queue is empty.
 fn commands_until_end<B: Naming, W: Wait, G: Gate, R: Wait>(
     rt: &R,
     alloc: Global,
@@ -204,6 +204,7 @@ fn commands_until_end<B: Naming, W: Wait, G: Gate, R: Wait>(
     mut commander: Commander<'_, B, W, G>,
 ) -> ActorEnded<Commanded<B>>
     requires take { IsTakePassOf queues.now take × (jobs_taken take ≡ []) }
+    requires jobs { IsForCommands commander.script queues.now (place_taken_from take) }
     ensures take { IsTakePassOf queues.now result.take × (place_taken_from result.take ≡ place_taken_from take) }
     ensures ended { HasEnded (jobs_taken result.take) }
     ensures jobs { result.is_refused ≡ false → AreCommandsTaken commander.entry.noted result.given.noted.items (jobs_taken result.take) }
@@ -212,7 +213,7 @@ fn commands_until_end<B: Naming, W: Wait, G: Gate, R: Wait>(
 {
     let mut is_refused = false;
     'jobs: for _ in rt.forever() {
-        match next_command(rt, queues, &mut take, commander.script().len()) {
+        match next_command(rt, queues, &mut take) {
             Some(number) => {
                 if !is_refused {
                     match commander.apply(alloc, number) {
@@ -232,31 +233,18 @@ fn commands_until_end<B: Naming, W: Wait, G: Gate, R: Wait>(
     }
 }
 
-/// The number of the next command, below this count; none at the end.
-fn next_command<W: Wait>(
-    rt: &W,
-    queues: &Queues,
-    take: &mut TakePass,
-    count: usize,
-) -> Option<usize>
-    requires { IsTakePassOf queues.now take.old }
+/// The number of the next command; none at the end.
+fn next_command<W: Wait>(rt: &W, queues: &Queues, take: &mut TakePass) -> Option<usize>
+    requires take { IsTakePassOf queues.now take.old }
+    requires of_controller { place_taken_from take.old ≡ workers_of queues.now }
     ensures take { IsTakePassOf queues.now take.new × (place_taken_from take.new ≡ place_taken_from take.old) }
     ensures taken { MatchOption result (jobs_taken take.new ≡ jobs_taken take.old ++ End ∷ [])
-        (λ number. (number < count) × (jobs_taken take.new ≡ jobs_taken take.old ++ CommandJob number ∷ [])) }
+        (λ number. (number < commands_of queues.now) × (jobs_taken take.new ≡ jobs_taken take.old ++ CommandJob number ∷ [])) }
 {
     match queues.take_waiting(rt, take) {
-        Job::Command(number) => {
-            wait_unless(rt, number < count);
-            Some(number)
-        }
+        Job::Command(number) => Some(number),
         Job::End => None,
-        Job::Frame(_) => {
-            wait_unless(rt, false);
-            None
-        }
-        Job::Note => {
-            wait_unless(rt, false);
-            None
-        }
+        Job::Frame(_) => unreachable!(),
+        Job::Note => unreachable!(),
     }
 }

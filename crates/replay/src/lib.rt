@@ -16,8 +16,8 @@
 //! The dispatcher (`dispatch`) goes over the records in the capture's order. Before each record it hands over the commands that are
 //! due, then the record, and after every 64 records a note. No command is handed over before as many records as its number were, and
 //! none is left whose number has gone by: the methods that hand over require this of what was put before (`AreInTime`), so an order
-//! that breaks it is refused where it is written. Behind the last record come the commands that are left. Commands of frame 0 are
-//! applied before the threads start (`setting`).
+//! that breaks it is refused where it is written. Behind the last record come the commands that are left. The updates that a replay begins
+//! with (`first_updates`), and then the commands of frame 0, are applied before the threads start (`setting`).
 //!
 //! So a command acts no earlier than it is handed over, but while workers still have jobs of their queues: some frames before it may be run
 //! after it. An exact replay ([`replay_in_turn`]) has no threads: on the calling thread it makes each record's run, each command and each
@@ -41,8 +41,8 @@
 //! A worker's runs are a chain: each begins with the state that the one before it left. Its state is its pass to the shards, whose view
 //! is what it has seen of each shard's history and its own entries there. When all threads have ended the shards are closed with all
 //! passes. Then each history is whole, and the own entries of each pass are all of its caller's in it. So each entry of each journal
-//! belongs to a run, to a command or to a round, and each of these has its entries (`specs/Accounted`). The counts and the frames that
-//! are sent come from the runs, in the capture's order (`account`).
+//! belongs to a run, to an update before the first record, to a command or to a round, and each of these has its entries
+//! (`specs/Accounted`). The counts and the frames that are sent come from the runs, in the capture's order (`account`).
 //!
 //! Nothing here depends on how the threads are scheduled. That they end is not proved: each waits for its queue. Every way out of
 //! `threads` puts an `End` into the queue of each thread that was started and joins it, also where another could not be started.

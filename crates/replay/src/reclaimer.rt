@@ -1,14 +1,14 @@
 //! The reclaimer of a replay: a round of Reclaims for each note of its queue until the end.
 
 ghost use Rattle.std.specs.Prelude.{◌≡◌, ◌<◌, ◌+◌, ◌∷◌, ◌++◌, [], ℕ};
-ghost use Rattle.rx_queues.specs.Passes.{IsTakePassOf, jobs_taken, place_taken_from};
+ghost use Rattle.rx_queues.specs.Passes.{IsTakePassOf, jobs_taken, place_taken_from, workers_of};
 ghost use Rattle.semantics.specs.declared.call.Caller.TheVariants.{Reclaimer};
 ghost use Rattle.shards.specs.Passes.{IsElsewhereSame};
 ghost use Rattle.replay.specs.ActorJobs.{AreRoundsMade, round_job};
 ghost use Rattle.replay.specs.Actors.{HasEnded, IsUnused};
 ghost use Rattle.replay.specs.Rounds.{AreReclaimed, IsReclaimedAt, IsAsked, HasAsked, HasTurned, is_keyed};
 
-use crate::actor::{Actor, ActorEnded, wait_unless};
+use crate::actor::{Actor, ActorEnded};
 use ebpf_decode::MapKind;
 use rx_queues::{Job, Queues, TakePass};
 use semantics::Caller;
@@ -125,10 +125,12 @@ pub(crate) fn is_keyed(kind: MapKind) -> bool
 }
 
 impl<'a, B: Naming, W: Wait, G: Gate> Actor<Pass<B>> for Reclaiming<'a, B, W, G> {
+    ghost use Rattle.std.specs.Prelude.{◌≡◌, ◌+◌};
+    ghost use Rattle.rx_queues.specs.Passes.{workers_of};
     ghost use Rattle.replay.specs.Actors.{IsUnused};
     ghost use Rattle.replay.specs.Parts.{HasReclaimed};
 
-    ghost is_ready = { λ actor. IsUnused actor };
+    ghost is_ready = { λ actor queues place. IsUnused actor × (place ≡ workers_of queues + 1) };
 
     ghost gives = { λ actor jobs given. HasReclaimed B.plan B.count jobs given };
 
@@ -144,8 +146,7 @@ impl<'a, B: Naming, W: Wait, G: Gate> Actor<Pass<B>> for Reclaiming<'a, B, W, G>
     }
 }
 
-/// Makes a round for each note that the reclaimer is handed, until the end. Waits while the queue is empty, and for ever where another
-/// job than a note or the end comes.
+/// Makes a round for each note that the reclaimer is handed, until the end. Waits while the queue is empty.
 fn rounds_until_end<B: Naming, W: Wait, G: Gate, R: Wait>(
     rt: &R,
     queues: &Queues,
@@ -154,6 +155,7 @@ fn rounds_until_end<B: Naming, W: Wait, G: Gate, R: Wait>(
 ) -> ActorEnded<Pass<B>>
     requires take { IsTakePassOf queues.now take × (jobs_taken take ≡ []) }
     requires unused { IsUnused reclaiming }
+    requires notes { place_taken_from take ≡ workers_of queues.now + 1 }
     ensures take { IsTakePassOf queues.now result.take × (place_taken_from result.take ≡ place_taken_from take) }
     ensures ended { HasEnded (jobs_taken result.take) }
     ensures rounds { AreRoundsMade B.plan B.count (jobs_taken result.take) result.given }
@@ -174,20 +176,15 @@ fn rounds_until_end<B: Naming, W: Wait, G: Gate, R: Wait>(
 
 /// Whether a note comes next, and not the end.
 fn next_note<W: Wait>(rt: &W, queues: &Queues, take: &mut TakePass) -> bool
-    requires { IsTakePassOf queues.now take.old }
+    requires take { IsTakePassOf queues.now take.old }
+    requires of_reclaimer { place_taken_from take.old ≡ workers_of queues.now + 1 }
     ensures take { IsTakePassOf queues.now take.new × (place_taken_from take.new ≡ place_taken_from take.old) }
     ensures taken { jobs_taken take.new ≡ jobs_taken take.old ++ round_job result ∷ [] }
 {
     match queues.take_waiting(rt, take) {
         Job::Note => true,
         Job::End => false,
-        Job::Frame(_) => {
-            wait_unless(rt, false);
-            false
-        }
-        Job::Command(_) => {
-            wait_unless(rt, false);
-            false
-        }
+        Job::Frame(_) => unreachable!(),
+        Job::Command(_) => unreachable!(),
     }
 }

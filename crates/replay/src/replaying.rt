@@ -75,7 +75,12 @@ fn replay_over<'x, B: Naming + Send + Sync, R: Threads + Wait + Sync, G: Gate + 
     let states = new_workers(alloc, &mut dealer, workers)?;
     let list = starts_of(alloc, script.commands())?;
     let starts: &[u32] = &list;
-    let (queues, put, takes) = match Queues::open(alloc, workers) {
+    let (queues, put, takes) = match Queues::open(
+        alloc,
+        workers,
+        capture.records.len(),
+        starts.len(),
+    ) {
         Ok(opened) => opened,
         Err(fault) => return Err(fault_of(fault)),
     };
@@ -159,7 +164,8 @@ pub fn replay<R: Threads + Wait + Sync, G: Gate + Sync>(
     gate: &G,
 ) -> Result<Outcome, ReplayFault>
     requires fit { AreFitting verified.now.maps updates.now }
-    ensures accounted { IfOk result (IsAccounted (program_of verified.now options.shards) script.now (recorded recording options) capture.now.records.items) }
+    ensures accounted { IfOk result (IsAccounted (program_of verified.now options.shards) script.now (recorded recording options)
+        capture.now.records.items) }
     ensures updates { IfOk result (λ outcome. outcome.updates.items ≡ updates.now) }
     ensures refused { IfErr result (OfUpdate (IsWhyByPass verified.now.maps (recorded recording options) updates.now)) }
     ensures served { OnOk result (KeepsRows options.journal) }

@@ -12,7 +12,7 @@ ghost use Rattle.replay.specs.Commands.{ServesScript, StaysOf};
 ghost use Rattle.replay.specs.Crews.{AreHandled};
 ghost use Rattle.replay.specs.Parts.{HasNoTable, IsStarted, IsScriptRun, numbers_of, rounds_of};
 ghost use Rattle.replay.specs.Rounds.{AreReclaimed};
-ghost use Rattle.replay.specs.Settings.{AreFreshPasses};
+ghost use Rattle.replay.specs.Settings.{AreFreshPasses, AreForAll};
 ghost use Rattle.replay.specs.RunsOverShards.{IsNewAt, IsRunBy};
 ghost use Rattle.replay.specs.UpdateFaults.{OfUpdate, IsOfNoUpdate, IsWhyByPass};
 ghost use Rattle.map_updates.specs.Misfits.{AreFitting};
@@ -170,6 +170,7 @@ pub(crate) fn run_threads<'x, B: Naming + Send + Sync, R: Threads + Wait + Sync,
     states: Vec<Working<B>>,
 ) -> Result<AllEnded<Working<B>, Commanded<B>, Pass<B>>, ReplayFault>
     requires passes { AreFreshPasses setting.queues.now (length states.items) put takes.items }
+    requires jobs { AreForAll setting }
     requires options { setting.runner.now.shards.now.options.workers ≡ length states.items }
     requires states { Each IsNewAt 0 states.items }
     requires starts { length setting.starts.now ≡ length script.now }

@@ -480,8 +480,10 @@ pub fn replay_in_turn<G: Gate>(
     gate: &G,
 ) -> Result<Outcome, ReplayFault>
     requires fit { AreFitting verified.now.maps updates.now }
-    ensures accounted { IfOk result (IsAccounted (program_of verified.now options.shards) script.now (recorded recording options) capture.now.records.items) }
-    ensures in_turn { IfOk result (IsInTurn (program_of verified.now options.shards) script.now (recorded recording options) capture.now.records.items) }
+    ensures accounted { IfOk result (IsAccounted (program_of verified.now options.shards) script.now (recorded recording options)
+        capture.now.records.items) }
+    ensures in_turn { IfOk result (IsInTurn (program_of verified.now options.shards) script.now (recorded recording options)
+        capture.now.records.items) }
     ensures updates { IfOk result (λ outcome. outcome.updates.items ≡ updates.now) }
     ensures refused { IfErr result (OfUpdate (IsWhyInTurn verified.now.maps (recorded recording options) updates.now)) }
     ensures served { OnOk result (KeepsRows options.journal) }

@@ -8,7 +8,7 @@ ghost use Rattle.rx_queues.specs.Passes.{place_taken_from, jobs_taken, workers_o
 ghost use Rattle.replay.specs.Actors.{HasNoEnd, EndsOnce, AreAllEnded, AreBothEnded, OfCommandsFrom};
 ghost use Rattle.semantics.specs.Each.{Each};
 ghost use Rattle.replay.specs.Crews.{IsReadyAt, AreHandled};
-ghost use Rattle.replay.specs.Settings.{IsReadyToRun, AreAllDone};
+ghost use Rattle.replay.specs.Settings.{IsReadyToRun, AreForAll, AreAllDone};
 ghost use Rattle.replay.specs.Puts.{put_at, AreNonePut, AreAllPut};
 ghost use Rattle.replay.specs.Shares.{frames_of};
 ghost use Rattle.replay.specs.UpdateFaults.{IsOfNoUpdate};
@@ -27,7 +27,7 @@ use std::thread;
 use std::thread::{Scope, Threads};
 use wire::Capture;
 
-/// What all threads of a replay share.
+/// What all threads of a replay share. The queues are for as many records and commands as there are.
 pub struct Setting<'x, W, R> {
     pub rt: &'x R,
     pub alloc: Global,
@@ -98,7 +98,7 @@ fn start_both<
     requires put { IsPutPassOf queues.now put.old }
     requires of_controller { IsTakePassOf queues.now takes.0 × (place_taken_from takes.0 ≡ workers) × (jobs_taken takes.0 ≡ []) }
     requires of_reclaimer { IsTakePassOf queues.now takes.1 × (place_taken_from takes.1 ≡ workers + 1) × (jobs_taken takes.1 ≡ []) }
-    requires ready { C.is_ready controller × D.is_ready reclaimer }
+    requires ready { C.is_ready controller queues.now (place_taken_from takes.0) × D.is_ready reclaimer queues.now (place_taken_from takes.1) }
     ensures put { IsPutPassOf queues.now put.new }
     ensures puts { IfSome result (λ both. jobs_put put.new ≡ jobs_put put.old) }
     ensures ended { IsNone result → AreBothEnded (workers_of queues.now) (jobs_put put.old) (jobs_put put.new) }
@@ -195,6 +195,7 @@ fn work_all<'s, X, S: Drop + Send + 's, W: Runner<S> + Sync + 's, R: Threads + W
 ) -> Result<Vec<Handled<S>>, ReplayFault>
     requires workers { (workers_of setting.queues.now ≡ length states.items) × (0 < length states.items) × (length states.items ≤ 8) }
     requires first { setting.first ≤ length setting.starts.now }
+    requires jobs { AreForAll setting }
     requires put { IsPutPassOf setting.queues.now put.old × (jobs_put put.old ≡ replicate (length states.items + 2) []) }
     requires takes { (length states.items ≤ length takes.items) × TakeAtTheirPlaces setting.queues.now takes.items }
     requires states { Each (IsReadyAt (W.is_new setting.runner.now) (W.is_idle setting.runner.now)) 0 states.items }
@@ -280,7 +281,8 @@ fn run_all_in<
     states: Vec<S>,
 ) -> Result<AllEnded<S, E, F>, ReplayFault>
     requires ready { IsReadyToRun W.is_new W.is_idle setting put.old takes.items states.items }
-    requires actors { C.is_ready controller × D.is_ready reclaimer }
+    requires actors { C.is_ready controller setting.queues.now (length states.items) × D.is_ready reclaimer setting.queues.now
+        (length states.items + 1) }
     requires room { (lanes.items ≡ []) × (length states.items ≤ vec_capacity lanes) }
     ensures done { IfOk result (AreAllDone W.is_new W.runs (C.gives controller) (D.gives reclaimer) setting.entry (length states.items)) }
     ensures served { ¬ IsErrOf result BadOptions }
@@ -345,7 +347,8 @@ pub fn run_all<
     states: Vec<S>,
 ) -> Result<AllEnded<S, E, F>, ReplayFault>
     requires ready { IsReadyToRun W.is_new W.is_idle setting put takes.items states.items }
-    requires actors { C.is_ready controller × D.is_ready reclaimer }
+    requires actors { C.is_ready controller setting.queues.now (length states.items) × D.is_ready reclaimer setting.queues.now
+        (length states.items + 1) }
     ensures done { IfOk result (AreAllDone W.is_new W.runs (C.gives controller) (D.gives reclaimer) setting.entry (length states.items)) }
     ensures served { ¬ IsErrOf result BadOptions }
     ensures no_update { IfErr result IsOfNoUpdate }
@@ -355,7 +358,8 @@ pub fn run_all<
         setting.rt,
         |scope| -> Result<AllEnded<S, E, F>, ReplayFault>
             requires ready { IsReadyToRun W.is_new W.is_idle setting put takes.items states.items }
-            requires actors { C.is_ready controller × D.is_ready reclaimer }
+            requires actors { C.is_ready controller setting.queues.now (length states.items) × D.is_ready reclaimer setting.queues.now
+                (length states.items + 1) }
             ensures done { IfOk result (AreAllDone W.is_new W.runs (C.gives controller) (D.gives reclaimer) setting.entry
                 (length states.items)) }
             ensures served { ¬ IsErrOf result BadOptions }

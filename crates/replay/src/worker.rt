@@ -3,10 +3,9 @@
 ghost use Rattle.std.specs.Prelude.{◌≡◌, ◌<◌, ◌∷◌, ◌++◌, [], length, true, IsTrue, IfSome, MatchOption};
 ghost use Rattle.rx_queues.specs.declared.job.Job.TheVariants.{Frame, End};
 ghost use Rattle.replay.specs.Actors.{HasEnded};
-ghost use Rattle.rx_queues.specs.Passes.{IsTakePassOf, place_taken_from, jobs_taken};
+ghost use Rattle.rx_queues.specs.Passes.{IsTakePassOf, place_taken_from, jobs_taken, workers_of, records_of};
 ghost use Rattle.replay.specs.RunsInOrder.{IsRunAt, IsOneMore, HasDoneItsJobs};
 
-use crate::actor::wait_unless;
 use crate::runner::{Ran, Runner};
 use rx_queues::{Job, Queues, TakePass};
 use std::alloc::Global;
@@ -53,27 +52,19 @@ fn ran<S: Drop, W: Runner<S>>(
     }
 }
 
-/// The number of the next record, below this count; none at the end. Waits while the queue is empty, and for ever where another job comes.
-fn next_record<R: Wait>(rt: &R, queues: &Queues, take: &mut TakePass, count: usize) -> Option<usize>
-    requires { IsTakePassOf queues.now take.old }
+/// The number of the next record; none at the end. Waits while the queue is empty.
+fn next_record<R: Wait>(rt: &R, queues: &Queues, take: &mut TakePass) -> Option<usize>
+    requires take { IsTakePassOf queues.now take.old }
+    requires of_worker { place_taken_from take.old < workers_of queues.now }
     ensures take { IsTakePassOf queues.now take.new × (place_taken_from take.new ≡ place_taken_from take.old) }
     ensures taken { MatchOption result (jobs_taken take.new ≡ jobs_taken take.old ++ End ∷ [])
-        (λ number. (number < count) × (jobs_taken take.new ≡ jobs_taken take.old ++ Frame number ∷ [])) }
+        (λ number. (number < records_of queues.now) × (jobs_taken take.new ≡ jobs_taken take.old ++ Frame number ∷ [])) }
 {
     match queues.take_waiting(rt, take) {
-        Job::Frame(number) => {
-            wait_unless(rt, number < count);
-            Some(number)
-        }
+        Job::Frame(number) => Some(number),
         Job::End => None,
-        Job::Command(_) => {
-            wait_unless(rt, false);
-            None
-        }
-        Job::Note => {
-            wait_unless(rt, false);
-            None
-        }
+        Job::Command(_) => unreachable!(),
+        Job::Note => unreachable!(),
     }
 }
 
@@ -90,6 +81,7 @@ pub(crate) fn work<S: Drop, W: Runner<S>, R: Wait>(
     mut state: S,
 ) -> WorkerEnded<S>
     requires take { IsTakePassOf queues.now take × (place_taken_from take ≡ worker) × (jobs_taken take ≡ []) }
+    requires jobs { (worker < workers_of queues.now) × (records_of queues.now ≡ length capture.now.records.items) }
     requires state { W.is_new runner.now worker state × W.is_idle runner.now worker state }
     ensures take { IsTakePassOf queues.now result.take × (place_taken_from result.take ≡ worker) }
     ensures ended { HasEnded (jobs_taken result.take) }
@@ -98,7 +90,7 @@ pub(crate) fn work<S: Drop, W: Runner<S>, R: Wait>(
     let mut runs = Vec::new(alloc);
     let mut is_refused = false;
     'jobs: for _ in rt.forever() {
-        match next_record(rt, queues, &mut take, capture.records.len()) {
+        match next_record(rt, queues, &mut take) {
             Some(number) => {
                 if !is_refused {
                     is_refused = !ran(
@@ -162,6 +154,7 @@ pub(crate) fn start<'s, E, S: Drop + Send + 's, W: Runner<S> + Sync + 's, R: Wai
     state: S,
 ) -> Option<Lane<'s, S, W>>
     requires take { IsTakePassOf queues.now take × (place_taken_from take ≡ worker) × (jobs_taken take ≡ []) }
+    requires jobs { (worker < workers_of queues.now) × (records_of queues.now ≡ length capture.now.records.items) }
     requires state { W.is_new runner.now worker state × W.is_idle runner.now worker state }
     ensures { IfSome result (λ lane. (lane.queues.now ≡ queues.now) × (lane.capture.now ≡ capture.now) × (lane.runner.now ≡ runner.now) ×
         (lane.worker ≡ worker)) }
@@ -176,6 +169,7 @@ pub(crate) fn start<'s, E, S: Drop + Send + 's, W: Runner<S> + Sync + 's, R: Wai
             },
             move || -> WorkerEnded<S>
                 requires take { IsTakePassOf queues.now take × (place_taken_from take ≡ worker) × (jobs_taken take ≡ []) }
+                requires jobs { (worker < workers_of queues.now) × (records_of queues.now ≡ length capture.now.records.items) }
                 requires state { W.is_new runner.now worker state × W.is_idle runner.now worker state }
                 ensures take { IsTakePassOf queues.entry.now result.take × (place_taken_from result.take ≡ worker) }
                 ensures worked { HasDoneItsJobs (W.is_new runner.entry.now worker) (W.runs runner.entry.now worker)

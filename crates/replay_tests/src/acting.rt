@@ -4,8 +4,9 @@ ghost use Rattle.std.specs.Prelude.{◌≡◌, ◌≤◌, [], IfOk};
 ghost use Rattle.semantics.specs.declared.call.Caller.TheVariants.{Controller as TheController};
 ghost use Rattle.maglev.specs.RingSize.{IsRingSize};
 ghost use Rattle.replay.specs.Commands.{ServesScript};
+ghost use Rattle.replay.specs.ActorJobs.{IsForCommands};
 ghost use Rattle.replay.specs.Actors.{IsUnused};
-ghost use Rattle.rx_queues.specs.Passes.{HasQueue, IsTakePassOf, jobs_taken};
+ghost use Rattle.rx_queues.specs.Passes.{HasQueue, IsTakePassOf, jobs_taken, place_taken_from, queue_of, workers_of, commands_of};
 ghost use Rattle.shards.specs.NewShards.{IsNamed};
 
 use crate::asserting::{holds_of, same_fact};
@@ -285,7 +286,7 @@ fn rounds_reclaim(rt: HostRuntime) -> Result<(), Fail> {
     Ok(())
 }
 
-/// Queues of one worker, with this many jobs in one of the others' and then the end; and the right to take from the queue at this place.
+/// Queues of one worker, with this many jobs in the caller's, which is at this place, and then the end; and the right to take from it.
 fn filled<R: Wait>(
     rt: &R,
     alloc: Global,
@@ -294,15 +295,17 @@ fn filled<R: Wait>(
     count: usize,
 ) -> Result<(Queues, TakePass), OpenFault>
     requires who { HasQueue 1 who }
-    requires place { place ≤ 2 }
-    ensures { IfOk result (λ filled. IsTakePassOf filled.0 filled.1 × (jobs_taken filled.1 ≡ [])) }
+    requires place { (place ≡ queue_of 1 who) × (place ≤ 2) }
+    ensures take { IfOk result (λ filled. IsTakePassOf filled.0 filled.1 × (place_taken_from filled.1 ≡ place) × (jobs_taken filled.1 ≡ [])) }
+    ensures jobs { IfOk result (λ filled. (workers_of filled.0 ≡ 1) × (commands_of filled.0 ≡ count)) }
 {
-    let (queues, mut put, mut takes) = Queues::open(alloc, 1)?;
+    let (queues, mut put, mut takes) = Queues::open(alloc, 1, count, count)?;
     let take = takes.remove(place);
     'puts: for number in 0..count {
         let job = match who {
+            Caller::Worker { .. } => Job::Frame(number),
+            Caller::Controller => Job::Command(number),
             Caller::Reclaimer => Job::Note,
-            _ => Job::Command(number),
         };
         queues.put_waiting(rt, who, job, &mut put);
     }
@@ -322,6 +325,7 @@ fn taken_to_the_end<'a, B: Naming, R: Abort + Wait>(
     size: u32,
 ) -> Result<ActorEnded<Commanded<B>>, Fail>
     requires take { IsTakePassOf queues.now take × (jobs_taken take ≡ []) }
+    requires jobs { IsForCommands commands.now queues.now (place_taken_from take) }
     requires who { pass.who ≡ TheController }
     requires unused { IsUnused pass }
     requires size { IsRingSize size }

@@ -92,7 +92,7 @@ struct Hearing {
 impl Actor<Heard> for Hearing {
     ghost use Rattle.std.specs.Prelude.{⊤};
 
-    ghost is_ready = { λ _. ⊤ };
+    ghost is_ready = { λ _ _ _. ⊤ };
 
     ghost gives = { λ _ _ _. ⊤ };
 
@@ -219,7 +219,12 @@ fn run_beside<R: Abort + Threads + Wait + Sync>(
     requires { (0 < row.workers) × (row.workers ≤ 8) }
 {
     let capture = capture(alloc, row.records)?;
-    let (queues, put, takes) = Queues::open(alloc, row.workers)?;
+    let (queues, put, takes) = Queues::open(
+        alloc,
+        row.workers,
+        capture.records.len(),
+        STARTS.len(),
+    )?;
     let states = vec![in alloc; 0; row.workers]?;
     let setting = Setting {
         rt,
@@ -288,7 +293,7 @@ fn refused<R: Abort + Threads + Wait + Sync>(
 ) -> Result<(u8, u64), Fail> {
     let (_, worker, run, controller, reclaimer, ..) = *refusal;
     let capture = capture(alloc, 1000)?;
-    let (queues, put, takes) = Queues::open(alloc, 4)?;
+    let (queues, put, takes) = Queues::open(alloc, 4, capture.records.len(), STARTS.len())?;
     let states = vec![in alloc; 0; 4]?;
     let runner = Refusing {
         worker,

@@ -1,7 +1,7 @@
 //! What no clause says: rows worked out elsewhere, and that jobs come through.
 
-ghost use Rattle.std.specs.Prelude.{◌≡◌, ◌<◌, ◌+◌, length, IfSome};
-ghost use Rattle.rx_queues.specs.Passes.{HasQueue, workers_of, queue_of, IsPutPassOf, IsTakePassOf, TakeAtTheirPlaces};
+ghost use Rattle.std.specs.Prelude.{◌≡◌, ◌<◌, ◌≤◌, ◌+◌, length, IfSome};
+ghost use Rattle.rx_queues.specs.Passes.{HasQueue, FitsAt, workers_of, records_of, commands_of, queue_of, IsPutPassOf, IsTakePassOf, TakeAtTheirPlaces};
 
 use crate::asserting::{holds, same, same_at};
 use rx_queues::{Caller, Job, OpenFault, PutPass, Queues, TakePass, spread};
@@ -63,7 +63,7 @@ const WORKERS: [(usize, u8); 4] = [(0, 51), (1, 0), (8, 0), (9, 51)];
 
 /// The number of the refusal to open queues, or 0.
 fn refusal_of(alloc: Global, workers: usize) -> u8 {
-    match Queues::open(alloc, workers) {
+    match Queues::open(alloc, workers, 0, 0) {
         Ok(_) => 0,
         Err(fault) => fault.number(),
     }
@@ -104,8 +104,32 @@ fn caller_at(workers: usize, place: usize) -> Caller
     }
 }
 
-// Puts frames from 0 on, and the end.
-fn put_frames<R: Wait>(
+// A job for the caller: the frame or the command of this number, or a note.
+fn job_for(queues: &Queues, who: Caller, number: usize) -> Job
+    requires queue { HasQueue (workers_of queues.now) who }
+    requires number { (number < records_of queues.now) × (number < commands_of queues.now) }
+    ensures { FitsAt queues.now (queue_of (workers_of queues.now) who) result }
+{
+    let _ = queues;
+    match who {
+        Caller::Worker { .. } => Job::Frame(number),
+        Caller::Controller => Job::Command(number),
+        Caller::Reclaimer => Job::Note,
+    }
+}
+
+// Whether the job has this number, if its kind has numbers.
+fn is_numbered(job: Job, number: usize) -> bool {
+    match job {
+        Job::Frame(it) => it == number,
+        Job::Command(it) => it == number,
+        Job::Note => true,
+        Job::End => false,
+    }
+}
+
+// Puts the caller's jobs from 0 on, and the end.
+fn put_jobs<R: Wait>(
     rt: &R,
     queues: &Queues,
     who: Caller,
@@ -113,32 +137,33 @@ fn put_frames<R: Wait>(
     count: usize,
 ) -> PutPass
     requires queue { HasQueue (workers_of queues.now) who }
+    requires count { (count ≤ records_of queues.now) × (count ≤ commands_of queues.now) }
     requires pass { IsPutPassOf queues.now pass }
     ensures { IsPutPassOf queues.now result }
 {
     'puts: for number in 0..count {
-        queues.put_waiting(rt, who, Job::Frame(number), &mut pass);
+        queues.put_waiting(rt, who, job_for(queues, who, number), &mut pass);
     }
     queues.put_waiting(rt, who, Job::End, &mut pass);
     pass
 }
 
-// Takes jobs up to the end, and returns how many frames came in order from 0 on.
-fn take_frames<R: Wait>(rt: &R, queues: &Queues, mut pass: TakePass) -> (TakePass, usize)
+// Takes jobs up to the end, and returns how many came in order from 0 on.
+fn take_jobs<R: Wait>(rt: &R, queues: &Queues, mut pass: TakePass) -> (TakePass, usize)
     requires { IsTakePassOf queues.now pass }
     ensures { IsTakePassOf queues.now result.0 }
 {
     let mut next = 0;
     'takes: for _ in rt.forever() {
-        match queues.take_waiting(rt, &mut pass) {
-            Job::Frame(number) if number == next && number < 1_000_000 => next += 1,
-            _ => return (pass, next),
+        if !is_numbered(queues.take_waiting(rt, &mut pass), next) || next >= 1_000_000 {
+            return (pass, next);
         }
+        next += 1;
     }
     unreachable!()
 }
 
-// Sends frames through one queue from one thread to another.
+// Sends jobs through one queue from one thread to another.
 fn pass_through<R: Threads + Wait + Sync>(
     rt: &R,
     queues: &Queues,
@@ -148,6 +173,7 @@ fn pass_through<R: Threads + Wait + Sync>(
     count: usize,
 ) -> (PutPass, usize)
     requires queue { HasQueue (workers_of queues.now) who }
+    requires count { (count ≤ records_of queues.now) × (count ≤ commands_of queues.now) }
     requires put { IsPutPassOf queues.now put }
     requires take { IsTakePassOf queues.now take }
     ensures { IsPutPassOf queues.now result.0 }
@@ -156,32 +182,33 @@ fn pass_through<R: Threads + Wait + Sync>(
         rt,
         move ||
             requires queue { HasQueue (workers_of queues.now) who }
+            requires count { (count ≤ records_of queues.now) × (count ≤ commands_of queues.now) }
             requires put { IsPutPassOf queues.now put }
             ensures { IsPutPassOf queues.entry.now result }
-        { put_frames(rt, queues, who, put, count) },
+        { put_jobs(rt, queues, who, put, count) },
         move ||
             requires { IsTakePassOf queues.now take }
             ensures { IsTakePassOf queues.entry.now result.0 }
-        { take_frames(rt, queues, take) },
+        { take_jobs(rt, queues, take) },
     );
     queues.settle(&mut put, take);
     (put, came)
 }
 
 #[test]
-fn a_thousand_frames_go_through_each_queue(rt: HostRuntime) -> Result<(), OpenFault> {
-    let (queues, mut put, mut takes) = Queues::open(rt.alloc(), 8)?;
+fn a_thousand_jobs_go_through_each_queue(rt: HostRuntime) -> Result<(), OpenFault> {
+    let (queues, mut put, mut takes) = Queues::open(rt.alloc(), 8, 1000, 1000)?;
     'queues: while let Some(take) = last_of(&queues, &mut takes) {
         let place = takes.len();
         let (back, came) = pass_through(&rt, &queues, caller_at(8, place), put, take, 1000);
         put = back;
-        same_at(&rt, "frames through queue", place as u64, &came, &1000);
+        same_at(&rt, "jobs through queue", place as u64, &came, &1000);
     }
     Ok(())
 }
 
-// How many of the commands, numbered from 0 on, are put before one comes back.
-fn put_commands<R: Wait>(
+// How many of the caller's jobs, numbered from 0 on, are put before one comes back.
+fn put_in_room<R: Wait>(
     rt: &R,
     queues: &Queues,
     who: Caller,
@@ -189,19 +216,23 @@ fn put_commands<R: Wait>(
     count: usize,
 ) -> usize
     requires queue { HasQueue (workers_of queues.now) who }
+    requires count { (count ≤ records_of queues.now) × (count ≤ commands_of queues.now) }
     requires pass { IsPutPassOf queues.now pass.old }
     ensures { IsPutPassOf queues.now pass.new }
 {
     'puts: for number in 0..count {
-        if queues.put(rt, who, Job::Command(number), pass).is_err() {
+        if queues
+            .put(rt, who, job_for(queues, who, number), pass)
+            .is_err()
+        {
             return number;
         }
     }
     count
 }
 
-// How many commands, numbered from this one on, are taken before another job or none.
-fn take_commands<R: Wait>(
+// How many jobs, numbered from this one on, are taken before another one or none.
+fn take_in_turn<R: Wait>(
     rt: &R,
     queues: &Queues,
     pass: &mut TakePass,
@@ -213,7 +244,7 @@ fn take_commands<R: Wait>(
 {
     'takes: for number in 0..count {
         match queues.take(rt, pass) {
-            Some(Job::Command(taken)) if taken >= first && taken - first == number => {}
+            Some(job) if is_numbered(job, first.wrapping_add(number)) => {}
             _ => return number,
         }
     }
@@ -222,30 +253,35 @@ fn take_commands<R: Wait>(
 
 #[test]
 fn a_full_queue_gives_the_job_back(rt: HostRuntime) -> Result<(), OpenFault> {
-    let (queues, mut put, mut takes) = Queues::open(rt.alloc(), 2)?;
+    let (queues, mut put, mut takes) = Queues::open(rt.alloc(), 2, 100, 100)?;
     'queues: while let Some(mut take) = last_of(&queues, &mut takes) {
         let who = caller_at(2, takes.len());
-        let count = put_commands(&rt, &queues, who, &mut put, 100);
-        same(&rt, "commands put in all", &count, &64);
-        let count = take_commands(&rt, &queues, &mut take, 0, 1);
-        same(&rt, "first command taken", &count, &1);
-        let answer = queues.put(&rt, who, Job::Note, &mut put);
+        let count = put_in_room(&rt, &queues, who, &mut put, 100);
+        same(&rt, "jobs put in all", &count, &64);
+        let count = take_in_turn(&rt, &queues, &mut take, 0, 1);
+        same(&rt, "first job taken", &count, &1);
+        let answer = queues.put(&rt, who, Job::End, &mut put);
         same(&rt, "in the place that is free", &answer, &Ok(()));
         let answer = queues.put(&rt, who, Job::End, &mut put);
         same(&rt, "in no free place", &answer, &Err(Job::End));
-        let count = take_commands(&rt, &queues, &mut take, 1, 100);
-        same(&rt, "other commands taken", &count, &63);
+        let count = take_in_turn(&rt, &queues, &mut take, 1, 100);
+        same(&rt, "other jobs taken", &count, &63);
         let taken = queues.take(&rt, &mut take);
         same(&rt, "nothing is left", &taken, &None);
-        let count = put_commands(&rt, &queues, who, &mut put, 1);
+        let count = put_in_room(&rt, &queues, who, &mut put, 1);
         same(&rt, "one more put", &count, &1);
         let taken = queues.take(&rt, &mut take);
-        same(&rt, "one more taken", &taken, &Some(Job::Command(0)));
+        same(
+            &rt,
+            "one more taken",
+            &taken,
+            &Some(job_for(&queues, who, 0)),
+        );
     }
     Ok(())
 }
 
-// Puts a frame and takes it again, this many times. Returns how often it came at once.
+// Puts a job of the caller's and takes it again, this many times. Returns how often it came at once.
 fn in_lockstep<R: Wait>(
     rt: &R,
     queues: &Queues,
@@ -255,18 +291,16 @@ fn in_lockstep<R: Wait>(
     count: usize,
 ) -> usize
     requires queue { HasQueue (workers_of queues.now) who }
+    requires count { (count ≤ records_of queues.now) × (count ≤ commands_of queues.now) }
     requires put { IsPutPassOf queues.now put.old }
     requires take { IsTakePassOf queues.now take.old }
     ensures put { IsPutPassOf queues.now put.new }
     ensures take { IsTakePassOf queues.now take.new }
 {
     'turns: for number in 0..count {
-        if queues.put(rt, who, Job::Frame(number), put).is_err() {
+        let job = job_for(queues, who, number);
+        if queues.put(rt, who, job, put).is_err() || queues.take(rt, take) != Some(job) {
             return number;
-        }
-        match queues.take(rt, take) {
-            Some(Job::Frame(taken)) if taken == number => {}
-            _ => return number,
         }
     }
     count
@@ -275,7 +309,7 @@ fn in_lockstep<R: Wait>(
 /// No question for a job, whichever it is, is answered with none while there is one.
 #[test]
 fn each_of_300_takes_finds_the_job(rt: HostRuntime) -> Result<(), OpenFault> {
-    let (queues, mut put, mut takes) = Queues::open(rt.alloc(), 2)?;
+    let (queues, mut put, mut takes) = Queues::open(rt.alloc(), 2, 300, 300)?;
     'queues: while let Some(mut take) = last_of(&queues, &mut takes) {
         let who = caller_at(2, takes.len());
         let count = in_lockstep(&rt, &queues, who, &mut put, &mut take, 300);

@@ -1,19 +1,20 @@
 -- Queues that are opened one after another.
-use Rattle.std.proofs.Common.{◌≡◌, ◌⊎◌, ℕ, zero, suc, ◌+◌, ◌<◌, List, [], ◌∷◌, ◌++◌, map, replicate, length, refl, sym, ap, ◌∙◌, subst, inl, inr, ⊎_elim, arith}
+use Rattle.std.proofs.Common.{◌≡◌, ◌⊎◌, ℕ, zero, suc, ◌<◌, List, [], ◌∷◌, ◌++◌, map, replicate, length, refl, sym, ap, ◌∙◌, subst, inl, inr, ⊎_elim, arith}
 use mathlib.Core.Option.{some, some-injective, some-ne-none}
 use lib.ListN.{get_elem?}
 use Rattle.crossbeam_queue.specs.Passes.{Pass, view}
 use Rattle.rx_queues.specs.declared.job.Job.{Job}
 use Rattle.rx_queues.specs.declared.rule.JobsKnown.{JobsKnown}
+use Rattle.rx_queues.specs.declared.rule.Purpose.{Purpose}
 use Rattle.rx_queues.specs.declared.passes.TakePass.{TakePass}
 use Rattle.rx_queues.specs.declared.passes.Queues.{Queues}
-use Rattle.rx_queues.specs.Passes.{IsTakePassFor, IsPutPassFor, IsTakePassAt, ArePutPasses, TakeAtTheirPlaces}
+use Rattle.rx_queues.specs.Passes.{IsTakePassFor, IsPutPassFor, IsTakePassAt, ArePutPasses, TakeAtTheirPlaces, purpose_of}
 use Rattle.rx_queues.proofs.PassLemmas.{Line, put_of}
 
 -- each pass takes from the queue at its own place, and has taken nothing
-abbrev pub TakeFromTheirs : {Q A : Type 0} → List (Line Q A) → List TakePass → Type 0
-TakeFromTheirs {Q} {A} queues passes = (at : ℕ) (pass : TakePass) → get_elem? passes at ≡ some pass
-    → (pass.queue ≡ at) × IsTakePassAt queues at pass.pass × ((view pass.pass).taken ≡ [])
+abbrev pub TakeFromTheirs : {Q A : Type 0} → (ℕ → Purpose) → List (Line Q A) → List TakePass → Type 0
+TakeFromTheirs {Q} {A} purposes queues passes = (at : ℕ) (pass : TakePass) → get_elem? passes at ≡ some pass
+    → (pass.queue ≡ at) × IsTakePassAt purposes queues at pass.pass × ((view pass.pass).taken ≡ [])
 
 module _ {A : Type 0} where
   -- what stands in a list with one more stood there before, or is the last
@@ -32,10 +33,10 @@ module _ {A : Type 0} where
   within_list (first ∷ others) it (suc at) found = let below = within_list others it at found in omega arith
 
 module _ {Q A : Type 0} where
-  pub put_passes_push : (queues : List (Line Q A)) (passes : List (Pass Job JobsKnown)) (queue : Line Q A) (pass : Pass Job JobsKnown)
-      → length queues ≡ length passes → ArePutPasses queues passes → IsPutPassFor queue pass
-      → ArePutPasses (queues ++ queue ∷ []) (passes ++ pass ∷ [])
-  put_passes_push queues passes queue pass as_many rights right at other mine found_queue found_pass =
+  pub put_passes_push : (purposes : ℕ → Purpose) (queues : List (Line Q A)) (passes : List (Pass Job JobsKnown)) (queue : Line Q A)
+      (pass : Pass Job JobsKnown) → length queues ≡ length passes → ArePutPasses purposes queues passes
+      → IsPutPassFor (purposes (length queues)) queue pass → ArePutPasses purposes (queues ++ queue ∷ []) (passes ++ pass ∷ [])
+  put_passes_push purposes queues passes queue pass as_many rights right at other mine found_queue found_pass =
       ⊎_elim
       (λ before. ⊎_elim (λ before_too. rights at other mine before before_too)
       (λ (here : (at ≡ length passes) × (pass ≡ mine)). absurd (let below = within_list queues other at before in let last = here.0 in omega arith))
@@ -43,15 +44,15 @@ module _ {Q A : Type 0} where
       (λ (last : (at ≡ length queues) × (queue ≡ other)). ⊎_elim
       (λ before. absurd (let below = within_list passes mine at before in let here = last.0 in omega arith))
       (λ (here : (at ≡ length passes) × (pass ≡ mine)).
-      subst (λ (pair : Line Q A × Pass Job JobsKnown). IsPutPassFor pair.0 pair.1) (λ i. (last.1 i, here.1 i)) right)
+      subst (λ (there : ℕ × Line Q A × Pass Job JobsKnown). IsPutPassFor (purposes there.0) there.1 there.2) (λ i. (sym last.0 i, last.1 i, here.1 i)) right)
       (before_or_last passes pass mine at found_pass))
       (before_or_last queues queue other at found_queue)
 
-  pub take_passes_push : (queues : List (Line Q A)) (passes : List TakePass) (queue : Line Q A) (pass : TakePass)
-      → length queues ≡ length passes → TakeFromTheirs queues passes → pass.queue ≡ length passes
-      → IsTakePassFor queue pass.pass → (view pass.pass).taken ≡ []
-      → TakeFromTheirs (queues ++ queue ∷ []) (passes ++ pass ∷ [])
-  take_passes_push queues passes queue pass as_many before place right nothing at mine found =
+  pub take_passes_push : (purposes : ℕ → Purpose) (queues : List (Line Q A)) (passes : List TakePass) (queue : Line Q A) (pass : TakePass)
+      → length queues ≡ length passes → TakeFromTheirs purposes queues passes → pass.queue ≡ length passes
+      → IsTakePassFor (purposes (length queues)) queue pass.pass → (view pass.pass).taken ≡ []
+      → TakeFromTheirs purposes (queues ++ queue ∷ []) (passes ++ pass ∷ [])
+  take_passes_push purposes queues passes queue pass as_many before place right nothing at mine found =
       ⊎_elim
       (λ there. let old = before at mine there in (
         old.0,
@@ -61,12 +62,13 @@ module _ {Q A : Type 0} where
         old.2,
       ))
       (λ (here : (at ≡ length passes) × (pass ≡ mine)).
-      let Own : TakePass → Type 0 = λ one. (one.queue ≡ at) × IsTakePassAt (queues ++ queue ∷ []) at one.pass × ((view one.pass).taken ≡ []) in
+      let Own : TakePass → Type 0 = λ one. (one.queue ≡ at) × IsTakePassAt purposes (queues ++ queue ∷ []) at one.pass × ((view one.pass).taken ≡ []) in
       let own : Own pass = (
         place ∙ sym here.0,
         (λ other found_queue. ⊎_elim
             (λ it. absurd (let below = within_list queues other at it in let last = here.0 in omega arith))
-            (λ (last : (at ≡ length queues) × (queue ≡ other)). subst (λ (one : Line Q A). IsTakePassFor one pass.pass) last.1 right)
+            (λ (last : (at ≡ length queues) × (queue ≡ other)).
+            subst (λ (there : ℕ × Line Q A). IsTakePassFor (purposes there.0) there.1 pass.pass) (λ i. (sym last.0 i, last.1 i)) right)
             (before_or_last queues queue other at found_queue)),
         nothing,
       ) in
@@ -88,9 +90,9 @@ empty_lists (pass ∷ others) nothing = (λ i. nothing.0 i ∷ empty_lists other
 
 -- the rights to take, where each is of the queue at its place
 pub all_take_at_their_places : (queues : Queues) (passes : List TakePass) → length passes ≡ length queues.queues.items
-    → TakeFromTheirs queues.queues.items passes → TakeAtTheirPlaces queues passes
+    → TakeFromTheirs (purpose_of queues) queues.queues.items passes → TakeAtTheirPlaces queues passes
 all_take_at_their_places queues passes as_many all at pass found =
     let here = all at pass found in
     let there = within_list passes pass at found in
-    let Right : ℕ → Type 0 = λ place. (place < length queues.queues.items) × IsTakePassAt queues.queues.items place pass.pass in
+    let Right : ℕ → Type 0 = λ place. (place < length queues.queues.items) × IsTakePassAt (purpose_of queues) queues.queues.items place pass.pass in
     (subst Right (sym here.0) (omega arith, here.1), here.0, here.2)

@@ -9,6 +9,7 @@ use Rattle.crossbeam_queue.specs.declared.array_queue.Slotted.{Slotted}
 use Rattle.crossbeam_queue.specs.Passes.{Pass, view}
 use Rattle.rx_queues.specs.declared.job.Job.{Job}
 use Rattle.rx_queues.specs.declared.rule.JobsKnown.{JobsKnown}
+use Rattle.rx_queues.specs.declared.rule.Purpose.{Purpose}
 use Rattle.rx_queues.specs.Passes.{IsPutPassFor, IsTakePassFor, ArePutPasses, IsTakePassAt, with_job_at, WasFull}
 
 abbrev pub Line : Type 0 → Type 0 → Type 0
@@ -16,34 +17,52 @@ Line Q A = Slotted (Option Job) (Doing Job JobsKnown) Q A
 
 module _ {Q A : Type 0} where
   -- the right to take from the queue that stands at its place
-  pub take_pass_there : (queues : List (Line Q A)) (at : ℕ) (queue : Line Q A) (pass : Pass Job JobsKnown) → IsTakePassAt queues at pass
-      → at < length queues → queue ≡ get_or queues at queue → IsTakePassFor queue pass
-  take_pass_there queues at queue pass right within there = right queue (at_index queues at queue within there)
+  pub take_pass_there : (purposes : ℕ → Purpose) (queues : List (Line Q A)) (at : ℕ) (queue : Line Q A) (pass : Pass Job JobsKnown)
+      → IsTakePassAt purposes queues at pass → at < length queues → queue ≡ get_or queues at queue → IsTakePassFor (purposes at) queue pass
+  take_pass_there purposes queues at queue pass right within there = right queue (at_index queues at queue within there)
 
   -- and it stays the right to that queue
-  pub take_pass_stays : (queues : List (Line Q A)) (at : ℕ) (queue : Line Q A) (pass : Pass Job JobsKnown) → IsTakePassFor queue pass
-      → at < length queues → queue ≡ get_or queues at queue → IsTakePassAt queues at pass
-  take_pass_stays queues at queue pass right within there other found =
-      subst (λ (one : Line Q A). IsTakePassFor one pass) (some-injective queue other (sym (at_index queues at queue within there) ∙ found)) right
+  pub take_pass_stays : (purposes : ℕ → Purpose) (queues : List (Line Q A)) (at : ℕ) (queue : Line Q A) (pass : Pass Job JobsKnown)
+      → IsTakePassFor (purposes at) queue pass → at < length queues → queue ≡ get_or queues at queue → IsTakePassAt purposes queues at pass
+  take_pass_stays purposes queues at queue pass right within there other found =
+      subst (λ (one : Line Q A). IsTakePassFor (purposes at) one pass) (some-injective queue other (sym (at_index queues at queue within there) ∙ found)) right
 
   -- the right to put into the queue at a place
-  pub put_pass_there : (queues : List (Line Q A)) (passes : List (Pass Job JobsKnown)) (at : ℕ) (queue : Line Q A) (pass : Pass Job JobsKnown)
-      → length passes ≡ length queues → ArePutPasses queues passes → at < length queues → queue ≡ get_or queues at queue → pass ≡ get_or passes at pass
-      → IsPutPassFor queue pass
-  put_pass_there queues passes at queue pass as_many rights within there mine =
+  pub put_pass_there : (purposes : ℕ → Purpose) (queues : List (Line Q A)) (passes : List (Pass Job JobsKnown)) (at : ℕ) (queue : Line Q A)
+      (pass : Pass Job JobsKnown) → length passes ≡ length queues → ArePutPasses purposes queues passes → at < length queues
+      → queue ≡ get_or queues at queue → pass ≡ get_or passes at pass → IsPutPassFor (purposes at) queue pass
+  put_pass_there purposes queues passes at queue pass as_many rights within there mine =
       rights at queue pass (at_index queues at queue within there) (at_index passes at pass (let same = as_many in omega arith) mine)
 
   -- the rights stay, where the one at a place stays the right to its queue
-  pub put_passes_stay : (queues : List (Line Q A)) (passes : List (Pass Job JobsKnown)) (at : ℕ) (queue : Line Q A) (now : Pass Job JobsKnown)
-      → ArePutPasses queues passes → at < length queues → queue ≡ get_or queues at queue → IsPutPassFor queue now
-      → ArePutPasses queues (set passes at now)
-  put_passes_stay queues passes at queue now rights within there right place other pass found_queue found_pass =
+  pub put_passes_stay : (purposes : ℕ → Purpose) (queues : List (Line Q A)) (passes : List (Pass Job JobsKnown)) (at : ℕ) (queue : Line Q A)
+      (now : Pass Job JobsKnown) → ArePutPasses purposes queues passes → at < length queues → queue ≡ get_or queues at queue
+      → IsPutPassFor (purposes at) queue now → ArePutPasses purposes queues (set passes at now)
+  put_passes_stay purposes queues passes at queue now rights within there right place other pass found_queue found_pass =
       ⊎_elim (λ (here : (place ≡ at) × (now ≡ pass)).
       let found : get_elem? queues at ≡ some other = subst (λ n. get_elem? queues n ≡ some other) here.0 found_queue in
       let same : queue ≡ other = some-injective queue other (sym (at_index queues at queue within there) ∙ found) in
-      subst (λ (pair : Line Q A × Pass Job JobsKnown). IsPutPassFor pair.0 pair.1) (λ i. (same i, here.1 i)) right)
+      subst (λ (there : ℕ × Line Q A × Pass Job JobsKnown). IsPutPassFor (purposes there.0) there.1 there.2) (λ i. (sym here.0 i, same i, here.1 i)) right)
       (λ (apart : (place ≢ at) × (get_elem? passes place ≡ some pass)). rights place other pass found_queue apart.1)
       (at_set passes at place now pass found_pass)
+
+-- a right to put or to take, where what the queue is for is what the pass knows of it
+pub put_pass_known : {Q A : Type 0} (purpose : Purpose) (queue : Line Q A) (pass : Pass Job JobsKnown) → IsPutPassFor purpose queue pass
+    → IsPutPassFor (view pass).purpose queue pass
+put_pass_known purpose queue pass right = (right.0, right.1, refl, right.3)
+
+pub take_pass_known : {Q A : Type 0} (purpose : Purpose) (queue : Line Q A) (pass : Pass Job JobsKnown) → IsTakePassFor purpose queue pass
+    → IsTakePassFor (view pass).purpose queue pass
+take_pass_known purpose queue pass right = (right.0, right.1, refl)
+
+-- and where it is what the pass knew before
+pub put_pass_as : {Q A : Type 0} (purpose : Purpose) (queue : Line Q A) (was now : Pass Job JobsKnown) → IsPutPassFor purpose queue was
+    → IsPutPassFor (view was).purpose queue now → IsPutPassFor purpose queue now
+put_pass_as purpose queue was now right same = (same.0, same.1, same.2 ∙ right.2, same.3)
+
+pub take_pass_as : {Q A : Type 0} (purpose : Purpose) (queue : Line Q A) (was now : Pass Job JobsKnown) → IsTakePassFor purpose queue was
+    → IsTakePassFor (view was).purpose queue now → IsTakePassFor purpose queue now
+take_pass_as purpose queue was now right same = (same.0, same.1, same.2 ∙ right.2)
 
 abbrev pub put_of : Pass Job JobsKnown → List Job
 put_of pass = (view pass).put

@@ -12,6 +12,8 @@ use Rattle.rx_queues.specs.declared.passes.PutPass.{PutPass}
 use Rattle.rx_queues.specs.declared.passes.TakePass.{TakePass}
 use Rattle.rx_queues.specs.declared.passes.Queues.{Queues}
 use Rattle.rx_queues.specs.declared.rule.JobsKnown.{JobsKnown}
+use Rattle.rx_queues.specs.declared.rule.Purpose.{Purpose}
+use Rattle.rx_queues.specs.Fifo.{Fits}
 
 -- the queues stand in this order: the workers' by their numbers, the controller's, the reclaimer's
 abbrev pub queue_of : ℕ → Caller → ℕ
@@ -28,6 +30,26 @@ HasQueue workers who = Unit
 abbrev pub workers_of : Queues → ℕ
 workers_of queues = queues.workers
 
+-- how many records there are, whose frames may go to workers
+abbrev pub records_of : Queues → ℕ
+records_of queues = queues.records
+
+-- how many commands there are, which may go to the controller
+abbrev pub commands_of : Queues → ℕ
+commands_of queues = queues.commands
+
+-- what the queue at a place is for, among queues for so many workers, records and commands
+abbrev pub purpose_at : ℕ → ℕ → ℕ → ℕ → Purpose
+purpose_at workers records commands place = record { place = place; workers = workers; records = records; commands = commands }
+
+-- what the queue at a place of these is for
+abbrev pub purpose_of : Queues → ℕ → Purpose
+purpose_of queues place = purpose_at queues.workers queues.records queues.commands place
+
+-- the job is one for the queue at the place: a frame for a worker, a command for the controller, a note for the reclaimer, or the end
+abbrev pub FitsAt : Queues → ℕ → Job → Type 0
+FitsAt queues place job = Fits (purpose_of queues place) job
+
 -- what was put through the pass, queue by queue
 abbrev pub jobs_put : PutPass → List (List Job)
 jobs_put pass = map (λ (one : Pass Job JobsKnown). (view one).put) pass.passes.items
@@ -36,28 +58,29 @@ jobs_put pass = map (λ (one : Pass Job JobsKnown). (view one).put) pass.passes.
 abbrev pub jobs_taken : TakePass → List Job
 jobs_taken pass = (view pass.pass).taken
 
--- the right to put into this queue, which has room for 64 jobs
-abbrev pub IsPutPassFor : {Q A : Type 0} → Slotted (Option Job) (Doing Job JobsKnown) Q A → Pass Job JobsKnown → Type 0
-IsPutPassFor queue pass = IsPassOf queue pass × ((view pass).puts ≡ true) × (ruled_capacity queue ≡ 64)
+-- the right to put into this queue, which has room for 64 jobs, and is for this
+abbrev pub IsPutPassFor : {Q A : Type 0} → Purpose → Slotted (Option Job) (Doing Job JobsKnown) Q A → Pass Job JobsKnown → Type 0
+IsPutPassFor purpose queue pass =
+    IsPassOf queue pass × ((view pass).puts ≡ true) × ((view pass).purpose ≡ purpose) × (ruled_capacity queue ≡ 64)
 
--- the right to take from this queue
-abbrev pub IsTakePassFor : {Q A : Type 0} → Slotted (Option Job) (Doing Job JobsKnown) Q A → Pass Job JobsKnown → Type 0
-IsTakePassFor queue pass = IsPassOf queue pass × ((view pass).takes ≡ true)
+-- the right to take from this queue, which is for this
+abbrev pub IsTakePassFor : {Q A : Type 0} → Purpose → Slotted (Option Job) (Doing Job JobsKnown) Q A → Pass Job JobsKnown → Type 0
+IsTakePassFor purpose queue pass = IsPassOf queue pass × ((view pass).takes ≡ true) × ((view pass).purpose ≡ purpose)
 
--- the right to put into each of these queues
-abbrev pub ArePutPasses : {Q A : Type 0} → List (Slotted (Option Job) (Doing Job JobsKnown) Q A) → List (Pass Job JobsKnown) → Type 0
-ArePutPasses {Q} {A} queues passes = (at : ℕ) (queue : Slotted (Option Job) (Doing Job JobsKnown) Q A) (pass : Pass Job JobsKnown)
-    → get_elem? queues at ≡ some queue → get_elem? passes at ≡ some pass → IsPutPassFor queue pass
+-- the right to put into each of these queues, which are for these
+abbrev pub ArePutPasses : {Q A : Type 0} → (ℕ → Purpose) → List (Slotted (Option Job) (Doing Job JobsKnown) Q A) → List (Pass Job JobsKnown) → Type 0
+ArePutPasses {Q} {A} purposes queues passes = (at : ℕ) (queue : Slotted (Option Job) (Doing Job JobsKnown) Q A) (pass : Pass Job JobsKnown)
+    → get_elem? queues at ≡ some queue → get_elem? passes at ≡ some pass → IsPutPassFor (purposes at) queue pass
 
--- the right to take from the queue at this place
-abbrev pub IsTakePassAt : {Q A : Type 0} → List (Slotted (Option Job) (Doing Job JobsKnown) Q A) → ℕ → Pass Job JobsKnown → Type 0
-IsTakePassAt {Q} {A} queues at pass = (queue : Slotted (Option Job) (Doing Job JobsKnown) Q A)
-    → get_elem? queues at ≡ some queue → IsTakePassFor queue pass
+-- the right to take from the queue at this place, of queues that are for these
+abbrev pub IsTakePassAt : {Q A : Type 0} → (ℕ → Purpose) → List (Slotted (Option Job) (Doing Job JobsKnown) Q A) → ℕ → Pass Job JobsKnown → Type 0
+IsTakePassAt {Q} {A} purposes queues at pass = (queue : Slotted (Option Job) (Doing Job JobsKnown) Q A)
+    → get_elem? queues at ≡ some queue → IsTakePassFor (purposes at) queue pass
 
 -- the pass has the right to put into these queues
 abbrev pub IsPutPassOf : Queues → PutPass → Type 0
 IsPutPassOf queues pass =
-    (length pass.passes.items ≡ length queues.queues.items) × ArePutPasses queues.queues.items pass.passes.items
+    (length pass.passes.items ≡ length queues.queues.items) × ArePutPasses (purpose_of queues) queues.queues.items pass.passes.items
 
 -- the place of the queue from which the pass may take
 abbrev pub place_taken_from : TakePass → ℕ
@@ -65,7 +88,7 @@ place_taken_from pass = pass.queue
 
 -- the pass has the right to take from one of these queues
 abbrev pub IsTakePassOf : Queues → TakePass → Type 0
-IsTakePassOf queues pass = (pass.queue < length queues.queues.items) × IsTakePassAt queues.queues.items pass.queue pass.pass
+IsTakePassOf queues pass = (pass.queue < length queues.queues.items) × IsTakePassAt (purpose_of queues) queues.queues.items pass.queue pass.pass
 
 -- the lists with the job at the end of the one at this place
 abbrev pub with_job_at : ℕ → Job → List (List Job) → List (List Job)

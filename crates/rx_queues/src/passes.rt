@@ -10,6 +10,10 @@ use crate::rule::{Queue, QueuePass};
 pub struct Queues {
     pub(crate) queues: Vec<Queue>,
     pub(crate) workers: usize,
+    /// How many records there are, whose frames may go to workers.
+    pub(crate) records: usize,
+    /// How many commands there are, which may go to the controller.
+    pub(crate) commands: usize,
     pub(crate) bell: Bell,
     ghost sized: { length queues.items ≡ workers + 2 },
 }

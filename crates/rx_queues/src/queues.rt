@@ -1,20 +1,21 @@
 //! The queues: the worker of a flow, and what is done with them. A thread that waits for a queue asks again for a moment, and then sleeps.
 
-ghost use Rattle.std.specs.Prelude.{◌≡◌, ◌<◌, ◌≤◌, ◌+◌, ◌∷◌, ◌++◌, ◌↔◌, [], ℕ, length, map, replicate, IfOk, IfErr, OnErr, IsErrOf, OnOk, true};
+ghost use Rattle.std.specs.Prelude.{◌≡◌, ◌<◌, ◌≤◌, ◌+◌, ◌∷◌, ◌++◌, ◌↔◌, [], ℕ, length, map, replicate, IfOk, IfErr, IfSome, OnErr, IsErrOf, OnOk, true};
 ghost use Rattle.std.specs.Prelude.{MatchOption, option_map, slice_index_or};
-ghost use Rattle.crossbeam_queue.specs.Passes.{view, IsPassOf, ruled_capacity};
-ghost use Rattle.rx_queues.specs.Fifo.{IsTakenInOrder, known};
-ghost use Rattle.rx_queues.specs.Passes.{queue_of, HasQueue, workers_of, jobs_put, jobs_taken, jobs_put_for, with_job_at, IsPutPassOf};
+ghost use Rattle.crossbeam_queue.specs.Passes.{view, IsPassOf, IsSamePass, ruled_capacity};
+ghost use Rattle.rx_queues.specs.Fifo.{Fits, IsTakenInOrder, known, no_purpose, putter, taker};
+ghost use Rattle.rx_queues.specs.Passes.{queue_of, HasQueue, workers_of, records_of, commands_of, FitsAt, jobs_put, jobs_taken, jobs_put_for, with_job_at, IsPutPassOf};
 ghost use Rattle.rx_queues.specs.Passes.{IsTakePassOf, place_taken_from, AreTakePasses, IsPutPassFor, IsTakePassFor, WasFull};
 ghost use Rattle.rx_queues.specs.Spread.{worker_of_flow};
 ghost use Rattle.map_rules.specs.declared.open_fault.OpenFault.TheVariants.{BadOptions};
 
 use crate::job::Job;
 use crate::passes::{PutPass, Queues, TakePass};
-use crate::rule::{PutsJob, Queue, QueuePass, Roles, TakesJob};
+use crate::rule::{Opens, Purpose, Purposed, PutsJob, Queue, QueuePass, Roles, TakesJob};
 use map_rules::OpenFault;
 use semantics::Caller;
 use std::alloc::{AllocError, Global};
+use std::marker::Brand;
 use std::sync::Wait;
 use std::sync::atomic::{AtomicUsize, Ordering};
 use std::thread::Parker;
@@ -60,13 +61,17 @@ pub fn spread(key: Option<&FlowKey>, workers: usize) -> usize
 
 impl Queues {
     /// Opens a queue of 64 jobs for each of 1 to 8 workers, for the controller and for the reclaimer, with the right to put into all
-    /// and the rights to take, in this order. Takes all memory that they will ever need. Refused with 51 where the number of
+    /// and the rights to take, in this order. A worker's is for the frames of so many records, the controller's for so many commands and the
+    /// reclaimer's for notes; each is for the end. Takes all memory that they will ever need. Refused with 51 where the number of
     /// workers is another, with 52 without memory; then nothing is left.
     pub fn open(
         alloc: Global,
         workers: usize,
+        records: usize,
+        commands: usize,
     ) -> Result<(Queues, PutPass, Vec<TakePass>), OpenFault>
         ensures workers { IfOk result (λ opened. workers_of opened.0 ≡ workers) }
+        ensures jobs { IfOk result (λ opened. (records_of opened.0 ≡ records) × (commands_of opened.0 ≡ commands)) }
         ensures put { IfOk result (λ opened. IsPutPassOf opened.0 opened.1 × (jobs_put opened.1 ≡ replicate (workers + 2) [])) }
         ensures take { IfOk result (λ opened. AreTakePasses opened.0 opened.2.items) }
         ensures bad_options { IsErrOf result BadOptions ↔ ¬ ((1 ≤ workers) × (workers ≤ 8)) }
@@ -78,7 +83,13 @@ impl Queues {
         let mut puts = Vec::new(alloc);
         let mut takes = Vec::new(alloc);
         'queues: for queue in 0..workers + 2 {
-            let (line, put, take) = opened(alloc)?;
+            let purpose = Purpose {
+                place: queue,
+                workers,
+                records,
+                commands,
+            };
+            let (line, put, take) = opened(alloc, purpose)?;
             queues.push(line)?;
             puts.push(put)?;
             takes.push(TakePass {
@@ -92,6 +103,8 @@ impl Queues {
             Queues {
                 queues,
                 workers,
+                records,
+                commands,
                 bell,
             },
             PutPass { passes: puts },
@@ -112,10 +125,11 @@ impl Queues {
         }
     }
 
-    /// Puts a job into the caller's queue. The job comes back only where the queue held 64 at one moment of the call; then nothing
+    /// Puts a job that fits into the caller's queue. The job comes back only where the queue held 64 at one moment of the call; then nothing
     /// was put. Takes no memory, and waits for no job to be taken.
     pub fn put<R: Wait>(&self, rt: &R, who: Caller, job: Job, pass: &mut PutPass) -> Result<(), Job>
         requires queue { HasQueue (workers_of self.now) who }
+        requires fits { FitsAt self.now (queue_of (workers_of self.now) who) job }
         requires pass { IsPutPassOf self.now pass.old }
         ensures pass { IsPutPassOf self.now pass.new }
         ensures put { OnOk result (jobs_put pass.new ≡ with_job_at (queue_of (workers_of self.now) who) job (jobs_put pass.old)) }
@@ -128,12 +142,13 @@ impl Queues {
         push(rt, queue, mine, job)
     }
 
-    /// Takes the oldest job from the pass's queue. None only where the queue was empty at one moment of the call. Takes no memory,
-    /// and waits for no job to be put.
+    /// Takes the oldest job from the pass's queue, which is one that fits it. None only where the queue was empty at one moment of the call.
+    /// Takes no memory, and waits for no job to be put.
     pub fn take<R: Wait>(&self, rt: &R, pass: &mut TakePass) -> Option<Job>
         requires { IsTakePassOf self.now pass.old }
         ensures pass { IsTakePassOf self.now pass.new × (place_taken_from pass.new ≡ place_taken_from pass.old) }
         ensures taken { MatchOption result (jobs_taken pass.new ≡ jobs_taken pass.old) (λ job. jobs_taken pass.new ≡ jobs_taken pass.old ++ job ∷ []) }
+        ensures fits { IfSome result (FitsAt self.now (place_taken_from pass.old)) }
     {
         pass.questions = pass.questions.wrapping_add(1);
         self.bell.ring(pass.queue, pass.questions);
@@ -143,10 +158,11 @@ impl Queues {
 }
 
 impl Queues {
-    /// Puts a job into the caller's queue, and waits while it is full: asking again for a moment, then asleep. Takes no memory. It may
+    /// Puts a job that fits into the caller's queue, and waits while it is full: asking again for a moment, then asleep. Takes no memory. It may
     /// not return: where nobody takes from the queue, it stays full.
     pub fn put_waiting<R: Wait>(&self, rt: &R, who: Caller, job: Job, pass: &mut PutPass)
         requires queue { HasQueue (workers_of self.now) who }
+        requires fits { FitsAt self.now (queue_of (workers_of self.now) who) job }
         requires pass { IsPutPassOf self.now pass.old }
         ensures pass { IsPutPassOf self.now pass.new }
         ensures put { jobs_put pass.new ≡ with_job_at (queue_of (workers_of self.now) who) job (jobs_put pass.old) }
@@ -166,12 +182,13 @@ impl Queues {
         unreachable!()
     }
 
-    /// Takes the oldest job from the pass's queue, and waits while it is empty: asking again for a moment, then asleep. Takes no
-    /// memory. It may not return: where nobody puts into the queue, it stays empty.
+    /// Takes the oldest job from the pass's queue, which is one that fits it, and waits while it is empty: asking again for a moment, then
+    /// asleep. Takes no memory. It may not return: where nobody puts into the queue, it stays empty.
     pub fn take_waiting<R: Wait>(&self, rt: &R, pass: &mut TakePass) -> Job
         requires { IsTakePassOf self.now pass.old }
         ensures pass { IsTakePassOf self.now pass.new × (place_taken_from pass.new ≡ place_taken_from pass.old) }
         ensures taken { jobs_taken pass.new ≡ jobs_taken pass.old ++ result ∷ [] }
+        ensures fits { FitsAt self.now (place_taken_from pass.old) result }
     {
         let mut patience = Patience::new(pass.queue < self.workers);
         'tries: for _ in rt.forever() {
@@ -204,29 +221,41 @@ impl Queues {
 
 // The two rights to one queue together show that what was taken is a beginning of what was put.
 fn join(queue: &Queue, put: &mut QueuePass, take: QueuePass)
-    requires put { IsPutPassFor queue.now put.old }
-    requires take { IsTakePassFor queue.now take }
-    ensures pass { IsPutPassFor queue.now put.new × ((view put.new).put ≡ (view put.old).put) }
+    requires put { IsPutPassFor (view put.old).purpose queue.now put.old }
+    requires take { IsTakePassFor (view take).purpose queue.now take }
+    ensures pass { IsPutPassFor (view put.old).purpose queue.now put.new × ((view put.new).put ≡ (view put.old).put) }
     ensures in_order { IsTakenInOrder (view take).taken (view put.old).put }
 {
     queue.absorb::<Roles>(put, take);
     queue.learn_as::<PutsJob>(put);
 }
 
-// One queue, with the right to put and the right to take.
-fn opened(alloc: Global) -> Result<(Queue, QueuePass, QueuePass), AllocError>
-    ensures put { IfOk result (λ opened. IsPutPassFor opened.0 opened.1 × ((view opened.1).put ≡ [])) }
-    ensures take { IfOk result (λ opened. IsTakePassFor opened.0 opened.2 × ((view opened.2).taken ≡ [])) }
+// One queue for this purpose, with the right to put and the right to take.
+fn opened(alloc: Global, purpose: Purpose) -> Result<(Queue, QueuePass, QueuePass), AllocError>
+    ensures put { IfOk result (λ opened. IsPutPassFor purpose opened.0 opened.1 × ((view opened.1).put ≡ [])) }
+    ensures take { IfOk result (λ opened. IsTakePassFor purpose opened.0 opened.2 × ((view opened.2).taken ≡ [])) }
 {
     let (queue, mut put) = Queue::ruled(alloc, CAPACITY)?;
-    let take = queue.another::<Roles>(&mut put);
+    let take = apart::<Brand>(&queue, &mut put, purpose);
     Ok((queue, put, take))
 }
 
-// A job into one queue.
+// The right to take, apart from the right to put, of a queue that from now on is for this purpose.
+fn apart<D: Purposed>(queue: &Queue, both: &mut QueuePass, purpose: Purpose) -> QueuePass
+    requires purpose { purpose ≡ D.purpose }
+    requires both { IsPassOf queue.now both.old × (view both.old ≡ known no_purpose true true [] []) }
+    ensures put { IsPassOf queue.now both.new × (view both.new ≡ putter purpose []) }
+    ensures take { IsPassOf queue.now result × (view result ≡ taker purpose []) }
+{
+    let _ = purpose;
+    queue.another::<Opens<D>>(both)
+}
+
+// A job that fits into one queue.
 fn push<R: Wait>(rt: &R, queue: &Queue, pass: &mut QueuePass, job: Job) -> Result<(), Job>
-    requires { IsPutPassFor queue.now pass.old }
-    ensures pass { IsPutPassFor queue.now pass.new }
+    requires pass { IsPutPassFor (view pass.old).purpose queue.now pass.old }
+    requires fits { Fits (view pass.old).purpose job }
+    ensures pass { IsPutPassFor (view pass.old).purpose queue.now pass.new }
     ensures put { OnOk result ((view pass.new).put ≡ (view pass.old).put ++ job ∷ []) }
     ensures back { IfErr result (λ back. (back ≡ job) × ((view pass.new).put ≡ (view pass.old).put)) }
     ensures full { OnErr result (WasFull (view pass.old).put) }
@@ -234,12 +263,13 @@ fn push<R: Wait>(rt: &R, queue: &Queue, pass: &mut QueuePass, job: Job) -> Resul
     queue.push_as::<PutsJob, R>(rt, pass, job)
 }
 
-// The oldest job of one queue.
+// The oldest job of one queue, which fits it.
 fn pop<R: Wait>(rt: &R, queue: &Queue, pass: &mut QueuePass) -> Option<Job>
-    requires { IsTakePassFor queue.now pass.old }
-    ensures pass { IsTakePassFor queue.now pass.new }
+    requires { IsTakePassFor (view pass.old).purpose queue.now pass.old }
+    ensures pass { IsTakePassFor (view pass.old).purpose queue.now pass.new }
     ensures taken { MatchOption result ((view pass.new).taken ≡ (view pass.old).taken)
         (λ job. (view pass.new).taken ≡ (view pass.old).taken ++ job ∷ []) }
+    ensures fits { IfSome result (Fits (view pass.old).purpose) }
 {
     queue.pop_as::<TakesJob, R>(rt, pass)
 }

@@ -1,6 +1,6 @@
 //! Which calls a caller may make: what a shard knows of the caller, without reading its journal where a flag says so.
 
-ghost use Rattle.std.specs.Prelude.{◌≡◌, ◌<◌, true, reverse};
+ghost use Rattle.std.specs.Prelude.{◌≡◌, ◌<◌, true, false, reverse};
 ghost use Rattle.semantics.specs.Reclamation.{is_inside, holds};
 ghost use Rattle.semantics.specs.ShardPlan.{KeepsRows};
 ghost use Rattle.semantics.specs.History.{Meets, meets};
@@ -35,6 +35,7 @@ impl Shard {
     pub fn meets(&self, who: &Caller, call: &Call) -> bool
         ensures may { result ≡ true → Meets self.now.plan (reverse self.now.journal) who.now call.now }
         ensures exact { KeepsRows self.now.plan.reserve → result ≡ meets self.now.plan (reverse self.now.journal) who.now call.now }
+        ensures no_rows { ¬ KeepsRows self.now.plan.reserve → result ≡ false }
     {
         if !self.keeps_rows() {
             return false;

@@ -225,6 +225,7 @@ pub(crate) fn meets_now(lock: &Lock, seat: &mut LockSeat, who: Caller, call: &Ca
     ensures may { result ≡ true → Meets seat.old.me.0.key.plan (own_entries who (view_of seat.old.me).seen) who call.now }
     ensures exact { KeepsRows seat.old.me.0.key.plan.reserve →
         result ≡ meets seat.old.me.0.key.plan (own_entries who (view_of seat.old.me).seen) who call.now }
+    ensures no_rows { ¬ KeepsRows seat.old.me.0.key.plan.reserve → result ≡ false }
 {
     seat.slot_mut(&lock.shared, 0).meets(who, call)
 }

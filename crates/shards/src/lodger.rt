@@ -1,6 +1,6 @@
 //! A shard in the slot of its word, with its seat at the order of all deeds.
 
-ghost use Rattle.std.specs.Prelude.{◌≡◌, ◌∷◌, ◌<◌, ◌^◌, [], true, reverse, length, IfOk, IfErr, OnErr};
+ghost use Rattle.std.specs.Prelude.{◌≡◌, ◌∷◌, ◌<◌, ◌^◌, [], true, false, reverse, length, IfOk, IfErr, OnErr};
 ghost use Rattle.semantics.specs.ShardPlan.{KeepsRows};
 ghost use Rattle.semantics.specs.History.{Meets, meets, IsLegalHistory, IsLegalJournal, IsJournalFull};
 ghost use Rattle.semantics.specs.CallerLaws.{own_entries};
@@ -107,6 +107,7 @@ impl Lodger {
         ensures may { result ≡ true → Meets self.now.key.plan (own_entries who (reverse self.now.journal)) who call.now }
         ensures exact { KeepsRows self.now.key.plan.reserve →
             result ≡ meets self.now.key.plan (own_entries who (reverse self.now.journal)) who call.now }
+        ensures no_rows { ¬ KeepsRows self.now.key.plan.reserve → result ≡ false }
     {
         laws::condition_is_own();
         self.shard.meets(&who, call)

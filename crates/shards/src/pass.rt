@@ -1,6 +1,6 @@
 //! What a caller has for its calls.
 
-ghost use Rattle.std.specs.Prelude.{◌≡◌, ◌<◌, ◌∷◌, ◌++◌, true, IfOk, IfErr, OnErr};
+ghost use Rattle.std.specs.Prelude.{◌≡◌, ◌<◌, ◌∷◌, ◌++◌, true, false, IfOk, IfErr, OnErr};
 ghost use Rattle.semantics.specs.ShardPlan.{KeepsRows};
 ghost use Rattle.semantics.specs.History.{Meets, meets, IsLegalHistory};
 ghost use Rattle.semantics.specs.declared.call.Call.TheVariants.{Enter};
@@ -136,6 +136,7 @@ impl<B: Naming> Pass<B> {
         ensures looked { HasLooked (B.plan number) (view_at self.old number) (view_at self.new number) }
         ensures may { result ≡ true → Meets (B.plan number) (own_at self.new number) self.new.who call.now }
         ensures exact { KeepsRows (B.plan number).reserve → result ≡ meets (B.plan number) (own_at self.new number) self.new.who call.now }
+        ensures no_rows { ¬ KeepsRows (B.plan number).reserve → result ≡ false }
         ensures did { self.new.deeds ≡ self.old.deeds }
     {
         self.parts[number as usize].may_call(rt, lock, self.who, call)

@@ -170,6 +170,7 @@ impl ShardPass {
         ensures looked { HasLooked self.old.key.plan self.old.view self.new.view }
         ensures may { result ≡ true → Meets self.old.key.plan self.new.view.own who call.now }
         ensures exact { KeepsRows self.old.key.plan.reserve → result ≡ meets self.old.key.plan self.new.view.own who call.now }
+        ensures no_rows { ¬ KeepsRows self.old.key.plan.reserve → result ≡ false }
     {
         self.take(rt, lock);
         let answer = self.meets(lock, who, call);
@@ -300,6 +301,7 @@ impl ShardPass {
         ensures same { self.new ≡ self.old }
         ensures may { result ≡ true → Meets self.old.key.plan self.old.view.own who call.now }
         ensures exact { KeepsRows self.old.key.plan.reserve → result ≡ meets self.old.key.plan self.old.view.own who call.now }
+        ensures no_rows { ¬ KeepsRows self.old.key.plan.reserve → result ≡ false }
     {
         meets_now(lock, &mut self.seat, who, call)
     }

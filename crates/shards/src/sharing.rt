@@ -13,9 +13,9 @@
 //! - *Give*: one swap writes four times the new length. If the word found had phase 2, one sleeper is woken.
 //!
 //! Whoever finds the phase other than 0 looks a dozen times more, with longer and longer pauses, since a call has the shard for some 50 ns; then it
-//! *waits*. To *wait* is to *mark* the word, a compare-exchange from phase 1 to phase 2, and then to sleep until the word changes. Who has waited takes the lock with
-//! phase 2 and not 1: others may still sleep, and its give wakes the next of them. So a wake is never lost: whoever sleeps has seen phase 2, and each give
-//! that finds phase 2 wakes one.
+//! *waits*. To *wait* is to *mark* the word, a compare-exchange from phase 1 to phase 2, and then to sleep until the word changes. Who has waited takes the
+//! lock with phase 2 and not 1: others may still sleep, and its give wakes the next of them. So a wake is never lost: whoever sleeps has seen phase 2,
+//! and each give that finds phase 2 wakes one.
 //!
 //! An Enter and the call behind it are made under one hold (`enter_then`), and one swap counts both: a give may bring any number of entries, if one caller
 //! made them all.
@@ -43,7 +43,7 @@
 //! all of its entries in that history (`Sees`), and they part again. `close` shows each shard to each pass that was handed in, puts the shard back for
 //! good (`Ends`, phase 3), and takes the table apart: the shard is in its slot then, with the history that the passes were shown.
 
-ghost use Rattle.std.specs.Prelude.{◌≡◌, ◌<◌, ◌∷◌, ◌++◌, true, IfOk, IfErr, OnErr};
+ghost use Rattle.std.specs.Prelude.{◌≡◌, ◌<◌, ◌∷◌, ◌++◌, true, false, IfOk, IfErr, OnErr};
 ghost use Rattle.semantics.specs.declared.call.Call.TheVariants.{Enter};
 ghost use Rattle.semantics.specs.History.{Meets, meets, shard_of_call};
 ghost use Rattle.semantics.specs.ShardPlan.{AreOptions, KeepsRows};
@@ -212,6 +212,7 @@ impl<B: Naming> Shards<B> {
             Meets (B.plan (shard_of_call call.now)) (own_at pass.new (shard_of_call call.now)) pass.new.who call.now }
         ensures exact { KeepsRows (B.plan (shard_of_call call.now)).reserve →
             result ≡ meets (B.plan (shard_of_call call.now)) (own_at pass.new (shard_of_call call.now)) pass.new.who call.now }
+        ensures no_rows { ¬ KeepsRows (B.plan (shard_of_call call.now)).reserve → result ≡ false }
         ensures did { pass.new.deeds ≡ pass.old.deeds }
     {
         pass.may_call(rt, self.lock(call.shard()), call.shard(), call)

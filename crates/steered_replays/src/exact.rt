@@ -1,13 +1,13 @@
 //! The replay of the shipped program in which commands take effect at exact moments.
 
-ghost use Rattle.std.specs.Prelude.{◌≡◌, ◌⊎◌, ◌↔◌, [], IfOk, OnOk, IfErr, IsErrOf, IsFalse};
+ghost use Rattle.std.specs.Prelude.{◌≡◌, ◌↔◌, [], IfOk, OnOk, IfErr, IsErrOf};
 ghost use Rattle.machine.specs.Running.{program_of};
 ghost use Rattle.maglev.specs.RingSize.{IsRingSize};
-ghost use Rattle.semantics.specs.ShardPlan.{KeepsRows, are_served_options, recorded};
+ghost use Rattle.semantics.specs.ShardPlan.{KeepsRows, recorded};
 ghost use Rattle.steer.specs.ShippedProgram.{shipped_image};
 ghost use Rattle.replay.specs.Accounted.{IsAccounted};
 ghost use Rattle.replay.specs.ExactReplays.{IsInTurn};
-ghost use Rattle.replay.specs.Parts.{HasNoTable};
+ghost use Rattle.replay.specs.Parts.{AreBadOptions};
 ghost use Rattle.replay.specs.UpdateFaults.{OfUpdate, IsWhyInTurn};
 ghost use Rattle.replay.specs.declared.fault.ReplayFault.TheVariants.{BadOptions, NoThread};
 ghost use Rattle.steered_replays.specs.SteeredRuns.{IsSteeredReplay};
@@ -36,15 +36,16 @@ pub fn exact_shipped_replay<G: Gate>(
 ) -> Result<Outcome, ReplayFault>
     requires size { IsRingSize size }
     requires image { record { version = verified.now.version; maps = verified.now.maps; code = verified.now.code } ≡ shipped_image size }
-    ensures accounted { IfOk result (IsAccounted (program_of verified.now options.shards) script.now (recorded recording options) capture.now.records.items) }
+    ensures accounted { IfOk result (IsAccounted (program_of verified.now options.shards) script.now (recorded recording options)
+        capture.now.records.items) }
     ensures steered { IfOk result (IsSteeredReplay size script.now (recorded recording options) capture.now.records.items) }
     ensures totals { IfOk result (λ outcome. outcome.counts.stopped ≡ 0 → AreTotals outcome) }
-    ensures in_turn { IfOk result (IsInTurn (program_of verified.now options.shards) script.now (recorded recording options) capture.now.records.items) }
+    ensures in_turn { IfOk result (IsInTurn (program_of verified.now options.shards) script.now (recorded recording options)
+        capture.now.records.items) }
     ensures updates { IfOk result (λ outcome. outcome.updates.items ≡ []) }
     ensures refused { IfErr result (OfUpdate (IsWhyInTurn verified.now.maps (recorded recording options) [])) }
     ensures served { OnOk result (KeepsRows options.journal) }
-    ensures bad_options { IsErrOf result BadOptions ↔
-        (IsFalse (are_served_options verified.now.maps options) ⊎ HasNoTable verified.now.maps script.now) }
+    ensures bad_options { IsErrOf result BadOptions ↔ AreBadOptions verified.now.maps options script.now }
     ensures no_thread { ¬ IsErrOf result NoThread }
 {
     replays_are_steered();

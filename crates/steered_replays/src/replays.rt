@@ -1,13 +1,13 @@
 //! The replay of which the laws on the shipped program speak, made.
 
-ghost use Rattle.std.specs.Prelude.{◌≡◌, ◌⊎◌, ◌<◌, ◌≤◌, ◌↔◌, [], length, IfOk, OnOk, IfErr, IsErrOf, IsFalse};
+ghost use Rattle.std.specs.Prelude.{◌≡◌, ◌<◌, ◌≤◌, ◌↔◌, [], length, IfOk, OnOk, IfErr, IsErrOf};
 ghost use Rattle.std.specs.List.{AllByRecursion};
 ghost use Rattle.machine.specs.Running.{program_of};
 ghost use Rattle.maglev.specs.RingSize.{IsRingSize};
-ghost use Rattle.semantics.specs.ShardPlan.{KeepsRows, are_served_options, recorded};
+ghost use Rattle.semantics.specs.ShardPlan.{KeepsRows, recorded};
 ghost use Rattle.steer.specs.ShippedProgram.{shipped_image};
 ghost use Rattle.replay.specs.Accounted.{IsAccounted};
-ghost use Rattle.replay.specs.Parts.{HasNoTable};
+ghost use Rattle.replay.specs.Parts.{AreBadOptions};
 ghost use Rattle.replay.specs.UpdateFaults.{OfUpdate, IsWhyByPass};
 ghost use Rattle.replay.specs.declared.fault.ReplayFault.TheVariants.{BadOptions};
 ghost use Rattle.steered_replays.specs.SteeredRuns.{IsOfCapture, IsSteeredReplay};
@@ -58,14 +58,14 @@ pub fn shipped_replay<R: Threads + Wait + Sync, G: Gate + Sync>(
 ) -> Result<Outcome, ReplayFault>
     requires size { IsRingSize size }
     requires image { record { version = verified.now.version; maps = verified.now.maps; code = verified.now.code } ≡ shipped_image size }
-    ensures accounted { IfOk result (IsAccounted (program_of verified.now options.shards) script.now (recorded recording options) capture.now.records.items) }
+    ensures accounted { IfOk result (IsAccounted (program_of verified.now options.shards) script.now (recorded recording options)
+        capture.now.records.items) }
     ensures steered { IfOk result (IsSteeredReplay size script.now (recorded recording options) capture.now.records.items) }
     ensures totals { IfOk result (λ outcome. outcome.counts.stopped ≡ 0 → AreTotals outcome) }
     ensures updates { IfOk result (λ outcome. outcome.updates.items ≡ []) }
     ensures refused { IfErr result (OfUpdate (IsWhyByPass verified.now.maps (recorded recording options) [])) }
     ensures served { OnOk result (KeepsRows options.journal) }
-    ensures bad_options { IsErrOf result BadOptions ↔
-        (IsFalse (are_served_options verified.now.maps options) ⊎ HasNoTable verified.now.maps script.now) }
+    ensures bad_options { IsErrOf result BadOptions ↔ AreBadOptions verified.now.maps options script.now }
 {
     replays_are_steered();
     totals_are_exact();

@@ -14,6 +14,7 @@ use Rattle.replay.specs.Accounted.{IsAccounted}
 use Rattle.replay.specs.declared.outcome.Outcome.{Outcome}
 use Rattle.guarantees.specs.ReaderReplays.{IsCaptured, SendsAsAtOpening}
 use Rattle.xlb_commands.specs.Replays.{frame_records, reader_file}
+use Rattle.xlb_commands.proofs.Outcomes.{options_fit}
 
 records_are : (sents : List Sent) → records_bytes sents ≡ frame_records (sent_frames sents)
 records_are [] = refl
@@ -30,8 +31,7 @@ pub reader_file_is : (maps : List MapDef) (code : List Insn) (script : List Comm
     → capture_bytes outcome.sent.items ≡ reader_file (program_over maps code options.shards) records
 reader_file_is maps code script options records outcome alike fit captured accounted none_set none unstopped =
     let fits : AreOptions maps options =
-    subst (λ (o : Options). AreOptions maps o) accounted.options_are
-    (subst (λ (m : List MapDef). AreOptions m outcome.journals.options) accounted.maps fit) in
+    options_fit (program_over maps code options.shards) script options records outcome fit accounted in
     let without : IsAccounted (program_over maps code options.shards) [] options records outcome =
     subst (λ (commands : List Command). IsAccounted (program_over maps code options.shards) commands options records outcome) none accounted in
     ap (λ (rest : List ℕ). header_bytes ++ rest)

@@ -1,7 +1,7 @@
 -- Which fault a command is refused with: the first of what it reads and does, in that order. `failed` stands for: the device of the files
 -- failed, once, in the command's last use of it.
-use Rattle.std.specs.Prelude.{◌≡◌, ◌≢◌, ◌↔◌, ◌≤◌, ◌<◌, ◌+◌, ◌^◌, ◌⊎◌, ℕ, ℤ, Bool, List, [], Option, Some, None, true, false, IsTrue, IsFalse, IsUtf8}
-use Rattle.std.specs.Prelude.{codes, length, take, String, string_bytes}
+use Rattle.std.specs.Prelude.{◌≡◌, ◌≢◌, ◌↔◌, ◌≤◌, ◌<◌, ◌+◌, ◌^◌, ◌⊎◌, ℕ, ℤ, Bool, List, [], Option, Some, None, true, false}
+use Rattle.std.specs.Prelude.{IsTrue, IsFalse, IsUtf8, codes, length, take, String, string_bytes}
 use Rattle.std.specs.Io.KnownBytes.{append_known}
 use Rattle.text_lines.specs.NoText.{IsNoText}
 use Rattle.folders.specs.declared.folder.FolderFault.TheVariants as folder
@@ -58,8 +58,7 @@ use Rattle.replay.specs.declared.fault.ReplayFault.{ReplayFault}
 use Rattle.replay.specs.declared.fault.ReplayFault.TheVariants as replays
 use Rattle.replay.specs.UpdateFaults.{OfUpdate, IsWhyByPass, IsWhyInTurn}
 use Rattle.replay.specs.declared.outcome.Outcome.{Outcome}
-use Rattle.replay.specs.Parts.{HasNoTable}
-use Rattle.replay.specs.Accounted.{IsAccounted}
+use Rattle.replay.specs.Parts.{AreBadOptions}
 use Rattle.command_line.specs.declared.commands.RunFiles.{RunFiles}
 use Rattle.command_line.specs.declared.commands.ReplayFiles.{ReplayFiles}
 use Rattle.command_line.specs.Reading.{text_of}
@@ -70,7 +69,7 @@ use Rattle.xlb_commands.specs.declared.fault.Fault.TheVariants as faults
 use Rattle.xlb_commands.specs.Files.{FileBytes, AreKept, AreOthersKept, IsImageFile, IsJudged}
 use Rattle.xlb_commands.specs.Clashes.{IsOver, clash_text}
 use Rattle.xlb_commands.specs.FaultLines.{fault_line, mistake_text}
-use Rattle.xlb_commands.specs.Replays.{AreWritten, IsProgramOf, IsScriptFile, IsScriptOf, IsCaptureOf, AreCaptureBytes, program_of_replay, recording_of}
+use Rattle.xlb_commands.specs.Replays.{AreWritten, IsProgramOf, IsScriptFile, IsScriptOf, IsCaptureOf, AreCaptureBytes, program_of_replay, recording_of, IsMade}
 use Rattle.xlb_commands.specs.Results.{IsDone, IsDoneInPart, IsReported, IsMistake, Stream, run_options, program_of_run, start_of_run}
 
 -- ---- files
@@ -357,9 +356,9 @@ pub record AreReplayInputs (files : FileBytes) (names : ReplayFiles) (ring : ℕ
 
 -- why the replay was given up: for its options exactly where no shards are opened with them, or the script has commands and the maps are not those of
 -- steering; else memory was refused, an update was refused or met a full journal, or a thread could not be started, of which an exact replay has none
-pub record IsGivenUp (exact : Bool) (maps : List MapDef) (updates : List MapUpdate) (script : List Command) (options : Options) (recording : Recording) (why : ReplayFault) :
-    Type 0 where
-  pub options_are_bad : (why ≡ replays.BadOptions) ↔ (IsFalse (are_served_options maps options) ⊎ HasNoTable maps script)
+pub record IsGivenUp (exact : Bool) (maps : List MapDef) (updates : List MapUpdate) (script : List Command) (options : Options) (recording : Recording)
+    (why : ReplayFault) : Type 0 where
+  pub options_are_bad : (why ≡ replays.BadOptions) ↔ AreBadOptions maps options script
   pub no_thread : exact ≡ true → ¬ (why ≡ replays.NoThread)
   pub by_pass : exact ≡ false → OfUpdate (IsWhyByPass maps (recorded recording options) updates) why
   pub in_turn : exact ≡ true → OfUpdate (IsWhyInTurn maps (recorded recording options) updates) why
@@ -381,9 +380,11 @@ pub data IsReplayRefusal (files after : FileBytes) (failed : Type 0) (names : Re
     (exact skip_long : Bool) (updates : List MapUpdate) (fault : Fault) : Type 0 where
   no_replay_program : AreKept files after → IsReplayProgramRefusal files failed (text_of names.image) ring fault
       → IsReplayRefusal files after failed names options recording ring exact skip_long updates fault
-  no_replay_script : (program : Contents) → AreKept files after → IsReplayProgram files (text_of names.image) ring program
-      → IsScriptRefusal files failed (text_of names.script) fault → IsReplayRefusal files after failed names options recording ring exact skip_long updates fault
+  no_replay_script : (program : Contents) → AreKept files after → IsReplayProgram files (text_of names.image) ring program → AreFitting program.maps updates
+      → IsScriptRefusal files failed (text_of names.script) fault
+      → IsReplayRefusal files after failed names options recording ring exact skip_long updates fault
   no_replay_capture : (program : Contents) (script : List Command) → AreKept files after → IsReplayProgram files (text_of names.image) ring program
+      → AreFitting program.maps updates
       → IsScriptOf files (text_of names.script) script → IsCaptureRefusal files failed skip_long names.capture.now fault
       → IsReplayRefusal files after failed names options recording ring exact skip_long updates fault
   given_up : (program : Contents) (script : List Command) (records : List Sent) (why : ReplayFault) → AreKept files after
@@ -392,11 +393,11 @@ pub data IsReplayRefusal (files after : FileBytes) (failed : Type 0) (names : Re
       → IsReplayRefusal files after failed names options recording ring exact skip_long updates fault
   not_reported : (program : Contents) (script : List Command) (records : List Sent) (outcome : Outcome) → AreKept files after
       → AreReplayInputs files names ring skip_long updates program script records
-      → IsAccounted (program_of_replay program options) script (recorded recording options) records outcome → outcome.updates.items ≡ updates
+      → IsMade exact (program_of_replay program options) updates script (recorded recording options) records outcome
       → LacksRoom (text_of names.journals) fault → IsReplayRefusal files after failed names options recording ring exact skip_long updates fault
   not_written_down : (program : Contents) (script : List Command) (records : List Sent) (outcome : Outcome)
       → AreReplayInputs files names ring skip_long updates program script records
-      → IsAccounted (program_of_replay program options) script (recorded recording options) records outcome → outcome.updates.items ≡ updates
+      → IsMade exact (program_of_replay program options) updates script (recorded recording options) records outcome
       → AreUnfiled files after failed names (capture_bytes outcome.sent.items) outcome.journals fault
       → IsReplayRefusal files after failed names options recording ring exact skip_long updates fault
 

@@ -163,16 +163,24 @@ abbrev pub SendsAlike : Contents → List (Option State) → List Command → Op
 SendsAlike image states script options records outcome = IsReader image.code states → script ≡ [] → outcome.counts.stopped ≡ 0 →
     capture_bytes outcome.sent.items ≡ reader_file (program_of_replay image options) records
 
+-- the replay made these updates before the commands of the script, and accounts for every record, every command and every entry of the journals; an exact
+-- one was made in turn, with the updates before the first frame
+pub record IsMade (exact : Bool) (program : Program) (updates : List MapUpdate) (script : List Command) (options : Options) (records : List Sent)
+    (outcome : Outcome) : Type 0 where
+  pub updates_are : outcome.updates.items ≡ updates
+  pub accounted : IsAccounted program script options records outcome
+  pub in_turn : exact ≡ true → IsInTurn program script options records outcome
+
 -- the headline, of what the verifier made of the image
 pub record KeepsHeadline (image : Contents) (script : List Command) (options : Options) (records : List Sent) (outcome : Outcome) : Type 0 where
   pub verified : Verified
   pub image_is : record { version = verified.version; maps = verified.maps; code = verified.code } ≡ image
   pub kept : Headline verified script options records outcome
 
--- The program may run; script and capture are read from their files; the replay made these updates before the first frame, and accounts for every
--- record, every command and every entry of the journals; an exact one was made in turn; the headline holds of it; without updates the shipped program
--- follows the steering rule, and one that only reads sends the same for every number of workers; the sent frames, the journals and the report are
--- written to their files; and what is printed are the counts, and the commands that were refused. Where no rows of journals are kept, the journals are known to proofs alone.
+-- The program may run; script and capture are read from their files; the replay was made, with these updates; the headline holds of it; without updates
+-- the shipped program follows the steering rule, and one that only reads sends the same for every number of workers; the sent frames, the journals and
+-- the report are written to their files; and what is printed are the counts, and the commands that were refused. Where no rows of journals are kept, the
+-- journals are known to proofs alone.
 pub record IsReplayed (before after : FileBytes) (files : ReplayFiles) (options : Options) (recording : Recording) (ring : ℕ)
     (exact skip_long : Bool) (updates : List MapUpdate) (printed : List ℕ) (refused : List Applied) : Type 0 where
   pub program : Contents
@@ -185,9 +193,7 @@ pub record IsReplayed (before after : FileBytes) (files : ReplayFiles) (options 
   pub records : List Sent
   pub capture : IsCaptureOf before skip_long files.capture.now records
   pub outcome : Outcome
-  pub updates_are : outcome.updates.items ≡ updates
-  pub accounted : IsAccounted (program_of_replay program options) script (recorded recording options) records outcome
-  pub in_turn : exact ≡ true → IsInTurn (program_of_replay program options) script (recorded recording options) records outcome
+  pub made : IsMade exact (program_of_replay program options) updates script (recorded recording options) records outcome
   pub headline : KeepsHeadline program script (recorded recording options) records outcome
   pub by_rule : updates ≡ [] → FollowsRule (text_of files.image) ring script (recorded recording options) records outcome
   pub readers : updates ≡ [] → SendsAlike program states script (recorded recording options) records outcome

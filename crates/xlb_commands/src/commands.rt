@@ -363,7 +363,7 @@ pub fn disassemble<D: Folder>(alloc: Global, folder: &mut D, image: &str) -> Res
     Ok(text(alloc, &image)?)
 }
 
-/// Tells whether the journals of a file are legal for the maps of an image.
+/// Whether the journals of a file are legal for the maps of an image.
 pub fn audit_file<D: Folder>(
     alloc: Global,
     folder: &mut D,

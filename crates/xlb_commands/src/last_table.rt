@@ -6,6 +6,7 @@ use conntrack::{SteeringMap, table_size};
 use journals::Journals;
 use semantics::{Call, Entry, Reply};
 use std::alloc::{AllocError, Global};
+use traffic::share_of;
 
 /// How many backends the map of backends has.
 const BACKENDS: u32 = 256;
@@ -61,11 +62,6 @@ fn elements_of(
     Ok(elements)
 }
 
-/// How many slots have this word.
-fn share_of(words: &[u32], word: u32) -> usize {
-    words.iter().filter(|other| **other == word).count()
-}
-
 /// The line of each backend that has slots of the lookup table at the end, if the maps are those of steering and the rows of the journals are kept.
 pub(crate) fn put_shares(
     alloc: Global,
@@ -81,7 +77,7 @@ pub(crate) fn put_shares(
     let words = elements_of(alloc, journals, SteeringMap::Ring, size)?;
     let records = elements_of(alloc, journals, SteeringMap::Backends, BACKENDS)?;
     for number in 0..BACKENDS {
-        let share = share_of(&words, number + 1);
+        let share = share_of(number + 1, &words);
         if share > 0 {
             let record = records.get(number as usize).copied().unwrap_or(0);
             let address = address_of(alloc, record)?;

@@ -1,9 +1,9 @@
 //! What `xlb replay` does with its files.
 
-ghost use Rattle.std.specs.Prelude.{◌≡◌, ◌≢◌, ◌==◌, ◌↔◌, ◌+◌, ◌++◌, ◌-◌, ◌<◌, ◌≤◌, ◌^◌, ◌⊎◌, ℕ, [], true, false};
-ghost use Rattle.std.specs.Prelude.{List, Some, None, IfErr, IfOk, IsErrOf, IsFalse, OnOk, length, string_bytes};
+ghost use Rattle.std.specs.Prelude.{◌≡◌, ◌≢◌, ◌==◌, ◌↔◌, ◌+◌, ◌++◌, ◌-◌, ◌<◌, ◌≤◌, ◌^◌, ℕ, [], true, false};
+ghost use Rattle.std.specs.Prelude.{List, Some, None, IfErr, IfOk, IsErrOf, OnOk, length, string_bytes};
 ghost use Rattle.semantics.specs.Safety.{IsSafeImage};
-ghost use Rattle.semantics.specs.ShardPlan.{KeepsRows, are_served_options, recorded};
+ghost use Rattle.semantics.specs.ShardPlan.{KeepsRows, recorded};
 ghost use Rattle.semantics.specs.declared.options.Recording.TheVariants.{Rows};
 ghost use Rattle.verifier.specs.Dataflow.{Accepts};
 ghost use Rattle.verifier.specs.Readers.{IsReader};
@@ -18,12 +18,9 @@ ghost use Rattle.control.specs.ScriptReading.{Explains};
 ghost use Rattle.control.specs.declared.command.Command.{Command};
 ghost use Rattle.control.specs.declared.fault.ControlFault.{ControlFault};
 ghost use Rattle.control.specs.declared.fault.ControlFault.TheVariants as scripts;
-ghost use Rattle.replay.specs.declared.fault.ReplayFault.TheVariants.{BadOptions, NoThread};
-ghost use Rattle.replay.specs.Accounted.{IsAccounted};
+ghost use Rattle.replay.specs.declared.fault.ReplayFault.TheVariants.{BadOptions};
 ghost use Rattle.replay.specs.Accounts.{frames_in};
-ghost use Rattle.replay.specs.ExactReplays.{IsInTurn};
-ghost use Rattle.replay.specs.Parts.{HasNoTable};
-ghost use Rattle.replay.specs.UpdateFaults.{OfUpdate, IsWhyByPass, IsWhyInTurn};
+ghost use Rattle.replay.specs.Parts.{AreBadOptions};
 ghost use Rattle.map_updates.specs.Misfits.{AreFitting};
 ghost use Rattle.xlb_commands.specs.Results.{IsReplayAnswer};
 ghost use Rattle.steered_replays.specs.SteeredRuns.{IsSteeredReplay};
@@ -32,9 +29,9 @@ ghost use Rattle.journals.specs.JournalText.{journals_text};
 ghost use Rattle.command_line.specs.Reading.{text_of};
 ghost use Rattle.xlb_commands.specs.Files.{AreKept, AreAllButKept};
 ghost use Rattle.xlb_commands.specs.Refused.{HasFailed, LacksRoom, AreUnfiled, IsReplayProgramRefusal, IsScriptFileRefusal, IsScriptRefusal};
-ghost use Rattle.xlb_commands.specs.Refused.{IsNoCapture, IsNoCaptureIn, IsCaptureRefusal, IsReplayRefusal};
-ghost use Rattle.xlb_commands.specs.Replays.{IsProgramOf, IsScriptOf, IsScriptFile, IsCaptureIn, IsCaptureOf, HasBytes, FollowsRule, IsByRule, reader_file, recording_of};
-ghost use Rattle.xlb_commands.specs.Replays.{counts_text, refusals_text, AreWritten};
+ghost use Rattle.xlb_commands.specs.Refused.{IsGivenUp, IsNoCapture, IsNoCaptureIn, IsCaptureRefusal, IsReplayRefusal};
+ghost use Rattle.xlb_commands.specs.Replays.{IsProgramOf, IsScriptOf, IsScriptFile, IsCaptureIn, IsCaptureOf, IsMade, HasBytes};
+ghost use Rattle.xlb_commands.specs.Replays.{FollowsRule, IsByRule, SendsAlike, recording_of, counts_text, refusals_text, AreWritten};
 ghost use Rattle.xlb_commands.specs.RecordReports.{form_of, report_text};
 
 use crate::commands::{bytes_of, judged_of};
@@ -280,15 +277,11 @@ fn replay_at<R: Threads + Wait + Sync, G: Gate + Sync>(
     gate: &G,
 ) -> Result<Outcome, ReplayFault>
     requires fit { AreFitting verified.now.maps updates.now }
-    ensures accounted { IfOk result (IsAccounted (program_of verified.now options.shards) script.now (recorded recording options) capture.now.records.items) }
-    ensures in_turn { exact ≡ true → IfOk result (IsInTurn (program_of verified.now options.shards) script.now (recorded recording options) capture.now.records.items) }
-    ensures updates { IfOk result (λ outcome. outcome.updates.items ≡ updates.now) }
-    ensures refused { exact ≡ false → IfErr result (OfUpdate (IsWhyByPass verified.now.maps (recorded recording options) updates.now)) }
-    ensures refused_exact { exact ≡ true → IfErr result (OfUpdate (IsWhyInTurn verified.now.maps (recorded recording options) updates.now)) }
+    ensures made { IfOk result (IsMade exact (program_of verified.now options.shards) updates.now script.now (recorded recording options)
+        capture.now.records.items) }
+    ensures given_up { IfErr result (IsGivenUp exact verified.now.maps updates.now script.now options recording) }
     ensures served { OnOk result (KeepsRows options.journal) }
-    ensures bad_options { IsErrOf result BadOptions ↔
-        (IsFalse (are_served_options verified.now.maps options) ⊎ HasNoTable verified.now.maps script.now) }
-    ensures no_thread { exact ≡ true → ¬ IsErrOf result NoThread }
+    ensures bad_options { IsErrOf result BadOptions ↔ AreBadOptions verified.now.maps options script.now }
 {
     if exact {
         replay_in_turn(
@@ -316,17 +309,13 @@ fn shipped_replay_at<R: Threads + Wait + Sync, G: Gate + Sync>(
 ) -> Result<Outcome, ReplayFault>
     requires size { IsRingSize ring }
     requires image { record { version = verified.now.version; maps = verified.now.maps; code = verified.now.code } ≡ shipped_image ring }
-    ensures accounted { IfOk result (IsAccounted (program_of verified.now options.shards) script.now (recorded recording options) capture.now.records.items) }
-    ensures in_turn { exact ≡ true → IfOk result (IsInTurn (program_of verified.now options.shards) script.now (recorded recording options) capture.now.records.items) }
+    ensures made { IfOk result (IsMade exact (program_of verified.now options.shards) [] script.now (recorded recording options)
+        capture.now.records.items) }
     ensures steered { IfOk result (IsSteeredReplay ring script.now (recorded recording options) capture.now.records.items) }
     ensures totals { IfOk result (λ outcome. outcome.counts.stopped ≡ 0 → AreTotals outcome) }
-    ensures updates { IfOk result (λ outcome. outcome.updates.items ≡ []) }
-    ensures refused { exact ≡ false → IfErr result (OfUpdate (IsWhyByPass verified.now.maps (recorded recording options) [])) }
-    ensures refused_exact { exact ≡ true → IfErr result (OfUpdate (IsWhyInTurn verified.now.maps (recorded recording options) [])) }
+    ensures given_up { IfErr result (IsGivenUp exact verified.now.maps [] script.now options recording) }
     ensures served { OnOk result (KeepsRows options.journal) }
-    ensures bad_options { IsErrOf result BadOptions ↔
-        (IsFalse (are_served_options verified.now.maps options) ⊎ HasNoTable verified.now.maps script.now) }
-    ensures no_thread { exact ≡ true → ¬ IsErrOf result NoThread }
+    ensures bad_options { IsErrOf result BadOptions ↔ AreBadOptions verified.now.maps options script.now }
 {
     if exact {
         exact_shipped_replay(
@@ -356,16 +345,12 @@ fn shipped_outcome<R: Threads + Wait + Sync, G: Gate + Sync>(
     requires size { IsRingSize ring }
     requires image { record { version = verified.now.version; maps = verified.now.maps; code = verified.now.code } ≡ shipped_image ring }
     requires fit { AreFitting verified.now.maps updates.now }
-    ensures accounted { IfOk result (IsAccounted (program_of verified.now options.shards) script.now (recorded recording options) capture.now.records.items) }
-    ensures in_turn { exact ≡ true → IfOk result (IsInTurn (program_of verified.now options.shards) script.now (recorded recording options) capture.now.records.items) }
+    ensures made { IfOk result (IsMade exact (program_of verified.now options.shards) updates.now script.now (recorded recording options)
+        capture.now.records.items) }
     ensures steered { updates.now ≡ [] → IfOk result (IsByRule ring script.now (recorded recording options) capture.now.records.items) }
-    ensures updates { IfOk result (λ outcome. outcome.updates.items ≡ updates.now) }
-    ensures refused { exact ≡ false → IfErr result (OfUpdate (IsWhyByPass verified.now.maps (recorded recording options) updates.now)) }
-    ensures refused_exact { exact ≡ true → IfErr result (OfUpdate (IsWhyInTurn verified.now.maps (recorded recording options) updates.now)) }
+    ensures given_up { IfErr result (IsGivenUp exact verified.now.maps updates.now script.now options recording) }
     ensures served { OnOk result (KeepsRows options.journal) }
-    ensures bad_options { IsErrOf result BadOptions ↔
-        (IsFalse (are_served_options verified.now.maps options) ⊎ HasNoTable verified.now.maps script.now) }
-    ensures no_thread { exact ≡ true → ¬ IsErrOf result NoThread }
+    ensures bad_options { IsErrOf result BadOptions ↔ AreBadOptions verified.now.maps options script.now }
 {
     if updates.is_empty() {
         return shipped_replay_at(
@@ -397,16 +382,13 @@ fn outcome_of<R: Threads + Wait + Sync, G: Gate + Sync>(
     requires shipped { text_of image ≡ None →
         record { version = verified.now.version; maps = verified.now.maps; code = verified.now.code } ≡ shipped_image ring }
     requires fit { AreFitting verified.now.maps updates.now }
-    ensures accounted { IfOk result (IsAccounted (program_of verified.now options.shards) script.now (recorded recording options) capture.now.records.items) }
-    ensures in_turn { exact ≡ true → IfOk result (IsInTurn (program_of verified.now options.shards) script.now (recorded recording options) capture.now.records.items) }
-    ensures steered { updates.now ≡ [] → IfOk result (FollowsRule (text_of image.entry) ring script.now (recorded recording options) capture.now.records.items) }
-    ensures updates { IfOk result (λ outcome. outcome.updates.items ≡ updates.now) }
-    ensures refused { exact ≡ false → IfErr result (OfUpdate (IsWhyByPass verified.now.maps (recorded recording options) updates.now)) }
-    ensures refused_exact { exact ≡ true → IfErr result (OfUpdate (IsWhyInTurn verified.now.maps (recorded recording options) updates.now)) }
+    ensures made { IfOk result (IsMade exact (program_of verified.now options.shards) updates.now script.now (recorded recording options)
+        capture.now.records.items) }
+    ensures steered { updates.now ≡ [] → IfOk result (FollowsRule (text_of image.entry) ring script.now (recorded recording options)
+        capture.now.records.items) }
+    ensures given_up { IfErr result (IsGivenUp exact verified.now.maps updates.now script.now options recording) }
     ensures served { OnOk result (KeepsRows options.journal) }
-    ensures bad_options { IsErrOf result BadOptions ↔
-        (IsFalse (are_served_options verified.now.maps options) ⊎ HasNoTable verified.now.maps script.now) }
-    ensures no_thread { exact ≡ true → ¬ IsErrOf result NoThread }
+    ensures bad_options { IsErrOf result BadOptions ↔ AreBadOptions verified.now.maps options script.now }
 {
     match image {
         Some(_) => replay_at(
@@ -448,20 +430,18 @@ fn outcome_with<R: Threads + Wait + Sync, G: Gate + Sync>(
     requires shipped { text_of image ≡ None →
         record { version = verified.now.version; maps = verified.now.maps; code = verified.now.code } ≡ shipped_image ring }
     requires fit { AreFitting verified.now.maps updates.now }
-    ensures accounted { IfOk result (IsAccounted (program_of verified.now options.shards) script.now (recorded recording options) capture.now.records.items) }
-    ensures in_turn { exact ≡ true → IfOk result (IsInTurn (program_of verified.now options.shards) script.now (recorded recording options) capture.now.records.items) }
+    ensures made { IfOk result (IsMade exact (program_of verified.now options.shards) updates.now script.now (recorded recording options)
+        capture.now.records.items) }
     ensures accepted { Accepts verified.now.version verified.now.maps verified.now.code verified.now.states }
     ensures headline { IfOk result (Headline verified.now script.now (recorded recording options) capture.now.records.items) }
-    ensures readers { updates.now ≡ [] → IfOk result (λ outcome. IsReader verified.now.code verified.now.states → script.now ≡ [] →
-        outcome.counts.stopped ≡ 0 → capture_bytes outcome.sent.items ≡ reader_file (program_of verified.now options.shards) capture.now.records.items) }
-    ensures steered { updates.now ≡ [] → IfOk result (FollowsRule (text_of image.entry) ring script.now (recorded recording options) capture.now.records.items) }
-    ensures updates { IfOk result (λ outcome. outcome.updates.items ≡ updates.now) }
-    ensures refused { exact ≡ false → IfErr result (OfUpdate (IsWhyByPass verified.now.maps (recorded recording options) updates.now)) }
-    ensures refused_exact { exact ≡ true → IfErr result (OfUpdate (IsWhyInTurn verified.now.maps (recorded recording options) updates.now)) }
+    ensures readers { updates.now ≡ [] → IfOk result (SendsAlike
+        (record { version = verified.now.version; maps = verified.now.maps; code = verified.now.code }) verified.now.states script.now
+        (recorded recording options) capture.now.records.items) }
+    ensures steered { updates.now ≡ [] → IfOk result (FollowsRule (text_of image.entry) ring script.now (recorded recording options)
+        capture.now.records.items) }
+    ensures given_up { IfErr result (IsGivenUp exact verified.now.maps updates.now script.now options recording) }
     ensures served { OnOk result (KeepsRows options.journal) }
-    ensures bad_options { IsErrOf result BadOptions ↔
-        (IsFalse (are_served_options verified.now.maps options) ⊎ HasNoTable verified.now.maps script.now) }
-    ensures no_thread { exact ≡ true → ¬ IsErrOf result NoThread }
+    ensures bad_options { IsErrOf result BadOptions ↔ AreBadOptions verified.now.maps options script.now }
 {
     headline(verified);
     readers_send_alike(verified);

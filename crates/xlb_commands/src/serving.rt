@@ -164,7 +164,7 @@ fn mistake_text(alloc: Global, place: usize, misfit: Misfit) -> Result<String, A
     format!(in alloc; "error: update {number}: {why}\n")
 }
 
-/// Tells of an update that the image's maps do not take. Where memory is refused, 8 is printed in its place.
+/// Prints which update the image's maps do not take, and why. Where memory is refused, 8 is printed in its place.
 fn mistake<E: Sink>(alloc: Global, place: usize, misfit: Misfit, err: &mut E) -> u8
     requires { E.failure_count err.old < 2 ^ 64 - 1 }
     ensures status { result ≡ 2 }
@@ -177,7 +177,7 @@ fn mistake<E: Sink>(alloc: Global, place: usize, misfit: Misfit, err: &mut E) ->
     MISTAKEN
 }
 
-/// Tells of a file that would be written over another one. Where memory is refused, 8 is printed in its place.
+/// Prints which file would be written over another one. Where memory is refused, 8 is printed in its place.
 fn refuse_clash<E: Sink>(alloc: Global, clash: &Clash<'_>, err: &mut E) -> u8
     requires { E.failure_count err.old < 2 ^ 64 - 1 }
     ensures status { result ≡ 2 }
@@ -278,9 +278,9 @@ fn status_of(is_refused: bool) -> u8
 /// Does what the settings say, over the files of a folder: prints what the command prints and gives 0; or prints the line of the first fault of what
 /// the command reads on `err`, with notes for people below it, and gives 1. The fault is 7 where what the command prints could not be printed; the line is
 /// that of fault 8 where there was no memory for it. Where commands of a replay's script were refused, the report is printed and names them, and the
-/// status is 1. Where the image's maps do not take an update of a run or a replay, or a file that is to be written is another one of the command's, that is printed on
-/// `err`, and the status is 2, as of other mistakes in the command's words. After the report of a run, of a
-/// replay, or of tables, lines for people may follow on `err`.
+/// status is 1. Where the image's maps do not take an update of a run or a replay, or a file that is to be written is another one of the command's,
+/// that is printed on `err`, and the status is 2, as of other mistakes in the command's words. After the report of a run, of a replay, or of tables,
+/// lines for people may follow on `err`.
 pub fn serve<R: Threads + Wait + Sync, D: Folder, P: Progress + Sync, O: Sink, E: Sink>(
     rt: &R,
     alloc: Global,
@@ -296,7 +296,8 @@ pub fn serve<R: Threads + Wait + Sync, D: Folder, P: Progress + Sync, O: Sink, E
     ensures status { result < 3 }
     ensures done { result ≡ 0 → (text : List ℕ) × IsDone (D.holds folder.old) (D.holds folder.new) settings.now text
         × (O.held out.new ≡ append_known (O.held out.old) text) }
-    ensures noted { result ≡ 0 → IsNoted settings.now (stream (E.held err.old) (E.failure_count err.old)) (stream (E.held err.new) (E.failure_count err.new)) }
+    ensures noted { result ≡ 0 → IsNoted settings.now (stream (E.held err.old) (E.failure_count err.old))
+        (stream (E.held err.new) (E.failure_count err.new)) }
     ensures apart { result < 2 → AreApart settings.now }
     ensures kept { KeepsFiles (D.holds folder.old) (D.holds folder.new) settings.now }
     ensures refused { result ≡ 1 → IsRefused (D.holds folder.old) (D.holds folder.new)

@@ -1,6 +1,7 @@
-use Rattle.std.proofs.Common.{◌≡◌, ◌+◌, ◌-◌, length, sym, ◌∙◌, subst, arith}
+use Rattle.std.proofs.Common.{◌≡◌, ◌+◌, ◌-◌, List, length, sym, ap, ◌∙◌, subst, arith}
 use Rattle.std.proofs.lemmas.Result.{IfOk-weaker}
 use Rattle.machine.specs.Running.{program_of}
+use Rattle.control.specs.declared.command.Command.{Command}
 use Rattle.semantics.specs.Each.{Each}
 use Rattle.replay.specs.Crews.{IsHandled}
 use Rattle.replay.specs.Parts.{rounds_of}
@@ -13,6 +14,7 @@ use Rattle.replay.proofs.setting.run_threads.Goals as goal
 pub run_all-requires-clause-ready : goal.run_all-requires-clause-ready
 run_all-requires-clause-ready g c κs outlives = record {
   passes = c.requires.passes;
+  for_all = c.requires.jobs;
   within = (let below = c.requires.started.within in let many = c.requires.starts in omega (arith, below, many));
   states_are = λ place x there.
       let is_new = c.requires.states place x there in
@@ -23,6 +25,13 @@ run_all-requires-clause-ready g c κs outlives = record {
         is_idle = new_is_idle g.B.Naming.count (0 + place) c.args.setting.runner.now.shards.now.options (pass_in x) (omega (arith, inside, many)) is_new;
       };
 }
+
+pub run_all-requires-clause-actors : goal.run_all-requires-clause-actors
+run_all-requires-clause-actors g c κs outlives =
+    let workers = sym c.requires.passes.workers_are in (
+      (workers, c.requires.jobs.1 ∙ c.requires.starts ∙ ap (λ (script : List Command). length script) (sym c.requires.started.script_is)),
+      (c.requires.unused, ap (λ n. n + 1) workers),
+    )
 
 pub returns-clause-count : goal.returns-clause-count
 returns-clause-count g c =

@@ -1,4 +1,4 @@
-use Rattle.std.proofs.Common.{rules, ◌≡◌, ◌∙◌, ◌+◌, ℕ, zero, suc, Bool, List, Option, Some, None, Result, Err, ap, refl, subst, sym, length, length-append, add-one}
+use Rattle.std.proofs.Common.{rules, ◌≡◌, ◌∙◌, ◌+◌, ℕ, zero, suc, Bool, List, Option, Some, None, ap, refl, subst, sym, length, length-append, add-one}
 use Rattle.std.proofs.lemmas.Result.{err_from_is_err_and}
 use Rattle.ebpf_decode.specs.ImageContents.{Contents}
 use Rattle.semantics.specs.declared.options.Options.{Options}
@@ -11,7 +11,6 @@ use Rattle.control.specs.declared.command.Command.{Command}
 use Rattle.journals.specs.JournalsView.{JournalsView}
 use Rattle.replay.specs.Accounts.{ends_of}
 use Rattle.replay.specs.Shares.{frames_of}
-use Rattle.replay.specs.declared.fault.ReplayFault.{ReplayFault}
 use Rattle.replay.specs.declared.outcome.Outcome.{Outcome}
 use Rattle.replay.specs.declared.runner.Ran.{Ran}
 use Rattle.command_line.specs.declared.commands.ReplayFiles.{ReplayFiles}
@@ -80,7 +79,7 @@ length_ends frames workers runs (suc count) =
 
 pub left_of-requires-clause-ends : goal.left_of-requires-clause-ends
 left_of-requires-clause-ends g c =
-    let told = c.in-Ok.ensures.accounted in
+    let told = c.in-Ok.ensures.made.accounted in
     ap length told.ends ∙ length_ends (frames_of c.in_ok-capture.capture.records.items) c.args.options.workers told.runs (length c.in_ok-capture.capture.records.items)
 
 -- where no image was named, the program is the shipped one
@@ -112,9 +111,7 @@ returns-clause-done g c = (
     records = c.in_ok-capture.capture.records.items;
     capture = capture_before _ _ _ c.program_of.ensures.kept c.script_of.ensures.kept _ _ _ c.in_ok-capture.ensures.capture;
     outcome = c.in-Ok.outcome;
-    updates_are = c.in-Ok.ensures.updates;
-    accounted = c.in-Ok.ensures.accounted;
-    in_turn = c.in-Ok.ensures.in_turn;
+    made = c.in-Ok.ensures.made;
     headline = record { verified = c.in_ok-verified.verified; image_is = refl; kept = c.in-Ok.ensures.headline };
     by_rule = c.in-Ok.ensures.steered;
     readers = c.in-Ok.ensures.readers;
@@ -133,7 +130,7 @@ returns-clause-done g c = (
 
 pub left_of-requires-clause-rows : goal.left_of-requires-clause-rows
 left_of-requires-clause-rows g c = λ file is.
-    subst (λ (o : Options). KeepsRows o.journal) (sym c.in-Ok.ensures.accounted.options_are)
+    subst (λ (o : Options). KeepsRows o.journal) (sym c.in-Ok.ensures.made.accounted.options_are)
     (subst (λ (r : Recording). KeepsRows (room_for r c.args.options.journal)) (sym (c.requires.rows file is)) c.in-Ok.ensures.served)
 
 pub returns-clause-kept : goal.returns-clause-kept
@@ -152,12 +149,6 @@ inputs a b c names ring skip_long updates program script records first second fi
   capture_is = capture_before a b c first second skip_long names.capture.now records captured;
 }
 
-abbrev result_of : (A : Type 0) → ReplayFault → Result A ReplayFault
-result_of A why = Err why
-
-same_fault : {A : Type 0} (why other : ReplayFault) → result_of A why ≡ result_of A other → why ≡ other
-same_fault why other e = cc
-
 pub returns-in_err-verified-clause-refused : goal.returns-in_err-verified-clause-refused
 returns-in_err-verified-clause-refused g c =
     let p = err_from_is_err_and c.from_residual.result c.from_residual.ensures.1 in
@@ -165,23 +156,25 @@ returns-in_err-verified-clause-refused g c =
 
 pub returns-in_err-script-clause-refused : goal.returns-in_err-script-clause-refused
 returns-in_err-script-clause-refused g c =
+    let fits : AreFitting c.in_ok-verified.verified.maps c.args.updates.now = search rules in
     let program : Contents =
     record { version = c.in_ok-verified.verified.version; maps = c.in_ok-verified.verified.maps; code = c.in_ok-verified.verified.code } in
     let p = err_from_is_err_and c.from_residual-in_err-script.result c.from_residual-in_err-script.ensures.1 in
     rw (p.1, p.2)
     (no_replay_script program (kept_twice _ _ _ c.program_of.ensures.kept c.script_of.ensures.kept)
-    (record { is = c.in_ok-verified.ensures.program; safe = c.in_ok-verified.ensures.safe })
+    (record { is = c.in_ok-verified.ensures.program; safe = c.in_ok-verified.ensures.safe }) fits
     (script_refusal_before _ _ _ _ _ _ c.program_of.ensures.kept (failed_since _ _ _ c.in_ok-verified.ensures.steady) c.in_err-script.ensures.refused))
 
 pub returns-in_err-capture-clause-refused : goal.returns-in_err-capture-clause-refused
 returns-in_err-capture-clause-refused g c =
+    let fits : AreFitting c.in_ok-verified.verified.maps c.args.updates.now = search rules in
     let program : Contents =
     record { version = c.in_ok-verified.verified.version; maps = c.in_ok-verified.verified.maps; code = c.in_ok-verified.verified.code } in
     let p = err_from_is_err_and c.from_residual-in_err-capture.result c.from_residual-in_err-capture.ensures.1 in
     rw (p.1, p.2)
     (no_replay_capture program c.in_ok-script.script
     (kept_twice _ _ _ (kept_twice _ _ _ c.program_of.ensures.kept c.script_of.ensures.kept) c.capture_of.ensures.kept)
-    (record { is = c.in_ok-verified.ensures.program; safe = c.in_ok-verified.ensures.safe })
+    (record { is = c.in_ok-verified.ensures.program; safe = c.in_ok-verified.ensures.safe }) fits
     (script_before _ _ c.program_of.ensures.kept _ _ c.in_ok-script.ensures.script)
     (capture_refusal_before _ _ _ _ _ _ _ (kept_twice _ _ _ c.program_of.ensures.kept c.script_of.ensures.kept)
     (λ failed. failed_since _ _ _ c.in_ok-verified.ensures.steady (failed_since _ _ _ c.in_ok-script.ensures.steady failed))
@@ -192,18 +185,11 @@ returns-in-Err-clause-refused g c =
     let fits : AreFitting c.in_ok-verified.verified.maps c.args.updates.now = search rules in
     let program : Contents =
     record { version = c.in_ok-verified.verified.version; maps = c.in_ok-verified.verified.maps; code = c.in_ok-verified.verified.code } in
-    let why = c.in-Err.ensures.bad_options in
     given_up program c.in_ok-script.script c.in_ok-capture.capture.records.items c.in-Err.fault
     (kept_twice _ _ _ (kept_twice _ _ _ c.program_of.ensures.kept c.script_of.ensures.kept) c.capture_of.ensures.kept)
     (inputs _ _ _ c.args.files.now c.args.ring c.args.skip_long c.args.updates.now program _ _ c.program_of.ensures.kept c.script_of.ensures.kept fits
     (record { is = c.in_ok-verified.ensures.program; safe = c.in_ok-verified.ensures.safe }) c.in_ok-script.ensures.script c.in_ok-capture.ensures.capture)
-    (record {
-      options_are_bad = ((λ e. why.0 (ap (λ (fault : ReplayFault). Err fault) e)), (λ broken. same_fault _ _ (why.1 broken)));
-      by_pass = c.in-Err.ensures.refused;
-      in_turn = c.in-Err.ensures.refused_exact;
-      no_thread = λ exact e. c.in-Err.ensures.no_thread exact (ap (λ (fault : ReplayFault). Err fault) e);
-    })
-    c.given_up.ensures
+    c.in-Err.ensures.given_up c.given_up.ensures
 
 pub returns-in_err-left-clause-refused : goal.returns-in_err-left-clause-refused
 returns-in_err-left-clause-refused g c =
@@ -216,7 +202,7 @@ returns-in_err-left-clause-refused g c =
     (kept_twice _ _ _ (kept_twice _ _ _ c.program_of.ensures.kept c.script_of.ensures.kept) c.capture_of.ensures.kept)
     (inputs _ _ _ c.args.files.now c.args.ring c.args.skip_long c.args.updates.now program _ _ c.program_of.ensures.kept c.script_of.ensures.kept fits
     (record { is = c.in_ok-verified.ensures.program; safe = c.in_ok-verified.ensures.safe }) c.in_ok-script.ensures.script c.in_ok-capture.ensures.capture)
-    c.in-Ok.ensures.accounted c.in-Ok.ensures.updates c.in_err-left.ensures.refused)
+    c.in-Ok.ensures.made c.in_err-left.ensures.refused)
 
 pub returns-in_err-write_files-clause-refused : goal.returns-in_err-write_files-clause-refused
 returns-in_err-write_files-clause-refused g c =
@@ -228,7 +214,7 @@ returns-in_err-write_files-clause-refused g c =
     (not_written_down program c.in_ok-script.script c.in_ok-capture.capture.records.items c.in-Ok.outcome
     (inputs _ _ _ c.args.files.now c.args.ring c.args.skip_long c.args.updates.now program _ _ c.program_of.ensures.kept c.script_of.ensures.kept fits
     (record { is = c.in_ok-verified.ensures.program; safe = c.in_ok-verified.ensures.safe }) c.in_ok-script.ensures.script c.in_ok-capture.ensures.capture)
-    c.in-Ok.ensures.accounted c.in-Ok.ensures.updates
+    c.in-Ok.ensures.made
     (unfiled_before _ _ _ _ _ _ _ _ _ _ _ _ c.program_of.ensures.kept c.script_of.ensures.kept c.capture_of.ensures.kept
     (λ failed. failed_since _ _ _ c.in_ok-verified.ensures.steady
     (failed_since _ _ _ c.in_ok-script.ensures.steady (failed_since _ _ _ c.in_ok-capture.ensures.steady failed)))

@@ -1,5 +1,5 @@
-use Rattle.std.proofs.Common.{◌-◌, ◌^◌, ◌≤◌, length}
-use Rattle.folders.proofs.files.read_front.Given as goal
+use Rattle.std.proofs.Common.{◌-◌, ◌≤◌, length}
+use Rattle.folders.proofs.files.read_on.Given as goal
 
 pub record Kept (g : goal.Over) (l : goal.Live-reading g) : Type 0 where
   pub few : length l.bytes.items ≤ l.most

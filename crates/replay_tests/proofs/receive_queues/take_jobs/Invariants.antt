@@ -1,6 +1,6 @@
 use Rattle.std.proofs.Common.{◌≤◌}
 use Rattle.rx_queues.specs.Passes.{IsTakePassOf}
-use Rattle.replay_tests.proofs.receive_queues.take_frames.Given as goal
+use Rattle.replay_tests.proofs.receive_queues.take_jobs.Given as goal
 
 abbrev pub invariant-takes : goal.invariant-takes
 invariant-takes g l = IsTakePassOf l.queues l.pass × (l.next ≤ 1000000)

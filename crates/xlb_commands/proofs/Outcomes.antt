@@ -1,0 +1,60 @@
+-- A replay that was made or given up, from the clauses of the one that makes it.
+use Rattle.std.proofs.Common.{◌≡◌, ◌↔◌, ℕ, Bool, true, false, List, Result, Ok, Err, ap, subst}
+use Rattle.std.specs.Prelude.{IfOk, IfErr, IsErrOf}
+use Rattle.ebpf_decode.specs.declared.map.MapDef.{MapDef}
+use Rattle.semantics.specs.Program.{Program}
+use Rattle.semantics.specs.ShardPlan.{AreOptions, recorded}
+use Rattle.semantics.specs.declared.options.Options.{Options}
+use Rattle.semantics.specs.declared.options.Recording.{Recording}
+use Rattle.map_updates.specs.declared.update.MapUpdate.{MapUpdate}
+use Rattle.wire.specs.declared.records.Sent.{Sent}
+use Rattle.control.specs.declared.command.Command.{Command}
+use Rattle.replay.specs.Accounted.{IsAccounted}
+use Rattle.replay.specs.ExactReplays.{IsInTurn}
+use Rattle.replay.specs.Parts.{AreBadOptions}
+use Rattle.replay.specs.UpdateFaults.{OfUpdate, IsWhyByPass, IsWhyInTurn}
+use Rattle.replay.specs.declared.fault.ReplayFault.{ReplayFault}
+use Rattle.replay.specs.declared.fault.ReplayFault.TheVariants.{BadOptions, NoThread}
+use Rattle.replay.specs.declared.outcome.Outcome.{Outcome}
+use Rattle.xlb_commands.specs.Refused.{IsGivenUp}
+use Rattle.xlb_commands.specs.Replays.{IsMade}
+
+abbrev pub Made : Type 0
+Made = Result Outcome ReplayFault
+
+pub not_both : (test : Bool) → test ≡ true → test ≡ false → ⊥
+not_both test is isnt = cc
+
+abbrev failed : ReplayFault → Made
+failed why = Err why
+
+same_fault : (why other : ReplayFault) → failed why ≡ failed other → why ≡ other
+same_fault why other e = cc
+
+pub made : (exact : Bool) (program : Program) (updates : List MapUpdate) (script : List Command) (options : Options) (records : List Sent)
+    (result : Made) → IfOk result (IsAccounted program script options records)
+    → (exact ≡ true → IfOk result (IsInTurn program script options records)) → IfOk result (λ outcome. outcome.updates.items ≡ updates)
+    → IfOk result (IsMade exact program updates script options records)
+made exact program updates script options records (Ok outcome) accounted in_turn are =
+    record { updates_are = are; accounted = accounted; in_turn = in_turn }
+made exact program updates script options records (Err why) accounted in_turn are = tt
+
+pub given_up : (exact : Bool) (maps : List MapDef) (updates : List MapUpdate) (script : List Command) (options : Options) (recording : Recording)
+    (result : Made) → (IsErrOf result BadOptions ↔ AreBadOptions maps options script) → (exact ≡ true → ¬ IsErrOf result NoThread)
+    → (exact ≡ false → IfErr result (OfUpdate (IsWhyByPass maps (recorded recording options) updates)))
+    → (exact ≡ true → IfErr result (OfUpdate (IsWhyInTurn maps (recorded recording options) updates)))
+    → IfErr result (IsGivenUp exact maps updates script options recording)
+given_up exact maps updates script options recording (Ok outcome) bad no_thread by_pass in_turn = tt
+given_up exact maps updates script options recording (Err why) bad no_thread by_pass in_turn = record {
+  options_are_bad = ((λ e. bad.0 (ap failed e)), (λ broken. same_fault _ _ (bad.1 broken)));
+  no_thread = λ is e. no_thread is (ap failed e);
+  by_pass = by_pass;
+  in_turn = in_turn;
+}
+
+-- the options of a replay fit its program's maps, since those of its journals do
+pub options_fit : (program : Program) (script : List Command) (options : Options) (records : List Sent) (outcome : Outcome)
+    → AreOptions outcome.journals.maps outcome.journals.options → IsAccounted program script options records outcome → AreOptions program.maps options
+options_fit program script options records outcome fit accounted =
+    subst (λ (o : Options). AreOptions program.maps o) accounted.options_are
+    (subst (λ (m : List MapDef). AreOptions m outcome.journals.options) accounted.maps fit)
