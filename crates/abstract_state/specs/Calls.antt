@@ -8,7 +8,8 @@ use Rattle.abstract_state.specs.declared.kind.Kind.{Kind}
 use Rattle.abstract_state.specs.declared.kind.Kind.TheVariants.{Unset, Scalar, Ctx, Stack, Map, ValueOrNull}
 use Rattle.semantics.specs.Linux.{helper_of}
 use Rattle.semantics.specs.declared.linux.Helper.{Helper}
-use Rattle.semantics.specs.declared.linux.Helper.TheVariants.{MapLookupElem, MapUpdateElem, MapDeleteElem, KtimeGetNs, GetSmpProcessorId, XdpAdjustHead}
+use Rattle.semantics.specs.declared.linux.Helper.TheVariants.{MapLookupElem, MapUpdateElem, MapDeleteElem, KtimeGetNs, GetSmpProcessorId}
+use Rattle.semantics.specs.declared.linux.Helper.TheVariants.{XdpAdjustHead}
 use Rattle.abstract_state.specs.declared.fact.Fact.TheVariants.{HeadMoved}
 use Rattle.abstract_state.specs.declared.broken_rule.BrokenRule.{BrokenRule}
 use Rattle.abstract_state.specs.declared.broken_rule.BrokenRule.TheVariants.{BadArgument, UnknownHelper, StackBounds, StackUnset}

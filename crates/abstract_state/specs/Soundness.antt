@@ -10,7 +10,8 @@ use Rattle.semantics.specs.declared.call.Reply.{Reply}
 use Rattle.semantics.specs.MachineState.{MachineState, initial_state}
 use Rattle.semantics.specs.Program.{Program}
 use Rattle.semantics.specs.Step.{Step, Continues, CallsMap, Exits}
-pub use Rattle.semantics.specs.ServedCalls.{IsKeyOf, IsPairOf, IsServedLookup, IsServedLoad, IsServedStore, IsServedAtomic, IsServedUpdate, IsServed, IsHandedOut, HoldsAfter}
+pub use Rattle.semantics.specs.ServedCalls.{IsKeyOf, IsPairOf, IsServedLookup, IsServedLoad, IsServedStore, IsServedAtomic, IsServedUpdate}
+pub use Rattle.semantics.specs.ServedCalls.{IsServed, IsHandedOut, HoldsAfter}
 use Rattle.semantics.specs.PlanLimits.{HasImageSizes}
 use Rattle.semantics.specs.System.{IsInputFrame, input_frame}
 use Rattle.semantics.specs.RunTrace.{IsReplyTo}

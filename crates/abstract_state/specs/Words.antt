@@ -1,5 +1,6 @@
 -- What a load reads from a word of the stack, and what a store leaves there.
-use Rattle.std.specs.Prelude.{ℕ, zero, suc, ◌+◌, ◌/◌, ◌%◌, ◌&&◌, Bool, true, false, List, ◌++◌, take, drop, replicate, slice_index_or, Ok, Err, if◌then◌else◌}
+use Rattle.std.specs.Prelude.{ℕ, zero, suc, ◌+◌, ◌/◌, ◌%◌, ◌&&◌, Bool, true, false, List, ◌++◌, take, drop, replicate, slice_index_or, Ok}
+use Rattle.std.specs.Prelude.{Err, if◌then◌else◌}
 use Rattle.isa.specs.declared.operation.Size.{Size}
 use Rattle.isa.specs.declared.operation.Size.TheVariants.{U64}
 use Rattle.isa.specs.InstructionCodes.{size_bytes, size_bits}

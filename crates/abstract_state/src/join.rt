@@ -1,7 +1,8 @@
 //! What two kinds both know.
 
 ghost use Rattle.std.specs.Prelude.{◌≡◌};
-ghost use Rattle.abstract_state.specs.Join.{join_scalar, join_ctx, join_stack, join_packet, join_end, join_map, join_nullable, join_value, join_kind};
+ghost use Rattle.abstract_state.specs.Join.{join_scalar, join_ctx, join_stack, join_packet, join_end, join_map, join_nullable, join_value};
+ghost use Rattle.abstract_state.specs.Join.{join_kind};
 
 use crate::kind::{Kind, Offsets};
 use abstract_scalar::Interval;

@@ -8,7 +8,7 @@ use Rattle.semantics.specs.declared.call.Reply.{Reply}
 use Rattle.semantics.specs.declared.verdict.Verdict.{Verdict}
 use Rattle.semantics.specs.MachineState.{MachineState}
 use Rattle.semantics.specs.Program.{Program}
-use Rattle.semantics.specs.RunTrace.{RunStand, HasExited, Waits, HasTrapped, GoesOn, RunTrace, trace_of, IsReplyTo}
+use Rattle.semantics.specs.RunTrace.{RunStand, HasExited, Waits, HasTrapped, GoesOn, RunTrace, trace_of, IsReplyTo, AreReplies}
 
 pub data Plan : Type 0 where
   -- this call is made; the reply decides how it goes on
@@ -60,14 +60,8 @@ ending_of GoesOn = Stuck
 abbrev pub outcome_of : RunTrace → RunOutcome
 outcome_of trace = record { calls = trace.calls; ending = ending_of trace.stand }
 
--- each reply has the form and size of the call that it answers
-abbrev pub AreAnswers : Program → List Call → List Reply → Type 0
-AreAnswers program [] replies = Unit {0}
-AreAnswers program (call ∷ calls) [] = Unit {0}
-AreAnswers program (call ∷ calls) (reply ∷ replies) = IsReplyTo program call reply × AreAnswers program calls replies
-
 -- from this state the program does what the plan says, in at most this many instructions
 abbrev pub Does : ℕ → Program → MachineState → Plan → Type 0
 Does most program state plan =
-    (count : ℕ) → most ≤ count → (replies : List Reply) → AreAnswers program (trace_of count program state replies).calls replies →
+    (count : ℕ) → most ≤ count → (replies : List Reply) → AreReplies program (trace_of count program state replies).calls replies →
     outcome_of (trace_of count program state replies) ≡ plan_outcome plan replies

@@ -1,5 +1,6 @@
 -- What the settings are of a command and what was found for its arguments.
-use Rattle.std.specs.Prelude.{◌≡◌, ◌<◌, ◌^◌, ◌*◌, ◌+◌, ◌/◌, ℕ, Bool, List, [], length, true, false, ◌&&◌, Option, Some, None, option_map, ◌⊎◌}
+use Rattle.std.specs.Prelude.{◌≡◌, ◌<◌, ◌^◌, ◌*◌, ◌+◌, ◌/◌, ℕ, Bool, List, [], length, true, false, ◌&&◌, Option, Some, None, option_map}
+use Rattle.std.specs.Prelude.{◌⊎◌}
 use Rattle.std.specs.Prelude.{IsTrue, IsFalse, ◌||◌, codes, is_none, is_some, unwrap_or, slice_get, slice_index_or}
 use Rattle.std.specs.Borrow.{Bor}
 use Rattle.std.specs.Str.{bytes_eq}
@@ -14,7 +15,8 @@ use Rattle.command_line.specs.declared.commands.RunFiles.{RunFiles}
 use Rattle.command_line.specs.declared.commands.Settings.{Settings}
 use Rattle.command_line.specs.declared.commands.Settings.TheVariants.{Check, Run, Disasm, Audit, Explain, Asm, Shipped, Replay, Table}
 use Rattle.command_line.specs.declared.words.WordsFault.{WordsFault}
-use Rattle.command_line.specs.declared.words.WordsFault.TheVariants.{Parser, UnknownFault, Both, TwoImages, UpdatesAlone, JournalsOfNone, Update}
+use Rattle.command_line.specs.declared.words.WordsFault.TheVariants.{Parser, UnknownFault, Both, TwoImages, UpdatesAlone, JournalsOfNone}
+use Rattle.command_line.specs.declared.words.WordsFault.TheVariants.{Update}
 use Rattle.command_line.specs.declared.words.Asked.{Asked}
 use Rattle.command_line.specs.declared.words.Asked.TheVariants as asks
 use Rattle.command_line.specs.declared.words.Asked.TheVariants.{Command, NoSuchFault, ImageAndScript, ImageAndProgram, NoUpdate}

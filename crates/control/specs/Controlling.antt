@@ -10,7 +10,8 @@ use Rattle.maglev.specs.Hashing.{hashed_preferences}
 use Rattle.control.specs.declared.command.Action.{Action}
 use Rattle.control.specs.declared.command.Action.TheVariants as actions
 use Rattle.control.specs.declared.fault.ControlFault.{ControlFault}
-use Rattle.control.specs.declared.fault.ControlFault.TheVariants.{BadSize, BadLine, UnknownBackend, BackendTwice, Refused, JournalFull, Memory}
+use Rattle.control.specs.declared.fault.ControlFault.TheVariants.{BadSize, BadLine, UnknownBackend, BackendTwice, Refused, JournalFull}
+use Rattle.control.specs.declared.fault.ControlFault.TheVariants.{Memory}
 use Rattle.control.specs.declared.update.Update.{Update}
 use Rattle.control.specs.declared.update.Update.TheVariants.{Vip, Ring, Backend, Tunnel}
 use Rattle.control.specs.MapUpdates.{UpdateBytes, map_update, AreMade, AreCutShort}
@@ -70,6 +71,10 @@ pub record ControllerState : Type 0 where
   pub owners : List ℕ
   -- a journal was full when a command was carried out
   pub is_full : Bool
+
+-- a controller before its first command
+abbrev pub opened_controller : ℕ → ControllerState
+opened_controller size = record { size = size; up = []; owners = []; is_full = false }
 
 -- what holds of every controller
 pub record IsController (size : ℕ) (up : List Server) (owners : List ℕ) : Type 0 where

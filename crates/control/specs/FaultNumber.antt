@@ -3,7 +3,8 @@ use Rattle.std.specs.Prelude.{ℕ}
 use Rattle.faults.specs.declared.fields.Fields.{Fields}
 use Rattle.faults.specs.declared.fields.Fields.TheVariants as fields
 use Rattle.control.specs.declared.fault.ControlFault.{ControlFault}
-use Rattle.control.specs.declared.fault.ControlFault.TheVariants.{BadSize, BadLine, UnknownBackend, BackendTwice, Refused, JournalFull, Memory}
+use Rattle.control.specs.declared.fault.ControlFault.TheVariants.{BadSize, BadLine, UnknownBackend, BackendTwice, Refused, JournalFull}
+use Rattle.control.specs.declared.fault.ControlFault.TheVariants.{Memory}
 
 abbrev pub control_fault_number : ControlFault → ℕ
 control_fault_number BadSize = 73

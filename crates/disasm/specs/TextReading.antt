@@ -10,7 +10,8 @@ use Rattle.ebpf_decode.specs.ImageFormat.{first_part_fault}
 use Rattle.disasm.specs.declared.fault.AsmFault.{AsmFault}
 use Rattle.disasm.specs.declared.fault.AsmFault.TheVariants.{BadLine, Image, Memory}
 use Rattle.text_lines.specs.Lines.{ended}
-use Rattle.disasm.specs.AssemblyText.{line_of, map_line_of, IsAssemblyLine, MapFits, IsMapLine, version_text, maps_text, code_text, parts_text}
+use Rattle.disasm.specs.AssemblyText.{line_of, map_line_of, IsAssemblyLine, MapFits, IsMapLine, version_text, maps_text, code_text}
+use Rattle.disasm.specs.AssemblyText.{parts_text}
 
 -- ---- one line
 

@@ -1,7 +1,8 @@
 //! The definition of a map.
 
 ghost use Rattle.std.specs.Prelude.{◌≡◌, ◌≤◌, length};
-ghost use Rattle.ebpf_decode.specs.MapForm.{map_type, map_kind_at, is_key_size, is_value_size, is_entry_count, is_allowed_map, allowed, map_at};
+ghost use Rattle.ebpf_decode.specs.MapForm.{map_type, map_kind_at, is_key_size, is_value_size, is_entry_count, is_allowed_map, allowed};
+ghost use Rattle.ebpf_decode.specs.MapForm.{map_at};
 
 use crate::version::Version;
 

@@ -1,7 +1,8 @@
 //! Loads, stores and atomic operations as they are in a slot (classes LDX, ST and STX; RFC 9669, section 5).
 
 ghost use Rattle.std.specs.Prelude.{◌≡◌};
-ghost use Rattle.ebpf_decode.specs.InstructionReading.{ldx_at, ldxs_at, st_at, stx_at, atomic_at, mode_of, load_at, store_immediate_at, store_at};
+ghost use Rattle.ebpf_decode.specs.InstructionReading.{ldx_at, ldxs_at, st_at, stx_at, atomic_at, mode_of, load_at, store_immediate_at};
+ghost use Rattle.ebpf_decode.specs.InstructionReading.{store_at};
 
 use crate::codes;
 use crate::fault::SlotFault;

@@ -1,7 +1,8 @@
 //! One slot read as an instruction, by its class.
 
 ghost use Rattle.std.specs.Prelude.{◌≡◌};
-ghost use Rattle.ebpf_decode.specs.InstructionReading.{class_of, source_bit_of, code_of, size_of, mode_of, source_at, exactly, whole, begun, reading_in};
+ghost use Rattle.ebpf_decode.specs.InstructionReading.{class_of, source_bit_of, code_of, size_of, mode_of, source_at, exactly, whole};
+ghost use Rattle.ebpf_decode.specs.InstructionReading.{begun, reading_in};
 
 use crate::fault::SlotFault;
 use crate::insn::Insn;

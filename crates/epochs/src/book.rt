@@ -1,7 +1,8 @@
 //! The book of epochs.
 
 ghost use Rattle.std.specs.Prelude.{◌≡◌, ◌<◌, ◌≤◌, ◌+◌, ◌^◌, ◌==◌, ◌↔◌, ◌⊎◌, ℕ, [], length};
-ghost use Rattle.epochs.specs.EpochCounts.{EpochCounts, runs_in, run_count, all_runs, AllEnteredAfter, one_at, part_at, runs_among, IsFloor};
+ghost use Rattle.epochs.specs.EpochCounts.{EpochCounts, runs_in, run_count, all_runs, AllEnteredAfter, one_at, part_at, runs_among};
+ghost use Rattle.epochs.specs.EpochCounts.{IsFloor};
 
 use crate::counts::EpochRuns;
 use std::marker::Model;

@@ -1,7 +1,8 @@
 //! The text of a refusal: the fault's line, and lines below it for people.
 
 ghost use Rattle.std.specs.Prelude.{◌≡◌, ◌==◌, ◌++◌, ◌∷◌, [], true, IfOk, OnOk};
-ghost use Rattle.faults.specs.Refusals.{IsRefusalText, end_of, front_of, indented, is_line_start, next_place, note_lines, one_line, place_after};
+ghost use Rattle.faults.specs.Refusals.{IsRefusalText, end_of, front_of, indented, is_line_start, next_place, note_lines, one_line};
+ghost use Rattle.faults.specs.Refusals.{place_after};
 ghost use Rattle.faults.specs.declared.refusal.Place.TheVariants.{LineStart, Within};
 
 use std::alloc::{AllocError, Global};

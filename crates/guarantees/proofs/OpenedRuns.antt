@@ -18,7 +18,7 @@ use Rattle.semantics.specs.declared.plan.ShardPlan.{ShardPlan}
 use Rattle.semantics.specs.declared.verdict.Verdict.{Verdict}
 use Rattle.semantics.specs.Program.{Program}
 use Rattle.semantics.specs.History.{shard_of_call}
-use Rattle.semantics.specs.RunTrace.{RunStand, RunTrace, HasExited, Waits, HasTrapped, GoesOn, trace_of}
+use Rattle.semantics.specs.RunTrace.{RunStand, RunTrace, HasExited, Waits, HasTrapped, GoesOn, trace_of, AreReplies}
 use Rattle.semantics.specs.ShardPlan.{plan_at, plan_for_map}
 use Rattle.semantics.specs.System.{IsInputFrame}
 use Rattle.map_port.specs.Exchanges.{Exchange, calls_in, replies_in}
@@ -32,7 +32,7 @@ use Rattle.replay.specs.declared.runner.FrameFate.TheVariants.{Aborted, Dropped,
 use Rattle.replay.specs.Accounts.{sent_by}
 use Rattle.replay.specs.Shares.{is_short}
 use Rattle.replay.specs.RunsOverShards.{IsTold, IsExit, start_of, time_of}
-use Rattle.guarantees.specs.SameRuns.{AreReplies, RunsTheSame, stand_of_any, trace_of_any}
+use Rattle.guarantees.specs.SameRuns.{RunsTheSame, stand_of_any, trace_of_any}
 use Rattle.guarantees.specs.ReaderRuns.{is_read, is_quiet, AreReads, AreQuiet, OnlyReads, IsReadAtOpening, opening_reply, stand_with}
 use Rattle.guarantees.specs.ReaderReplays.{IsCaptured, answer_in, opening_answer, options_of, sent_for, sent_where}
 use Rattle.guarantees.proofs.Answered.{AreOf, ends_alike}

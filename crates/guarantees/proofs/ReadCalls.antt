@@ -18,7 +18,7 @@ use Rattle.semantics.specs.RegisterValue.{RegisterValue, Number, ContextPointer,
 use Rattle.semantics.specs.RegisterValue as meaning
 use Rattle.semantics.specs.MachineState.{MachineState, register_value, initial_state}
 use Rattle.semantics.specs.Program.{Program}
-use Rattle.semantics.specs.RunTrace.{trace_from, trace_of}
+use Rattle.semantics.specs.RunTrace.{trace_from, trace_of, AreReplies}
 use Rattle.semantics.specs.Semantics.{next_step}
 use Rattle.semantics.specs.Step.{Step, Continues, CallsMap, Exits, Traps}
 use Rattle.semantics.specs.System.{input_frame}
@@ -38,7 +38,6 @@ use Rattle.verifier.specs.Dataflow.{Accepts}
 use Rattle.verifier.proofs.shared.PlaceLemmas.{parts_fit, Here, here_of, continues_there, answered_there}
 use Rattle.verifier.proofs.shared.LocalLemmas.{begins_at_start}
 use Rattle.verifier.proofs.shared.SafetyLemmas.{some_slot}
-use Rattle.guarantees.specs.SameRuns.{AreReplies}
 use Rattle.guarantees.specs.ReaderRuns.{AreReads, OnlyReads}
 use Rattle.guarantees.proofs.ReadSteps.{AsksToRead, ChangesNothing, is_cell, step_reads}
 use Rattle.guarantees.proofs.ReaderTraces.{IsAccepted, Sound, all_held, holds}

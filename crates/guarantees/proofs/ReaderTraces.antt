@@ -16,7 +16,7 @@ use Rattle.semantics.specs.RegisterValue.{RegisterValue, Number, ContextPointer,
 use Rattle.semantics.specs.RegisterValue as meaning
 use Rattle.semantics.specs.MachineState.{MachineState, register_value, initial_state}
 use Rattle.semantics.specs.Program.{Program}
-use Rattle.semantics.specs.RunTrace.{HasExited, Waits, with_call, without_calls, trace_from, trace_of}
+use Rattle.semantics.specs.RunTrace.{HasExited, Waits, with_call, without_calls, trace_from, trace_of, AreReplies}
 use Rattle.semantics.specs.Semantics.{next_step}
 use Rattle.semantics.specs.ServedCalls.{Held, IsHandedOut, HoldsAfter}
 use Rattle.semantics.specs.Step.{Step, Continues, CallsMap, Exits, Traps}
@@ -36,7 +36,7 @@ use Rattle.verifier.specs.Readers.{is_worker_helper, is_worker_field, is_queue_f
 use Rattle.verifier.proofs.shared.PlaceLemmas.{PartsFit, parts_fit, IsSoundPlace, Here, here_of, continues_there, answered_there}
 use Rattle.verifier.proofs.shared.LocalLemmas.{begins_at_start}
 use Rattle.verifier.proofs.shared.SafetyLemmas.{some_slot}
-use Rattle.guarantees.specs.SameRuns.{at_worker, trace_of_any, AreReplies, RunsTheSame}
+use Rattle.guarantees.specs.SameRuns.{at_worker, trace_of_any, RunsTheSame}
 use Rattle.guarantees.proofs.SameSteps.{SameStep, AsksNoWorker, same_step}
 
 -- ---- what an accepted instruction that only reads asks for

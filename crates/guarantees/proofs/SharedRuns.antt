@@ -10,13 +10,13 @@ use Rattle.semantics.specs.declared.call.Caller.{Caller}
 use Rattle.semantics.specs.declared.call.Caller.TheVariants.{Worker, Controller, Reclaimer}
 use Rattle.semantics.specs.MachineState.{initial_state}
 use Rattle.semantics.specs.declared.plan.ShardPlan.{ShardPlan}
-use Rattle.semantics.specs.RunTrace.{HasExited, Waits}
+use Rattle.semantics.specs.RunTrace.{HasExited, Waits, whole_trace}
 use Rattle.semantics.specs.System.{IsInputFrame, input_frame}
 use Rattle.verifier.specs.Verified.{Verified}
 use Rattle.machine.specs.declared.exit.Stop.{Stop}
 use Rattle.machine.specs.declared.exit.Stop.TheVariants.{JournalFull}
 use Rattle.machine.specs.declared.moment.Moment.{Moment}
-use Rattle.machine.specs.Running.{program_of, whole_trace}
+use Rattle.machine.specs.Running.{program_of}
 use Rattle.map_port.specs.Exchanges.{calls_in, replies_in}
 use Rattle.shards.specs.Passes.{PassView}
 use Rattle.shard_port.specs.PassPorts.{is_worker_below, worker_of}

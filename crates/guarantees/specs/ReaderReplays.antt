@@ -1,5 +1,6 @@
 -- What a replay of a program that only reads sends: the program's run trace frame by frame, over maps in which nothing has happened.
-use Rattle.std.specs.Prelude.{◌≡◌, ℕ, zero, suc, ◌≤◌, ◌<◌, ◌^◌, List, [], ◌∷◌, ◌++◌, length, All, Option, Some, None, slice_get, if◌then◌else◌}
+use Rattle.std.specs.Prelude.{◌≡◌, ℕ, zero, suc, ◌≤◌, ◌<◌, ◌^◌, List, [], ◌∷◌, ◌++◌, length, All, Option, Some, None, slice_get}
+use Rattle.std.specs.Prelude.{if◌then◌else◌}
 use Rattle.std.specs.List.{AllByRecursion}
 use Rattle.ebpf_decode.specs.declared.insn.Insn.{Insn}
 use Rattle.ebpf_decode.specs.declared.map.MapDef.{MapDef}
@@ -25,7 +26,7 @@ use Rattle.guarantees.specs.ReaderRuns.{opening_reply, stand_with}
 
 -- ---- the maps as they were opened
 
--- options with so many shards for each map: what a shard answers as it was opened does not depend on the others
+-- options with N shards for each map: what a shard answers as it was opened does not depend on the others
 abbrev pub options_of : ℕ → Options
 options_of shards = record { workers = 1; shards = shards; journal = 16 }
 
@@ -58,7 +59,7 @@ abbrev pub sent_if_there : Program → Option Sent → List SentFrame
 sent_if_there program (Some captured) = sent_at_opening program captured
 sent_if_there program None = []
 
--- what is sent of the first so many records, in the capture's order
+-- what is sent of the first N records, in the capture's order
 abbrev pub all_sent_at_opening : Program → List Sent → ℕ → List SentFrame
 all_sent_at_opening program records zero = []
 all_sent_at_opening program records (suc number) =

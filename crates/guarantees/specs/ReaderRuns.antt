@@ -11,12 +11,11 @@ use Rattle.semantics.specs.declared.plan.ShardPlan.{ShardPlan}
 use Rattle.semantics.specs.MachineState.{MachineState, initial_state}
 use Rattle.semantics.specs.Program.{Program}
 use Rattle.semantics.specs.History.{IsLegalHistory}
-use Rattle.semantics.specs.RunTrace.{RunStand, HasExited, HasTrapped, GoesOn, trace_of}
+use Rattle.semantics.specs.RunTrace.{RunStand, HasExited, HasTrapped, GoesOn, trace_of, AreReplies}
 use Rattle.semantics.specs.SequentialShard.{opening_shard, shard_after, reply_of}
 use Rattle.semantics.specs.Semantics.{next_step}
 use Rattle.semantics.specs.Step.{Step, Continues, CallsMap, Exits, Traps}
 use Rattle.semantics.specs.System.{IsInputFrame, input_frame}
-use Rattle.guarantees.specs.SameRuns.{AreReplies}
 
 -- ---- calls
 
@@ -72,7 +71,7 @@ after_step rest answer (CallsMap call next) = rest (next (answer call))
 after_step rest answer (Exits verdict last) = HasExited verdict last
 after_step rest answer (Traps cause) = HasTrapped cause
 
--- after at most so many instructions
+-- after at most N instructions
 abbrev pub stand_with : ℕ → Program → (Call → Reply) → MachineState → RunStand
 stand_with zero program answer state = GoesOn
 stand_with (suc count) program answer state = after_step (stand_with count program answer) answer (next_step program state)

@@ -9,7 +9,7 @@ use Rattle.semantics.specs.declared.verdict.Verdict.{Verdict}
 use Rattle.semantics.specs.MachineState.{MachineState, initial_state}
 use Rattle.semantics.specs.Program.{Program}
 use Rattle.semantics.specs.History.{shard_of_call, IsJournalFull, IsLegalJournal}
-use Rattle.semantics.specs.RunTrace.{HasExited, Waits}
+use Rattle.semantics.specs.RunTrace.{HasExited, Waits, whole_trace}
 use Rattle.verifier.specs.Verified.{Verified}
 use Rattle.shard_core.specs.JournaledShard.{JournaledShard}
 use Rattle.map_port.specs.Exchanges.{Exchange, calls_in, replies_in}
@@ -22,7 +22,7 @@ use Rattle.shard_port.specs.PassSessions.{AreWithin}
 use Rattle.machine.specs.declared.exit.Stop.{Stop}
 use Rattle.machine.specs.declared.exit.Stop.TheVariants.{JournalFull}
 use Rattle.machine.specs.declared.moment.Moment.{Moment}
-use Rattle.machine.specs.Running.{program_of, whole_trace, Ends, Stops}
+use Rattle.machine.specs.Running.{program_of, Ends, Stops}
 use Rattle.runs.specs.FrameRuns.{AreFormed}
 
 -- ---- the shards between runs

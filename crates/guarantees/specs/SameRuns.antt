@@ -6,7 +6,7 @@ use Rattle.semantics.specs.declared.call.Call.{Call}
 use Rattle.semantics.specs.declared.call.Reply.{Reply}
 use Rattle.semantics.specs.MachineState.{MachineState, initial_state}
 use Rattle.semantics.specs.Program.{Program}
-use Rattle.semantics.specs.RunTrace.{RunStand, HasExited, Waits, HasTrapped, GoesOn, RunTrace, trace_of, IsReplyTo}
+use Rattle.semantics.specs.RunTrace.{RunStand, HasExited, Waits, HasTrapped, GoesOn, RunTrace, trace_of, IsReplyTo, AreReplies}
 use Rattle.semantics.specs.System.{IsInputFrame, input_frame}
 
 -- the same state in the run of another worker
@@ -23,12 +23,6 @@ stand_of_any GoesOn = GoesOn
 -- its calls, and how it stands
 abbrev pub trace_of_any : RunTrace → RunTrace
 trace_of_any trace = record { calls = trace.calls; stand = stand_of_any trace.stand }
-
--- each reply that a call was given is one to that call
-abbrev pub AreReplies : Program → List Call → List Reply → Type 0
-AreReplies program [] replies = Unit {0}
-AreReplies program (call ∷ calls) [] = Unit {0}
-AreReplies program (call ∷ calls) (reply ∷ replies) = IsReplyTo program call reply × AreReplies program calls replies
 
 -- on the same frame at the same time and with the same replies, the runs of two workers make the same calls, end with the same verdict,
 -- leave the same frame, and take as many instructions

@@ -48,7 +48,7 @@ asks worker asked = record { event = CallsShard worker; asked = asked }
 abbrev pub leave : ℕ → ℕ → Move
 leave worker shard = record { event = LeavesShard worker shard; asked = Writes (leave_by worker shard) }
 
--- ---- steps, over so many shards
+-- ---- steps, over N shards
 
 pub data IsStep (setting : Setting) (count worker : ℕ) : WorkerState → Move → WorkerState → Type 0 where
   -- an idle worker begins a run on a frame

@@ -24,7 +24,7 @@ use Rattle.shards.specs.Passes.{PassView, own_at, seen_at}
 use Rattle.guarantees.specs.Steps.{Move, Refused, begins, does, asks, IsStep, AreSteps, InRun}
 use Rattle.guarantees.specs.Steps.{running, AreStepsOfRun, beginning, leavings, entries_on, deeds_in}
 
--- the worker's own entries on each of so many shards have grown by what its moves wrote there, newest first
+-- the worker's own entries on each of N shards have grown by what its moves wrote there, newest first
 abbrev pub HaveGrown : ℕ → List Move → PassView → PassView → Type 0
 HaveGrown count moves before after =
     (number : ℕ) → number < count → own_at after number ≡ reverse (entries_on number moves) ++ own_at before number

@@ -183,7 +183,8 @@ impl Row {
                 cell: CellRef { shard, id: word(words, *start, 0) }, offset: u64::from(*offset), size: u64::from(*size),
             },
             Row::Stored { size, offset, start, .. } => Call::Store {
-                cell: CellRef { shard, id: word(words, *start, 0) }, offset: u64::from(*offset), size: u64::from(*size), value: word(words, *start, 1),
+                cell: CellRef { shard, id: word(words, *start, 0) }, offset: u64::from(*offset), size: u64::from(*size),
+                value: word(words, *start, 1),
             },
             Row::Changed { size, op, offset, start, .. } => Call::Atomic {
                 cell: CellRef { shard, id: word(words, *start, 0) }, offset: u64::from(*offset), size: u64::from(*size), op: u64::from(*op),
@@ -192,7 +193,8 @@ impl Row {
             Row::Updated { start, .. } => {
                 let at = word(words, *start, 0);
                 Call::Update {
-                    shard, key: key_at(bytes, at, key_size), value: value_at(bytes, at + u64::from(key_size), value_size), flags: word(words, *start, 1),
+                    shard, key: key_at(bytes, at, key_size), value: value_at(bytes, at + u64::from(key_size), value_size),
+                    flags: word(words, *start, 1),
                 }
             }
             Row::Deleted { at, .. } => Call::Delete { shard, key: key_at(bytes, u64::from(*at), key_size) },

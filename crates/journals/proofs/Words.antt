@@ -18,11 +18,11 @@ use Rattle.semantics.specs.declared.call.Call.TheVariants as calls
 use Rattle.semantics.specs.declared.call.Reply.{Reply}
 use Rattle.semantics.specs.declared.call.Reply.TheVariants.{Entered, Left, Cell, Null, Word, Done, Answer, Freed}
 use Rattle.semantics.specs.declared.call.Entry.{Entry}
-use Rattle.semantics.specs.History.{shard_of_call}
+use Rattle.semantics.specs.History.{shard_of_call, entry_of}
 use Rattle.journals.specs.declared.verb.Verb.{Verb}
 use Rattle.journals.specs.JournalText.{who_text, verb_text, verb_of_call, reply_text, told_text}
 use Rattle.journals.specs.EntryForm.{CallerFits, CallFits, ReplyFits, EntryFits, IsEntered, IsLeft, IsDone}
-use Rattle.journals.specs.ToldReading.{Reads, entry_with}
+use Rattle.journals.specs.ToldReading.{Reads}
 use Rattle.text_lines.specs.Lines.{Lacks}
 use Rattle.text_lines.proofs.shared.ByteLemmas.{lacks_from}
 use Rattle.journals.proofs.Bytes.{word, decimal_within, hex_within, who_within, verb_within}
@@ -78,7 +78,7 @@ last_worker text (Worker (suc (suc (suc (suc (suc (suc (suc (suc n))))))))) fits
 
 -- ---- an entry by its verb
 
-entered_is : (who : Caller) (call : Call) (reply : Reply) → IsEntered reply → entry_with who call Entered ≡ entry_with who call reply
+entered_is : (who : Caller) (call : Call) (reply : Reply) → IsEntered reply → entry_of who call Entered ≡ entry_of who call reply
 entered_is who call Entered is = refl
 entered_is who call Left is = absurd is
 entered_is who call (Cell cell) is = absurd is
@@ -88,7 +88,7 @@ entered_is who call Done is = absurd is
 entered_is who call (Answer code) is = absurd is
 entered_is who call (Freed count) is = absurd is
 
-left_is : (who : Caller) (call : Call) (reply : Reply) → IsLeft reply → entry_with who call Left ≡ entry_with who call reply
+left_is : (who : Caller) (call : Call) (reply : Reply) → IsLeft reply → entry_of who call Left ≡ entry_of who call reply
 left_is who call Left is = refl
 left_is who call Entered is = absurd is
 left_is who call (Cell cell) is = absurd is
@@ -110,7 +110,7 @@ done_is (Freed count) is = absurd is
 
 -- what is read by the verb, where the text is that of a fitting call and reply, is their entry
 pub reads_call : (who : Caller) (call : Call) (reply : Reply) (text : List ℕ) (result : Entry) → CallFits call → ReplyFits call reply
-    → Reads (verb_of_call call) who (shard_of_call call) text result → text ≡ told_text call (reply_text reply) → result ≡ entry_with who call reply
+    → Reads (verb_of_call call) who (shard_of_call call) text result → text ≡ told_text call (reply_text reply) → result ≡ entry_of who call reply
 unfolding Reads CallFits ReplyFits
 reads_call who (calls.Enter shard) reply text result fits replies reads is = reads ∙ entered_is who (calls.Enter shard) reply replies
 reads_call who (calls.Leave shard) reply text result fits replies reads is = reads ∙ left_is who (calls.Leave shard) reply replies
@@ -119,7 +119,7 @@ reads_call who (calls.Load cell offset size) reply text result fits replies read
 reads_call who (calls.Store cell offset size value) reply text result fits replies reads is =
     let done = done_is reply replies in
     let told : text ≡ told_text (calls.Store cell offset size value) (reply_text Done) = is ∙ ap (λ (r : Reply). told_text (calls.Store cell offset size value) (reply_text r)) done in
-    reads cell.id offset size value fits.0.1 fits.1 fits.2 fits.3 told ∙ ap (λ (r : Reply). entry_with who (calls.Store cell offset size value) r) (sym done)
+    reads cell.id offset size value fits.0.1 fits.1 fits.2 fits.3 told ∙ ap (λ (r : Reply). entry_of who (calls.Store cell offset size value) r) (sym done)
 reads_call who (calls.Atomic cell offset size op value expected) reply text result fits replies reads is =
     reads cell.id offset size op value expected reply fits.0.1 fits.1 fits.2 fits.3 fits.4 fits.5 replies is
 reads_call who (calls.Update shard key value flags) reply text result fits replies reads is = reads key value flags reply fits.1 fits.2 fits.3 replies is

@@ -10,17 +10,15 @@ use Rattle.journals.specs.declared.verb.Verb.{Verb}
 use Rattle.journals.specs.declared.verb.Verb.TheVariants.{Enter, Leave, Lookup, Load, Store, Atomic, Update, Delete, Reclaim}
 use Rattle.journals.specs.JournalText.{told_text, reply_text}
 use Rattle.journals.specs.EntryForm.{IsNumber, IsKey, IsValue, IsFinding, IsWord, IsAnswer, IsFreed}
-
-abbrev pub entry_with : Caller → Call → Reply → Entry
-entry_with who call reply = record { who = who; call = call; reply = reply }
+use Rattle.semantics.specs.History.{entry_of}
 
 -- this text is read as this entry, wherever it is the text of one of a fitting call
 abbrev pub IsReadAs : List ℕ → Entry → Caller → Call → Reply → Type 0
-IsReadAs text result who call reply = text ≡ told_text call (reply_text reply) → result ≡ entry_with who call reply
+IsReadAs text result who call reply = text ≡ told_text call (reply_text reply) → result ≡ entry_of who call reply
 
 unfoldable pub Reads : Verb → Caller → ℕ → List ℕ → Entry → Type 0
-Reads Enter who shard text result = result ≡ entry_with who (calls.Enter shard) replies.Entered
-Reads Leave who shard text result = result ≡ entry_with who (calls.Leave shard) replies.Left
+Reads Enter who shard text result = result ≡ entry_of who (calls.Enter shard) replies.Entered
+Reads Leave who shard text result = result ≡ entry_of who (calls.Leave shard) replies.Left
 Reads Lookup who shard text result =
     (key : List ℕ) (reply : Reply) → IsKey key → IsFinding shard reply → IsReadAs text result who (calls.Lookup shard key) reply
 Reads Load who shard text result =

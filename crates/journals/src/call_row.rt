@@ -101,7 +101,8 @@ impl CallRow {
                 cell: *cell, offset: *offset, size: *size, op: *op, value: *value, expected: *expected,
             },
             CallRow::Update { shard, key_size, value_size, at, flags } => Call::Update {
-                shard: *shard, key: key_at(bytes, *at, *key_size), value: value_at(bytes, *at + u64::from(*key_size), *value_size), flags: *flags,
+                shard: *shard, key: key_at(bytes, *at, *key_size), value: value_at(bytes, *at + u64::from(*key_size), *value_size),
+                flags: *flags,
             },
             CallRow::Delete { shard, key_size, at } => Call::Delete { shard: *shard, key: key_at(bytes, *at, *key_size) },
             CallRow::Reclaim { shard } => Call::Reclaim { shard: *shard },

@@ -109,7 +109,8 @@ fn finish_before(
 ) -> Result<(), AllocError>
     requires { length done.old.items ≤ number }
     ensures number { OnOk result (length done.new.items ≡ number) }
-    ensures divided { OnOk result ((entries : List Told) → AreDivided entries done.old.items present.old → AreDivided entries done.new.items present.new) }
+    ensures divided { OnOk result ((entries : List Told) → AreDivided entries done.old.items present.old →
+        AreDivided entries done.new.items present.new) }
 {
     'numbers: while done.len() < number {
         finish(alloc, done, present)?;
@@ -157,7 +158,8 @@ fn header_of<'a>(
     maps: &[MapDef],
     text: &'a str,
 ) -> Result<Option<(Options, &'a str)>, AllocError>
-    ensures { IfOk result (λ found. MatchOption found (BeginsWithNoHeader maps.now text.now) (λ x. IsHeadedBy maps.now text.now x.0 x.1.now)) }
+    ensures { IfOk result
+        (λ found. MatchOption found (BeginsWithNoHeader maps.now text.now) (λ x. IsHeadedBy maps.now text.now x.0 x.1.now)) }
 {
     match text.split_once('\n') {
         None => Ok(None),

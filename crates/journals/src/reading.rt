@@ -37,7 +37,8 @@ fn signed_of(text: &str) -> i32
 
 /// The number at the front, and what comes after its space.
 fn field(text: &str) -> (u64, &str)
-    ensures { (number : ℕ) (rest : List ℕ) → number < 2 ^ 64 → text.now ≡ decimal number ++ 32 ∷ rest → (result.0 ≡ number) × (result.1.now ≡ rest) }
+    ensures { (number : ℕ) (rest : List ℕ) → number < 2 ^ 64 → text.now ≡ decimal number ++ 32 ∷ rest → (result.0 ≡ number) ×
+        (result.1.now ≡ rest) }
 {
     let (number, rest) = cut(text, ' ');
     (number_of(number), rest)

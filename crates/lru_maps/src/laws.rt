@@ -1,6 +1,7 @@
 //! Laws of the order by last uses: each is the contract of a function that does nothing.
 
-ghost use Rattle.lru_maps.specs.ByUse.{LastIsLeast, OthersKeepOrder, UseBringsForward, NewKeyIsFirst, RemovalKeepsOrder, EvictionKeepsOrder};
+ghost use Rattle.lru_maps.specs.ByUse.{LastIsLeast, OthersKeepOrder, UseBringsForward, NewKeyIsFirst, RemovalKeepsOrder};
+ghost use Rattle.lru_maps.specs.ByUse.{EvictionKeepsOrder};
 
 /// Where a table belongs to a history, its last key is the one whose last use in the history is earliest, and that key is one.
 pub fn last_is_least()

@@ -49,7 +49,8 @@ impl Recency {
     /// The number has no key any more: it is last.
     pub fn release(&mut self, number: u32)
         ensures order { order_of self.new.cache.entries ≡ released number (order_of self.old.cache.entries) }
-        ensures by_use { (last : ℕ → ℕ) → IsByLastUse last self.old.cache.entries → IsByLastUse (used_at last number 0) self.new.cache.entries }
+        ensures by_use { (last : ℕ → ℕ) → IsByLastUse last self.old.cache.entries →
+            IsByLastUse (used_at last number 0) self.new.cache.entries }
     {
         let _valid = self.cache.len();
         put_last(&mut self.cache, number);
@@ -65,7 +66,8 @@ impl Recency {
     /// The last number: one with no key, or where each has one that whose last use is earliest.
     pub fn oldest(&self) -> Option<u32>
         ensures last { result ≡ slice_get (order_of self.now.cache.entries) (length self.now.cache.entries - 1) }
-        ensures least { (last : ℕ → ℕ) → IsByLastUse last self.now.cache.entries → IfSome result (IsLeastRecent last self.now.cache.entries) }
+        ensures least { (last : ℕ → ℕ) → IsByLastUse last self.now.cache.entries →
+            IfSome result (IsLeastRecent last self.now.cache.entries) }
     {
         match last_of(&self.cache) {
             Some((number, _)) => Some(*number),

@@ -1,5 +1,6 @@
 -- A table while backends take turns: for each slot the place of its owner in the list, or a mark that it is free.
-use Rattle.std.specs.Prelude.{◌≡◌, ◌≢◌, ℕ, ◌+◌, ◌-◌, ◌/◌, ◌%◌, ◌<◌, ◌==◌, List, length, take, map, slice_index, slice_index_or, Contains, count_by}
+use Rattle.std.specs.Prelude.{◌≡◌, ◌≢◌, ℕ, ◌+◌, ◌-◌, ◌/◌, ◌%◌, ◌<◌, ◌==◌, List, length, take, map, slice_index, slice_index_or, Contains}
+use Rattle.std.specs.Prelude.{count_by}
 use Rattle.maglev.specs.declared.preference.Preference.{Preference}
 use Rattle.maglev.specs.Population.{preferred_slot, IsFirstFree, no_backend, backend_of_turn}
 

@@ -1,5 +1,6 @@
 -- Where the cells are: each kept id has a place of its own, and the free places are all others.
-use Rattle.std.specs.Prelude.{◌≡◌, ◌≢◌, ℕ, ◌+◌, ◌*◌, ◌==◌, ◌<◌, ◌≤◌, List, [], ◌∷◌, length, map, Option, Some, None, slice_index_or, if◌then◌else◌}
+use Rattle.std.specs.Prelude.{◌≡◌, ◌≢◌, ℕ, ◌+◌, ◌*◌, ◌==◌, ◌<◌, ◌≤◌, List, [], ◌∷◌, length, map, Option, Some, None, slice_index_or}
+use Rattle.std.specs.Prelude.{if◌then◌else◌}
 use Rattle.map_cells.specs.declared.retired.Retired.{Retired}
 use Rattle.map_cells.specs.Blocks.{block_of}
 use Rattle.map_cells.specs.CellTable.{CellTable, retired_at}

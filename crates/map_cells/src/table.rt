@@ -6,7 +6,8 @@ ghost use Rattle.isa.specs.Atomic.{atomic_result};
 ghost use Rattle.map_cells.specs.Places.{place_at};
 ghost use Rattle.map_cells.specs.CellTable.{CellTable, empty_table, is_kept, bytes_at, number_at, with_new_cell, with_bytes, with_number};
 ghost use Rattle.map_cells.specs.CellTable.{with_change, with_retired};
-ghost use Rattle.map_cells.specs.CellTable.{is_below, freed_below, oldest_stamp, without_oldest, IsLowestStamp, IsNotRetired, IsLatestStamp};
+ghost use Rattle.map_cells.specs.CellTable.{is_below, freed_below, oldest_stamp, without_oldest, IsLowestStamp, IsNotRetired};
+ghost use Rattle.map_cells.specs.CellTable.{IsLatestStamp};
 
 use crate::blocks::{block_at, write_at};
 use crate::retired::Retired;

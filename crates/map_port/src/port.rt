@@ -71,14 +71,16 @@ pub trait MapPort {
         expected: u64,
     ) -> Result<u64, JournalFull>
         requires { IsAtomic (serves self.old) (has_handed_out self.old) (cell_of self.old handle) offset size op value expected }
-        ensures gives { IfOk result (λ number. gives self.old (atomic_call (cell_of self.old handle) offset size op value expected) (Word number) self.new) }
+        ensures gives { IfOk result
+            (λ number. gives self.old (atomic_call (cell_of self.old handle) offset size op value expected) (Word number) self.new) }
         ensures refuses { OnErr result (refuses self.old (atomic_call (cell_of self.old handle) offset size op value expected) self.new) }
         ensures names_the_shard { IfErr result (λ fault. fault.shard ≡ (cell_of self.old handle).shard) };
 
     /// Asks for the value of a key to be set, and returns the answer. Refused as `lookup` is.
     fn update(&mut self, map: u32, key: &Key, value: &Value, flags: u64) -> Result<i32, JournalFull>
         requires { IsPairOf (serves self.old).maps map key.now value.now }
-        ensures gives { IfOk result (λ code. gives self.old (update_call (serves self.old) map key.now value.now flags) (Answer code) self.new) }
+        ensures gives { IfOk result
+            (λ code. gives self.old (update_call (serves self.old) map key.now value.now flags) (Answer code) self.new) }
         ensures refuses { OnErr result (refuses self.old (update_call (serves self.old) map key.now value.now flags) self.new) }
         ensures names_the_shard { IfErr result (λ fault. fault.shard ≡ shard_of_call (update_call (serves self.old) map key.now value.now flags)) };
 

@@ -32,7 +32,8 @@ pub struct Standing {
 /// The number of a caller that is a worker of the plan.
 pub(crate) fn worker_of(plan: &ShardPlan, who: &Caller) -> Option<u8>
     ensures below { IfSome result (λ worker. worker < plan.now.workers) }
-    ensures inside { (history : List Entry) → is_inside_worker plan.now history who.now ≡ is_worker_with (λ worker. is_inside worker history) result }
+    ensures inside { (history : List Entry) →
+        is_inside_worker plan.now history who.now ≡ is_worker_with (λ worker. is_inside worker history) result }
     ensures holder { (history : List Entry) (cell : ℕ) → is_holder plan.now history who.now cell ≡
         is_worker_with (λ worker. holds worker cell history) result }
     ensures outside { (history : List Entry) → is_outside_worker plan.now history who.now ≡
@@ -44,7 +45,8 @@ pub(crate) fn worker_of(plan: &ShardPlan, who: &Caller) -> Option<u8>
 
 /// Whether the caller is a worker of the plan that is not inside.
 fn is_outside_worker(plan: &ShardPlan, who: &Caller, inside: bool) -> bool
-    ensures { (history : List Entry) → inside ≡ is_inside_worker plan.now history who.now → result ≡ is_outside_worker plan.now history who.now }
+    ensures { (history : List Entry) → inside ≡ is_inside_worker plan.now history who.now →
+        result ≡ is_outside_worker plan.now history who.now }
 {
     worker_of(plan, who).is_some() && !inside
 }
@@ -199,7 +201,8 @@ fn is_atomic(plan: &ShardPlan, offset: u64, size: u64, op: u64, value: u64, expe
 /// Whether the caller may make this call on this shard, apart from the shard's number.
 fn meets_part(plan: &ShardPlan, standing: Standing, who: &Caller, call: &Call) -> bool
     requires { IsWithinLimits plan.now }
-    ensures { (history : List Entry) → IsStanding plan.now history who.now call.now standing → result ≡ meets_part plan.now history who.now call.now }
+    ensures { (history : List Entry) → IsStanding plan.now history who.now call.now standing →
+        result ≡ meets_part plan.now history who.now call.now }
 {
     let Standing {
         is_inside,
@@ -256,7 +259,8 @@ fn are_flags(flags: u64) -> bool
 /// Whether a caller of this standing may make this call on this shard: the journal is not read.
 pub(crate) fn meets_with(plan: &ShardPlan, standing: Standing, who: &Caller, call: &Call) -> bool
     requires { IsWithinLimits plan.now }
-    ensures { (history : List Entry) → IsStanding plan.now history who.now call.now standing → result ≡ meets plan.now history who.now call.now }
+    ensures { (history : List Entry) → IsStanding plan.now history who.now call.now standing →
+        result ≡ meets plan.now history who.now call.now }
 {
     call.shard() == plan.number && meets_part(plan, standing, who, call)
 }

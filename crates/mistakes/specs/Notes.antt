@@ -14,7 +14,7 @@ note_line words = 32 ∷ 32 ∷ ended words
 abbrev pub notes_text : List (List ℕ) → List ℕ
 notes_text lines = flat_map note_line lines
 
--- at most so many such lines
+-- at most N such lines
 pub record AreNotes (most : ℕ) (text : List ℕ) : Type 0 where
   pub lines : List (List ℕ)
   pub few : length lines ≤ most

@@ -148,12 +148,12 @@ fn registers_after_straight_code(rt: HostRuntime) {
 
 #[rattlefmt::skip]
 static EDGES: [(&str, &[Insn], bool, Register, Kind); 12] = [
-    ("at most the end: so many bytes", &[START, END, PLACE, ADD_14, JGT], false, R2, COVERED),
+    ("at most the end: these bytes", &[START, END, PLACE, ADD_14, JGT], false, R2, COVERED),
     ("past the end: nothing", &[START, END, PLACE, ADD_14, JGT], true, R2, FORGOTTEN),
     ("before the end: one more", &[START, END, PLACE, ADD_14, jump!(Test::Ge, R4, SourceOperand::Reg(R3))], false, R2, ONE_MORE),
     ("taken below the end: one more", &[START, END, PLACE, ADD_14, jump!(Test::Lt, R4, SourceOperand::Reg(R3))], true, R2, ONE_MORE),
     ("the end above a place: one more", &[START, END, PLACE, ADD_14, jump!(Test::Gt, R3, SourceOperand::Reg(R4))], true, R2, ONE_MORE),
-    ("the end not below a place: so many", &[START, END, PLACE, ADD_14, jump!(Test::Lt, R3, SourceOperand::Reg(R4))], false, R2, COVERED),
+    ("the end not below a place: these bytes", &[START, END, PLACE, ADD_14, jump!(Test::Lt, R3, SourceOperand::Reg(R4))], false, R2, COVERED),
     ("a spilled copy is told too", &[START, END, PLACE, ADD_14, put!(Size::U64, R10, -8, R2), JGT, load!(Size::U64, R6, R10, -8)], false, R6, COVERED),
     ("null where equal", &[KEY, KEY_AT, KEY_DOWN, MAP, LOOKUP, JEQ], true, R0, scalar!(0, 0)),
     ("a value where not equal", &[KEY, KEY_AT, KEY_DOWN, MAP, LOOKUP, JEQ], false, R0, VALUE),

@@ -6,7 +6,8 @@ use Rattle.isa.specs.declared.operation.Register.{Register}
 use Rattle.isa.specs.declared.operation.Register.TheVariants.{R1, R4}
 use Rattle.isa.specs.InstructionCodes.{size_bytes, extension_size, width_size}
 use Rattle.ebpf_decode.specs.declared.insn.Insn.{Insn}
-use Rattle.ebpf_decode.specs.declared.insn.Insn.TheVariants.{Alu, Neg, Movsx, Movsx32, End, JumpIf, Ldx, Ldxs, St, Stx, AtomicUpdate, Ldval, CallHelper}
+use Rattle.ebpf_decode.specs.declared.insn.Insn.TheVariants.{Alu, Neg, Movsx, Movsx32, End, JumpIf, Ldx, Ldxs, St, Stx, AtomicUpdate, Ldval}
+use Rattle.ebpf_decode.specs.declared.insn.Insn.TheVariants.{CallHelper}
 use Rattle.ebpf_decode.specs.declared.map.MapDef.{MapDef}
 use Rattle.semantics.specs.Program.{value_size_of}
 use Rattle.image_shape.specs.declared.fault.ShapeFault.{ShapeFault}

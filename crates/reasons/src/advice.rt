@@ -1,7 +1,8 @@
 //! The rule that is broken and the usual remedy, in words: one row for each cause.
 
 ghost use Rattle.std.specs.Prelude.{◌≡◌, ◌++◌, string_bytes, OnOk};
-ghost use Rattle.reasons.specs.Advices.{unit_text, count_text, base_text, standing_text, bytes_text, known_text, size_text, access_text, slot_text};
+ghost use Rattle.reasons.specs.Advices.{unit_text, count_text, base_text, standing_text, bytes_text, known_text, size_text, access_text};
+ghost use Rattle.reasons.specs.Advices.{slot_text};
 ghost use Rattle.reasons.specs.Advices.{from_text, brought_text, meeting_text, need_text, advice_text};
 
 use crate::cause::{Cause, Need};
@@ -324,7 +325,7 @@ fn packet(cause: Cause) -> (&'static str, &'static str) {
         ),
         Cause::NoTestShows { .. } => (
             "no comparison with the packet's end shows, on every path to here, that the packet reaches so far",
-            "load the end ([r1+4]), add so many bytes to a copy of the pointer, and leave where that is greater (jgt copy, end, +n); if there is \
+            "load the end ([r1+4]), add that number of bytes to a copy of the pointer, and leave where that is greater (jgt copy, end, +n); if there is \
                 such a test, look at which way it jumps",
         ),
         Cause::ComparedForFewer { .. } => (

@@ -3,7 +3,8 @@
 ghost use Rattle.std.specs.Prelude.{◌≡◌, ◌++◌, ◌<◌, ◌≤◌, string_bytes, OnOk, IfOk, None, length};
 ghost use Rattle.verifier.specs.Dataflow.{states_of};
 ghost use Rattle.verifier.specs.Surveys.{IsSurvey};
-ghost use Rattle.reasons.specs.Annotations.{indexed_text, register_place, set_item, register_item, word_place, is_any, word_item_text, word_item};
+ghost use Rattle.reasons.specs.Annotations.{indexed_text, register_place, set_item, register_item, word_place, is_any, word_item_text};
+ghost use Rattle.reasons.specs.Annotations.{word_item};
 ghost use Rattle.reasons.specs.Annotations.{known_items, state_lines, known_lines, entry_text, program_text};
 
 use crate::instruction::put_slot_line;
@@ -181,7 +182,8 @@ pub(crate) fn program_text(
 ) -> Result<String, AllocError>
     requires survey { IsSurvey image.now.version image.now.maps image.now.code survey.now }
     requires accepted { survey.now.broken ≡ None }
-    ensures { IfOk result (λ text. string_bytes text ≡ program_text (states_of image.now.version image.now.maps image.now.code) image.now.code) }
+    ensures { IfOk result
+        (λ text. string_bytes text ≡ program_text (states_of image.now.version image.now.maps image.now.code) image.now.code) }
 {
     let code = image.code();
     let mut out = String::new(alloc);

@@ -50,7 +50,8 @@ fn explain_kinds(alloc: Global, image: &Image) -> Result<String, AllocError>
 fn cause_in(image: &Image, survey: &Survey, broken: &Broken) -> Cause
     requires survey { IsSurvey image.now.version image.now.maps image.now.code survey.now }
     requires its_end { survey.now.broken ≡ Some broken.now }
-    ensures { IsCause image.now.version image.now.maps image.now.code broken.now.slot broken.now.insn broken.now.state broken.now.why result }
+    ensures { IsCause image.now.version image.now.maps image.now.code broken.now.slot broken.now.insn broken.now.state broken.now.why
+        result }
 {
     match broken.why {
         BrokenRule::UnsetRegister(register) => origin_of(image, survey, broken.slot, register),

@@ -81,7 +81,8 @@ pub(crate) fn broken_text(
     broken: &Broken,
     advice: &Advice,
 ) -> Result<String, AllocError>
-    ensures { IfOk result (λ text. string_bytes text ≡ broken_text image.now.maps broken.now.slot broken.now.insn broken.now.state advice.now) }
+    ensures { IfOk result
+        (λ text. string_bytes text ≡ broken_text image.now.maps broken.now.slot broken.now.insn broken.now.state advice.now) }
 {
     let mut out = String::new(alloc);
     put_slot_line(alloc, &mut out, broken.slot, broken.insn)?;

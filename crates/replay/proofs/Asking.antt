@@ -17,12 +17,11 @@ use Rattle.semantics.specs.declared.linux.UpdateFlags.TheVariants.{Any}
 use Rattle.semantics.specs.Linux.{flags_number}
 use Rattle.semantics.specs.PlanLimits.{IsIndexSize, HasImageSizes}
 use Rattle.semantics.specs.Program.{shard_of_key}
-use Rattle.semantics.specs.History.{Meets, is_own_key, is_value}
+use Rattle.semantics.specs.History.{Meets, is_own_key, is_value, entry_of}
 use Rattle.semantics.proofs.shared.ConditionLemmas.{bytes_test}
 use Rattle.semantics.proofs.shared.ImageSizes.{image_sizes}
 use Rattle.semantics.proofs.shared.PlanLemmas.{each_at}
 use Rattle.journals.specs.JournalsView.{AreImageMaps}
-use Rattle.shards.specs.CallerView.{entry_of}
 use Rattle.shards.specs.declared.deeds.Deed.TheVariants.{Wrote, MetFull}
 use Rattle.shards.specs.Deeds.{deed_by}
 use Rattle.shards.specs.Passes.{PassView, own_at, IsElsewhereSame}

@@ -13,10 +13,10 @@ use Rattle.shards.specs.Passes.{PassView, own_at, seen_at}
 use Rattle.map_updates.specs.declared.update.MapUpdate.{MapUpdate}
 use Rattle.control.specs.declared.command.Command.{Command}
 use Rattle.control.specs.MapUpdates.{UpdateBytes}
-use Rattle.control.specs.Controlling.{ControllerState}
+use Rattle.control.specs.Controlling.{ControllerState, opened_controller}
 use Rattle.replay.specs.declared.outcome.Applied.{Applied}
 use Rattle.replay.specs.SharedUpdates.{UpdatesView, shard_of, update_call}
-use Rattle.replay.specs.Commands.{CommandDone, IsDone, AreDone, IsNotedOf, AreNotedOf, all_set, made_in, with_updates, made_deeds, command_deeds, commands_deeds, IsFullFor, IsMoved, HasEffect, HasSet, IsAccount, IsCommander, ServesScript, opened_controller}
+use Rattle.replay.specs.Commands.{CommandDone, IsDone, AreDone, IsNotedOf, AreNotedOf, all_set, made_in, with_updates, made_deeds, command_deeds, commands_deeds, IsFullFor, IsMoved, HasEffect, HasSet, IsAccount, IsCommander, ServesScript}
 use Rattle.replay.proofs.Moving.{with_updates_more}
 use Rattle.replay.proofs.shared.FullStays.{full_stays}
 

@@ -19,9 +19,9 @@ use Rattle.semantics.specs.declared.linux.UpdateFlags.TheVariants.{Any}
 use Rattle.semantics.specs.declared.plan.ShardPlan.{ShardPlan}
 use Rattle.semantics.specs.Linux.{flags_number}
 use Rattle.semantics.specs.CallerLaws.{own_entries}
-use Rattle.semantics.specs.History.{IsLegalHistory, IsJournalFull}
+use Rattle.semantics.specs.History.{IsLegalHistory, IsJournalFull, entry_of}
 use Rattle.shard_core.specs.JournaledShard.{JournaledShard}
-use Rattle.shards.specs.CallerView.{BeginsWith, IsServed, entry_of}
+use Rattle.shards.specs.CallerView.{BeginsWith, IsServed}
 use Rattle.shards.specs.declared.deeds.Deed.{Deed}
 use Rattle.shards.specs.declared.deeds.Deed.TheVariants.{Wrote, MetFull}
 use Rattle.shards.specs.Deeds.{made_on}

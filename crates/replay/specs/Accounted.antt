@@ -31,7 +31,7 @@ pub record IsWorkOf (IsRun : PassView → Ran → PassView → Type 0) (records 
   pub own : (number : ℕ) → number < count → own_at after number ≡ own_entries (Worker worker) (reverse (entries_at journals number))
   pub did : after.deeds ≡ deeds_of (ByCaller (Worker worker)) order
 
--- one order of all deeds on so many shards, newest first: shard by shard it is the journal, and each look at a full journal met one
+-- one order of all deeds on N shards, newest first: shard by shard it is the journal, and each look at a full journal met one
 pub record IsOrderOf (plan : ℕ → ShardPlan) (count : ℕ) (journals : JournalsView) (order : List Deed) : Type 0 where
   pub within : AreWithin count order
   pub journals_are : (number : ℕ) → number < count → entries_at journals number ≡ reverse (made_on number order)

@@ -53,7 +53,7 @@ counted c (Some (Exited steps Dropped)) = record c { drop = c.drop + 1 }
 counted c (Some (Exited steps Passed)) = record c { pass = c.pass + 1 }
 counted c (Some (Exited steps (IsSent sent))) = record c { tx = c.tx + 1 }
 
--- the first so many records, each counted once
+-- the first N records, each counted once
 abbrev pub counts_of : List (List ℕ) → ℕ → List (List Ran) → ℕ → Counts
 counts_of frames workers runs zero = no_counts
 counts_of frames workers runs (suc number) = counted (counts_of frames workers runs number) (fate_of frames workers runs number)
@@ -76,7 +76,7 @@ abbrev pub sent_by : Option RunEnd → List SentFrame
 sent_by (Some (Exited steps (IsSent sent))) = sent_frame sent ∷ []
 sent_by fate = []
 
--- what is sent of the first so many records, in the capture's order
+-- what is sent of the first N records, in the capture's order
 abbrev pub sent_of : List (List ℕ) → ℕ → List (List Ran) → ℕ → List SentFrame
 sent_of frames workers runs zero = []
 sent_of frames workers runs (suc number) = sent_of frames workers runs number ++ sent_by (fate_of frames workers runs number)
@@ -96,7 +96,7 @@ record_end worker None = ends.Short
 record_end worker (Some Stopped) = ends.Stopped worker
 record_end worker (Some (Exited steps fate)) = ends.Exited worker (verdict_for fate) steps
 
--- of the first so many records, in the capture's order
+-- of the first N records, in the capture's order
 abbrev pub ends_of : List (List ℕ) → ℕ → List (List Ran) → ℕ → List RecordEnd
 ends_of frames workers runs zero = []
 ends_of frames workers runs (suc number) =

@@ -10,12 +10,12 @@ use Rattle.replay.specs.Puts.{ArePut, put_at}
 abbrev pub IsUnused : PassView → Type 0
 IsUnused pass = ((number : ℕ) → view_at pass number ≡ nothing_seen) × (pass.deeds ≡ [])
 
--- so many numbers, from this one on
+-- N numbers, from this one on
 abbrev pub numbers_from : ℕ → ℕ → List ℕ
 numbers_from first zero = []
 numbers_from first (suc count) = first ∷ numbers_from (first + 1) count
 
--- so many commands of the script, from this one on
+-- N commands of the script, from this one on
 abbrev pub commands_from : ℕ → ℕ → List Job
 commands_from first count = map (λ (number : ℕ). Command number) (numbers_from first count)
 
@@ -67,7 +67,7 @@ pub record AreInTime (starts : List ℕ) (records number first next : ℕ) : Typ
   pub not_early : (place : ℕ) → first ≤ place → place < next → (slice_index starts place ≤ number) ⊎ (number ≡ records)
   pub not_late : next < length starts → number ≤ slice_index starts next
 
--- so many records were dispatched, the commands up to one were handed over in time, and a round was asked for after every 64 records
+-- N records were dispatched, the commands up to one were handed over in time, and a round was asked for after every 64 records
 pub record AreDispatched (frames : List (List ℕ)) (starts : List ℕ) (workers number first next : ℕ) (puts : List (List Job)) : Type 0 where
   pub are_put : ArePut frames workers number puts
   pub enough : workers + 1 < length puts

@@ -19,10 +19,11 @@ use Rattle.map_updates.specs.declared.update.MapUpdate.{MapUpdate}
 use Rattle.control.specs.declared.command.Action.{Action}
 use Rattle.control.specs.declared.command.Command.{Command}
 use Rattle.control.specs.declared.fault.ControlFault.{ControlFault}
-use Rattle.control.specs.declared.fault.ControlFault.TheVariants.{BadSize, BadLine, UnknownBackend, BackendTwice, Refused, JournalFull, Memory}
+use Rattle.control.specs.declared.fault.ControlFault.TheVariants.{BadSize, BadLine, UnknownBackend, BackendTwice, Refused, JournalFull}
+use Rattle.control.specs.declared.fault.ControlFault.TheVariants.{Memory}
 use Rattle.control.specs.declared.update.Update.{Update as Change}
 use Rattle.control.specs.MapUpdates.{UpdateBytes, map_update}
-use Rattle.control.specs.Controlling.{ControllerState, IsTable, refusal_of, first_updates, up_after, updates_of}
+use Rattle.control.specs.Controlling.{ControllerState, IsTable, refusal_of, first_updates, up_after, updates_of, opened_controller}
 use Rattle.replay.specs.declared.outcome.Applied.{Applied}
 use Rattle.replay.specs.FirstUpdates.{update_bytes}
 use Rattle.replay.specs.SharedUpdates.{UpdatesView, shard_of, update_call}
@@ -196,10 +197,6 @@ pub record HasEffect (plan : ℕ → ShardPlan) (state : ControllerState) (actio
   pub full : IfSome one.stopped (IsFullFor plan before.maps before.options after.pass)
   -- over all shards its updates come one after the other, and the look at a full journal last
   pub did : after.pass.deeds ≡ reverse (command_deeds before.maps before.options one) ++ before.pass.deeds
-
--- a controller before its first command
-abbrev pub opened_controller : ℕ → ControllerState
-opened_controller size = record { size = size; up = []; owners = []; is_full = false }
 
 -- the controller's pass has made these updates, in order, and nothing else
 pub record HasSet (maps : List MapDef) (options : Options) (updates : List MapUpdate) (pass : PassView) : Type 0 where

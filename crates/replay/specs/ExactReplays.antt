@@ -14,7 +14,8 @@ use Rattle.shards.specs.Opening.{AreOpened}
 use Rattle.control.specs.declared.command.Command.{Command}
 use Rattle.replay.specs.declared.outcome.Outcome.{Outcome}
 use Rattle.replay.specs.Accounts.{no_counts, frames_in}
-use Rattle.replay.specs.Commands.{ServesScript, opened_controller}
+use Rattle.control.specs.Controlling.{opened_controller}
+use Rattle.replay.specs.Commands.{ServesScript}
 use Rattle.replay.specs.FirstUpdates.{AreSet}
 use Rattle.replay.specs.Parts.{refused_of}
 use Rattle.replay.specs.Turns.{all_turns}

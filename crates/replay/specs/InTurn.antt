@@ -168,7 +168,7 @@ abbrev pub IsPartOfRound : Bool → ℕ → List JournaledShard → List Journal
 IsPartOfRound true number before after = IsReclaimedInTurn number before after
 IsPartOfRound false number before after = after ≡ before
 
--- the first so many shards, the lowest number first
+-- the first N shards, the lowest number first
 abbrev pub IsRoundTo : ℕ → List JournaledShard → List JournaledShard → Type 0
 IsRoundTo zero before after = after ≡ before
 IsRoundTo (suc number) before after =

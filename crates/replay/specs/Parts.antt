@@ -18,12 +18,12 @@ use Rattle.maglev.specs.RingSize.{IsRingSize}
 use Rattle.map_updates.specs.declared.update.MapUpdate.{MapUpdate}
 use Rattle.conntrack.specs.SteeringMaps.{steering_maps}
 use Rattle.control.specs.declared.command.Command.{Command}
-use Rattle.control.specs.Controlling.{ControllerState}
+use Rattle.control.specs.Controlling.{ControllerState, opened_controller}
 use Rattle.control.specs.MapUpdates.{UpdateBytes}
 use Rattle.replay.specs.declared.outcome.Applied.{Applied}
 use Rattle.replay.specs.SharedUpdates.{shard_of, update_call}
 use Rattle.replay.specs.Commands.{CommanderView, CommandDone, AreNotedOf, AreDone, IsAccount, ServesScript}
-use Rattle.replay.specs.Commands.{opened_controller, all_set, made_in, with_updates, made_deeds, commands_deeds}
+use Rattle.replay.specs.Commands.{all_set, made_in, with_updates, made_deeds, commands_deeds}
 use Rattle.replay.specs.ActorJobs.{AreCommandsTaken, AreRoundsMade, IsAccounted as IsControllersAccount}
 use Rattle.replay.specs.Rounds.{IsReclaimedBy, AreRoundsDone}
 use Rattle.replay.specs.Actors.{numbers_from}
@@ -56,7 +56,7 @@ AreBadOptions maps options script = IsFalse (are_served_options maps options) �
 abbrev pub numbers_of : List Applied → List ℕ
 numbers_of noted = map (λ (one : Applied). one.command) noted
 
--- a controller of these shards and this script that has made these updates and then applied its first commands, so many
+-- a controller of these shards and this script that has made these updates and then applied its first N commands
 pub record IsStarted (maps : List MapDef) (options : Options) (updates : List MapUpdate) (script : List Command) (size : ℕ) (start : CommanderView)
     (first : ℕ) : Type 0 where
   pub updates_are : start.updates ≡ updates
@@ -81,7 +81,7 @@ pub record IsScriptRun (plan : ℕ → ShardPlan) (maps : List MapDef) (options 
 abbrev pub refused_of : List Applied → List Applied
 refused_of noted = filter (λ (one : Applied). is_some one.fault) noted
 
--- the update's shard is one of so many, and its journal is full for the update at its end
+-- the update's shard is one of N, and its journal is full for the update at its end
 pub record IsFullInJournal (plan : ℕ → ShardPlan) (maps : List MapDef) (options : Options) (count : ℕ) (journals : JournalsView) (update : UpdateBytes) :
     Type 0 where
   pub within : shard_of maps options update < count
@@ -115,7 +115,7 @@ pub record IsScriptAccounted (plan : ℕ → ShardPlan) (maps : List MapDef) (op
 abbrev pub rounds_of : ℕ → ℕ
 rounds_of records = records / 64 + 1
 
--- The reclaimer's entries in each journal are those of so many rounds, fewer only where the journal is full for another at its end. In the one order of
+-- The reclaimer's entries in each journal are those of N rounds, fewer only where the journal is full for another at its end. In the one order of
 -- all deeds those of the reclaimer are these rounds, one behind the other, each with one Reclaim of each hash and LRU shard, the lowest number first.
 pub record AreRoundsAccounted (plan : ℕ → ShardPlan) (count rounds : ℕ) (journals : JournalsView) (order : List Deed) : Type 0 where
   pub each : (number : ℕ) → number < count → IsReclaimedBy (plan number).definition.kind (plan number) number rounds

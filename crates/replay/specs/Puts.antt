@@ -17,7 +17,7 @@ frame_jobs records = map (λ (number : ℕ). Frame number) records
 abbrev pub with_record : List ℕ → ℕ → ℕ → List (List Job) → List (List Job)
 with_record frame workers number puts = if is_short frame then puts else with_job_at (worker_of_frame frame workers) (Frame number) puts
 
--- each worker was handed its records among the first so many
+-- each worker was handed its records among the first N
 pub record ArePut (frames : List (List ℕ)) (workers count : ℕ) (puts : List (List Job)) : Type 0 where
   pub enough : workers < length puts
   pub each : (worker : ℕ) → worker < workers → put_at puts worker ≡ frame_jobs (share frames workers worker count)

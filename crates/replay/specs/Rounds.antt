@@ -24,7 +24,7 @@ use Rattle.shards.specs.Asked.{IsAnswered, IsTurnedAway}
 abbrev pub IsReclaim : ℕ → Entry → Type 0
 IsReclaim number entry = (freed : ℕ) × (entry ≡ record { who = Reclaimer; call = Reclaim number; reply = Freed freed })
 
--- so many rounds in one hash or LRU shard
+-- N rounds in one hash or LRU shard
 pub record IsReclaimed (plan : ShardPlan) (number rounds : ℕ) (own seen : List Entry) : Type 0 where
   pub each : AllByRecursion (IsReclaim number) own
   pub one_a_round : length own ≤ rounds
@@ -35,7 +35,7 @@ abbrev pub IsReclaimedBy : MapKind → ShardPlan → ℕ → ℕ → List Entry 
 IsReclaimedBy Array plan number rounds own seen = own ≡ []
 IsReclaimedBy kind plan number rounds own seen = IsReclaimed plan number rounds own seen
 
--- the reclaimer's own entries in the history of the shard of this number after so many rounds
+-- the reclaimer's own entries in the history of the shard of this number after N rounds
 abbrev pub IsReclaimedAt : (ℕ → ShardPlan) → ℕ → PassView → ℕ → Type 0
 IsReclaimedAt plan rounds pass number =
     IsReclaimedBy (plan number).definition.kind (plan number) number rounds (own_at pass number) (seen_at pass number)
@@ -47,7 +47,7 @@ abbrev pub is_keyed : MapKind → Bool
 is_keyed Array = false
 is_keyed kind = true
 
--- those of so many shards whose cells are retired, the lowest number first
+-- those of N shards whose cells are retired, the lowest number first
 abbrev pub keyed_below : (ℕ → ShardPlan) → ℕ → List ℕ
 keyed_below plan zero = []
 keyed_below plan (suc count) =
@@ -70,13 +70,13 @@ AreReclaimDeeds (number ∷ numbers) [] = ⊥
 abbrev pub IsRoundDone : (ℕ → ShardPlan) → ℕ → List Deed → Type 0
 IsRoundDone plan count deeds = AreReclaimDeeds (keyed_below plan count) deeds
 
--- so many rounds, one behind the other
+-- N rounds, one behind the other
 abbrev pub AreRoundsDone : (ℕ → ShardPlan) → ℕ → ℕ → List Deed → Type 0
 AreRoundsDone plan count zero deeds = deeds ≡ []
 AreRoundsDone plan count (suc rounds) deeds =
     (first : List Deed) × (later : List Deed) × (deeds ≡ first ++ later) × IsRoundDone plan count first × AreRoundsDone plan count rounds later
 
--- so many rounds: what they left in each of so many shards, and all that the reclaimer did over them
+-- N rounds: what they left in each of N shards, and all that the reclaimer did over them
 pub record AreReclaimed (plan : ℕ → ShardPlan) (count rounds : ℕ) (pass : PassView) : Type 0 where
   pub each : (number : ℕ) → number < count → IsReclaimedAt plan rounds pass number
   pub did : AreRoundsDone plan count rounds (reverse pass.deeds)

@@ -14,7 +14,7 @@ use Rattle.replay.specs.declared.threads.Setting.{Setting}
 use Rattle.replay.specs.Actors.{OfCommandsFrom, round_jobs}
 use Rattle.replay.specs.Crews.{IsReadyAt, AreHandled}
 
--- the passes of queues for so many workers, a controller and a reclaimer, through which nothing was put yet
+-- the passes of queues for N workers, a controller and a reclaimer, through which nothing was put yet
 pub record AreFreshPasses (queues : Queues) (workers : ℕ) (put : PutPass) (takes : List TakePass) : Type 0 where
   pub workers_are : workers_of queues ≡ workers
   pub some : 0 < workers
@@ -37,7 +37,7 @@ pub record IsReadyToRun {S W R : Type 0} (IsNew IsIdle : W → ℕ → S → Typ
   pub within : setting.first ≤ length setting.starts.now
   pub states_are : Each (IsReadyAt (IsNew setting.runner.now) (IsIdle setting.runner.now)) 0 states
 
--- each of so many workers ran its records, in order; the controller handed back what it has for the commands that did not come first, and the
+-- each of N workers ran its records, in order; the controller handed back what it has for the commands that did not come first, and the
 -- reclaimer what it has for its rounds
 pub record AreAllDone {S E F W R : Type 0} (IsNew : W → ℕ → S → Type 0) (IsRun : W → ℕ → Sent → S → RunEnd → S → Type 0)
     (Commands : List Job → E → Type 0) (Rounds : List Job → F → Type 0) (setting : Setting W R) (workers : ℕ) (ended : AllEnded S E F) : Type 0 where

@@ -12,7 +12,7 @@ use Rattle.semantics.specs.Linux.{flags_number}
 use Rattle.semantics.specs.Program.{shard_in_map}
 use Rattle.semantics.specs.ShardPlan.{AreOptions}
 use Rattle.journals.specs.JournalsView.{AreImageMaps}
-use Rattle.shards.specs.CallerView.{entry_of}
+use Rattle.semantics.specs.History.{entry_of}
 use Rattle.shards.specs.declared.deeds.Deed.TheVariants.{Wrote, MetFull}
 use Rattle.shards.specs.SharedMaps.{ArePlans}
 use Rattle.shards.specs.Passes.{PassView, IsElsewhereSame}

@@ -32,7 +32,7 @@ abbrev pub is_handed : List (List ℕ) → ℕ → ℕ → ℕ → Bool
 is_handed frames workers worker number =
     not (is_short (frame_at frames number)) && (worker_of_frame (frame_at frames number) workers == worker)
 
--- the records of a worker among the first so many, in order
+-- the records of a worker among the first N, in order
 abbrev pub share : List (List ℕ) → ℕ → ℕ → ℕ → List ℕ
 share frames workers worker zero = []
 share frames workers worker (suc count) =

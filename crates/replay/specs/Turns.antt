@@ -10,7 +10,7 @@ pub data Turn : Type 0 where
   -- the reclaimer makes a round
   TheRound : Turn
 
--- how many commands are due once so many records were dispatched: those at the script's beginning that stand behind no more
+-- how many commands are due once N records were dispatched: those at the script's beginning that stand behind no more
 abbrev pub due_to : List ℕ → ℕ → ℕ
 due_to [] number = 0
 due_to (start ∷ later) number = if nat_lt number start then 0 else suc (due_to later number)
@@ -28,7 +28,7 @@ commands_between from end = map (λ (number : ℕ). TheCommand number) (numbers_
 abbrev pub rounds_at : ℕ → List Turn
 rounds_at number = if number % 64 == 0 then TheRound ∷ [] else []
 
--- the turns of so many records: before each record the commands that are due, then the record, then a round, if it is its time
+-- the turns of N records: before each record the commands that are due, then the record, then a round, if it is its time
 abbrev pub turns_to : List ℕ → ℕ → List Turn
 turns_to starts zero = []
 turns_to starts (suc number) =

@@ -97,7 +97,8 @@ fn next_fate(
         (lists_of runs.new.items) }
     ensures next { AreNext (frames_of capture.now.records.items) (length runs.old.items) (number + 1) next.new.items }
     ensures fate { result ≡ fate_of (frames_of capture.now.records.items) (length runs.old.items) (lists_of runs.old.items) number }
-    ensures later { AreFatesFrom (number + 1) (frames_of capture.now.records.items) (length runs.old.items) (lists_of runs.old.items) (lists_of
+    ensures later { AreFatesFrom (number + 1) (frames_of capture.now.records.items) (length runs.old.items) (lists_of runs.old.items)
+        (lists_of
         runs.new.items) }
 {
     let sent = &capture.records[number];

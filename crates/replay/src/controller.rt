@@ -11,7 +11,8 @@ ghost use Rattle.replay.specs.UpdateFaults.{IsWhyByPass};
 ghost use Rattle.semantics.specs.declared.call.Caller.TheVariants.{Controller as TheController};
 ghost use Rattle.control.specs.declared.fault.ControlFault.{ControlFault as Fault};
 ghost use Rattle.conntrack.specs.SteeringMaps.{steering_maps};
-ghost use Rattle.replay.specs.Commands.{CommanderView, HasEffect, IsAccount, HasAccount, StaysOf, ServesScript, opened_controller};
+ghost use Rattle.control.specs.Controlling.{opened_controller};
+ghost use Rattle.replay.specs.Commands.{CommanderView, HasEffect, IsAccount, HasAccount, StaysOf, ServesScript};
 
 use crate::actor::{Actor, ActorEnded};
 use crate::fault::ReplayFault;
@@ -43,7 +44,8 @@ impl<'a, B: Naming, W: Wait, G: Gate> Model for Commander<'a, B, W, G> {
 
     ghost Value = { CommanderView };
 
-    ghost view = { λ c. record { updates = c.updates.now; script = c.script.now; noted = c.noted.items; controller = c.controller; port = c.port.port } };
+    ghost view = { λ c. record
+        { updates = c.updates.now; script = c.script.now; noted = c.noted.items; controller = c.controller; port = c.port.port } };
 
     ghost invariant = { λ c. IsCommander B.plan c.updates.now c.script.now c.noted.items c.controller c.port.port };
 }

@@ -98,7 +98,8 @@ fn start_both<
     requires put { IsPutPassOf queues.now put.old }
     requires of_controller { IsTakePassOf queues.now takes.0 × (place_taken_from takes.0 ≡ workers) × (jobs_taken takes.0 ≡ []) }
     requires of_reclaimer { IsTakePassOf queues.now takes.1 × (place_taken_from takes.1 ≡ workers + 1) × (jobs_taken takes.1 ≡ []) }
-    requires ready { C.is_ready controller queues.now (place_taken_from takes.0) × D.is_ready reclaimer queues.now (place_taken_from takes.1) }
+    requires ready { C.is_ready controller queues.now (place_taken_from takes.0) ×
+        D.is_ready reclaimer queues.now (place_taken_from takes.1) }
     ensures put { IsPutPassOf queues.now put.new }
     ensures puts { IfSome result (λ both. jobs_put put.new ≡ jobs_put put.old) }
     ensures ended { IsNone result → AreBothEnded (workers_of queues.now) (jobs_put put.old) (jobs_put put.new) }

@@ -52,7 +52,7 @@ fn beginnings(rt: HostRuntime) {
             _ => Some(CaptureFault::CutFrame { record: 1 }),
         };
         let got = fault_of(rt.alloc(), &CAPTURE[..size]);
-        same_at(&rt, "a file of so many bytes:", size as u64, &got, &want);
+        same_at(&rt, "a file of these bytes:", size as u64, &got, &want);
     }
 }
 

@@ -1,7 +1,8 @@
 //! What no clause says: rows worked out elsewhere, and that jobs come through.
 
 ghost use Rattle.std.specs.Prelude.{◌≡◌, ◌<◌, ◌≤◌, ◌+◌, length, IfSome};
-ghost use Rattle.rx_queues.specs.Passes.{HasQueue, FitsAt, workers_of, records_of, commands_of, queue_of, IsPutPassOf, IsTakePassOf, TakeAtTheirPlaces};
+ghost use Rattle.rx_queues.specs.Passes.{HasQueue, FitsAt, workers_of, records_of, commands_of, queue_of, IsPutPassOf, IsTakePassOf};
+ghost use Rattle.rx_queues.specs.Passes.{TakeAtTheirPlaces};
 
 use crate::asserting::{holds, same, same_at};
 use rx_queues::{Caller, Job, OpenFault, PutPass, Queues, TakePass, spread};

@@ -10,14 +10,14 @@ use Rattle.semantics.specs.declared.verdict.Verdict.{Verdict}
 use Rattle.semantics.specs.MachineState.{MachineState, initial_state}
 use Rattle.semantics.specs.Program.{Program}
 use Rattle.semantics.specs.History.{shard_of_call}
-use Rattle.semantics.specs.RunTrace.{HasExited, Waits, IsReplyTo}
+use Rattle.semantics.specs.RunTrace.{HasExited, Waits, IsReplyTo, whole_trace}
 use Rattle.verifier.specs.Verified.{Verified}
 use Rattle.map_port.specs.Exchanges.{Exchange, calls_in, replies_in}
 use Rattle.machine.specs.declared.exit.Exit.{Exit}
 use Rattle.machine.specs.declared.exit.Stop.{Stop}
 use Rattle.machine.specs.declared.exit.Stop.TheVariants.{JournalFull}
 use Rattle.machine.specs.declared.moment.Moment.{Moment}
-use Rattle.machine.specs.Running.{program_of, whole_trace, Ends, StopsSo}
+use Rattle.machine.specs.Running.{program_of, Ends, StopsSo}
 use Rattle.shards.specs.SharedMaps.{SharedMaps}
 use Rattle.shards.specs.Passes.{PassView}
 use Rattle.shard_port.specs.PassPorts.{PassPort, port_of, IsGivenBy, IsRefusedBy}

@@ -8,12 +8,11 @@ use Rattle.semantics.specs.declared.verdict.Verdict.{Verdict}
 use Rattle.semantics.specs.MachineState.{MachineState}
 use Rattle.semantics.specs.Program.{Program}
 use Rattle.semantics.specs.History.{shard_of_call, IsJournalFull}
-use Rattle.semantics.specs.RunTrace.{HasExited, Waits}
+use Rattle.semantics.specs.RunTrace.{HasExited, Waits, whole_trace}
 use Rattle.shard_core.specs.JournaledShard.{JournaledShard}
 use Rattle.map_port.specs.Exchanges.{Exchange, calls_in, replies_in}
 use Rattle.machine.specs.declared.exit.Stop.{Stop}
 use Rattle.machine.specs.declared.exit.Stop.TheVariants.{JournalFull}
-use Rattle.machine.specs.Running.{whole_trace}
 use Rattle.shard_port.specs.Asking.{is_in, can_enter, entered, enter_by, leave_by}
 use Rattle.shard_port.specs.Sessions.{entries_at, begun, with_entries}
 use Rattle.shard_port.specs.PassSessions.{session_at, AreWithin}

@@ -38,7 +38,7 @@ records_of queues = queues.records
 abbrev pub commands_of : Queues → ℕ
 commands_of queues = queues.commands
 
--- what the queue at a place is for, among queues for so many workers, records and commands
+-- what the queue at a place is for, among queues for N workers, records and commands
 abbrev pub purpose_at : ℕ → ℕ → ℕ → ℕ → Purpose
 purpose_at workers records commands place = record { place = place; workers = workers; records = records; commands = commands }
 

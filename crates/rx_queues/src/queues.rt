@@ -1,10 +1,12 @@
 //! The queues: the worker of a flow, and what is done with them. A thread that waits for a queue asks again for a moment, and then sleeps.
 
-ghost use Rattle.std.specs.Prelude.{◌≡◌, ◌<◌, ◌≤◌, ◌+◌, ◌∷◌, ◌++◌, ◌↔◌, [], ℕ, length, map, replicate, IfOk, IfErr, IfSome, OnErr, IsErrOf, OnOk, true};
+ghost use Rattle.std.specs.Prelude.{◌≡◌, ◌<◌, ◌≤◌, ◌+◌, ◌∷◌, ◌++◌, ◌↔◌, [], ℕ, length, map, replicate, IfOk, IfErr, IfSome, OnErr, IsErrOf};
+ghost use Rattle.std.specs.Prelude.{OnOk, true};
 ghost use Rattle.std.specs.Prelude.{MatchOption, option_map, slice_index_or};
 ghost use Rattle.crossbeam_queue.specs.Passes.{view, IsPassOf, IsSamePass, ruled_capacity};
 ghost use Rattle.rx_queues.specs.Fifo.{Fits, IsTakenInOrder, known, no_purpose, putter, taker};
-ghost use Rattle.rx_queues.specs.Passes.{queue_of, HasQueue, workers_of, records_of, commands_of, FitsAt, jobs_put, jobs_taken, jobs_put_for, with_job_at, IsPutPassOf};
+ghost use Rattle.rx_queues.specs.Passes.{queue_of, HasQueue, workers_of, records_of, commands_of, FitsAt, jobs_put, jobs_taken};
+ghost use Rattle.rx_queues.specs.Passes.{jobs_put_for, with_job_at, IsPutPassOf};
 ghost use Rattle.rx_queues.specs.Passes.{IsTakePassOf, place_taken_from, AreTakePasses, IsPutPassFor, IsTakePassFor, WasFull};
 ghost use Rattle.rx_queues.specs.Spread.{worker_of_flow};
 ghost use Rattle.map_rules.specs.declared.open_fault.OpenFault.TheVariants.{BadOptions};
@@ -61,7 +63,7 @@ pub fn spread(key: Option<&FlowKey>, workers: usize) -> usize
 
 impl Queues {
     /// Opens a queue of 64 jobs for each of 1 to 8 workers, for the controller and for the reclaimer, with the right to put into all
-    /// and the rights to take, in this order. A worker's is for the frames of so many records, the controller's for so many commands and the
+    /// and the rights to take, in this order. A worker's is for the frames of N records, the controller's for N commands and the
     /// reclaimer's for notes; each is for the end. Takes all memory that they will ever need. Refused with 51 where the number of
     /// workers is another, with 52 without memory; then nothing is left.
     pub fn open(
@@ -147,7 +149,8 @@ impl Queues {
     pub fn take<R: Wait>(&self, rt: &R, pass: &mut TakePass) -> Option<Job>
         requires { IsTakePassOf self.now pass.old }
         ensures pass { IsTakePassOf self.now pass.new × (place_taken_from pass.new ≡ place_taken_from pass.old) }
-        ensures taken { MatchOption result (jobs_taken pass.new ≡ jobs_taken pass.old) (λ job. jobs_taken pass.new ≡ jobs_taken pass.old ++ job ∷ []) }
+        ensures taken { MatchOption result (jobs_taken pass.new ≡ jobs_taken pass.old)
+            (λ job. jobs_taken pass.new ≡ jobs_taken pass.old ++ job ∷ []) }
         ensures fits { IfSome result (FitsAt self.now (place_taken_from pass.old)) }
     {
         pass.questions = pass.questions.wrapping_add(1);

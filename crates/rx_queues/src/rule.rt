@@ -7,7 +7,7 @@ use crossbeam_queue::{Pass, RuledArrayQueue};
 use std::collections::LinkedList;
 use std::marker::{Brand, PhantomData};
 
-/// What a queue is for: its place, among queues for so many workers, records and commands.
+/// What a queue is for: its place, among queues for N workers, records and commands.
 #[derive(Clone, Copy, Debug)]
 pub struct Purpose {
     pub place: usize,

@@ -7,6 +7,7 @@ use Rattle.isa.specs.declared.operation.AtomicOp.TheVariants.{CompareExchange}
 use Rattle.semantics.specs.declared.call.Caller.{Caller}
 use Rattle.semantics.specs.declared.call.Caller.TheVariants.{Worker, Controller, Reclaimer}
 use Rattle.semantics.specs.declared.call.Call.{Call}
+use Rattle.semantics.specs.declared.call.Reply.{Reply}
 use Rattle.semantics.specs.declared.call.Call.TheVariants.{Enter, Leave, Lookup, Load, Store, Atomic, Update, Delete, Reclaim}
 use Rattle.semantics.specs.declared.call.SectionChange.{SectionChange}
 use Rattle.semantics.specs.declared.call.SectionChange.TheVariants.{Begins, Ends}
@@ -17,6 +18,9 @@ use Rattle.semantics.specs.ShardPlan.{ShardPlan}
 use Rattle.semantics.specs.Reclamation.{is_inside, holds, inside_count}
 use Rattle.isa.specs.InstructionCodes.{atomic_code, atomic_op_of}
 use Rattle.semantics.specs.SequentialShard.{reply_of, shard_after}
+
+abbrev pub entry_of : Caller → Call → Reply → Entry
+entry_of who call reply = record { who = who; call = call; reply = reply }
 
 -- ---- the caller's condition
 

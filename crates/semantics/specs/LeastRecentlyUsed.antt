@@ -1,5 +1,6 @@
 -- When a key was last used, and which key a full LRU map evicts. The history's newest entry is first.
-use Rattle.std.specs.Prelude.{ℕ, suc, ◌==◌, Bool, false, ◌&&◌, nat_le, ℤ, pos, negsuc, List, [], ◌∷◌, length, Option, is_some, find, if◌then◌else◌, bytes_eq}
+use Rattle.std.specs.Prelude.{ℕ, suc, ◌==◌, Bool, false, ◌&&◌, nat_le, ℤ, pos, negsuc, List, [], ◌∷◌, length, Option, is_some, find}
+use Rattle.std.specs.Prelude.{if◌then◌else◌, bytes_eq}
 use Rattle.std.specs.List.{list_all}
 use Rattle.semantics.specs.declared.call.Call.{Call}
 use Rattle.semantics.specs.declared.call.Call.TheVariants.{Lookup, Update}

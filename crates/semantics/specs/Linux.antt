@@ -7,7 +7,8 @@ use Rattle.semantics.specs.declared.linux.Errno.TheVariants.{NoEntry, TooBig, No
 use Rattle.semantics.specs.declared.linux.UpdateFlags.{UpdateFlags}
 use Rattle.semantics.specs.declared.linux.UpdateFlags.TheVariants.{Any, NoExist, Exist}
 use Rattle.semantics.specs.declared.linux.Helper.{Helper}
-use Rattle.semantics.specs.declared.linux.Helper.TheVariants.{MapLookupElem, MapUpdateElem, MapDeleteElem, KtimeGetNs, GetSmpProcessorId, XdpAdjustHead}
+use Rattle.semantics.specs.declared.linux.Helper.TheVariants.{MapLookupElem, MapUpdateElem, MapDeleteElem, KtimeGetNs, GetSmpProcessorId}
+use Rattle.semantics.specs.declared.linux.Helper.TheVariants.{XdpAdjustHead}
 use Rattle.semantics.specs.declared.linux.ContextField.{ContextField}
 use Rattle.semantics.specs.declared.linux.ContextField.TheVariants.{Data, DataEnd, IngressIfindex, RxQueueIndex}
 

@@ -1,6 +1,7 @@
 -- Who is inside a read-side section, which cells it holds, and when a retired cell may be freed: by places in the history
 -- alone (epoch-based reclamation). A history is here with its newest entry first; places count from the oldest.
-use Rattle.std.specs.Prelude.{ℕ, ◌==◌, Bool, true, false, ◌||◌, nat_lt, List, [], ◌∷◌, length, Option, Some, None, IsTrue, is_some, if◌then◌else◌, count_by}
+use Rattle.std.specs.Prelude.{ℕ, ◌==◌, Bool, true, false, ◌||◌, nat_lt, List, [], ◌∷◌, length, Option, Some, None, IsTrue, is_some}
+use Rattle.std.specs.Prelude.{if◌then◌else◌, count_by}
 use Rattle.std.specs.List.{list_all}
 use Rattle.semantics.specs.declared.call.Caller.{Caller}
 use Rattle.semantics.specs.declared.call.Caller.TheVariants.{Worker}

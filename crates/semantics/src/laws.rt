@@ -2,12 +2,14 @@
 
 ghost use Rattle.semantics.specs.CallerLaws.{ConditionIsOwn};
 ghost use Rattle.semantics.specs.SystemLaws.{ReachedHistoriesAreLegal};
-ghost use Rattle.semantics.specs.SystemRows.{RunOverAnArray, RunOverAHashMap, HeldCellOutlivesItsKey, FullJournalHasRoomForLeave, UnsafeProgramIsRefused};
+ghost use Rattle.semantics.specs.SystemRows.{RunOverAnArray, RunOverAHashMap, HeldCellOutlivesItsKey, FullJournalHasRoomForLeave};
+ghost use Rattle.semantics.specs.SystemRows.{UnsafeProgramIsRefused};
 ghost use Rattle.semantics.specs.TraceRows.{StoresAsk, AtomicsAsk, ShortAtomicsAsk, HelpersAsk, AddressesAsk, SpilledPointersComeBack};
 ghost use Rattle.semantics.specs.PlanLimits.{ShardsHavePlans};
 ghost use Rattle.semantics.specs.UseLaws.{PresentKeysWereUsed, PresentKeysDiffer, LastUsesDiffer};
 ghost use Rattle.semantics.specs.IdLaws.{IdsCountCreations, IdsAreFew};
-ghost use Rattle.semantics.specs.Laws.{HasOneReply, LeavesOneState, KeepsLegal, CellsStay, NewKeyHasNextCell, HeldCellStays, HeldCellIsKept};
+ghost use Rattle.semantics.specs.Laws.{HasOneReply, LeavesOneState, KeepsLegal, CellsStay, NewKeyHasNextCell, HeldCellStays};
+ghost use Rattle.semantics.specs.Laws.{HeldCellIsKept};
 
 /// A call on a shard has one outcome: what it replies and what it leaves.
 pub fn one_outcome()

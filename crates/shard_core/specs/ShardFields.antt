@@ -1,6 +1,7 @@
 -- How the fields of a shard follow from its journal. The definitions keep the bytes of every cell that ever was; the code keeps those of
 -- cells that are present or wait for their readers.
-use Rattle.std.specs.Prelude.{◌≡◌, ℕ, ◌+◌, ◌*◌, ◌≤◌, Bool, IsTrue, List, [], length, reverse, map, count_by, is_some, Option, Some, None, slice_index_or}
+use Rattle.std.specs.Prelude.{◌≡◌, ℕ, ◌+◌, ◌*◌, ◌≤◌, Bool, IsTrue, List, [], length, reverse, map, count_by, is_some, Option, Some, None}
+use Rattle.std.specs.Prelude.{slice_index_or}
 use Rattle.ebpf_decode.specs.declared.map.MapKind.{MapKind}
 use Rattle.ebpf_decode.specs.declared.map.MapKind.TheVariants.{Array}
 use Rattle.semantics.specs.declared.call.Entry.{Entry}

@@ -42,7 +42,8 @@ pub(crate) fn change_number(
     requires operand { change.now.value < 256 ^ range.now.size }
     requires expected { change.now.expected < 256 ^ range.now.size }
     ensures old { result ≡ number_at cells.old range.now.cell range.now.offset range.now.size }
-    ensures table { cells.new ≡ with_change cells.old range.now.cell range.now.offset range.now.size op change.now.value change.now.expected }
+    ensures table { cells.new ≡ with_change cells.old range.now.cell range.now.offset range.now.size op change.now.value
+        change.now.expected }
 {
     let offset = range.offset as usize;
     let size = range.size as usize;

@@ -110,7 +110,8 @@ impl Shard {
     /// Whether the journal has no room for a call that is no Leave: for its entry, one more for each run inside, and one more
     /// for the run that it lets in.
     fn lacks_room(&self, entering: u8) -> bool
-        ensures { result ≡ nat_lt self.now.plan.reserve (length (reverse self.now.journal) + inside_count (reverse self.now.journal) + entering + 1) }
+        ensures { result ≡ nat_lt self.now.plan.reserve
+            (length (reverse self.now.journal) + inside_count (reverse self.now.journal) + entering + 1) }
     {
         lacks_room(&self.plan, self.journal.len(), self.inside, entering)
     }
@@ -167,8 +168,10 @@ impl Shard {
     /// changed.
     pub fn lookup(&mut self, who: Caller, key: &[u8]) -> Result<Option<u64>, JournalFull>
         requires { MayCall self.old who (lookup_call self.old key.now) }
-        ensures replied { IfOk result (λ found. lookup_reply self.old.plan found ≡ sequential_reply self.old (lookup_call self.old key.now)) }
-        ensures entered { IfOk result (λ found. self.new ≡ after_call self.old who (lookup_call self.old key.now) (lookup_reply self.old.plan found)) }
+        ensures replied { IfOk result
+            (λ found. lookup_reply self.old.plan found ≡ sequential_reply self.old (lookup_call self.old key.now)) }
+        ensures entered { IfOk result
+            (λ found. self.new ≡ after_call self.old who (lookup_call self.old key.now) (lookup_reply self.old.plan found)) }
         ensures legal { IsLegalJournal self.new.plan self.new.journal }
         ensures full { IsErr result ↔ IsFullFor self.old (lookup_call self.old key.now) }
         ensures names_the_shard { IfErr result (λ fault. fault.shard ≡ self.old.plan.number) }
@@ -185,7 +188,8 @@ impl Shard {
     /// The number that some bytes of a held cell make, the lowest first. Refused where the journal is full; then nothing is changed.
     pub fn load(&mut self, who: Caller, range: &CellRange) -> Result<u64, JournalFull>
         requires { MayCall self.old who (load_call self.old range.now) }
-        ensures of_its_cell { IfOk result (λ value. value ≡ number_in_cell (state_of self.old) range.now.cell range.now.offset range.now.size) }
+        ensures of_its_cell { IfOk result
+            (λ value. value ≡ number_in_cell (state_of self.old) range.now.cell range.now.offset range.now.size) }
         ensures entered { IfOk result (λ value. self.new ≡ after_call self.old who (load_call self.old range.now) (Word value)) }
         ensures legal { IsLegalJournal self.new.plan self.new.journal }
         ensures full { IsErr result ↔ IsFullFor self.old (load_call self.old range.now) }
@@ -278,7 +282,8 @@ impl Shard {
     ) -> Result<i32, JournalFull>
         requires { MayCall self.old who (update_call self.old key.now value.now flags) }
         ensures answered { IfOk result (λ code. code ≡ update_answer self.old.plan (state_of self.old) key.now flags) }
-        ensures entered { IfOk result (λ code. self.new ≡ after_call self.old who (update_call self.old key.now value.now flags) (Answer code)) }
+        ensures entered { IfOk result
+            (λ code. self.new ≡ after_call self.old who (update_call self.old key.now value.now flags) (Answer code)) }
         ensures legal { IsLegalJournal self.new.plan self.new.journal }
         ensures full { IsErr result ↔ IsFullFor self.old (update_call self.old key.now value.now flags) }
         ensures names_the_shard { IfErr result (λ fault. fault.shard ≡ self.old.plan.number) }

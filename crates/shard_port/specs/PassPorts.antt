@@ -1,6 +1,7 @@
 -- A worker's port over shards that many callers share: what its calls give, by the worker's pass. Own entries and histories have the
 -- newest entry first.
-use Rattle.std.specs.Prelude.{◌≡◌, ◌⊎◌, ℕ, zero, suc, ◌<◌, ◌/◌, ◌==◌, Bool, true, false, ◌&&◌, nat_lt, List, [], ◌∷◌, ◌++◌, if◌then◌else◌, IsFalse}
+use Rattle.std.specs.Prelude.{◌≡◌, ◌⊎◌, ℕ, zero, suc, ◌<◌, ◌/◌, ◌==◌, Bool, true, false, ◌&&◌, nat_lt, List, [], ◌∷◌, ◌++◌, if◌then◌else◌}
+use Rattle.std.specs.Prelude.{IsFalse}
 use Rattle.semantics.specs.declared.call.Caller.{Caller}
 use Rattle.semantics.specs.declared.call.Caller.TheVariants.{Worker}
 use Rattle.semantics.specs.declared.call.Call.{Call}
@@ -147,7 +148,7 @@ pub record IsRefusedBy (plan : ℕ → ShardPlan) (count : ℕ) (before : PassPo
   pub is_worker : before.pass.who ≡ Worker (worker_of before.pass.who)
   pub turned_away : IsTurnedAwayBy (plan (shard_of_call call)) (shard_of_call call) before.pass after.pass call
 
--- the deeds by which it leaves those of so many shards that it is inside of, the lowest number first: newest first
+-- the deeds by which it leaves those of N shards that it is inside of, the lowest number first: newest first
 abbrev pub all_left_deeds : ℕ → PassView → ℕ → List Deed
 all_left_deeds worker pass zero = []
 all_left_deeds worker pass (suc number) = left_deeds worker number (own_at pass number) ++ all_left_deeds worker pass number

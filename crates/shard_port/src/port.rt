@@ -6,7 +6,8 @@ ghost use Rattle.map_port.specs.Served.{handle_limit};
 ghost use Rattle.shard_port.specs.ScheduleHook.{next_count};
 ghost use Rattle.shards.specs.Passes.{IsElsewhereSame, own_at};
 ghost use Rattle.shard_port.specs.PortView.{handle_of, has_small_cell};
-ghost use Rattle.shard_port.specs.PassPorts.{is_worker_below, worker_of, left_deeds, MayAskOnceInside, IsAskedBy, IsTurnedAwayBy, IsLeftBy, IsFinishedBy};
+ghost use Rattle.shard_port.specs.PassPorts.{is_worker_below, worker_of, left_deeds, MayAskOnceInside, IsAskedBy, IsTurnedAwayBy, IsLeftBy};
+ghost use Rattle.shard_port.specs.PassPorts.{IsFinishedBy};
 
 use crate::plain::cell_of_handle;
 use crate::schedule_hook::{Gate, Tally};

@@ -13,7 +13,7 @@ use Rattle.semantics.specs.declared.full.JournalFull.{JournalFull}
 use Rattle.semantics.specs.CallerLaws.{own_entries}
 use Rattle.shards.specs.Lodged.{KeyedPlan, Lodged}
 use Rattle.shards.specs.declared.rule.Known.{Known}
-use Rattle.shards.specs.CallerView.{entry_of}
+use Rattle.semantics.specs.History.{entry_of}
 use Rattle.shards.specs.LockRule.{HasTaken, given, taking, visiting, visitor_of}
 use Rattle.shards.specs.Seats.{IsSeatOf, IsVisitor, IsHolding, AreBy, has_shard, view_of}
 

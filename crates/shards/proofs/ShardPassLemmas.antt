@@ -14,13 +14,13 @@ use Rattle.semantics.specs.declared.call.Entry.{Entry}
 use Rattle.semantics.specs.declared.full.JournalFull.{JournalFull}
 use Rattle.semantics.specs.declared.plan.ShardPlan.{ShardPlan}
 use Rattle.semantics.specs.CallerLaws.{own_entries}
-use Rattle.semantics.specs.History.{IsLegalHistory, IsJournalFull}
+use Rattle.semantics.specs.History.{IsLegalHistory, IsJournalFull, entry_of}
 use Rattle.shards.specs.Lodged.{KeyedPlan, Lodged}
 use Rattle.shards.specs.declared.rule.Known.{Known}
 use Rattle.shards.specs.declared.stopped.Stopped.{Stopped}
 use Rattle.shards.specs.declared.stopped.Stopped.TheVariants.{AtEnter, AtCall}
 use Rattle.shards.specs.Asked.{AreServed, IsStoppedAt}
-use Rattle.shards.specs.CallerView.{CallerView, BeginsWith, entry_of, IsServed, IsRefused, HasLooked}
+use Rattle.shards.specs.CallerView.{CallerView, BeginsWith, IsServed, IsRefused, HasLooked}
 use Rattle.semantics.specs.Sections.{section_change}
 use Rattle.semantics.specs.Reclamation.{held_change}
 use Rattle.shards.specs.Passes.{flag_after}

@@ -6,9 +6,9 @@ use Rattle.semantics.specs.declared.call.Caller.{Caller}
 use Rattle.semantics.specs.declared.call.Reply.{Reply}
 use Rattle.semantics.specs.declared.call.Entry.{Entry}
 use Rattle.semantics.specs.declared.plan.ShardPlan.{ShardPlan}
-use Rattle.semantics.specs.History.{IsLegalHistory, IsJournalFull, Meets}
+use Rattle.semantics.specs.History.{IsLegalHistory, IsJournalFull, Meets, entry_of}
 use Rattle.journal.specs.Entries.{enter_entry}
-use Rattle.shards.specs.CallerView.{CallerView, BeginsWith, entry_of, IsServed, IsRefused}
+use Rattle.shards.specs.CallerView.{CallerView, BeginsWith, IsServed, IsRefused}
 use Rattle.shards.specs.declared.stopped.Stopped.{Stopped}
 use Rattle.shards.specs.declared.stopped.Stopped.TheVariants.{AtEnter, AtCall}
 use Rattle.shards.specs.Passes.{PassView, view_at, own_at}

@@ -21,9 +21,6 @@ BeginsWith history earlier = (later : List Entry) × (history ≡ later ++ earli
 abbrev pub nothing_seen : CallerView
 nothing_seen = record { seen = []; own = [] }
 
-abbrev pub entry_of : Caller → Call → Reply → Entry
-entry_of who call reply = record { who = who; call = call; reply = reply }
-
 -- a call was served: what was seen then is legal, begins with what was seen before, and ends with the call; and the call is one more of
 -- the caller's own
 pub record IsServed (plan : ShardPlan) (before after : CallerView) (entry : Entry) : Type 0 where

@@ -9,11 +9,10 @@ use Rattle.semantics.specs.declared.full.JournalFull.{JournalFull}
 use Rattle.semantics.specs.declared.call.Entry.{Entry}
 use Rattle.semantics.specs.declared.plan.ShardPlan.{ShardPlan}
 use Rattle.semantics.specs.CallerLaws.{is_caller}
-use Rattle.semantics.specs.History.{shard_of_call, IsJournalFull}
+use Rattle.semantics.specs.History.{shard_of_call, IsJournalFull, entry_of}
 use Rattle.journal.specs.Entries.{enter_entry}
 use Rattle.shards.specs.declared.stopped.Stopped.{Stopped}
 use Rattle.shards.specs.declared.stopped.Stopped.TheVariants.{AtEnter, AtCall}
-use Rattle.shards.specs.CallerView.{entry_of}
 use Rattle.shards.specs.declared.deeds.Deed.{Deed}
 use Rattle.shards.specs.declared.deeds.Deed.TheVariants.{Wrote, MetFull}
 use Rattle.shards.specs.declared.deeds.OrderPart.{OrderPart}
@@ -57,7 +56,7 @@ abbrev pub AreMet : (ℕ → ShardPlan) → List Deed → Type 0
 AreMet plan [] = Unit {0}
 AreMet plan (deed ∷ earlier) = IsMetBehind plan deed (made_on (shard_of_deed deed) earlier) × AreMet plan earlier
 
--- each is a deed on one of so many shards
+-- each is a deed on one of N shards
 abbrev pub AreWithin : ℕ → List Deed → Type 0
 AreWithin count deeds = AllByRecursion (λ (deed : Deed). shard_of_deed deed < count) deeds
 

@@ -7,7 +7,7 @@ use Rattle.semantics.specs.CallerLaws.{own_entries}
 use Rattle.semantics.specs.History.{IsLegalJournal}
 use Rattle.shards.specs.LockRule.{caller_at}
 
--- the own entries of so many callers, counted together
+-- the own entries of N callers, counted together
 abbrev pub own_total : ℕ → List Entry → ℕ
 own_total zero history = 0
 own_total (suc callers) history = own_total callers history + length (own_entries (caller_at callers) history)

@@ -1,5 +1,6 @@
 -- The cells that a worker holds in a shard, as its pass keeps them.
-use Rattle.std.specs.Prelude.{◌≡◌, ◌*◌, ◌≤◌, ◌<◌, ◌&&◌, ℕ, Bool, false, List, [], ◌∷◌, ◌++◌, length, slice_index_or, Result, Ok, Err, if◌then◌else◌}
+use Rattle.std.specs.Prelude.{◌≡◌, ◌*◌, ◌≤◌, ◌<◌, ◌&&◌, ℕ, Bool, false, List, [], ◌∷◌, ◌++◌, length, slice_index_or, Result, Ok, Err}
+use Rattle.std.specs.Prelude.{if◌then◌else◌}
 use Rattle.semantics.specs.declared.call.Caller.{Caller}
 use Rattle.semantics.specs.declared.call.Caller.TheVariants.{Worker}
 use Rattle.semantics.specs.declared.call.Entry.{Entry}
@@ -72,7 +73,7 @@ room_at rooms number = slice_index_or rooms number 0
 abbrev pub IsRoomOf : (ℕ → ShardPlan) → ℕ → ℕ → Type 0
 IsRoomOf plan number room = most_held (plan number) ≤ room
 
--- how many cells the caller can hold in a shard, if a worker can hold so many
+-- how many cells the caller can hold in a shard, if a worker can hold N
 abbrev pub room_of : Caller → ℕ → ℕ
 room_of (Worker number) room = room
 room_of who room = 0

@@ -1,7 +1,8 @@
 -- The rule of a shard's word, which is the length of the shard's one history and the shard's lock: four times the number of entries, and the
 -- phase of the lock. The shard is the one slot of the word's table. Who takes the lock takes the slot, and who gives it back brings the entries that
 -- were made in between, which are all of one caller. Each caller has one seat, which knows all entries of that caller and a beginning of the history.
-use Rattle.std.specs.Prelude.{◌≡◌, ◌≤◌, ◌<◌, ◌+◌, ◌*◌, ◌==◌, ℕ, zero, suc, true, false, List, [], ◌∷◌, length, reverse, slice_index, MatchBool}
+use Rattle.std.specs.Prelude.{◌≡◌, ◌≤◌, ◌<◌, ◌+◌, ◌*◌, ◌==◌, ℕ, zero, suc, true, false, List, [], ◌∷◌, length, reverse, slice_index}
+use Rattle.std.specs.Prelude.{MatchBool}
 use mathlib.Core.Option.{Option, some}
 use lib.ListN.{get_elem?}
 use Rattle.atomic_table.specs.Seated.{TableId}

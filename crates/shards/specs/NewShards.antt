@@ -138,7 +138,7 @@ IsUnused shard = shard ≡ opened_shard shard.plan
 abbrev pub AreUnused : List JournaledShard → Type 0
 AreUnused shards = Each (λ number shard. IsUnused shard) 0 shards
 
--- the new shard has the plan of the shard that it was made of, and so many seats
+-- the new shard has the plan of the shard that it was made of, and N seats
 pub record IsMadeOf (shards : List JournaledShard) (order : TableId) (callers number : ℕ) (new : NewShardView) : Type 0 where
   pub plan_is : new.plan ≡ (shard_at shards number).plan
   pub places_are : new.places ≡ callers

@@ -37,7 +37,7 @@ abbrev pub caller_accounts : ℕ → ℕ → List Account
 caller_accounts place zero = []
 caller_accounts place (suc left) = account (ByCaller (caller_at place)) [] ∷ caller_accounts (suc place) left
 
--- of so many shards from a number on, and then of so many callers
+-- of N shards from a number on, and then of N callers
 abbrev pub first_accounts : ℕ → ℕ → ℕ → List Account
 first_accounts number zero callers = caller_accounts 0 callers
 first_accounts number (suc left) callers = account (OnShard number) [] ∷ first_accounts (suc number) left callers
@@ -145,7 +145,7 @@ AreCallerPlaces table places =
 
 -- ---- the order's table
 
--- it has this name, and knows the plans of so many shards
+-- it has this name, and knows the plans of N shards
 pub record IsOrderOf {S P A : Type 0} (table : TableId) (plan : ℕ → ShardPlan) (count : ℕ)
     (order : Table S (List Account) OrderKey P A) : Type 0 where
   pub table_is : order.shared.table_id ≡ table

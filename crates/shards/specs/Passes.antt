@@ -53,7 +53,7 @@ pub record IsElsewhereSame (number : ℕ) (before after : PassView) : Type 0 whe
   pub count : length after.views ≡ length before.views
   pub others : (other : ℕ) → other ≢ number → view_at after other ≡ view_at before other
 
--- a pass, compared with the journals: on each of so many shards its view is settled
+-- a pass, compared with the journals: on each of N shards its view is settled
 abbrev pub AreSettled : ℕ → JournalsView → PassView → Type 0
 AreSettled count journals pass = (number : ℕ) → number < count → IsSettled pass.who (view_at pass number) (entries_at journals number)
 

@@ -21,7 +21,7 @@ abbrev pub AreLocks : {S V P A : Type 0} → (ℕ → TableId) → (ℕ → Keye
 AreLocks {S} {V} {P} {A} table key locks =
     Each (λ (number : ℕ) (lock : Table S V KeyedPlan P A). IsLockOf (table number) (key number) lock) 0 locks
 
--- so many shards, each as its plan has it
+-- N shards, each as its plan has it
 pub record ArePlans (maps : List MapDef) (options : Options) (count : ℕ) (plan : ℕ → ShardPlan) : Type 0 where
   pub count_is : count ≡ length maps * options.shards
   pub each : (number : ℕ) → number < count → plan_at maps options number ≡ Some (plan number)

@@ -1,6 +1,7 @@
 //! Who deals the passes.
 
-ghost use Rattle.std.specs.Prelude.{◌≡◌, ◌≢◌, ◌≤◌, ◌<◌, ◌↔◌, ℕ, true, List, [], length, vec_capacity, IfOk, IsErrOf, OnOk, OnErr, slice_set};
+ghost use Rattle.std.specs.Prelude.{◌≡◌, ◌≢◌, ◌≤◌, ◌<◌, ◌↔◌, ℕ, true, List, [], length, vec_capacity, IfOk, IsErrOf, OnOk, OnErr};
+ghost use Rattle.std.specs.Prelude.{slice_set};
 ghost use Rattle.shards.specs.CallerView.{nothing_seen};
 ghost use Rattle.shards.specs.HeldCells.{held_at, most_held, room_of};
 ghost use Rattle.shards.specs.LockRule.{place_of};

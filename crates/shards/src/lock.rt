@@ -1,11 +1,11 @@
 //! The steps on a shard's word: take, mark, give, and what is done with the shard in between.
 
-ghost use Rattle.std.specs.Prelude.{◌≡◌, ◌≢◌, ◌<◌, ◌+◌, ◌*◌, ◌%◌, ◌==◌, ◌∷◌, ◌^◌, ℕ, true, false, MatchBool, [], length, IfOk, IfErr, OnErr};
+ghost use Rattle.std.specs.Prelude.{◌≡◌, ◌≢◌, ◌<◌, ◌+◌, ◌*◌, ◌%◌, ◌==◌, ◌∷◌, ◌^◌, ℕ, true, false, MatchBool, [], length, IfOk, IfErr};
+ghost use Rattle.std.specs.Prelude.{OnErr};
 ghost use Rattle.semantics.specs.ShardPlan.{KeepsRows};
-ghost use Rattle.semantics.specs.History.{Meets, meets, IsLegalHistory, IsJournalFull};
+ghost use Rattle.semantics.specs.History.{Meets, meets, IsLegalHistory, IsJournalFull, entry_of};
 ghost use Rattle.semantics.specs.CallerLaws.{own_entries};
 ghost use Rattle.shard_core.specs.FewHeld.{FewAreHeld};
-ghost use Rattle.shards.specs.CallerView.{entry_of};
 ghost use Rattle.shards.specs.declared.deeds.OrderPart.TheVariants.{ByCaller};
 ghost use Rattle.shards.specs.Deeds.{deed_by};
 ghost use Rattle.shards.specs.OrderRule.{IsSeatFor, KnowsShard, deeds_in};

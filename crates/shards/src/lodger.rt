@@ -2,10 +2,9 @@
 
 ghost use Rattle.std.specs.Prelude.{◌≡◌, ◌∷◌, ◌<◌, ◌^◌, [], true, false, reverse, length, IfOk, IfErr, OnErr};
 ghost use Rattle.semantics.specs.ShardPlan.{KeepsRows};
-ghost use Rattle.semantics.specs.History.{Meets, meets, IsLegalHistory, IsLegalJournal, IsJournalFull};
+ghost use Rattle.semantics.specs.History.{Meets, meets, IsLegalHistory, IsLegalJournal, IsJournalFull, entry_of};
 ghost use Rattle.semantics.specs.CallerLaws.{own_entries};
 ghost use Rattle.shard_core.specs.FewHeld.{FewAreHeld};
-ghost use Rattle.shards.specs.CallerView.{entry_of};
 ghost use Rattle.shards.specs.declared.deeds.OrderPart.TheVariants.{OnShard, ByCaller};
 ghost use Rattle.shards.specs.Deeds.{deed_by, entries_made};
 ghost use Rattle.shards.specs.OrderRule.{IsPlaceOf, IsSeatFor, IsFresh, KnowsShard, deeds_at, deeds_in};

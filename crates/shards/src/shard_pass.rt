@@ -3,11 +3,11 @@
 ghost use Rattle.std.specs.Prelude.{◌≡◌, ◌≤◌, ◌∷◌, ◌++◌, ℕ, [], true, false, IfOk, IfErr, OnErr};
 ghost use Rattle.semantics.specs.CallerLaws.{own_entries};
 ghost use Rattle.semantics.specs.ShardPlan.{KeepsRows};
-ghost use Rattle.semantics.specs.History.{Meets, meets, IsLegalHistory};
+ghost use Rattle.semantics.specs.History.{Meets, meets, IsLegalHistory, entry_of};
 ghost use Rattle.semantics.specs.Reclamation.{held_change};
 ghost use Rattle.semantics.specs.declared.call.Call.TheVariants.{Enter};
 ghost use Rattle.journal.specs.Entries.{enter_entry};
-ghost use Rattle.shards.specs.CallerView.{entry_of, nothing_seen, BeginsWith, HasLooked, IsServed, IsRefused};
+ghost use Rattle.shards.specs.CallerView.{nothing_seen, BeginsWith, HasLooked, IsServed, IsRefused};
 ghost use Rattle.shards.specs.declared.deeds.OrderPart.TheVariants.{ByCaller};
 ghost use Rattle.shards.specs.Deeds.{deed_by, deeds_by_both};
 ghost use Rattle.shards.specs.OrderRule.{IsSeatFor, KnowsShard, deeds_in};

@@ -3,7 +3,7 @@ use Rattle.std.specs.Prelude.{ℕ, ◌+◌, ◌-◌, ◌==◌, nat_lt, List, [],
 use Rattle.std.specs.Fmt.{decimal}
 use Rattle.source_form.specs.SourceText.{has_label, label_of, slots_of, statements_of}
 
--- the line, counted from 1, of the instruction that takes the slot, of the lines behind so many; where none takes it, the last line
+-- the line, counted from 1, of the instruction that takes the slot, of the lines behind the first N; where none takes it, the last line
 unfoldable pub line_of_slot : ℕ → ℕ → List (List ℕ) → ℕ
 line_of_slot place slot [] = place
 line_of_slot place slot (s ∷ more) = if nat_lt slot (slots_of s) then place + 1 else line_of_slot (place + 1) (slot - slots_of s) more

@@ -1,7 +1,7 @@
 -- What a source means: an exact text.
 use Rattle.std.specs.Prelude.{ℕ, ◌+◌, ◌-◌, ◌^◌, Bool, true, not, ◌&&◌, ◌||◌, ◌==◌, nat_lt, bytes_eq, List, [], ◌∷◌, ◌++◌, length, map}
 use Rattle.std.specs.Prelude.{take, drop, slice_index_or, codes, ℤ, pos, negsuc, Option, Some, None, Result, Ok, Err, if◌then◌else◌}
-use Rattle.std.specs.List.{slice_split, before_first, after_first, position_or_len, position, starts_with, ends_with, list_all, sum_by}
+use Rattle.std.specs.List.{slice_split, before_first, after_first, position_or_len, position, starts_with, list_all, sum_by}
 use Rattle.std.specs.Str.{trim}
 use Rattle.std.specs.Fmt.{decimal}
 use Rattle.std.specs.Char.{digit_value}
@@ -17,6 +17,7 @@ use Rattle.source_form.specs.declared.words.Form.{Form}
 use Rattle.source_form.specs.declared.words.Form.TheVariants.{Plain, Jump, Call, Wide, MapRow}
 use Rattle.source_form.specs.declared.fault.SourceFault.{SourceFault}
 use Rattle.source_form.specs.declared.fault.SourceFault.TheVariants.{BadLine}
+use Rattle.text_lines.specs.Lines.{finishes}
 
 -- ---- lines
 
@@ -36,9 +37,6 @@ has_mark mark text = nat_lt (position_or_len (λ b. b == mark) text) (length tex
 
 abbrev pub begins : List ℕ → List ℕ → Bool
 begins text front = starts_with (λ a b. a == b) text front
-
-abbrev pub finishes : List ℕ → List ℕ → Bool
-finishes text end = ends_with (λ a b. a == b) text end
 
 abbrev pub all_but_last : List ℕ → List ℕ
 all_but_last xs = take (length xs - 1) xs

@@ -97,7 +97,8 @@ fn fault_at(place: usize, fault: LineFault) -> SourceFault
 pub(crate) fn text_of_lines(alloc: Global, statements: &[&str]) -> Result<String, SourceFault>
     ensures ok { IfOk result (λ text. meaning_from (map (λ line. line.now) statements.now) 0 []
         (map (λ line. line.now) statements.now) ≡ Ok (string_bytes text)) }
-    ensures err { IfErr result (λ fault. IsToldOf (meaning_from (map (λ line. line.now) statements.now) 0 [] (map (λ line. line.now) statements.now)) fault) }
+    ensures err { IfErr result
+        (λ fault. IsToldOf (meaning_from (map (λ line. line.now) statements.now) 0 [] (map (λ line. line.now) statements.now)) fault) }
 {
     let mut out = String::new(alloc);
     let mut place = 0;

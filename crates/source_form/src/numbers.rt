@@ -2,7 +2,8 @@
 
 ghost use Rattle.std.specs.Prelude.{◌≡◌, ◌++◌, Ok, IfOk, IfErr, string_bytes};
 ghost use Rattle.std.specs.Fmt.{decimal};
-ghost use Rattle.source_form.specs.SourceText.{finishes, number_in, is_sign, digits_of, bracket_of, signed_meaning, hex_meaning};
+ghost use Rattle.text_lines.specs.Lines.{finishes};
+ghost use Rattle.source_form.specs.SourceText.{number_in, is_sign, digits_of, bracket_of, signed_meaning, hex_meaning};
 ghost use Rattle.source_form.specs.SourceText.{number_meaning, plain_value, is_upper_word, immediate_meaning, wide_value, wide_told};
 ghost use Rattle.source_form.specs.Told.{IsToldBy};
 
@@ -10,6 +11,7 @@ use crate::fault::{LineFault, Problem};
 use crate::words::without_end;
 use disasm::{Operand, operand_text};
 use std::alloc::{AllocError, Global};
+use text_lines::finishes;
 
 /// The number that digits in base 16 write.
 fn hex_in(digits: &str) -> Option<u64>
@@ -35,13 +37,6 @@ fn decimal_in(digits: &str) -> Option<u64>
         Ok(value) => Some(value),
         Err(_) => None,
     }
-}
-
-/// Whether the text ends so.
-fn finishes(text: &str, end: &str) -> bool
-    ensures { result ≡ finishes text.now end.now }
-{
-    text.ends_with(end)
 }
 
 /// Whether nothing is in front of a number, or a sign is.

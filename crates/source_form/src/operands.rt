@@ -4,7 +4,8 @@ ghost use Rattle.std.specs.Prelude.{◌≡◌, ◌≤◌, IfOk, IfErr, Ok, map, 
 ghost use Rattle.std.specs.Str.{trim};
 ghost use Rattle.std.specs.Fmt.{decimal};
 ghost use Rattle.semantics.specs.Linux.{helper_number};
-ghost use Rattle.source_form.specs.SourceText.{parts_at, helper_named, helper_told, helper_meaning, plain_name, last_meaning, early_meaning};
+ghost use Rattle.source_form.specs.SourceText.{parts_at, helper_named, helper_told, helper_meaning, plain_name, last_meaning};
+ghost use Rattle.source_form.specs.SourceText.{early_meaning};
 ghost use Rattle.source_form.specs.SourceText.{operands_meaning, instruction_meaning};
 ghost use Rattle.source_form.specs.Told.{IsToldBy};
 
@@ -146,8 +147,10 @@ pub(crate) fn instruction_text(
     list: &str,
 ) -> Result<String, LineFault>
     requires { place ≤ length statements.now }
-    ensures ok { IfOk result (λ text. instruction_meaning (map (λ line. line.now) statements.now) place word.now list.now ≡ Ok (string_bytes text)) }
-    ensures err { IfErr result (λ fault. IsToldBy (instruction_meaning (map (λ line. line.now) statements.now) place word.now list.now) fault) }
+    ensures ok { IfOk result
+        (λ text. instruction_meaning (map (λ line. line.now) statements.now) place word.now list.now ≡ Ok (string_bytes text)) }
+    ensures err { IfErr result
+        (λ fault. IsToldBy (instruction_meaning (map (λ line. line.now) statements.now) place word.now list.now) fault) }
 {
     let mut out = String::from_str(alloc, word)?;
     if list.is_empty() {

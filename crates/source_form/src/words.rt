@@ -2,7 +2,8 @@
 
 ghost use Rattle.std.specs.Prelude.{◌≡◌, ◌<◌, IfSome, IfNone, true, false, slice_index_or, length};
 ghost use Rattle.std.specs.List.{list_all};
-ghost use Rattle.source_form.specs.SourceText.{before_mark, finishes, all_but_last, statement, first_word, after_first_word};
+ghost use Rattle.text_lines.specs.Lines.{finishes};
+ghost use Rattle.source_form.specs.SourceText.{before_mark, all_but_last, statement, first_word, after_first_word};
 ghost use Rattle.source_form.specs.SourceText.{has_label, label_of, words_of, has_text, is_heading, names_map, form_of};
 ghost use Rattle.source_form.specs.SourceText.{is_number_byte, begins_number, is_name, is_name_byte};
 

@@ -11,11 +11,11 @@ use Rattle.semantics.specs.declared.verdict.Verdict.TheVariants as V
 use Rattle.semantics.specs.LittleEndian.{bytes_of_number}
 use Rattle.semantics.specs.MachineState.{MachineState, initial_state}
 use Rattle.semantics.specs.System.{input_frame}
-use Rattle.semantics.specs.RunTrace.{RunTrace}
+use Rattle.semantics.specs.RunTrace.{RunTrace, whole_trace, AreReplies}
 use Rattle.maglev.specs.RingSize.{IsRingSize}
 use Rattle.ipip.specs.Encapsulation.{encapsulated_frame}
 use Rattle.map_port.specs.Exchanges.{replies_in}
-use Rattle.block_runs.specs.Plan.{Plan, AreAnswers, outcome_of}
+use Rattle.block_runs.specs.Plan.{Plan, outcome_of}
 use Rattle.block_runs.proofs.shared.Blocks.{Promise, BlocksMeet, Arrives, code_of}
 use Rattle.block_runs.proofs.shared.BlockLaw.{blocks_join, does_more}
 use Rattle.block_runs.proofs.shared.Agreement.{does_agreeing, agrees_same}
@@ -25,7 +25,7 @@ use Rattle.conntrack.specs.Steering.{Setting, steering, read_service, pass_guard
 use Rattle.conntrack.proofs.shared.RuleLemmas.{passes_test}
 use Rattle.conntrack.proofs.shared.ResultLemmas.{finished_runs}
 use Rattle.steer.specs.ShippedProgram.{shipped_image}
-use Rattle.steer.specs.SteeringLaws.{ShippedSteers, ExitedRunsAreResults, shipped_program, of_size, whole_trace}
+use Rattle.steer.specs.SteeringLaws.{ShippedSteers, ExitedRunsAreResults, shipped_program, of_size}
 use Rattle.steer.specs.PartLaws.{DoesFrom, vip_in, tunnel_in, records_in, FlowDoesItsPart, VipDoesItsPart, GuardsDoTheirPart}
 use Rattle.steer.specs.PartLaws.{TrackingDoesItsPart}
 use Rattle.steer.specs.PartLaws.{RingDoesItsPart, TunnelDoesItsPart, CountDoesItsPart, PassIsCounted, DropIsCounted}
@@ -186,8 +186,8 @@ shipped_steers size shards is frame input worker now replies are =
 
 pub exited_runs : ExitedRunsAreResults
 exited_runs size shards is frame input worker now exchanges verdict last are trace =
-    let own : AreAnswers (shipped_program (of_size shards size))
+    let own : AreReplies (shipped_program (of_size shards size))
     (whole_trace (shipped_program (of_size shards size)) (initial_state (input_frame frame) worker now) (replies_in exchanges)).calls (replies_in exchanges) =
-    subst (λ (t : RunTrace). AreAnswers (shipped_program (of_size shards size)) t.calls (replies_in exchanges)) (sym trace) are in
+    subst (λ (t : RunTrace). AreReplies (shipped_program (of_size shards size)) t.calls (replies_in exchanges)) (sym trace) are in
     finished_runs (of_size shards size) (input_frame frame) exchanges verdict last.frame
     (sym (shipped_steers size shards is frame input worker now (replies_in exchanges) own) ∙ ap outcome_of trace)

@@ -17,7 +17,7 @@ use Rattle.conntrack.specs.Steering.{service_bytes_of}
 
 -- ---- lists whose places are named
 
--- so many places, from a number on
+-- N places, from a number on
 abbrev pub cells : {A : Type 0} → ℕ → ℕ → (ℕ → A) → List A
 cells from zero cell = []
 cells from (suc count) cell = cell from ∷ cells (from + 1) count cell

@@ -7,23 +7,19 @@ use Rattle.semantics.specs.declared.call.Reply.{Reply}
 use Rattle.semantics.specs.declared.verdict.Verdict.{Verdict}
 use Rattle.semantics.specs.MachineState.{MachineState, initial_state}
 use Rattle.semantics.specs.Program.{Program}
-use Rattle.semantics.specs.RunTrace.{RunTrace, HasExited, trace_of}
+use Rattle.semantics.specs.RunTrace.{RunTrace, HasExited, trace_of, AreReplies, whole_trace}
 use Rattle.semantics.specs.System.{IsInputFrame, input_frame}
 use Rattle.maglev.specs.RingSize.{IsRingSize}
 use Rattle.map_port.specs.Exchanges.{Exchange, calls_in, replies_in}
 use Rattle.conntrack.specs.Results.{IsResult}
-use Rattle.block_runs.specs.Plan.{AreAnswers, outcome_of, plan_outcome}
+use Rattle.block_runs.specs.Plan.{outcome_of, plan_outcome}
 use Rattle.conntrack.specs.Steering.{Setting, steering}
 use Rattle.steer.specs.ShippedProgram.{shipped_image}
 
 abbrev pub of_size : ℕ → ℕ → Setting
 of_size shards size = record { shards = shards; size = size }
 
--- the run, over as many instructions as the program has slots
-abbrev pub whole_trace : Program → MachineState → List Reply → RunTrace
-whole_trace program state replies = trace_of (total_slots program.code) program state replies
-
--- the shipped program over so many shards to a map
+-- the shipped program over N shards to a map
 abbrev pub shipped_program : Setting → Program
 shipped_program setting =
     record { code = (shipped_image setting.size).code; maps = (shipped_image setting.size).maps; shards = setting.shards }
@@ -33,7 +29,7 @@ shipped_program setting =
 abbrev pub ShippedSteers : Type 0
 ShippedSteers =
     (size shards : ℕ) → IsRingSize size → (frame : List ℕ) → IsInputFrame frame → (worker now : ℕ) (replies : List Reply) →
-    AreAnswers (shipped_program (of_size shards size))
+    AreReplies (shipped_program (of_size shards size))
     (whole_trace (shipped_program (of_size shards size)) (initial_state (input_frame frame) worker now) replies).calls replies →
     outcome_of (whole_trace (shipped_program (of_size shards size)) (initial_state (input_frame frame) worker now) replies)
     ≡ plan_outcome (steering (of_size shards size) (input_frame frame)) replies
@@ -43,7 +39,7 @@ abbrev pub ExitedRunsAreResults : Type 0
 ExitedRunsAreResults =
     (size shards : ℕ) → IsRingSize size → (frame : List ℕ) → IsInputFrame frame → (worker now : ℕ) (exchanges : List Exchange)
     (verdict : Verdict) (last : MachineState) →
-    AreAnswers (shipped_program (of_size shards size)) (calls_in exchanges) (replies_in exchanges) →
+    AreReplies (shipped_program (of_size shards size)) (calls_in exchanges) (replies_in exchanges) →
     whole_trace (shipped_program (of_size shards size)) (initial_state (input_frame frame) worker now) (replies_in exchanges)
     ≡ record { calls = calls_in exchanges; stand = HasExited verdict last } →
     IsResult (of_size shards size) (input_frame frame) exchanges verdict last.frame

@@ -13,14 +13,14 @@ use Rattle.semantics.specs.declared.call.Call.{Call}
 use Rattle.semantics.specs.declared.plan.ShardPlan.{ShardPlan}
 use Rattle.semantics.specs.MachineState.{initial_state}
 use Rattle.semantics.specs.Program.{Program}
-use Rattle.semantics.specs.RunTrace.{RunTrace}
+use Rattle.semantics.specs.RunTrace.{RunTrace, whole_trace, AreReplies}
 use Rattle.semantics.specs.System.{IsInputFrame, input_frame}
 use Rattle.maglev.specs.RingSize.{IsRingSize}
 use Rattle.map_port.specs.Exchanges.{Exchange, calls_in, replies_in}
-use Rattle.block_runs.specs.Plan.{AreAnswers, Ended, outcome_of, plan_outcome}
+use Rattle.block_runs.specs.Plan.{Ended, outcome_of, plan_outcome}
 use Rattle.conntrack.specs.Steering.{Setting, steering}
 use Rattle.conntrack.specs.Results.{IsResult}
-use Rattle.steer.specs.SteeringLaws.{of_size, shipped_program, whole_trace, ShippedSteers, ExitedRunsAreResults}
+use Rattle.steer.specs.SteeringLaws.{of_size, shipped_program, ShippedSteers, ExitedRunsAreResults}
 use Rattle.journals.specs.JournalsView.{JournalsView}
 use Rattle.shards.specs.Passes.{PassView}
 use Rattle.runs.specs.FrameRuns.{AreFormed}
@@ -41,12 +41,12 @@ use Rattle.steered_replays.proofs.ResultCounts.{all_both}
 
 -- ---- one run
 
-all_answered : (program : Program) (exchanges : List Exchange) → AreFormed program exchanges → AreAnswers program (calls_in exchanges) (replies_in exchanges)
+all_answered : (program : Program) (exchanges : List Exchange) → AreFormed program exchanges → AreReplies program (calls_in exchanges) (replies_in exchanges)
 all_answered program [] formed = tt
 all_answered program (exchange ∷ later) formed = (formed.0, all_answered program later formed.1)
 
 before_answered : (program : Program) (exchanges : List Exchange) (next : Call) → AreFormed program exchanges →
-    AreAnswers program (calls_in exchanges ++ next ∷ []) (replies_in exchanges)
+    AreReplies program (calls_in exchanges ++ next ∷ []) (replies_in exchanges)
 before_answered program [] next formed = tt
 before_answered program (exchange ∷ later) next formed = (formed.0, before_answered program later next formed.1)
 
@@ -54,9 +54,9 @@ pub runs_are_steered : ShippedSteers → ExitedRunsAreResults → RunsAreSteered
 runs_are_steered steers results size shards is frame input told now count worker before after verdict steps left run =
     let setting : Setting = of_size shards size in
     let program : Program = shipped_program setting in
-    let answers : AreAnswers program (calls_in run.exchanges) (replies_in run.exchanges) = all_answered program run.exchanges run.formed in
-    let own : AreAnswers program (whole_trace program (initial_state (input_frame frame) told now) (replies_in run.exchanges)).calls (replies_in run.exchanges) =
-    subst (λ (t : RunTrace). AreAnswers program t.calls (replies_in run.exchanges)) (sym run.trace) answers in
+    let answers : AreReplies program (calls_in run.exchanges) (replies_in run.exchanges) = all_answered program run.exchanges run.formed in
+    let own : AreReplies program (whole_trace program (initial_state (input_frame frame) told now) (replies_in run.exchanges)).calls (replies_in run.exchanges) =
+    subst (λ (t : RunTrace). AreReplies program t.calls (replies_in run.exchanges)) (sym run.trace) answers in
     let done : plan_outcome (steering setting (input_frame frame)) (replies_in run.exchanges)
     ≡ record { calls = calls_in run.exchanges; ending = Ended verdict run.last.frame } =
     sym (steers size shards is frame input told now (replies_in run.exchanges) own) ∙ ap outcome_of run.trace in
@@ -71,8 +71,8 @@ refused_runs_are_steered steers size shards is frame input told now plan count w
     let setting : Setting = of_size shards size in
     let program : Program = shipped_program setting in
     let answers = before_answered program was.exchanges was.refused was.formed in
-    let own : AreAnswers program (whole_trace program (initial_state (input_frame frame) told now) (replies_in was.exchanges)).calls (replies_in was.exchanges) =
-    subst (λ (t : RunTrace). AreAnswers program t.calls (replies_in was.exchanges)) (sym was.trace) answers in
+    let own : AreReplies program (whole_trace program (initial_state (input_frame frame) told now) (replies_in was.exchanges)).calls (replies_in was.exchanges) =
+    subst (λ (t : RunTrace). AreReplies program t.calls (replies_in was.exchanges)) (sym was.trace) answers in
     sym (steers size shards is frame input told now (replies_in was.exchanges) own) ∙ ap outcome_of was.trace
 
 -- ---- the frames of a worker's share

@@ -39,7 +39,8 @@ use Rattle.replay.specs.declared.runner.RunEnd.TheVariants.{Stopped, Exited}
 use Rattle.replay.specs.Accounts.{runs_at}
 use Rattle.replay.specs.Parts.{rounds_of}
 use Rattle.replay.specs.RunJobs.{records_of}
-use Rattle.replay.specs.Commands.{opened_controller, all_set, made_in, with_updates}
+use Rattle.control.specs.Controlling.{opened_controller}
+use Rattle.replay.specs.Commands.{all_set, made_in, with_updates}
 use Rattle.map_updates.specs.declared.update.MapUpdate.{MapUpdate}
 use Rattle.replay.specs.Rounds.{IsReclaimedBy}
 use Rattle.replay.specs.RunsInOrder.{IsRunAt, IsChainOfRuns}

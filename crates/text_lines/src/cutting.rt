@@ -1,7 +1,7 @@
 //! Texts read leniently: where a text has no such mark or beginning, it is read as something else. Who reads prints the result again and compares.
 
 ghost use Rattle.std.specs.Prelude.{◌≡◌, ◌++◌, ◌∷◌, [], ◌<◌, ℕ, List};
-ghost use Rattle.text_lines.specs.Lines.{Lacks};
+ghost use Rattle.text_lines.specs.Lines.{Lacks, finishes};
 
 /// What comes before the first mark and what comes after it, or the text and nothing.
 pub fn cut(text: &str, mark: char) -> (&str, &str)
@@ -23,4 +23,11 @@ pub fn after<'a>(text: &'a str, front: &str) -> &'a str
         Some(rest) => rest,
         None => "",
     }
+}
+
+/// Whether a text ends so.
+pub fn finishes(text: &str, end: &str) -> bool
+    ensures { result ≡ finishes text.now end.now }
+{
+    text.ends_with(end)
 }

@@ -8,7 +8,7 @@ mod reading;
 #[cfg(test)]
 mod tests;
 
-pub use cutting::{after, cut};
+pub use cutting::{after, cut, finishes};
 pub use digits::hex_digit;
 pub use numbers::count_of;
 pub use reading::text_or_line;

@@ -1,6 +1,6 @@
 //! Bytes that are text, and bytes that are none.
 
-use crate::text_or_line;
+use crate::{finishes, text_or_line};
 
 /// What a row shows, the bytes, and the line where the text ends; none where all of it is text.
 type Row = (&'static str, &'static [u8], Option<usize>);
@@ -29,5 +29,23 @@ fn text_ends_on_a_line(rt: HostRuntime) {
             }
             Err(found) => assert_eq!(rt; Some(found), line, "{name}"),
         }
+    }
+}
+
+/// A text, an end, and whether the text ends so.
+#[rattlefmt::skip]
+const ENDS: [(&str, &str, bool); 6] = [
+    ("report.json", ".json", true),
+    ("report.jsonl", ".json", false),
+    ("json", ".json", false),
+    (".json", ".json", true),
+    ("r1", "", true),
+    ("", "x", false),
+];
+
+#[test]
+fn texts_end_so(rt: HostRuntime) {
+    for (text, end, ends) in ENDS {
+        assert_eq!(rt; finishes(text, end), ends, "{text} {end}");
     }
 }

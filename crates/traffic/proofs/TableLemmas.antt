@@ -6,11 +6,11 @@ use Rattle.conntrack.specs.SteeringMaps.{steering_maps}
 use Rattle.std.proofs.Math.Seq.{drop-length}
 use Rattle.maglev.specs.RingSize.{IsRingSize, ring_sizes}
 use Rattle.control.specs.declared.command.Command.{Command}
-use Rattle.control.specs.Controlling.{ControllerState}
+use Rattle.control.specs.Controlling.{ControllerState, opened_controller}
 use Rattle.traffic.specs.WrittenMaps.{MapsState}
 use Rattle.maglev.specs.Population.{share_of}
 use Rattle.traffic.specs.declared.tables.Refused.{Refused}
-use Rattle.traffic.specs.TableText.{backend_line, lines_below, record_of, AreShown, AreTables, IsShown, no_backend_up, no_maps}
+use Rattle.traffic.specs.TableText.{backend_line, lines_below, record_of, AreShown, AreTables, IsShown, no_maps}
 
 pub some_slots : (size : ℕ) → IsRingSize size → 0 < size
 some_slots size served =
@@ -23,7 +23,7 @@ IsShownUntil size place commands state maps text noted =
     → AreTables size commands (text ++ rest) (noted ++ others)
 
 pub none_shown : (size : ℕ) (commands : List Command) (state : ControllerState) (maps : MapsState) (text : List ℕ) (noted : List Refused)
-    → state ≡ no_backend_up size → maps ≡ no_maps size → text ≡ [] → noted ≡ []
+    → state ≡ opened_controller size → maps ≡ no_maps size → text ≡ [] → noted ≡ []
     → IsShownUntil size 0 commands state maps text noted
 none_shown size commands state maps text noted first none empty whole = λ rest others shown.
     subst (λ (t : List ℕ). AreTables size commands (t ++ rest) (noted ++ others)) (sym empty)

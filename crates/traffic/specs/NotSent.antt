@@ -1,5 +1,6 @@
 -- Why frames of flows were not sent, and how many frames are for a service.
-use Rattle.std.specs.Prelude.{ℕ, zero, suc, ◌+◌, ◌==◌, ◌&&◌, ◌++◌, not, nat_lt, Bool, true, false, List, [], ◌∷◌, Option, Some, None, codes, decimal}
+use Rattle.std.specs.Prelude.{ℕ, zero, suc, ◌+◌, ◌==◌, ◌&&◌, ◌++◌, not, nat_lt, Bool, true, false, List, [], ◌∷◌, Option, Some, None, codes}
+use Rattle.std.specs.Prelude.{decimal}
 use Rattle.std.specs.Prelude.{length, filter, slice_get, slice_index, if◌then◌else◌}
 use Rattle.std.specs.List.{flat_map}
 use Rattle.wire.specs.BigEndian.{be_word_at}
@@ -20,6 +21,7 @@ use Rattle.traffic.specs.declared.record_line.LineVerdict.TheVariants as verdict
 use Rattle.traffic.specs.Counting.{one_if}
 use Rattle.traffic.specs.Kinds.{has_flow, kind_of}
 use Rattle.traffic.specs.SummaryText.{dotted, line_about}
+use Rattle.control.specs.ScriptText.{transport_text}
 
 -- ---- reasons
 
@@ -75,10 +77,6 @@ is_for service bytes =
 abbrev pub how_many_for : Service → List Sent → ℕ
 how_many_for service frames = length (filter (λ (sent : Sent). is_for service sent.bytes.items) frames)
 
-abbrev pub transport_word : Transport → List ℕ
-transport_word Tcp = codes "tcp"
-transport_word Udp = codes "udp"
-
 -- for its address and port
 abbrev pub words_of_service : List ℕ → ℕ → List ℕ → List ℕ
 words_of_service address port transport = codes "for " ++ (address ++ (codes " port " ++ (decimal port ++ (codes " " ++ transport))))
@@ -87,7 +85,7 @@ abbrev pub service_phrase : Service → List ℕ
 service_phrase service =
     words_of_service
     (dotted (slice_index service.address.0 0) (slice_index service.address.0 1) (slice_index service.address.0 2) (slice_index service.address.0 3))
-    service.port (transport_word service.transport)
+    service.port (transport_text service.transport)
 
 abbrev pub service_line : List Sent → Service → List ℕ
 service_line frames service = line_about (how_many_for service frames) (service_phrase service)

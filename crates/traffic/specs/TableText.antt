@@ -5,7 +5,7 @@ use Rattle.maglev.specs.Population.{share_of}
 use Rattle.control.specs.declared.command.Command.{Command}
 use Rattle.control.specs.declared.fault.ControlFault.{ControlFault}
 use Rattle.control.specs.FaultNumber.{control_fault_number}
-use Rattle.control.specs.Controlling.{ControllerState, refusal_of, IsCarriedOut, IsLeft, first_updates, up_after}
+use Rattle.control.specs.Controlling.{ControllerState, refusal_of, IsCarriedOut, IsLeft, first_updates, up_after, opened_controller}
 use Rattle.traffic.specs.WrittenMaps.{MapsState, IsAnswered, IsNeverRefused}
 use Rattle.traffic.specs.Shares.{moved_below, least_moves}
 use Rattle.traffic.specs.SummaryText.{dotted}
@@ -85,16 +85,13 @@ AreShown place state maps (command ∷ later) printed noted =
     × AreShown (place + 1) state' maps' later rest others
     × (printed ≡ first ++ rest) × (noted ≡ one ++ others)
 
--- a controller of a lookup table of this size, and maps, before the first command
-abbrev pub no_backend_up : ℕ → ControllerState
-no_backend_up size = record { size = size; up = []; owners = []; is_full = false }
-
+-- maps before the first command
 abbrev pub no_maps : ℕ → MapsState
 no_maps size = record { size = size; words = replicate size 0; backends = replicate 256 []; keys = [] }
 
 -- what is printed of a script, and which of its commands were refused and why
 abbrev pub AreTables : ℕ → List Command → List ℕ → List Refused → Type 0
-AreTables size script printed noted = AreShown 0 (no_backend_up size) (no_maps size) script printed noted
+AreTables size script printed noted = AreShown 0 (opened_controller size) (no_maps size) script printed noted
 
 -- a command was refused
 abbrev pub is_some : List Refused → Bool

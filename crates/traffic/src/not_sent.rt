@@ -1,8 +1,11 @@
 //! Which services the frames are for, and why frames of flows were not sent.
 
 ghost use Rattle.std.specs.Prelude.{◌≡◌, ◌++◌, ◌≤◌, IfOk, OnOk, length, slice_get, string_bytes};
-ghost use Rattle.traffic.specs.NotSent.{how_many_for, is_for, is_not_sent, is_record_not_sent, is_to, line_of_command, not_sent_below, reason_line};
-ghost use Rattle.traffic.specs.NotSent.{reason_lines, reason_phrase, service_line, service_lines, service_of, service_phrase, services_text, transport_word};
+ghost use Rattle.traffic.specs.NotSent.{how_many_for, is_for, is_not_sent, is_record_not_sent, is_to, line_of_command, not_sent_below};
+ghost use Rattle.traffic.specs.NotSent.{reason_line};
+ghost use Rattle.control.specs.ScriptText.{transport_text};
+ghost use Rattle.traffic.specs.NotSent.{reason_lines, reason_phrase, service_line, service_lines, service_of, service_phrase};
+ghost use Rattle.traffic.specs.NotSent.{services_text};
 ghost use Rattle.traffic.specs.NotSent.{words_of_service};
 
 use crate::kind::FrameKind;
@@ -141,8 +144,8 @@ fn count_for(service: &Service, frames: &[Sent]) -> usize
 }
 
 /// A transport, as a script has it.
-fn transport_word(transport: Transport) -> &'static str
-    ensures { result.now ≡ transport_word transport }
+fn transport_text(transport: Transport) -> &'static str
+    ensures { result.now ≡ transport_text transport }
 {
     match transport {
         Transport::Tcp => "tcp",
@@ -166,7 +169,7 @@ fn service_phrase(alloc: Global, service: &Service) -> Result<String, AllocError
         alloc,
         address.as_str(),
         service.port,
-        transport_word(service.transport),
+        transport_text(service.transport),
     )
 }
 

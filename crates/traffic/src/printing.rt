@@ -1,7 +1,8 @@
 //! The summary of a replay's traffic, for people.
 
 ghost use Rattle.std.specs.Prelude.{◌≡◌, ◌++◌, ◌<◌, ◌^◌, IfOk, OnOk, string_bytes};
-ghost use Rattle.traffic.specs.SummaryText.{address_text, count_line, dotted, frames_word, IsSummary, IsSummaryOfSent, line_about, line_in, line_of};
+ghost use Rattle.traffic.specs.SummaryText.{address_text, count_line, dotted, frames_word, IsSummary, IsSummaryOfSent, line_about, line_in};
+ghost use Rattle.traffic.specs.SummaryText.{line_of};
 ghost use Rattle.traffic.specs.SummaryText.{lines_in, phrase_of, target_phrase, targets_text};
 
 use crate::kind::FrameKind;

@@ -1,7 +1,8 @@
 //! The line of a record in a report, as CSV (RFC 4180) or as JSON (RFC 8259).
 
 ghost use Rattle.std.specs.Prelude.{◌≡◌, IfOk, decimal, string_bytes};
-ghost use Rattle.traffic.specs.RecordLines.{back_text, case_word, csv_back, csv_front, front_text, head_of, json_back, json_front, kind_word, missing, moment_text};
+ghost use Rattle.traffic.specs.RecordLines.{back_text, case_word, csv_back, csv_front, front_text, head_of, json_back, json_front};
+ghost use Rattle.traffic.specs.RecordLines.{kind_word, missing, moment_text};
 ghost use Rattle.traffic.specs.RecordLines.{number_text, quoted, record_line, six_digits, target_text, verdict_word, word_text};
 
 use crate::kind::FrameKind;
@@ -241,7 +242,8 @@ impl ReportForm {
 
     /// Which record it is, when it came, who ran it, and what came of it.
     fn front(self, alloc: Global, line: &RecordLine) -> Result<String, AllocError>
-        ensures { IfOk result (λ text. string_bytes text ≡ front_text self line.now.number line.now.micros line.now.worker line.now.verdict) }
+        ensures { IfOk result
+            (λ text. string_bytes text ≡ front_text self line.now.number line.now.micros line.now.worker line.now.verdict) }
     {
         let moment = moment_text(alloc, line.micros)?;
         let moment = word_text(alloc, self, moment.as_str())?;
@@ -267,7 +269,8 @@ impl ReportForm {
 
     /// In how many steps, by which case, and where it was sent.
     fn back(self, alloc: Global, line: &RecordLine) -> Result<String, AllocError>
-        ensures { IfOk result (λ text. string_bytes text ≡ back_text self line.now.steps line.now.case_of.now line.now.backend line.now.address) }
+        ensures { IfOk result
+            (λ text. string_bytes text ≡ back_text self line.now.steps line.now.case_of.now line.now.backend line.now.address) }
     {
         let steps = number_text(alloc, self, line.steps)?;
         let case = word_text(alloc, self, line.case_of)?;

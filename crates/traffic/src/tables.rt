@@ -4,8 +4,10 @@ ghost use Rattle.std.specs.Prelude.{◌≡◌, ◌++◌, ◌+◌, ◌<◌, ◌^�
 ghost use Rattle.maglev.specs.RingSize.{IsRingSize};
 ghost use Rattle.conntrack.specs.SteeringMaps.{steering_maps};
 ghost use Rattle.control.specs.FaultNumber.{control_fault_number};
-ghost use Rattle.traffic.specs.TableText.{backend_line, backend_text, byte_at, done_line, done_lines, front_address, hundredths, lines_below};
-ghost use Rattle.traffic.specs.TableText.{percent_text, record_of, refused_line, AreTables, IsShown, is_some, no_backend_up};
+ghost use Rattle.traffic.specs.TableText.{backend_line, backend_text, byte_at, done_line, done_lines, front_address, hundredths};
+ghost use Rattle.traffic.specs.TableText.{lines_below};
+ghost use Rattle.control.specs.Controlling.{opened_controller};
+ghost use Rattle.traffic.specs.TableText.{percent_text, record_of, refused_line, AreTables, IsShown, is_some};
 
 use crate::printing::dotted;
 use crate::shares::{least_moves, moved_slots, share_of};
@@ -223,7 +225,8 @@ fn show(
     requires { steering_maps maps.old.size ≡ steering_maps controller.old.size }
     ensures shown { OnOk result ((first : List ℕ) × (one : List Refused)
         × IsShown place controller.old maps.old command.now controller.new maps.new first one
-        × (string_bytes tables.new.text ≡ string_bytes tables.old.text ++ first) × (tables.new.refused.items ≡ tables.old.refused.items ++ one)) }
+        × (string_bytes tables.new.text ≡ string_bytes tables.old.text ++ first) ×
+        (tables.new.refused.items ≡ tables.old.refused.items ++ one)) }
     ensures serves { steering_maps maps.new.size ≡ steering_maps controller.new.size }
 {
     let before = maps.words().to_vec(alloc)?;
@@ -239,7 +242,7 @@ fn show(
 /// A controller of a lookup table of a size, before its first command.
 fn opened(alloc: Global, size: u32) -> Controller
     requires { IsRingSize size }
-    ensures { result ≡ no_backend_up size }
+    ensures { result ≡ opened_controller size }
 {
     match Controller::open(alloc, size) {
         Ok(controller) => controller,

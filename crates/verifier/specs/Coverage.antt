@@ -6,7 +6,8 @@ use Rattle.semantics.specs.declared.options.Options.{Options}
 use Rattle.semantics.specs.MachineState.{MachineState}
 use Rattle.semantics.specs.Reclamation.{holds}
 use Rattle.semantics.specs.ShardPlan.{AreOptions}
-use Rattle.semantics.specs.System.{Setting, SystemState, Runs, worker_state, history_of, is_entered, SystemEvent, CanAllHappen, system_after}
+use Rattle.semantics.specs.System.{Setting, SystemState, Runs, worker_state, history_of, is_entered, SystemEvent, CanAllHappen}
+use Rattle.semantics.specs.System.{system_after}
 use Rattle.abstract_state.specs.declared.state.State.{State}
 use Rattle.abstract_state.specs.Abstraction.{Held, Abstracts}
 use Rattle.verifier.specs.Dataflow.{known_at}

@@ -57,7 +57,8 @@ fn split(
     requires within { slot < 4096 }
     requires not_negative { HasNoNegativeTarget slot insn }
     ensures later { IfOk result (λ _. (target : ℕ) → slot + slot_count insn < target →
-        pending_at pending.new target ≡ arriving slot insn target (flow_by insn Way.Splits entry.old.state) (pending_at pending.old target)) }
+        pending_at pending.new target ≡ arriving slot insn target (flow_by insn Way.Splits entry.old.state)
+        (pending_at pending.old target)) }
     ensures next { IfOk result (λ _.
         entry_of entry.new ≡ arriving slot insn (slot + slot_count insn) (flow_by insn Way.Splits entry.old.state)
         (pending_at pending.old (slot + slot_count insn))) }
@@ -113,7 +114,8 @@ pub(crate) fn advance(
     requires within { slot < 4096 }
     requires not_negative { HasNoNegativeTarget slot insn }
     ensures later { IfOk result (λ _. (target : ℕ) → slot + slot_count insn < target →
-        pending_at pending.new target ≡ arriving_from maps.now slot (Some insn) (entry_of entry.old) target (pending_at pending.old target)) }
+        pending_at pending.new target ≡ arriving_from maps.now slot (Some insn) (entry_of entry.old) target
+        (pending_at pending.old target)) }
     ensures next { IfOk result (λ _.
         entry_of entry.new ≡ arriving_from maps.now slot (Some insn) (entry_of entry.old) (slot + slot_count insn)
         (pending_at pending.old (slot + slot_count insn))) }

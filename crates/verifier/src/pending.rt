@@ -65,7 +65,8 @@ impl Pending {
         slot: usize,
         state: &State,
     ) -> Result<(), AllocError>
-        ensures { IfOk result (λ _. (other : ℕ) → pending_at self.new other ≡ joined_where (other == slot) state.now (pending_at self.old other)) }
+        ensures { IfOk result (λ _. (other : ℕ) →
+            pending_at self.new other ≡ joined_where (other == slot) state.now (pending_at self.old other)) }
     {
         self.extend_to(slot)?;
         match &mut self.states[slot] {

@@ -3,5 +3,5 @@ pub mod FrameLemmas
 pub mod FlowLemmas
 pub mod ChecksumLemmas
 pub mod DeviceLemmas
-pub mod CaptureLemmas
 pub mod CaptureWriting
+pub mod shared

@@ -4,7 +4,8 @@ use Rattle.std.specs.Prelude.{◌≡◌, ℕ, ◌+◌, ◌<◌, ◌≤◌, ◌�
 use Rattle.byteorder.specs.Endian.{little_number, little_bytes}
 use Rattle.wire.specs.declared.records.Sent.{Sent}
 use Rattle.wire.specs.declared.capture_fault.CaptureFault.{CaptureFault}
-use Rattle.wire.specs.declared.capture_fault.CaptureFault.TheVariants.{BadMagic, BadVersion, BadLink, CutHead, CutFrame, FrameTooLong, Device, Memory}
+use Rattle.wire.specs.declared.capture_fault.CaptureFault.TheVariants.{BadMagic, BadVersion, BadLink, CutHead, CutFrame, FrameTooLong}
+use Rattle.wire.specs.declared.capture_fault.CaptureFault.TheVariants.{Device, Memory}
 
 -- the numbers of 16 and of 32 bits at an index, low byte first
 abbrev pub le16_at : ℕ → List ℕ → ℕ

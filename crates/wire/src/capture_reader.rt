@@ -1,7 +1,8 @@
 //! Reading capture files.
 
 ghost use Rattle.std.specs.Prelude.{◌≡◌, ℕ, ◌+◌, ◌-◌, ◌^◌, ◌<◌, ◌≤◌, ◌↔◌, ◌⊎◌, length, IfOk, IfErr, OnOk, IsErrOf};
-ghost use Rattle.wire.specs.CaptureFormat.{le16_at, le32_at, BeginsWithHeader, BeginsWithRecord, IsCaptureFile, IsHeaderFault, RefusesRecord, Refuses};
+ghost use Rattle.wire.specs.CaptureFormat.{le16_at, le32_at, BeginsWithHeader, BeginsWithRecord, IsCaptureFile, IsHeaderFault};
+ghost use Rattle.wire.specs.CaptureFormat.{RefusesRecord, Refuses};
 ghost use Rattle.wire.specs.Device.{IfKnown};
 
 use crate::capture_fault::CaptureFault;
@@ -34,8 +35,9 @@ fn le32_at(bytes: &[u8], at: usize) -> u32
     LittleEndian::read_u32(&bytes[at..])
 }
 
-/// Looks at a file's header.
-fn check_header(bytes: &[u8]) -> Result<(), CaptureFault>
+/// Looks at the header at the front of a capture file. Of several things that are wrong with it the first counts, in this order: 4 where the bytes end in
+/// it, 1 for its magic number, 2 for its version, 3 for its link type.
+pub fn check_capture_header(bytes: &[u8]) -> Result<(), CaptureFault>
     ensures header { OnOk result (BeginsWithHeader bytes.now) }
     ensures fault { IfErr result (IsHeaderFault bytes.now) }
 {
@@ -54,8 +56,11 @@ fn check_header(bytes: &[u8]) -> Result<(), CaptureFault>
     Ok(())
 }
 
-/// Reads the record of this number at the front of the rest of a file.
-fn record_of(alloc: Global, rest: &[u8], number: u64) -> Result<Sent, CaptureFault>
+/// Reads the record of this number, counted from 1, at the front of the rest of a capture file.
+///
+/// Refused with 4 where the bytes end in the record's head; with 6 where it keeps more than 2048 bytes; with 5 where they end in what it keeps; with 8 for
+/// lack of memory.
+pub fn record_of(alloc: Global, rest: &[u8], number: u64) -> Result<Sent, CaptureFault>
     requires { 0 < length rest.now }
     ensures sent { IfOk result (BeginsWithRecord rest.now) }
     ensures fault { IfErr result (RefusesRecord rest.now number) }
@@ -85,7 +90,7 @@ fn capture_of(alloc: Global, bytes: &[u8]) -> Result<Capture, CaptureFault>
     ensures file { IfOk result (λ capture. IsCaptureFile bytes.now capture.records.items) }
     ensures fault { IfErr result (Refuses bytes.now) }
 {
-    check_header(bytes)?;
+    check_capture_header(bytes)?;
     let mut records = Vec::new(alloc);
     let mut rest = &bytes[CAPTURE_HEADER_LEN..];
     'records: while !rest.is_empty() {

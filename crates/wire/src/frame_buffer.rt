@@ -62,7 +62,8 @@ impl Model for Frame {
 
     ghost view = { λ frame. record { bytes = drop frame.start frame.buffer.items; headroom = frame.start } };
 
-    ghost invariant = { λ frame. (frame.start ≤ length frame.buffer.items) × (length frame.buffer.items ≤ 2304) × (270 ≤ length frame.buffer.items) };
+    ghost invariant = { λ frame. (frame.start ≤ length frame.buffer.items) × (length frame.buffer.items ≤ 2304) ×
+        (270 ≤ length frame.buffer.items) };
 }
 
 /// The same bytes, with what their type says of each.

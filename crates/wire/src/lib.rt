@@ -19,7 +19,9 @@ mod transfer;
 
 pub use big_endian::{be_bytes, word_at};
 pub use capture_fault::CaptureFault;
-pub use capture_reader::{CAPTURE_HEADER_LEN, RECORD_HEAD_LEN, read_capture};
+pub use capture_reader::{
+    CAPTURE_HEADER_LEN, RECORD_HEAD_LEN, check_capture_header, read_capture, record_of,
+};
 pub use capture_writer::write_capture;
 pub use checksum::ones_sum;
 pub use device::{Failed, Sink, Source};

@@ -1,8 +1,8 @@
 -- The report of a replay: a line for each record, in the capture's order, of what the replay says of it.
-use Rattle.std.specs.Prelude.{◌≡◌, ℕ, zero, suc, ◌+◌, ◌*◌, ◌++◌, ◌∷◌, ◌||◌, Bool, true, false, List, [], Option, Some, None, codes, fold, length, map}
+use Rattle.std.specs.Prelude.{◌≡◌, ℕ, zero, suc, ◌+◌, ◌*◌, ◌++◌, ◌∷◌, ◌||◌, Bool, true, false, List, [], Option, Some, None, codes, fold}
+use Rattle.std.specs.Prelude.{length, map}
 use Rattle.std.specs.Char.{to_ascii_lowercase}
 use Rattle.std.specs.Prelude.{◌==◌, if◌then◌else◌, slice_get, slice_index_or}
-use Rattle.std.specs.List.{ends_with}
 use Rattle.wire.specs.declared.records.Sent.{Sent}
 use Rattle.semantics.specs.declared.verdict.Verdict.{Verdict}
 use Rattle.semantics.specs.declared.verdict.Verdict.TheVariants as verdicts
@@ -22,12 +22,9 @@ use Rattle.traffic.specs.declared.record_line.LineVerdict.TheVariants as words
 use Rattle.traffic.specs.declared.record_line.ReportForm.{ReportForm}
 use Rattle.traffic.specs.declared.record_line.ReportForm.TheVariants.{Csv, Json}
 use Rattle.xlb_commands.specs.Files.{FileBytes}
+use Rattle.text_lines.specs.Lines.{finishes}
 
 -- ---- the form
-
--- the text ends so
-abbrev pub finishes : List ℕ → List ℕ → Bool
-finishes text end = ends_with (λ a b. a == b) text end
 
 -- JSON if the name ends so, otherwise CSV
 abbrev pub form_by : List ℕ → ReportForm
@@ -120,7 +117,7 @@ line_text form is_steering backends number captured end sent =
 abbrev pub end_of : List RecordEnd → ℕ → RecordEnd
 end_of ends number = slice_index_or ends number Short
 
--- how many of the first so many records were sent: the place of the next one among the sent frames
+-- how many of the first N records were sent: the place of the next one among the sent frames
 abbrev pub sent_before : List RecordEnd → ℕ → ℕ
 sent_before ends zero = 0
 sent_before ends (suc number) = sent_before ends number + one_if (is_sent (end_of ends number))
@@ -131,7 +128,7 @@ line_of form is_steering backends ends sent number None = []
 line_of form is_steering backends ends sent number (Some captured) =
     line_text form is_steering backends number captured (end_of ends number) (slice_get sent (sent_before ends number))
 
--- the lines of the first so many records
+-- the lines of the first N records
 abbrev pub lines_until : ReportForm → Bool → List (ℕ × ℕ) → List Sent → List RecordEnd → List Sent → ℕ → List ℕ
 lines_until form is_steering backends records ends sent zero = []
 lines_until form is_steering backends records ends sent (suc number) =

@@ -69,7 +69,8 @@ use Rattle.xlb_commands.specs.declared.fault.Fault.TheVariants as faults
 use Rattle.xlb_commands.specs.Files.{FileBytes, AreKept, AreOthersKept, IsImageFile, IsJudged}
 use Rattle.xlb_commands.specs.Clashes.{IsOver, clash_text}
 use Rattle.xlb_commands.specs.FaultLines.{fault_line, mistake_text}
-use Rattle.xlb_commands.specs.Replays.{AreWritten, IsProgramOf, IsScriptFile, IsScriptOf, IsCaptureOf, AreCaptureBytes, program_of_replay, recording_of, IsMade}
+use Rattle.xlb_commands.specs.Replays.{AreWritten, IsProgramOf, IsScriptFile, IsScriptOf, IsCaptureOf, AreCaptureBytes, program_of_replay}
+use Rattle.xlb_commands.specs.Replays.{recording_of, IsMade}
 use Rattle.xlb_commands.specs.Results.{IsDone, IsDoneInPart, IsReported, IsMistake, Stream, run_options, program_of_run, start_of_run}
 
 -- ---- files

@@ -42,7 +42,7 @@ use Rattle.xlb_commands.specs.RecordReports.{IsReportFile}
 
 -- ---- what is read
 
--- the image of the file, or where none is named the shipped one for a lookup table of so many slots
+-- the image of the file, or where none is named the shipped one for a lookup table of N slots
 abbrev pub IsProgramOf : FileBytes → Option (List ℕ) → ℕ → Contents → Type 0
 IsProgramOf files (Some name) ring image = IsImageFile files name image
 IsProgramOf files None ring image = image ≡ shipped_image ring
@@ -129,7 +129,7 @@ recording_of true None = NoRows
 recording_of true (Some name) = Rows
 recording_of false name = Rows
 
--- the image's program over maps of so many shards each
+-- the image's program over maps of N shards each
 abbrev pub program_of_replay : Contents → Options → Program
 program_of_replay image options = record { code = image.code; maps = image.maps; shards = options.shards }
 

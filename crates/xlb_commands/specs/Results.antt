@@ -190,7 +190,7 @@ pub record IsSourceAssembled (before after : FileBytes) (source target : List �
   pub spelled : IsSource text image
   pub written : IsImageFile after target image
 
--- the file has the image of the shipped program for a lookup table of so many slots, a size that is served
+-- the file has the image of the shipped program for a lookup table of N slots, a size that is served
 pub record IsShippedFile (files : FileBytes) (target : List ℕ) (ring : ℕ) : Type 0 where
   pub size : IsRingSize ring
   pub written : IsImageFile files target (shipped_image ring)

@@ -35,7 +35,8 @@ fn over<'a, D: Folder>(
 ) -> Option<Clash<'a>>
     ensures found { IfSome result (λ clash. (text_of written.entry ≡ Some clash.written.now) × (text_of other.entry ≡ Some clash.other.now)
         × D.are_one folder.now clash.written.now clash.other.now) }
-    ensures none { result ≡ None → (name second : List ℕ) → text_of written.entry ≡ Some name → text_of other.entry ≡ Some second → name ≢ second }
+    ensures none { result ≡ None → (name second : List ℕ) → text_of written.entry ≡ Some name → text_of other.entry ≡ Some second →
+        name ≢ second }
 {
     let (Some(written), Some(other)) = (written, other) else {
         return None;
@@ -55,7 +56,8 @@ fn over_inputs<'a, D: Folder>(
 ) -> Option<Clash<'a>>
     ensures found { IfSome result (λ clash. (text_of written.entry ≡ Some clash.written.now) × IsReplayInput files.now clash.other.now
         × D.are_one folder.now clash.written.now clash.other.now) }
-    ensures none { result ≡ None → (name second : List ℕ) → text_of written.entry ≡ Some name → IsReplayInput files.now second → name ≢ second }
+    ensures none { result ≡ None → (name second : List ℕ) → text_of written.entry ≡ Some name → IsReplayInput files.now second →
+        name ≢ second }
 {
     if let Some(clash) = over(folder, written, Some(files.capture)) {
         return Some(clash);

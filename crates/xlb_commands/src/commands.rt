@@ -10,9 +10,12 @@ ghost use Rattle.source_form.specs.SourceImage.{IsSource};
 ghost use Rattle.text_lines.specs.NoText.{IsNoText};
 ghost use Rattle.folders.specs.Fronts.{HasFront, IsFrontOf};
 ghost use Rattle.xlb_commands.specs.Files.{AreKept, AreOthersKept, IsImageFile, IsJudged};
-ghost use Rattle.xlb_commands.specs.Results.{IsChecked, IsExplained, IsDisassembled, IsSourceShown, IsAudited, IsAssembled, IsSourceAssembled};
-ghost use Rattle.xlb_commands.specs.Refused.{HasFailed, IsUnserved, IsUnwritten, IsDecodeRefusal, IsImageRefusal, IsProgramRefusal, IsFrameRefusal};
-ghost use Rattle.xlb_commands.specs.Refused.{IsNoImage, IsNoSource, IsNotJudged, IsCheckRefusal, IsExplainRefusal, IsTextRefusal, IsAuditRefusal};
+ghost use Rattle.xlb_commands.specs.Results.{IsChecked, IsExplained, IsDisassembled, IsSourceShown, IsAudited, IsAssembled};
+ghost use Rattle.xlb_commands.specs.Results.{IsSourceAssembled};
+ghost use Rattle.xlb_commands.specs.Refused.{HasFailed, IsUnserved, IsUnwritten, IsDecodeRefusal, IsImageRefusal, IsProgramRefusal};
+ghost use Rattle.xlb_commands.specs.Refused.{IsFrameRefusal};
+ghost use Rattle.xlb_commands.specs.Refused.{IsNoImage, IsNoSource, IsNotJudged, IsCheckRefusal, IsExplainRefusal, IsTextRefusal};
+ghost use Rattle.xlb_commands.specs.Refused.{IsAuditRefusal};
 ghost use Rattle.xlb_commands.specs.Refused.{IsSpellingRefusal, IsAsmRefusal, IsSourceRefusal, kept_of_image, beyond_images};
 ghost use Rattle.disasm.specs.declared.fault.AsmFault.TheVariants.{BadLine};
 
@@ -69,7 +72,8 @@ pub(crate) fn bytes_of<D: Folder>(
     ensures bytes { IfOk result (λ bytes. D.holds folder.old name.now bytes.items) }
     ensures kept { AreKept (D.holds folder.old) (D.holds folder.new) }
     ensures steady { OnOk result (D.failure_count folder.new ≡ D.failure_count folder.old) }
-    ensures refused { IfErr result (λ refusal. IsUnserved (HasFailed (D.failure_count folder.old) (D.failure_count folder.new)) refusal.fault) }
+    ensures refused { IfErr result
+        (λ refusal. IsUnserved (HasFailed (D.failure_count folder.old) (D.failure_count folder.new)) refusal.fault) }
 {
     match folder.read(alloc, name) {
         Ok(bytes) => Ok(bytes),
@@ -88,7 +92,8 @@ fn front_of<D: Folder>(
     ensures front { IfOk result (HasFront (D.holds folder.old name.now) most) }
     ensures kept { AreKept (D.holds folder.old) (D.holds folder.new) }
     ensures steady { OnOk result (D.failure_count folder.new ≡ D.failure_count folder.old) }
-    ensures refused { IfErr result (λ refusal. IsUnserved (HasFailed (D.failure_count folder.old) (D.failure_count folder.new)) refusal.fault) }
+    ensures refused { IfErr result
+        (λ refusal. IsUnserved (HasFailed (D.failure_count folder.old) (D.failure_count folder.new)) refusal.fault) }
 {
     match folder.read_front(alloc, name, most) {
         Ok(front) => Ok(front),
@@ -233,7 +238,8 @@ fn source_bytes<D: Folder>(
     requires front { HasFront (D.holds folder.old name.now) kept_of_image front }
     ensures bytes { IfOk result (λ bytes. D.holds folder.old name.now bytes.items) }
     ensures kept { AreKept (D.holds folder.old) (D.holds folder.new) }
-    ensures refused { IfErr result (λ refusal. IsUnserved (HasFailed (D.failure_count folder.old) (D.failure_count folder.new)) refusal.fault) }
+    ensures refused { IfErr result
+        (λ refusal. IsUnserved (HasFailed (D.failure_count folder.old) (D.failure_count folder.new)) refusal.fault) }
 {
     if front.is_whole() {
         return Ok(front.bytes);
@@ -482,7 +488,8 @@ pub(crate) fn write_image<D: Folder>(
     ensures written { OnOk result (IsImageFile (D.holds folder.new) out.now image.now) }
     ensures silent { IfOk result (λ printed. string_bytes printed ≡ []) }
     ensures others { AreOthersKept (D.holds folder.old) (D.holds folder.new) out.now }
-    ensures refused { IfErr result (λ refusal. IsUnwritten (HasFailed (D.failure_count folder.old) (D.failure_count folder.new)) refusal.fault) }
+    ensures refused { IfErr result
+        (λ refusal. IsUnwritten (HasFailed (D.failure_count folder.old) (D.failure_count folder.new)) refusal.fault) }
 {
     let bytes = encode(alloc, image)?;
     match folder.write(alloc, out, &bytes) {

@@ -127,10 +127,12 @@ fn run_over(
     requires worker { moment.now.worker < 8 }
     requires fit { AreFitting verified.now.maps updates.now }
     ensures exit { IfOk result (λ single. IfOk single.ended (λ exit. HasRunAlone (program_of verified.now 1)
-        (start_of_run frame.old.bytes moment.now.worker moment.now.now_ns) run_options moment.now.worker updates.now exit.verdict exit.steps frame.new
+        (start_of_run frame.old.bytes moment.now.worker moment.now.now_ns) run_options moment.now.worker updates.now exit.verdict
+        exit.steps frame.new
         single.journals)) }
     ensures stop { IfOk result (λ single. IfErr single.ended (λ stop. HasStoppedAlone (program_of verified.now 1)
-        (start_of_run frame.old.bytes moment.now.worker moment.now.now_ns) run_options moment.now.worker updates.now frame.new stop single.journals)) }
+        (start_of_run frame.old.bytes moment.now.worker moment.now.now_ns) run_options moment.now.worker updates.now frame.new stop
+        single.journals)) }
     ensures refused { IfErr result (λ refusal. IsRunFault verified.now.maps updates.now refusal.fault) }
 {
     match run_alone(alloc, verified, frame, moment, OPTIONS, updates) {

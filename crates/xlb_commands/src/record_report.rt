@@ -4,8 +4,10 @@ ghost use Rattle.std.specs.Prelude.{◌≡◌, ◌++◌, ◌-◌, ◌<◌, ◌^�
 ghost use Rattle.std.specs.Char.{to_ascii_lowercase};
 ghost use Rattle.command_line.specs.Reading.{text_of};
 ghost use Rattle.traffic.specs.Counting.{address_at};
-ghost use Rattle.xlb_commands.specs.RecordReports.{address_in, backend_at, backends_in, case_in, finishes, form_by, form_of, is_tx, line_text};
-ghost use Rattle.xlb_commands.specs.RecordReports.{lines_until, named_in, report_text, steps_in, verdict_in, word_of_verdict, worker_in, HasNamed};
+ghost use Rattle.text_lines.specs.Lines.{finishes};
+ghost use Rattle.xlb_commands.specs.RecordReports.{address_in, backend_at, backends_in, case_in, form_by, form_of, is_tx, line_text};
+ghost use Rattle.xlb_commands.specs.RecordReports.{lines_until, named_in, report_text, steps_in, verdict_in, word_of_verdict, worker_in};
+ghost use Rattle.xlb_commands.specs.RecordReports.{HasNamed};
 ghost use Rattle.xlb_commands.specs.declared.fault.Fault.TheVariants.{Memory};
 
 use crate::fault::Refusal;
@@ -13,15 +15,9 @@ use control::{Action, Command, Script};
 use replay::{Outcome, RecordEnd};
 use semantics::Verdict;
 use std::alloc::{AllocError, Global};
+use text_lines::finishes;
 use traffic::{Backends, FrameKind, LineVerdict, RecordLine, ReportForm, case_word, target_of};
 use wire::{Capture, Ipv4Address, Sent};
-
-/// Whether a text ends so.
-fn finishes(text: &str, end: &str) -> bool
-    ensures { result ≡ finishes text.now end.now }
-{
-    text.ends_with(end)
-}
 
 /// The form by a name in lower case.
 fn form_by(name: &str) -> ReportForm
@@ -188,7 +184,8 @@ impl Lines<'_> {
     ) -> Result<String, AllocError>
         requires named { HasNamed self.now.table.now (backends_in self.now.script.now) }
         requires number { number < 2 ^ 64 - 1 }
-        ensures { IfOk result (λ text. string_bytes text ≡ line_text self.now.form self.now.is_steering (backends_in self.now.script.now) number
+        ensures { IfOk result
+            (λ text. string_bytes text ≡ line_text self.now.form self.now.is_steering (backends_in self.now.script.now) number
             record.now end (slice_get self.now.sent.now place)) }
     {
         let address = address_in(end, self.sent, place);
@@ -241,7 +238,8 @@ fn report_text(
     outcome: &Outcome,
 ) -> Result<String, AllocError>
     requires { length outcome.now.ends.items ≡ length capture.now.records.items }
-    ensures { IfOk result (λ text. string_bytes text ≡ report_text form is_steering script.now capture.now.records.items outcome.now.ends.items
+    ensures { IfOk result
+        (λ text. string_bytes text ≡ report_text form is_steering script.now capture.now.records.items outcome.now.ends.items
         outcome.now.sent.items) }
 {
     let table = backends_in(alloc, script.commands())?;
@@ -267,7 +265,8 @@ pub(crate) fn report_for(
     outcome: &Outcome,
 ) -> Result<String, Refusal>
     requires { length outcome.now.ends.items ≡ length capture.now.records.items }
-    ensures text { IfOk result (λ text. (file : List ℕ) → text_of name.entry ≡ Some file → string_bytes text ≡ report_text (form_of file) is_steering
+    ensures text { IfOk result (λ text. (file : List ℕ) → text_of name.entry ≡ Some file →
+        string_bytes text ≡ report_text (form_of file) is_steering
         script.now capture.now.records.items outcome.now.ends.items outcome.now.sent.items) }
     ensures refused { IfErr result (λ refusal. refusal.fault ≡ Memory) }
 {

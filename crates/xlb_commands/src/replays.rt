@@ -28,7 +28,8 @@ ghost use Rattle.steered_replays.specs.Totals.{AreTotals};
 ghost use Rattle.journals.specs.JournalText.{journals_text};
 ghost use Rattle.command_line.specs.Reading.{text_of};
 ghost use Rattle.xlb_commands.specs.Files.{AreKept, AreAllButKept};
-ghost use Rattle.xlb_commands.specs.Refused.{HasFailed, LacksRoom, AreUnfiled, IsReplayProgramRefusal, IsScriptFileRefusal, IsScriptRefusal};
+ghost use Rattle.xlb_commands.specs.Refused.{HasFailed, LacksRoom, AreUnfiled, IsReplayProgramRefusal, IsScriptFileRefusal};
+ghost use Rattle.xlb_commands.specs.Refused.{IsScriptRefusal};
 ghost use Rattle.xlb_commands.specs.Refused.{IsGivenUp, IsNoCapture, IsNoCaptureIn, IsCaptureRefusal, IsReplayRefusal};
 ghost use Rattle.xlb_commands.specs.Replays.{IsProgramOf, IsScriptOf, IsScriptFile, IsCaptureIn, IsCaptureOf, IsMade, HasBytes};
 ghost use Rattle.xlb_commands.specs.Replays.{FollowsRule, IsByRule, SendsAlike, recording_of, counts_text, refusals_text, AreWritten};
@@ -94,7 +95,8 @@ fn program_of<D: Folder>(
 fn parsed(alloc: Global, bytes: &[u8]) -> Result<Script, Refusal>
     ensures script { IfOk result (λ script. IsScriptText bytes.now script) }
     ensures refused { IfErr result (λ refusal. (why : ControlFault) × Explains bytes.now why × (refusal.fault ≡ Fault.Script why)) }
-    ensures accepts { (script : List Command) → IsScriptText bytes.now script → IfErr result (λ refusal. refusal.fault ≡ Fault.Script scripts.Memory) }
+    ensures accepts { (script : List Command) → IsScriptText bytes.now script →
+        IfErr result (λ refusal. refusal.fault ≡ Fault.Script scripts.Memory) }
 {
     match parse_script(alloc, bytes) {
         Ok(script) => Ok(script),
@@ -488,9 +490,11 @@ fn left_of(
     ensures journals { IfOk result (λ left. (file : List ℕ) → text_of files.now.journals ≡ Some file →
         left.journals.bytes ≡ journals_text outcome.now.journals) }
     ensures lines { IfOk result (λ left. (file : List ℕ) → text_of files.now.report ≡ Some file →
-        string_bytes left.lines ≡ report_text (form_of file) files.now.is_steering script.now capture.now.records.items outcome.now.ends.items
+        string_bytes left.lines ≡ report_text (form_of file) files.now.is_steering script.now capture.now.records.items
+        outcome.now.ends.items
         outcome.now.sent.items) }
-    ensures text { IfOk result (λ left. string_bytes left.report.text ≡ counts_text outcome.now.counts ++ refusals_text outcome.now.refused.items) }
+    ensures text { IfOk result
+        (λ left. string_bytes left.report.text ≡ counts_text outcome.now.counts ++ refusals_text outcome.now.refused.items) }
     ensures whole { IfOk result (λ left. (outcome.now.refused.items ≡ []) ↔ (left.report.is_refused ≡ false)) }
     ensures refused { IfErr result (λ refusal. LacksRoom (text_of files.now.journals) refusal.fault) }
 {
@@ -529,7 +533,8 @@ fn write_files<D: Folder>(
     ensures journals { OnOk result (text_of files.now.report ≢ text_of files.now.journals →
         AreWritten (D.holds folder.new) (text_of files.now.journals) journals.now) }
     ensures report { OnOk result (HasBytes (D.holds folder.new) (text_of files.now.report) (string_bytes left.now.lines)) }
-    ensures others { AreAllButKept (D.holds folder.old) (D.holds folder.new) files.now.sent.now (text_of files.now.journals) (text_of files.now.report) }
+    ensures others { AreAllButKept (D.holds folder.old) (D.holds folder.new) files.now.sent.now (text_of files.now.journals)
+        (text_of files.now.report) }
     ensures refused { IfErr result (λ refusal. AreUnfiled (D.holds folder.old) (D.holds folder.new)
         (HasFailed (D.failure_count folder.old) (D.failure_count folder.new)) files.now left.now.sent.bytes journals.now refusal.fault) }
 {
@@ -568,10 +573,13 @@ pub fn replay_files<R: Threads + Wait + Sync, D: Folder, P: Progress + Sync>(
 ) -> Result<ReplayAnswer, Refusal>
     requires failures { D.failure_count folder.old < 2 ^ 64 - 1 }
     requires rows { (file : List ℕ) → text_of files.now.journals ≡ Some file → recording ≡ Rows }
-    ensures done { IfOk result (IsReplayAnswer (D.holds folder.old) (D.holds folder.new) files.now options recording ring exact skip_long updates.now) }
-    ensures kept { AreAllButKept (D.holds folder.old) (D.holds folder.new) files.now.sent.now (text_of files.now.journals) (text_of files.now.report) }
+    ensures done { IfOk result
+        (IsReplayAnswer (D.holds folder.old) (D.holds folder.new) files.now options recording ring exact skip_long updates.now) }
+    ensures kept { AreAllButKept (D.holds folder.old) (D.holds folder.new) files.now.sent.now (text_of files.now.journals)
+        (text_of files.now.report) }
     ensures refused { IfErr result (λ refusal. IsReplayRefusal (D.holds folder.old) (D.holds folder.new)
-        (HasFailed (D.failure_count folder.old) (D.failure_count folder.new)) files.now options recording ring exact skip_long updates.now refusal.fault) }
+        (HasFailed (D.failure_count folder.old) (D.failure_count folder.new)) files.now options recording ring exact skip_long updates.now
+        refusal.fault) }
 {
     let verified = program_of(alloc, folder, files.image, ring)?;
     if let Some((place, misfit)) = first_misfit(maps_of(&verified), updates) {

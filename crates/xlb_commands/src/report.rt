@@ -65,7 +65,8 @@ fn accepted_line(alloc: Global, slots: u32, maps: usize, reader: &str) -> Result
 /// An accepted image: its slots and maps, and whether it only reads.
 pub fn accepted(alloc: Global, verified: &Verified) -> Result<String, AllocError>
     ensures { IfOk result (λ line. (reader : Bool) × (IsTrue reader ↔ IsReader verified.now.code verified.now.states)
-        × (string_bytes line ≡ accepted_line (record { version = verified.now.version; maps = verified.now.maps; code = verified.now.code }) reader)) }
+        × (string_bytes line ≡ accepted_line
+        (record { version = verified.now.version; maps = verified.now.maps; code = verified.now.code }) reader)) }
 {
     let image = verified.image();
     let slots = slots_of(image.code());

@@ -6,7 +6,8 @@ ghost use Rattle.faults.specs.Refusals.{IsRefusalText};
 ghost use Rattle.xlb_commands.specs.Clashes.{AreApart};
 ghost use Rattle.xlb_commands.specs.FaultLines.{fault_line, mistake_text};
 ghost use Rattle.xlb_commands.specs.Results.{AreNotesPrinted, IsAnswer, IsDone, IsNoted, KeepsFiles, stream};
-ghost use Rattle.xlb_commands.specs.Refused.{HasFailed, IsMistaken, IsRefused, IsRefusedWith, PrintsClash, PrintsMistake, PrintsRefusal, notes_told};
+ghost use Rattle.xlb_commands.specs.Refused.{HasFailed, IsMistaken, IsRefused, IsRefusedWith, PrintsClash, PrintsMistake, PrintsRefusal};
+ghost use Rattle.xlb_commands.specs.Refused.{notes_told};
 
 use crate::clashes::{Clash, clash_of};
 use crate::commands::{

@@ -31,7 +31,8 @@ fn made(alloc: Global, ring: u32) -> Result<Image, Refusal>
 
 /// The shipped program, which the verifier has to accept as any other.
 pub(crate) fn shipped_program(alloc: Global, ring: u32) -> Result<Verified, Refusal>
-    ensures image { IfOk result (λ verified. record { version = verified.version; maps = verified.maps; code = verified.code } ≡ shipped_image ring) }
+    ensures image { IfOk result
+        (λ verified. record { version = verified.version; maps = verified.maps; code = verified.code } ≡ shipped_image ring) }
     ensures safe { IfOk result (λ verified. IsSafeImage verified.maps verified.code) }
     ensures size { OnOk result (IsRingSize ring) }
     ensures refused { IfErr result (λ refusal. IsShippedRefusal ring refusal.fault) }

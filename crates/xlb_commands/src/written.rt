@@ -55,7 +55,8 @@ fn write_bytes_to<D: Folder>(
     ensures written { OnOk result (D.holds folder.new name.now bytes.now) }
     ensures others { AreOthersKept (D.holds folder.old) (D.holds folder.new) name.now }
     ensures steady { OnOk result (D.failure_count folder.new ≡ D.failure_count folder.old) }
-    ensures refused { IfErr result (λ refusal. IsUnserved (HasFailed (D.failure_count folder.old) (D.failure_count folder.new)) refusal.fault) }
+    ensures refused { IfErr result
+        (λ refusal. IsUnserved (HasFailed (D.failure_count folder.old) (D.failure_count folder.new)) refusal.fault) }
 {
     match folder.write(alloc, name, bytes) {
         Ok(()) => Ok(()),
@@ -74,7 +75,8 @@ pub(crate) fn write_to<D: Folder>(
     ensures written { OnOk result (D.holds folder.new name.now file.now.bytes) }
     ensures others { AreOthersKept (D.holds folder.old) (D.holds folder.new) name.now }
     ensures steady { OnOk result (D.failure_count folder.new ≡ D.failure_count folder.old) }
-    ensures refused { IfErr result (λ refusal. IsUnserved (HasFailed (D.failure_count folder.old) (D.failure_count folder.new)) refusal.fault) }
+    ensures refused { IfErr result
+        (λ refusal. IsUnserved (HasFailed (D.failure_count folder.old) (D.failure_count folder.new)) refusal.fault) }
 {
     write_bytes_to(alloc, folder, name, file.bytes())
 }

@@ -7,8 +7,8 @@ use Rattle.semantics.specs.declared.call.Reply.TheVariants.{Cell, Null, Word, An
 use Rattle.semantics.specs.MachineState.{MachineState}
 use Rattle.semantics.specs.Memory.{cell_ref}
 use Rattle.semantics.specs.Program.{Program}
-use Rattle.semantics.specs.RunTrace.{IsReplyTo, trace_of}
-use Rattle.block_runs.specs.Plan.{Plan, Asks, Ends, plan_outcome, asked, Ended, Waiting, AreAnswers, Does, RunOutcome, outcome_of, either}
+use Rattle.semantics.specs.RunTrace.{IsReplyTo, trace_of, AreReplies}
+use Rattle.block_runs.specs.Plan.{Plan, Asks, Ends, plan_outcome, asked, Ended, Waiting, Does, RunOutcome, outcome_of, either}
 use Rattle.block_runs.proofs.shared.Blocks.{ForReplies}
 use Rattle.block_runs.proofs.shared.BlockLaw.{every_reply}
 
@@ -55,7 +55,7 @@ same_outcome program (Asks call onward) (Asks other on) agree (reply ∷ replies
     (λ i. asked (agree.0 i) (later i))
 
 -- the plan's own calls are answered
-pub answered : (program : Program) (plan : Plan) (replies : List Reply) → AreAnswers program (plan_outcome plan replies).calls replies → Fitting program plan replies
+pub answered : (program : Program) (plan : Plan) (replies : List Reply) → AreReplies program (plan_outcome plan replies).calls replies → Fitting program plan replies
 answered program (Ends verdict frame) replies are = tt
 answered program (Asks call onward) [] are = tt
 answered program (Asks call onward) (reply ∷ replies) are = (are.0, answered program (onward reply) replies are.1)
@@ -65,5 +65,5 @@ pub does_agreeing : (most : ℕ) (program : Program) (state : MachineState) (pla
     Does most program state plan → Does most program state other
 does_agreeing most program state plan other agree does count enough replies fit =
     let done : outcome_of (trace_of count program state replies) ≡ plan_outcome plan replies = does count enough replies fit in
-    let own : AreAnswers program (plan_outcome plan replies).calls replies = subst (λ (outcome : RunOutcome). AreAnswers program outcome.calls replies) done fit in
+    let own : AreReplies program (plan_outcome plan replies).calls replies = subst (λ (outcome : RunOutcome). AreReplies program outcome.calls replies) done fit in
     done ∙ same_outcome program plan other agree replies (answered program plan replies own)

@@ -17,9 +17,9 @@ use Rattle.semantics.specs.Step.{Outcome, Step, Continues, CallsMap, Exits, Trap
 use Rattle.semantics.specs.Arithmetic.{source_value}
 use Rattle.semantics.specs.Comparison.{jump_outcome}
 use Rattle.semantics.specs.Memory.{cell_ref}
-use Rattle.semantics.specs.RunTrace.{IsReplyTo, trace_of, trace_from}
+use Rattle.semantics.specs.RunTrace.{IsReplyTo, trace_of, trace_from, AreReplies}
 use Rattle.semantics.specs.Semantics.{instruction_step, next_step, step_of, jump_step, branch_step, at_next_slot}
-use Rattle.block_runs.specs.Plan.{Plan, Asks, Ends, Does, AreAnswers, outcome_of, plan_outcome, asked, RunOutcome, Waiting, Ended}
+use Rattle.block_runs.specs.Plan.{Plan, Asks, Ends, Does, outcome_of, plan_outcome, asked, RunOutcome, Waiting, Ended}
 use Rattle.block_runs.proofs.shared.Blocks.{Promise, Named, BlocksMeet, Arrives, Meets, MeetsStep, MeetsTest, MeetsJump, AsksThis}
 use Rattle.block_runs.proofs.shared.Blocks.{EndsThis, ForReplies, by_test, comes, slot_after, code_of, longest, longest_of, BlocksJoin}
 
@@ -29,7 +29,7 @@ pub does_more : (n m : ℕ) → n ≤ m → (program : Program) (state : Machine
 does_more n m at_most program state plan does count enough replies fit = does count (omega arith) replies fit
 
 abbrev answers_after : ℕ → Program → MachineState → List Reply → Step → Type 0
-answers_after count program state replies step = AreAnswers program (trace_from (trace_of count program) state step replies).calls replies
+answers_after count program state replies step = AreReplies program (trace_from (trace_of count program) state step replies).calls replies
 
 abbrev after_step : ℕ → Program → MachineState → List Reply → Step → RunOutcome
 after_step count program state replies step = outcome_of (trace_from (trace_of count program) state step replies)

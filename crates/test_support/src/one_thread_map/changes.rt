@@ -1,6 +1,7 @@
 //! What each call leaves of a shard's state.
 
-ghost use Rattle.std.specs.Prelude.{◌≡◌, ◌<◌, ◌≤◌, ◌+◌, ◌^◌, ◌==◌, ℤ, IsTrue, Option, Some, None, OnOk, OnErr, length, reverse, vec_len, vec_capacity};
+ghost use Rattle.std.specs.Prelude.{◌≡◌, ◌<◌, ◌≤◌, ◌+◌, ◌^◌, ◌==◌, ℤ, IsTrue, Option, Some, None, OnOk, OnErr, length, reverse, vec_len};
+ghost use Rattle.std.specs.Prelude.{vec_capacity};
 ghost use Rattle.semantics.specs.PlanLimits.{IsWithinLimits, IsIndexSize};
 ghost use Rattle.semantics.specs.declared.call.Call.TheVariants.{Update, Delete};
 ghost use Rattle.test_support.specs.OneThread.{state_of, IsSized};

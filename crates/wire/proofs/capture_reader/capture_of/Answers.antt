@@ -1,6 +1,6 @@
 use Rattle.std.proofs.Common.{ℕ, ◌+◌, subst, ap, ◌∙◌}
 use Rattle.wire.specs.CaptureFormat.{RefusesRecord}
-use Rattle.wire.proofs.CaptureLemmas.{records_read, AreRecords-short, refused_record}
+use Rattle.wire.proofs.shared.CaptureLemmas.{records_read, AreRecords-short, refused_record}
 use Rattle.wire.proofs.capture_reader.capture_of.Goals as goal
 
 pub records-preserved : goal.records-preserved

@@ -1,8 +1,8 @@
 use Rattle.std.proofs.Common.{◌≡◌, ◌∷◌, List, sym, ap, ◌∙◌, subst}
 use Rattle.std.specs.Prelude.{IfOk, IfErr, OnErr}
-use Rattle.shards.specs.CallerView.{CallerView, entry_of, IsServed, IsRefused}
+use Rattle.shards.specs.CallerView.{CallerView, IsServed, IsRefused}
 use Rattle.shards.specs.Seats.{IsLockOf}
-use Rattle.semantics.specs.History.{Meets}
+use Rattle.semantics.specs.History.{Meets, entry_of}
 use Rattle.shards.proofs.PartLemmas.{Said, said, part_is, after_is, elsewhere, pass_after}
 use Rattle.semantics.specs.CallerLaws.{own_entries}
 use Rattle.shards.specs.Lodged.{KeyedPlan, keys}

@@ -1,8 +1,8 @@
 use Rattle.std.proofs.Common.{◌≡◌, ◌++◌, List, sym, ap, ◌∙◌, subst}
 use Rattle.std.specs.Prelude.{IfOk, IfErr}
-use Rattle.shards.specs.CallerView.{CallerView, entry_of}
+use Rattle.shards.specs.CallerView.{CallerView}
 use Rattle.shards.specs.Seats.{IsLockOf}
-use Rattle.semantics.specs.History.{Meets}
+use Rattle.semantics.specs.History.{Meets, entry_of}
 use Rattle.shards.proofs.PartLemmas.{Said, said, part_is, after_is, elsewhere, pass_after}
 use Rattle.std.proofs.Common.{◌∷◌}
 use Rattle.semantics.specs.CallerLaws.{own_entries}

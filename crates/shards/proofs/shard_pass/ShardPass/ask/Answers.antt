@@ -2,7 +2,8 @@ use Rattle.std.proofs.Common.{Bool, sym, ap, ◌∙◌, subst}
 use Rattle.std.specs.Prelude.{IfOk, OnErr}
 use Rattle.semantics.specs.declared.call.SectionChange.{SectionChange}
 use Rattle.shards.specs.declared.rule.Known.{Known}
-use Rattle.shards.specs.CallerView.{IsServed, IsRefused, entry_of}
+use Rattle.semantics.specs.History.{entry_of}
+use Rattle.shards.specs.CallerView.{IsServed, IsRefused}
 use Rattle.shards.specs.HeldCells.{HeldIds}
 use Rattle.shards.specs.Passes.{flag_after}
 use Rattle.shards.specs.Seats.{view_of}
