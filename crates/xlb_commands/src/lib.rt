@@ -5,6 +5,7 @@ mod clashes;
 mod commands;
 mod fault;
 mod fault_lines;
+mod files;
 mod hints;
 mod last_table;
 mod notes;
@@ -17,7 +18,6 @@ mod report;
 mod serving;
 mod shipping;
 mod tables;
-mod written;
 
 pub use fault::{Fault, Refusal};
 pub use fault_lines::fault_line;
