@@ -3,7 +3,12 @@ use Rattle.std.proofs.Common.{◌≡◌, ℕ, zero, suc, ◌+◌, ◌<◌, ◌�
 use Rattle.std.specs.Prelude.{slice_get, Option, None, Vec}
 use Rattle.std.proofs.lemmas.List.{append-nil, length-map, map-append}
 use Rattle.wire.specs.declared.records.Sent.{Sent}
+use Rattle.map_updates.specs.declared.update.MapUpdate.{MapUpdate}
+use Rattle.semantics.specs.declared.options.Options.{Options}
+use Rattle.semantics.specs.History.{IsLegalJournal}
 use Rattle.semantics.specs.Program.{Program}
+use Rattle.journals.specs.JournalsView.{JournalsView, entries_at}
+use Rattle.shards.specs.NewShards.{shard_at}
 use Rattle.control.specs.declared.command.Command.{Command}
 use Rattle.replay.specs.declared.account.Counts.{Counts}
 use Rattle.replay.specs.declared.outcome.Outcome.{Outcome}
@@ -13,10 +18,11 @@ use Rattle.replay.specs.declared.runner.RunEnd.TheVariants.{Stopped, Exited}
 use Rattle.replay.specs.declared.runner.FrameFate.TheVariants.{Aborted, Dropped, Passed, Sent as IsSent}
 use Rattle.replay.specs.Accounts.{SentFrame, counted, frames_in, record_end, sent_by, sent_frame, sent_frames}
 use Rattle.replay.specs.InTurn.{TurnState, IsTurn, AreTurns}
+use Rattle.replay.specs.ExactReplays.{HasBegun, IsInTurn, starts_in}
 use Rattle.replay.specs.Pieces.{HasPiece, IsWholeOutcome}
 use Rattle.replay.specs.Shares.{worker_of_frame}
 use Rattle.replay.specs.TurnStates.{with_earlier, with_none_kept}
-use Rattle.replay.specs.Turns.{Turn, TheCommand, TheRecord, TheRound}
+use Rattle.replay.specs.Turns.{Turn, TheCommand, TheRecord, TheRound, turns_to}
 
 -- ---- lists
 
@@ -127,6 +133,36 @@ handed_out sent ends state after is =
     sym (ap (with_earlier (sent ++ state.sent) (ends ++ state.ends)) is
     ∙ ap₂ (λ (s : List Sent) (e : List RecordEnd). record state { sent = s; ends = e }) (append-nil (sent ++ state.sent)) (append-nil (ends ++ state.ends)))
 
+-- ---- a piece
+
+-- with its turns, those of all records up to its end are taken
+pub piece_taken : (program : Program) (script : List Command) (workers : ℕ) (starts : List ℕ) (taken : ℕ) (records piece sent more : List Sent)
+    (ends more_ends : List RecordEnd) (first before middle after : TurnState) → starts ≡ starts_in script → taken ≡ length records →
+    after ≡ with_none_kept middle → more ≡ middle.sent → more_ends ≡ middle.ends →
+    AreTurns program script records workers (turns_to (starts_in script) (length records)) first (with_earlier sent ends before) →
+    ((all earlier : List Sent) (earlier_ends : List RecordEnd) (begin : TurnState) → HasPiece all taken piece →
+    AreTurns program script all workers (turns_to starts taken) begin (with_earlier earlier earlier_ends before) →
+    AreTurns program script all workers (turns_to starts (taken + length piece)) begin (with_earlier earlier earlier_ends middle)) →
+    AreTurns program script (records ++ piece) workers (turns_to (starts_in script) (length (records ++ piece))) first
+    (with_earlier (sent ++ more) (ends ++ more_ends) after)
+piece_taken program script workers starts taken records piece sent more ends more_ends first before middle after starts_are taken_is none_kept more_is
+    more_ends_are were turns =
+    let all = records ++ piece in
+    let grown : AreTurns program script all workers (turns_to (starts_in script) (length records)) first (with_earlier sent ends before) =
+    turns_among program script workers records piece (turns_to (starts_in script) (length records)) first (with_earlier sent ends before) were in
+    let was : AreTurns program script all workers (turns_to starts taken) first (with_earlier sent ends before) =
+    subst (λ (s : List ℕ). AreTurns program script all workers (turns_to s taken) first (with_earlier sent ends before)) (sym starts_are)
+    (subst (λ (n : ℕ). AreTurns program script all workers (turns_to (starts_in script) n) first (with_earlier sent ends before)) (sym taken_is) grown) in
+    let count : taken + length piece ≡ length all = ap (λ (n : ℕ). n + length piece) taken_is ∙ sym (length-append records piece) in
+    let now : AreTurns program script all workers (turns_to starts (taken + length piece)) first (with_earlier sent ends middle) =
+    turns all sent ends first (piece_behind records piece taken taken_is) was in
+    let same : with_earlier sent ends middle ≡ with_earlier (sent ++ more) (ends ++ more_ends) after =
+    handed_out sent ends middle after none_kept
+    ∙ ap₂ (λ (s : List Sent) (e : List RecordEnd). with_earlier (sent ++ s) (ends ++ e) after) (sym more_is) (sym more_ends_are) in
+    subst (λ (state : TurnState). AreTurns program script all workers (turns_to (starts_in script) (length all)) first state) same
+    (subst (λ (s : List ℕ). AreTurns program script all workers (turns_to s (length all)) first (with_earlier sent ends middle)) starts_are
+    (subst (λ (n : ℕ). AreTurns program script all workers (turns_to starts n) first (with_earlier sent ends middle)) count now))
+
 -- ---- one end for each record, and at most one frame
 
 pub record IsCounted (state : TurnState) : Type 0 where
@@ -201,3 +237,32 @@ whole_of rest sent ends few_sent few_ends =
 pub whole_is : (rest : Outcome) (sent : List Sent) (ends : List RecordEnd) (few_sent : length sent < 2 ^ 63) (few_ends : length ends < 2 ^ 63) →
     IsWholeOutcome rest sent ends (whole_of rest sent ends few_sent few_ends)
 whole_is rest sent ends few_sent few_ends = record { counts = refl; updates = refl; refused = refl; journals = refl; sent_are = refl; ends_are = refl }
+
+-- what is said of one outcome of the whole is said of each
+pub in_turn_too : (program : Program) (script : List Command) (options : Options) (records sent : List Sent) (ends : List RecordEnd)
+    (rest one two : Outcome) → IsWholeOutcome rest sent ends one → IsWholeOutcome rest sent ends two → IsInTurn program script options records one →
+    IsInTurn program script options records two
+in_turn_too program script options records sent ends rest one two first second is =
+    let counts : two.counts ≡ one.counts = second.counts ∙ sym first.counts in
+    let journals : two.journals ≡ one.journals = second.journals ∙ sym first.journals in
+    let updates : two.updates.items ≡ one.updates.items = second.updates ∙ sym first.updates in
+    record {
+      maps = ap (λ (j : JournalsView). j.maps) journals ∙ is.maps;
+      options_are = ap (λ (j : JournalsView). j.options) journals ∙ is.options_are;
+      size = is.size;
+      size_is_served = is.size_is_served;
+      serves = is.serves;
+      begun = is.begun;
+      first = subst (λ (list : List MapUpdate). HasBegun program.maps options list is.begun) (sym updates) is.first;
+      last = is.last;
+      in_order = is.in_order;
+      counts = counts ∙ is.counts;
+      each_once = ap (λ (c : Counts). frames_in c) counts ∙ is.each_once;
+      sent = second.sent_are ∙ sym first.sent_are ∙ is.sent;
+      ends = second.ends_are ∙ sym first.ends_are ∙ is.ends;
+      refused = second.refused ∙ sym first.refused ∙ is.refused;
+      count_is = ap (λ (j : JournalsView). length j.shards) journals ∙ is.count_is;
+      journals = λ number below. ap (λ (j : JournalsView). entries_at j number) journals ∙ is.journals number below;
+      legal = λ number below.
+          subst (λ (j : JournalsView). IsLegalJournal (shard_at is.last.all.shards number).plan (entries_at j number)) (sym journals) (is.legal number below);
+    }

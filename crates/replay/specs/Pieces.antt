@@ -54,8 +54,8 @@ pub record IsUnderway (program : Program) (script : List Command) (options : Opt
 -- the outcome is this one, with these frames sent and these ends
 pub record IsWholeOutcome (rest : Outcome) (sent : List Sent) (ends : List RecordEnd) (whole : Outcome) : Type 0 where
   pub counts : whole.counts ≡ rest.counts
-  pub updates : whole.updates ≡ rest.updates
-  pub refused : whole.refused ≡ rest.refused
+  pub updates : whole.updates.items ≡ rest.updates.items
+  pub refused : whole.refused.items ≡ rest.refused.items
   pub journals : whole.journals ≡ rest.journals
   pub sent_are : whole.sent.items ≡ sent
   pub ends_are : whole.ends.items ≡ ends

@@ -186,6 +186,7 @@ impl PieceReplay {
             taken,
         } = self;
         turns.last_turns(alloc, script.commands(), &starts, next, taken)?;
-        turns.finish(alloc, updates)
+        let rest = turns.finish(alloc, updates)?;
+        Ok(rest)
     }
 }

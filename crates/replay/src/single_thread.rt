@@ -27,7 +27,7 @@ ghost use Rattle.replay.specs.InTurn.{TurnState as State, IsRunInTurn, IsHandled
 ghost use Rattle.replay.specs.InTurn.{IsRecordTurn, IsCommandTurn, IsRoundTurn, AreTurns};
 ghost use Rattle.replay.specs.Parts.{AreBadOptions, refused_of};
 ghost use Rattle.replay.specs.Pieces.{HasPiece, GoesOn, IsUnderway, IsWholeOutcome};
-ghost use Rattle.replay.specs.TurnStates.{state_in, with_earlier, with_none_kept};
+ghost use Rattle.replay.specs.TurnStates.{state_in, with_earlier, with_none_kept, HasSameEnds};
 ghost use Rattle.replay.specs.Turns.{commands_between, rounds_at, due_before, turns_to, all_turns};
 
 use crate::account::{Counts, record_end, send};
@@ -244,6 +244,7 @@ impl Turns {
         ensures turns { OnOk result ((program : Program) (records : List Record) (workers : ℕ) →
             AreTurns program script.now records workers (commands_between from end) (state_in self.old) (state_in self.new)) }
         ensures same { OnOk result (IsSameSetting (state_in self.old) (state_in self.new)) }
+        ensures ends { OnOk result (HasSameEnds (state_in self.old) (state_in self.new)) }
         ensures counted { OnOk result (frames_in self.new.counts ≡ frames_in self.old.counts) }
     {
         'commands: for number in from..end {
@@ -305,6 +306,7 @@ impl Turns {
             AreTurns program script.now records workers (turns_to starts.now count) first (with_earlier sent ends (state_in self.old)) →
             AreTurns program script.now records workers (all_turns starts.now count) first (with_earlier sent ends (state_in self.new))) }
         ensures same { OnOk result (IsSameSetting (state_in self.old) (state_in self.new)) }
+        ensures ends { OnOk result (HasSameEnds (state_in self.old) (state_in self.new)) }
         ensures counted { OnOk result (frames_in self.new.counts ≡ frames_in self.old.counts) }
     {
         self.commands(alloc, script, next, starts.len())?;
@@ -453,15 +455,16 @@ fn whole<G: Gate>(
         IsInTurn (program_of verified.now options.shards) script.now options capture.now.records.items outcome) }
     ensures updates { IfOk result (λ outcome. outcome.updates.items ≡ updates.now) }
 {
-    let PieceOutcome { sent, ends } = replay.go_on(alloc, verified, script, capture, gate)?;
+    let done = replay.go_on(alloc, verified, script, capture, gate)?;
     let rest = replay.finish(alloc, updates, script)?;
-    Ok(with_pieces(rest, sent, ends))
+    Ok(with_records(rest, done))
 }
 
-/// The outcome with these frames sent, and these ends, in place of its own.
-fn with_pieces(rest: Outcome, sent: Vec<Sent>, ends: Vec<RecordEnd>) -> Outcome
-    ensures whole { IsWholeOutcome rest sent.items ends.items result }
+/// The outcome with what became of the records, which were handed out before.
+fn with_records(rest: Outcome, done: PieceOutcome) -> Outcome
+    ensures whole { IsWholeOutcome rest done.sent.items done.ends.items result }
 {
+    let PieceOutcome { sent, ends } = done;
     let Outcome {
         counts,
         updates,

@@ -28,3 +28,8 @@ returns-clause-turns c = λ program records sent ends workers first were.
     (turns_with program script workers records sent ends (commands_between c.args.next (length starts)) before one
     (c.in_ok-commands.ensures.turns program records workers))
     (turn_with program script workers records sent ends TheRound one after c.round.ensures.turn)
+
+pub returns-clause-ends : goal.returns-clause-ends
+returns-clause-ends c =
+    let before = c.in_ok-commands.ensures.ends in
+    record { sent = c.round.ensures.turn.sent ∙ before.sent; ends = c.round.ensures.turn.ends ∙ before.ends }
