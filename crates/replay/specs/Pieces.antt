@@ -1,6 +1,5 @@
 -- An exact replay of a capture that comes in pieces: how far it is, and what it makes of the whole capture.
-use Rattle.std.specs.Prelude.{◌≡◌, ◌+◌, ◌<◌, ◌≤◌, ◌^◌, ℕ, List, [], ◌++◌, length, slice_get}
-use Rattle.ebpf_decode.specs.declared.map.MapDef.{MapDef}
+use Rattle.std.specs.Prelude.{◌≡◌, ◌+◌, ◌<◌, ◌≤◌, ◌^◌, ℕ, List, [], length, slice_get}
 use Rattle.map_updates.specs.declared.update.MapUpdate.{MapUpdate}
 use Rattle.wire.specs.declared.records.Sent.{Sent}
 use Rattle.semantics.specs.declared.options.Options.{Options}
@@ -19,11 +18,12 @@ use Rattle.replay.specs.InTurn.{TurnMaps, AreTurns}
 use Rattle.replay.specs.TurnStates.{state_in, with_earlier}
 use Rattle.replay.specs.Turns.{due_before, turns_to}
 
--- the records have those of the piece from this number on
+-- from this number on the records are those of the piece
 abbrev pub HasPiece : List Sent → ℕ → List Sent → Type 0
 HasPiece records first piece = (place : ℕ) → place < length piece → slice_get records (first + place) ≡ slice_get piece place
 
--- the replay can go on with this script: it counted each record once, it knows which command is next, and it keeps nothing that was handed out
+-- The replay can go on with this script, which fits its maps: it counted each record once, knows which command is next, and keeps nothing that was
+-- handed out.
 pub record GoesOn (script : List Command) (replay : PieceReplay) : Type 0 where
   pub serves : ServesScript replay.turns.all.maps replay.turns.controller.size script
   pub starts : replay.starts.items ≡ starts_in script
@@ -34,8 +34,8 @@ pub record GoesOn (script : List Command) (replay : PieceReplay) : Type 0 where
   pub none_sent : replay.turns.sent.items ≡ []
   pub no_ends : replay.turns.ends.items ≡ []
 
--- The first updates were made, and then the turns of these records, up to the next record of the capture. Of the records were sent these frames and
--- became these ends, which were handed out.
+-- The first updates were made, and then all turns up to the last of these records, and a round if it was its time. What was sent of them, and what
+-- became of each, was handed out.
 pub record IsUnderway (program : Program) (script : List Command) (options : Options) (updates : List MapUpdate) (records sent : List Sent)
     (ends : List RecordEnd) (replay : PieceReplay) : Type 0 where
   pub size : ℕ
@@ -51,7 +51,7 @@ pub record IsUnderway (program : Program) (script : List Command) (options : Opt
   pub maps : replay.turns.all.maps ≡ program.maps
   pub options_are : replay.turns.all.options ≡ options
 
--- the outcome is this one, with these frames sent and these ends
+-- the whole outcome is this one with these sent frames and these ends
 pub record IsWholeOutcome (rest : Outcome) (sent : List Sent) (ends : List RecordEnd) (whole : Outcome) : Type 0 where
   pub counts : whole.counts ≡ rest.counts
   pub updates : whole.updates.items ≡ rest.updates.items
@@ -60,7 +60,7 @@ pub record IsWholeOutcome (rest : Outcome) (sent : List Sent) (ends : List Recor
   pub sent_are : whole.sent.items ≡ sent
   pub ends_are : whole.ends.items ≡ ends
 
--- with the frames and the ends that were handed out, this is the outcome of an exact replay of the whole capture
+-- with the frames and the ends that were handed out, it is the outcome of an exact replay of all records
 pub record IsReplayed (program : Program) (script : List Command) (options : Options) (records sent : List Sent) (ends : List RecordEnd) (rest : Outcome) :
     Type 0 where
   pub whole : Outcome

@@ -32,10 +32,11 @@ use std::alloc::{AllocError, Global};
 use verifier::Verified;
 use wire::Capture;
 
-/// How many records a capture may have, over all pieces.
+/// A capture has fewer records than this, over all pieces.
 const MOST_RECORDS: usize = 1 << 63;
 
-/// An exact replay between two pieces of its capture. It keeps the maps, what came of the script's commands and the counts, and nothing of the records.
+/// An exact replay between two pieces of its capture. It keeps the shards, what came of the script's commands, and the counts. What was sent and what became
+/// of each record is handed out with the piece, so that a capture that is longer needs no more memory, unless the journals keep their rows.
 #[derive(Drop)]
 pub struct PieceReplay {
     turns: Turns,
@@ -74,7 +75,7 @@ fn opened_over(
 }
 
 impl PieceReplay {
-    /// Before the first record: these updates are made, one after the other, as the controller, each whether or not its key is there.
+    /// Makes these updates, one after the other, as the controller, each whether or not its key is there. Then the first piece can come.
     ///
     /// Refused with 51 where no shards of the image's maps can be opened with the options, or where there are commands and the image's maps
     /// are not those of steering; with 52 for lack of memory; with 93 for the first update that a map refused, and with 94 for the first for
@@ -125,12 +126,13 @@ impl PieceReplay {
         self.taken < MOST_RECORDS && piece.records.len() < MOST_RECORDS - self.taken
     }
 
-    /// Takes the turns of the next records of the capture: before each the commands that are due then, the record, and after every 64 records
-    /// of the capture a round, whatever pieces they are in. Returns what was sent and what became of the records, and keeps nothing of it.
+    /// Takes the turns of the next records of the capture: before each record the commands that are due then, then the record, and after every 64
+    /// records of the capture a round, whichever pieces they are in. Returns what was sent and what became of the records, and keeps nothing of
+    /// it. Where the pieces are cut makes no difference to the replay.
     ///
     /// The gate is called after each of the rounds, as for a reply of the reclaimer, with the number of such rounds in all pieces so far.
     ///
-    /// Fails only for lack of memory. Then the replay cannot go on.
+    /// Fails only for lack of memory. Then some turns of the piece may have been taken, and the replay cannot go on.
     pub fn go_on<G: Gate>(
         &mut self,
         alloc: Global,
@@ -160,10 +162,12 @@ impl PieceReplay {
         Ok(self.turns.hand_out(alloc))
     }
 
-    /// Takes the turns behind the last record: the commands that are left, and one more round. The outcome has no frames that were sent
-    /// and no ends, since these were handed out; with them it is accounted for, also where no rows of journals are kept.
+    /// Takes the turns behind the last record: the commands that are left, and one more round. The updates are those that it was opened with.
     ///
-    /// Fails only for lack of memory.
+    /// The outcome has no sent frames and no ends, since these were handed out. With them it is the outcome of an exact replay of the whole
+    /// capture, and is accounted for as what a replay on threads returns, also where no rows of journals are kept.
+    ///
+    /// Fails only for lack of memory. Then nothing is left.
     pub fn finish(
         self,
         alloc: Global,

@@ -21,7 +21,7 @@
 //!
 //! So a command acts no earlier than it is handed over, but while workers still have jobs of their queues: some frames before it may be run
 //! after it. An exact replay ([`replay_in_turn`]) has no threads: on the calling thread it makes each record's run, each command and each
-//! round in turn.
+//! round in turn. Its capture may also come in pieces ([`PieceReplay`]).
 //!
 //! # Passes
 //!

@@ -53,7 +53,7 @@ use std::mem;
 use verifier::Verified;
 use wire::{Capture, Frame, Sent};
 
-/// A replay between two turns.
+/// A replay between two turns. What was sent and the ends are those that were not handed out yet.
 #[derive(Drop)]
 pub(crate) struct Turns {
     pub all: TurnShards,

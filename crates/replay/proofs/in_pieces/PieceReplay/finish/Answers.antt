@@ -1,4 +1,4 @@
-use Rattle.std.proofs.Common.{◌≡◌, ◌<◌, ◌++◌, ◌^◌, [], ℕ, List, length, refl, sym, ap, ◌∙◌, subst, arith}
+use Rattle.std.proofs.Common.{◌≡◌, ◌<◌, ◌++◌, ◌^◌, ℕ, List, length, refl, sym, ap, ◌∙◌, subst, arith}
 use Rattle.std.proofs.lemmas.List.{append-nil}
 use Rattle.map_updates.specs.declared.update.MapUpdate.{MapUpdate}
 use Rattle.control.specs.declared.command.Command.{Command}
@@ -7,10 +7,10 @@ use Rattle.replay.specs.declared.account.Counts.{Counts}
 use Rattle.replay.specs.declared.outcome.RecordEnd.{RecordEnd}
 use Rattle.replay.specs.Accounts.{frames_in}
 use Rattle.replay.specs.ExactReplays.{IsInTurn, HasBegun, starts_in, first_state}
-use Rattle.replay.specs.InTurn.{TurnState, AreTurns}
+use Rattle.replay.specs.InTurn.{AreTurns}
 use Rattle.replay.specs.TurnStates.{state_in, with_earlier}
 use Rattle.replay.specs.Turns.{all_turns, turns_to}
-use Rattle.replay.proofs.PieceLemmas.{IsCounted, turns_counted, whole_of, whole_is}
+use Rattle.replay.proofs.PieceLemmas.{turns_counted, whole_of, whole_is}
 use Rattle.replay.proofs.in_pieces.PieceReplay.finish.Goals as goal
 
 pub returns-clause-none_sent : goal.returns-clause-none_sent

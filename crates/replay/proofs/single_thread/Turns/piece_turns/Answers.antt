@@ -1,7 +1,7 @@
-use Rattle.std.proofs.Common.{◌≡◌, ◌+◌, ◌<◌, ℕ, refl, sym, ap, ◌∙◌, subst, length, arith}
+use Rattle.std.proofs.Common.{◌≡◌, ◌+◌, ◌<◌, ℕ, sym, ap, ◌∙◌, subst, length, arith}
 use Rattle.semantics.specs.declared.options.Options.{Options}
 use Rattle.machine.specs.Running.{program_of}
-use Rattle.replay.specs.InTurn.{TurnState, AreTurns}
+use Rattle.replay.specs.InTurn.{AreTurns}
 use Rattle.replay.specs.Turns.{due_before, turns_to}
 use Rattle.replay.specs.TurnStates.{state_in, with_earlier}
 use Rattle.replay.proofs.TurnLemmas.{setting_stays, setting_more, still_serves}
