@@ -30,3 +30,4 @@ pub mod TurnRounds
 pub mod TurnFates
 pub mod TurnSimulation
 pub mod TurnAccounts
+pub mod PieceLemmas

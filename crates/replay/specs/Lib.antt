@@ -24,3 +24,4 @@ pub mod UpdateFaults
 pub mod TurnStates
 pub mod ExactReplays
 pub mod TurnsAccounted
+pub mod Pieces

@@ -21,7 +21,7 @@
 //!
 //! So a command acts no earlier than it is handed over, but while workers still have jobs of their queues: some frames before it may be run
 //! after it. An exact replay ([`replay_in_turn`]) has no threads: on the calling thread it makes each record's run, each command and each
-//! round in turn.
+//! round in turn. Its capture may also come in pieces ([`PieceReplay`]).
 //!
 //! # Passes
 //!
@@ -56,6 +56,7 @@ mod crew;
 mod dispatch;
 mod fault;
 mod first_updates;
+mod in_pieces;
 pub mod laws;
 mod outcome;
 mod reclaimer;
@@ -74,7 +75,8 @@ pub use actor::{Actor, ActorEnded};
 pub use controller::{Commanded, Commander};
 pub use crew::Handled;
 pub use fault::ReplayFault;
-pub use outcome::{Applied, Outcome, RecordEnd};
+pub use in_pieces::PieceReplay;
+pub use outcome::{Applied, Outcome, PieceOutcome, RecordEnd};
 pub use reclaimer::Reclaiming;
 pub use replaying::replay;
 pub use runner::{FrameFate, Ran, RunEnd, Runner};

@@ -23,6 +23,15 @@ pub struct Outcome {
     pub journals: Journals,
 }
 
+/// What became of the records of a piece of a capture.
+#[derive(Drop)]
+pub struct PieceOutcome {
+    /// The frames that were sent, in the capture's order, each with the moment of its record.
+    pub sent: Vec<Sent>,
+    /// What became of each record, in the capture's order.
+    pub ends: Vec<RecordEnd>,
+}
+
 /// What became of a record of the capture.
 #[derive(Clone, Copy, Debug, PartialEq, Eq)]
 pub enum RecordEnd {

@@ -1,10 +1,11 @@
 //! A replay on one thread: commands, records and rounds, one after the other.
 
-ghost use Rattle.std.specs.Prelude.{◌≡◌, ◌<◌, ◌≤◌, ◌+◌, ◌%◌, ◌==◌, ◌^◌, ◌↔◌, [], ℕ, List, length, Some};
+ghost use Rattle.std.specs.Prelude.{◌≡◌, ◌<◌, ◌≤◌, ◌+◌, ◌%◌, ◌==◌, ◌^◌, ◌↔◌, [], ℕ, List, length, slice_get, Some};
 ghost use Rattle.std.specs.Prelude.{OnOk, IfOk, IfErr, IfSome, IsErrOf, IsFalse};
 ghost use Rattle.machine.specs.Running.{program_of};
 ghost use Rattle.maglev.specs.RingSize.{IsRingSize};
 ghost use Rattle.semantics.specs.History.{IsLegalJournal};
+ghost use Rattle.semantics.specs.declared.options.Options.{Options as Settings};
 ghost use Rattle.semantics.specs.Program.{Program};
 ghost use Rattle.semantics.specs.ShardPlan.{KeepsRows, are_served_options, recorded};
 ghost use Rattle.wire.specs.declared.records.Sent.{Sent as Record};
@@ -15,6 +16,7 @@ ghost use Rattle.control.specs.Controlling.{refusal_of, opened_controller};
 ghost use Rattle.journals.specs.JournalsView.{entries_at};
 ghost use Rattle.shards.specs.NewShards.{shard_at};
 ghost use Rattle.replay.specs.declared.fault.ReplayFault.TheVariants.{BadOptions, NoThread};
+ghost use Rattle.replay.specs.declared.outcome.RecordEnd.{RecordEnd as End};
 ghost use Rattle.replay.specs.Accounted.{IsAccounted};
 ghost use Rattle.replay.specs.Accounts.{frames_in, no_counts, counted};
 ghost use Rattle.replay.specs.Commands.{ServesScript};
@@ -24,7 +26,8 @@ ghost use Rattle.map_updates.specs.Misfits.{AreFitting};
 ghost use Rattle.replay.specs.InTurn.{TurnState as State, IsRunInTurn, IsHandled, IsAppliedInTurn, IsSameSetting};
 ghost use Rattle.replay.specs.InTurn.{IsRecordTurn, IsCommandTurn, IsRoundTurn, AreTurns};
 ghost use Rattle.replay.specs.Parts.{AreBadOptions, refused_of};
-ghost use Rattle.replay.specs.TurnStates.{state_in};
+ghost use Rattle.replay.specs.Pieces.{HasPiece, GoesOn, IsUnderway, IsWholeOutcome};
+ghost use Rattle.replay.specs.TurnStates.{state_in, with_earlier, with_none_kept, HasSameEnds};
 ghost use Rattle.replay.specs.Turns.{commands_between, rounds_at, due_before, turns_to, all_turns};
 
 use crate::account::{Counts, record_end, send};
@@ -33,11 +36,11 @@ use crate::controller::command_at;
 use crate::dispatch::{ROUND_EVERY, due, is_short, worker_of};
 use crate::fault::ReplayFault;
 use crate::first_updates::{copied, set_all};
+use crate::in_pieces::PieceReplay;
 use crate::laws::turns_are_accounted;
-use crate::outcome::{Applied, Outcome, RecordEnd};
+use crate::outcome::{Applied, Outcome, PieceOutcome, RecordEnd};
 use crate::replaying::fault_of;
 use crate::runner::RunEnd;
-use crate::setting::{starts_of, table_for};
 use crate::shard_runner::{end_of, moment_of};
 use crate::turn_shards::TurnShards;
 use control::{Command, ControlFault, Controller, Script};
@@ -46,10 +49,11 @@ use runs::closing::journals_of;
 use semantics::{Caller, Options, Recording};
 use shard_port::Gate;
 use std::alloc::{AllocError, Global};
+use std::mem;
 use verifier::Verified;
 use wire::{Capture, Frame, Sent};
 
-/// A replay between two turns.
+/// A replay between two turns. What was sent and the ends are those that were not handed out yet.
 #[derive(Drop)]
 pub(crate) struct Turns {
     pub all: TurnShards,
@@ -133,7 +137,7 @@ fn apply_to(
 
 impl Turns {
     /// Before the first turn.
-    fn over(alloc: Global, all: TurnShards, size: u32) -> Turns
+    pub(crate) fn over(alloc: Global, all: TurnShards, size: u32) -> Turns
         requires { IsRingSize size }
         ensures { state_in result ≡
             record { all = all; controller = opened_controller size; noted = []; counts = no_counts; sent = []; ends = [] } }
@@ -152,23 +156,26 @@ impl Turns {
         }
     }
 
-    /// The turn of a record. Fails only for lack of memory; then the replay cannot go on.
+    /// The turn of the record at a place of a piece, whichever number it has in the capture. Fails only for lack of memory; then the replay cannot
+    /// go on.
     fn record(
         &mut self,
         alloc: Global,
         verified: &Verified,
-        capture: &Capture,
-        number: usize,
+        piece: &Capture,
+        place: usize,
     ) -> Result<(), AllocError>
-        requires number { number < length capture.now.records.items }
+        requires place { place < length piece.now.records.items }
         requires maps { self.old.all.maps ≡ verified.now.maps }
         requires room { frames_in self.old.counts + 1 < 2 ^ 64 }
-        ensures turn { OnOk result (IsRecordTurn (program_of verified.now self.old.all.options.shards) capture.now.records.items
-            self.old.all.options.workers number (state_in self.old) (state_in self.new)) }
+        ensures turn { OnOk result ((records : List Record) (number : ℕ) →
+            slice_get records number ≡ slice_get piece.now.records.items place →
+            IsRecordTurn (program_of verified.now self.old.all.options.shards) records self.old.all.options.workers number
+            (state_in self.old) (state_in self.new)) }
         ensures same { OnOk result (IsSameSetting (state_in self.old) (state_in self.new)) }
         ensures one_more { OnOk result (frames_in self.new.counts ≡ frames_in self.old.counts + 1) }
     {
-        let sent = &capture.records[number];
+        let sent = &piece.records[place];
         let worker = worker_of(&sent.bytes, self.all.workers());
         let end = handle(alloc, verified, &mut self.all, sent)?;
         self.counts.count(&end);
@@ -237,6 +244,7 @@ impl Turns {
         ensures turns { OnOk result ((program : Program) (records : List Record) (workers : ℕ) →
             AreTurns program script.now records workers (commands_between from end) (state_in self.old) (state_in self.new)) }
         ensures same { OnOk result (IsSameSetting (state_in self.old) (state_in self.new)) }
+        ensures ends { OnOk result (HasSameEnds (state_in self.old) (state_in self.new)) }
         ensures counted { OnOk result (frames_in self.new.counts ≡ frames_in self.old.counts) }
     {
         'commands: for number in from..end {
@@ -245,42 +253,45 @@ impl Turns {
         Ok(())
     }
 
-    /// The turns from one record to the next: the commands that are due, the record, and a round, if it is its time. Returns which command
-    /// is next.
+    /// The turns from one record to the next: the commands that are due, the record, and a round, if it is its time. The record is at a place of
+    /// a piece, and has a number in the capture. Returns which command is next.
     fn record_turns(
         &mut self,
         alloc: Global,
         verified: &Verified,
-        capture: &Capture,
+        piece: &Capture,
         script: &[Command],
         starts: &[u32],
         next: usize,
+        place: usize,
         number: usize,
     ) -> Result<usize, AllocError>
-        requires number { number < length capture.now.records.items }
+        requires place { place < length piece.now.records.items }
+        requires room { number + 1 < 2 ^ 64 }
         requires starts { starts.now ≡ starts_in script.now }
         requires next { (next ≡ due_before starts.now number) × (next ≤ length starts.now) }
         requires maps { self.old.all.maps ≡ verified.now.maps }
         requires serves { ServesScript self.old.all.maps self.old.controller.size script.now }
         requires counted { frames_in self.old.counts ≡ number }
         ensures next { IfOk result (λ end. (end ≡ due_before starts.now (number + 1)) × (end ≤ length starts.now)) }
-        ensures turns { OnOk result ((first : State) →
-            AreTurns (program_of verified.now self.old.all.options.shards) script.now capture.now.records.items self.old.all.options.workers
-            (turns_to starts.now number) first (state_in self.old) →
-            AreTurns (program_of verified.now self.old.all.options.shards) script.now capture.now.records.items self.old.all.options.workers
-            (turns_to starts.now (number + 1)) first (state_in self.new)) }
+        ensures turns { OnOk result ((records sent : List Record) (ends : List End) (first : State) →
+            slice_get records number ≡ slice_get piece.now.records.items place →
+            AreTurns (program_of verified.now self.old.all.options.shards) script.now records self.old.all.options.workers
+            (turns_to starts.now number) first (with_earlier sent ends (state_in self.old)) →
+            AreTurns (program_of verified.now self.old.all.options.shards) script.now records self.old.all.options.workers
+            (turns_to starts.now (number + 1)) first (with_earlier sent ends (state_in self.new))) }
         ensures same { OnOk result (IsSameSetting (state_in self.old) (state_in self.new)) }
         ensures counted { OnOk result (frames_in self.new.counts ≡ number + 1) }
     {
         let end = due(starts, next, number);
         self.commands(alloc, script, next, end)?;
-        self.record(alloc, verified, capture, number)?;
+        self.record(alloc, verified, piece, place)?;
         self.round_at(number + 1);
         Ok(end)
     }
 
     /// The turns behind the last record.
-    fn last_turns(
+    pub(crate) fn last_turns(
         &mut self,
         alloc: Global,
         script: &[Command],
@@ -291,10 +302,11 @@ impl Turns {
         requires starts { starts.now ≡ starts_in script.now }
         requires next { (next ≡ due_before starts.now count) × (next ≤ length starts.now) }
         requires serves { ServesScript self.old.all.maps self.old.controller.size script.now }
-        ensures turns { OnOk result ((program : Program) (records : List Record) (workers : ℕ) (first : State) →
-            AreTurns program script.now records workers (turns_to starts.now count) first (state_in self.old) →
-            AreTurns program script.now records workers (all_turns starts.now count) first (state_in self.new)) }
+        ensures turns { OnOk result ((program : Program) (records sent : List Record) (ends : List End) (workers : ℕ) (first : State) →
+            AreTurns program script.now records workers (turns_to starts.now count) first (with_earlier sent ends (state_in self.old)) →
+            AreTurns program script.now records workers (all_turns starts.now count) first (with_earlier sent ends (state_in self.new))) }
         ensures same { OnOk result (IsSameSetting (state_in self.old) (state_in self.new)) }
+        ensures ends { OnOk result (HasSameEnds (state_in self.old) (state_in self.new)) }
         ensures counted { OnOk result (frames_in self.new.counts ≡ frames_in self.old.counts) }
     {
         self.commands(alloc, script, next, starts.len())?;
@@ -303,62 +315,58 @@ impl Turns {
         Ok(())
     }
 
-    /// The turns up to the last record. Returns which command is next.
-    fn all_records<G: Gate>(
+    /// The turns of the records of a piece, of which the first has this number in the capture. Returns which command is next.
+    pub(crate) fn piece_turns<G: Gate>(
         &mut self,
         alloc: Global,
         verified: &Verified,
-        capture: &Capture,
+        piece: &Capture,
         script: &[Command],
         starts: &[u32],
+        from: usize,
+        taken: usize,
         gate: &G,
     ) -> Result<usize, AllocError>
+        requires room { taken + length piece.now.records.items < 2 ^ 63 }
         requires starts { starts.now ≡ starts_in script.now }
+        requires next { (from ≡ due_before starts.now taken) × (from ≤ length starts.now) }
         requires maps { self.old.all.maps ≡ verified.now.maps }
         requires serves { ServesScript self.old.all.maps self.old.controller.size script.now }
-        requires none { frames_in self.old.counts ≡ 0 }
-        ensures next { IfOk result (λ next. (next ≡ due_before starts.now (length capture.now.records.items)) ×
+        requires counted { frames_in self.old.counts ≡ taken }
+        ensures next { IfOk result (λ next. (next ≡ due_before starts.now (taken + length piece.now.records.items)) ×
             (next ≤ length starts.now)) }
-        ensures turns { OnOk result (AreTurns (program_of verified.now self.old.all.options.shards) script.now capture.now.records.items
-            self.old.all.options.workers (turns_to starts.now (length capture.now.records.items)) (state_in self.old) (state_in self.new)) }
+        ensures turns { OnOk result ((records sent : List Record) (ends : List End) (first : State) →
+            HasPiece records taken piece.now.records.items →
+            AreTurns (program_of verified.now self.old.all.options.shards) script.now records self.old.all.options.workers
+            (turns_to starts.now taken) first (with_earlier sent ends (state_in self.old)) →
+            AreTurns (program_of verified.now self.old.all.options.shards) script.now records self.old.all.options.workers
+            (turns_to starts.now (taken + length piece.now.records.items)) first (with_earlier sent ends (state_in self.new))) }
         ensures same { OnOk result (IsSameSetting (state_in self.old) (state_in self.new)) }
-        ensures each_once { OnOk result (frames_in self.new.counts ≡ length capture.now.records.items) }
+        ensures counted { OnOk result (frames_in self.new.counts ≡ taken + length piece.now.records.items) }
     {
-        let mut next = 0;
-        'records: for number in 0..capture.records.len() {
-            next = self.record_turns(alloc, verified, capture, script, starts, next, number)?;
+        let mut next = from;
+        'records: for place in 0..piece.records.len() {
+            let number = taken + place;
+            next = self.record_turns(alloc, verified, piece, script, starts, next, place, number)?;
             show(gate, number + 1);
         }
         Ok(next)
     }
 
-    /// All turns.
-    fn take_all<G: Gate>(
-        &mut self,
-        alloc: Global,
-        verified: &Verified,
-        capture: &Capture,
-        script: &[Command],
-        starts: &[u32],
-        gate: &G,
-    ) -> Result<(), AllocError>
-        requires starts { starts.now ≡ starts_in script.now }
-        requires maps { self.old.all.maps ≡ verified.now.maps }
-        requires serves { ServesScript self.old.all.maps self.old.controller.size script.now }
-        requires none { frames_in self.old.counts ≡ 0 }
-        ensures turns { OnOk result (AreTurns (program_of verified.now self.old.all.options.shards) script.now capture.now.records.items
-            self.old.all.options.workers (all_turns (starts_in script.now) (length capture.now.records.items))
-            (state_in self.old) (state_in self.new)) }
-        ensures same { OnOk result (IsSameSetting (state_in self.old) (state_in self.new)) }
-        ensures each_once { OnOk result (frames_in self.new.counts ≡ length capture.now.records.items) }
+    /// Hands out what was sent and what became of the records, and keeps nothing of it.
+    pub(crate) fn hand_out(&mut self, alloc: Global) -> PieceOutcome
+        ensures sent { result.sent.items ≡ self.old.sent.items }
+        ensures ends { result.ends.items ≡ self.old.ends.items }
+        ensures none_kept { state_in self.new ≡ with_none_kept (state_in self.old) }
     {
-        let next = self.all_records(alloc, verified, capture, script, starts, gate)?;
-        self.last_turns(alloc, script, starts, next, capture.records.len())?;
-        Ok(())
+        PieceOutcome {
+            sent: mem::replace(&mut self.sent, Vec::new(alloc)),
+            ends: mem::replace(&mut self.ends, Vec::new(alloc)),
+        }
     }
 
     /// What is returned after the last turn.
-    fn finish(self, alloc: Global, updates: &[MapUpdate]) -> Result<Outcome, AllocError>
+    pub(crate) fn finish(self, alloc: Global, updates: &[MapUpdate]) -> Result<Outcome, AllocError>
         ensures maps { IfOk result (λ outcome. outcome.journals.maps ≡ self.all.maps) }
         ensures options { IfOk result (λ outcome. outcome.journals.options ≡ self.all.options) }
         ensures updates { IfOk result (λ outcome. outcome.updates.items ≡ updates.now) }
@@ -402,35 +410,9 @@ fn show<G: Gate>(gate: &G, number: usize) {
     }
 }
 
-/// The replay over shards of the image's maps, in which nothing has happened but these updates.
-fn turned<G: Gate>(
-    alloc: Global,
-    verified: &Verified,
-    capture: &Capture,
-    updates: &[MapUpdate],
-    script: &[Command],
-    size: u32,
-    all: TurnShards,
-    gate: &G,
-) -> Result<Outcome, AllocError>
-    requires begun { HasBegun verified.now.maps all.options updates.now all }
-    requires maps { all.maps ≡ verified.now.maps }
-    requires size { IsRingSize size }
-    requires script { ServesScript verified.now.maps size script.now }
-    ensures in_turn { IfOk result (IsInTurn (program_of verified.now all.options.shards) script.now all.options capture.now.records.items) }
-    ensures updates { IfOk result (λ outcome. outcome.updates.items ≡ updates.now) }
-{
-    let list = starts_of(alloc, script)?;
-    let starts: &[u32] = &list;
-    let mut turns = Turns::over(alloc, all, size);
-    turns.take_all(alloc, verified, capture, script, starts, gate)?;
-    let outcome = turns.finish(alloc, updates)?;
-    Ok(outcome)
-}
-
 /// The shards of an accepted image's maps, on which nothing was done but these updates. Refused with 51 where none are opened with these options, with 52
 /// for lack of memory, with 93 for the first update that a map refused, and with 94 for the first for which a journal was full.
-fn begun(
+pub(crate) fn begun(
     alloc: Global,
     verified: &Verified,
     updates: &[MapUpdate],
@@ -452,6 +434,51 @@ fn begun(
             Err(fault) => Err(fault),
         },
         Err(fault) => Err(fault_of(fault)),
+    }
+}
+
+/// The replay of a capture that is one piece, from its first record on.
+fn whole<G: Gate>(
+    alloc: Global,
+    verified: &Verified,
+    capture: &Capture,
+    updates: &[MapUpdate],
+    script: &Script,
+    mut replay: PieceReplay,
+    gate: &G,
+) -> Result<Outcome, AllocError>
+    requires goes_on { GoesOn script.now replay }
+    requires maps { replay.turns.all.maps ≡ verified.now.maps }
+    requires none { replay.taken ≡ 0 }
+    ensures in_turn { IfOk result (λ outcome. (options : Settings) →
+        IsUnderway (program_of verified.now options.shards) script.now options updates.now [] [] [] replay →
+        IsInTurn (program_of verified.now options.shards) script.now options capture.now.records.items outcome) }
+    ensures updates { IfOk result (λ outcome. outcome.updates.items ≡ updates.now) }
+{
+    let done = replay.go_on(alloc, verified, script, capture, gate)?;
+    let rest = replay.finish(alloc, updates, script)?;
+    Ok(with_records(rest, done))
+}
+
+/// The outcome with what became of the records, which were handed out before.
+fn with_records(rest: Outcome, done: PieceOutcome) -> Outcome
+    ensures whole { IsWholeOutcome rest done.sent.items done.ends.items result }
+{
+    let PieceOutcome { sent, ends } = done;
+    let Outcome {
+        counts,
+        updates,
+        refused,
+        journals,
+        ..
+    } = rest;
+    Outcome {
+        counts,
+        updates,
+        refused,
+        sent,
+        ends,
+        journals,
     }
 }
 
@@ -491,24 +518,8 @@ pub fn replay_in_turn<G: Gate>(
     ensures no_thread { ¬ IsErrOf result NoThread }
 {
     turns_are_accounted();
-    let image = verified.image();
-    let Some(size) = table_for(image.maps(), script.commands()) else {
-        return Err(ReplayFault::BadOptions);
-    };
-    match begun(alloc, verified, updates, options, recording) {
-        Ok(all) => {
-            let _ = all.options();
-            Ok(turned(
-                alloc,
-                verified,
-                capture,
-                updates,
-                script.commands(),
-                size,
-                all,
-                gate,
-            )?)
-        }
+    match PieceReplay::open(alloc, verified, updates, script, options, recording) {
+        Ok(replay) => Ok(whole(alloc, verified, capture, updates, script, replay, gate)?),
         Err(fault) => Err(fault),
     }
 }

@@ -12,6 +12,7 @@ commands-init c = record {
   turns = λ program records workers.
       subst (λ (turns : List Turn). AreTurns program c.args.script.now records workers turns (state_in c.args.self.now) (state_in c.args.self.now)) (sym (between_none c.args.from)) refl;
   same = setting_stays (state_in c.args.self.now);
+  ends = record { sent = refl; ends = refl };
   counted = refl;
 }
 
@@ -31,6 +32,7 @@ commands-preserved c =
           (turns_more program c.args.script.now records workers (commands_between c.args.from number) (TheCommand number) (state_in c.args.self.now) (state_in c.commands.self) after
           (i.turns program records workers) c.in_ok-command.ensures.turn);
       same = setting_more (state_in c.args.self.now) (state_in c.commands.self) after i.same c.in_ok-command.ensures.same;
+      ends = record { sent = c.in_ok-command.ensures.turn.sent ∙ i.ends.sent; ends = c.in_ok-command.ensures.turn.ends ∙ i.ends.ends };
       counted = c.in_ok-command.ensures.counted ∙ i.counted;
     }
 

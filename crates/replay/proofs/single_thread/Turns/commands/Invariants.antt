@@ -3,7 +3,7 @@ use Rattle.wire.specs.declared.records.Sent.{Sent}
 use Rattle.semantics.specs.Program.{Program}
 use Rattle.replay.specs.Accounts.{frames_in}
 use Rattle.replay.specs.InTurn.{IsSameSetting, AreTurns}
-use Rattle.replay.specs.TurnStates.{state_in}
+use Rattle.replay.specs.TurnStates.{state_in, HasSameEnds}
 use Rattle.replay.specs.Turns.{commands_between}
 use Rattle.replay.proofs.single_thread.Turns.commands.Given as goal
 
@@ -13,6 +13,7 @@ pub record Applied (l : goal.Live-commands) : Type 0 where
   pub turns : (program : Program) (records : List Sent) (workers : ℕ) →
       AreTurns program l.script records workers (commands_between l.fn.from l.number) (state_in l.fn.self) (state_in l.self)
   pub same : IsSameSetting (state_in l.fn.self) (state_in l.self)
+  pub ends : HasSameEnds (state_in l.fn.self) (state_in l.self)
   pub counted : frames_in l.self.counts ≡ frames_in l.fn.self.counts
 
 abbrev pub invariant-commands : goal.invariant-commands

@@ -6,12 +6,12 @@ use Rattle.replay.specs.Shares.{worker_of_frame}
 use Rattle.replay.proofs.single_thread.Turns.record.Goals as goal
 
 pub returns-clause-turn : goal.returns-clause-turn
-returns-clause-turn c =
-    let records = c.args.capture.now.records.items in
-    let below : c.args.number < length records = c.requires.number in
+returns-clause-turn c = λ records number there.
+    let piece = c.args.piece.now.records.items in
+    let below : c.args.place < length piece = c.requires.place in
     record {
       captured = c.index-sent.result.now;
-      known = got_there records c.args.number c.index-sent.result.now below c.index-sent.ensures;
+      known = there ∙ got_there piece c.args.place c.index-sent.result.now below c.index-sent.ensures;
       end = c.in_ok-end.end;
       handled = c.in_ok-end.ensures.handled;
       maps = c.in_ok-end.ensures.maps;
