@@ -1,13 +1,26 @@
 //! What holds of counts, of runs of the shipped program and of its replays, as contracts of functions that do nothing.
 
+ghost use Rattle.std.specs.Prelude.{◌≡◌, [], List};
+ghost use Rattle.std.specs.List.{AllByRecursion};
+ghost use Rattle.maglev.specs.RingSize.{IsRingSize};
+ghost use Rattle.machine.specs.Running.{program_of};
+ghost use Rattle.semantics.specs.ShardPlan.{AreOptions};
+ghost use Rattle.semantics.specs.declared.options.Options.{Options};
+ghost use Rattle.wire.specs.declared.records.Sent.{Sent};
+ghost use Rattle.control.specs.declared.command.Command.{Command};
+ghost use Rattle.replay.specs.Accounted.{IsAccounted};
+ghost use Rattle.replay.specs.declared.outcome.Outcome.{Outcome};
+ghost use Rattle.steer.specs.ShippedProgram.{shipped_image};
 ghost use Rattle.steered_replays.specs.Counting.{CountsAreExact, LookupsOfArraysFind};
 ghost use Rattle.steered_replays.specs.SteeredRuns.{RunsAreSteered, RefusedRunsAreSteered, ReplaysAreSteered};
+ghost use Rattle.steered_replays.specs.SteeredRuns.{IsOfCapture, IsSteeredReplay};
 ghost use Rattle.steered_replays.specs.StickyFlows.{NotesAreFound, NotedFlowsStick};
 ghost use Rattle.steered_replays.specs.StickyRow.{StickyRow};
-ghost use Rattle.steered_replays.specs.Totals.{TotalsAreExact};
+ghost use Rattle.steered_replays.specs.Totals.{AreTotals, TotalsAreExact};
 
 use conntrack::laws::{finished_runs_are_results, flows_stick};
 use steer::laws::steers;
+use verifier::Verified;
 
 /// In an array's shard of which nothing was asked but to find, read and raise counts, each cell holds how often it was raised; and each
 /// lookup of an index that the array has finds that index's cell.
@@ -41,6 +54,24 @@ pub fn totals_are_exact()
 {
     counts_are_exact();
     replays_are_steered();
+}
+
+/// What the two laws above say of every replay of an image that is the shipped one for a lookup table of `size` slots, however it was made.
+pub fn shipped_replays_are_steered(verified: &Verified, size: u32)
+    requires size { IsRingSize size }
+    requires image { record { version = verified.now.version; maps = verified.now.maps; code = verified.now.code } ≡ shipped_image size }
+    ensures steered { (script : List Command) (options : Options) (records : List Sent) (outcome : Outcome) →
+        AreOptions verified.now.maps options → AllByRecursion IsOfCapture records →
+        IsAccounted (program_of verified.now options.shards) script options records outcome →
+        IsSteeredReplay size script options records outcome }
+    ensures totals { (script : List Command) (options : Options) (records : List Sent) (outcome : Outcome) →
+        AreOptions verified.now.maps options → AllByRecursion IsOfCapture records →
+        IsAccounted (program_of verified.now options.shards) script options records outcome →
+        outcome.updates.items ≡ [] → outcome.counts.stopped ≡ 0 → AreTotals outcome }
+{
+    let _ = (verified, size);
+    replays_are_steered();
+    totals_are_exact();
 }
 
 /// A flow stays with the backend that was noted for it. In a legal history of the flows' shard, as long as after the Update that noted a
