@@ -69,7 +69,8 @@ pub fn shipped_replays_are_steered(verified: &Verified, size: u32)
         IsAccounted (program_of verified.now options.shards) script options records outcome →
         outcome.updates.items ≡ [] → outcome.counts.stopped ≡ 0 → AreTotals outcome }
 {
-    let _ = (verified, size);
+    let _ = size;
+    let _ = verified.image();
     replays_are_steered();
     totals_are_exact();
 }
