@@ -1,4 +1,3 @@
 -- The definitions that the contracts of this crate cite.
 pub mod Fronts
-pub mod Pieces
 pub mod FaultNumber

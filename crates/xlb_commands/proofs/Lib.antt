@@ -1,5 +1,4 @@
 -- The lemmas that proofs of this crate share.
-pub mod Earlier
 pub mod LongImages
 pub mod Outcomes
 pub mod ReaderFiles

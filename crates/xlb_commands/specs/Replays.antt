@@ -40,10 +40,6 @@ use Rattle.command_line.specs.Reading.{text_of}
 use Rattle.xlb_commands.specs.Files.{FileBytes, IsImageFile}
 use Rattle.xlb_commands.specs.RecordReports.{IsReportFile}
 
--- the image of a verified program
-abbrev pub image_of : Verified → Contents
-image_of verified = record { version = verified.version; maps = verified.maps; code = verified.code }
-
 -- ---- what is read
 
 -- the image of the file, or where none is named the shipped one for a lookup table of N slots

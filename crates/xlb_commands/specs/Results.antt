@@ -31,7 +31,6 @@ use Rattle.command_line.specs.Reading.{text_of}
 use Rattle.map_updates.specs.Misfits.{IsFirstMisfit}
 use Rattle.map_updates.specs.declared.misfit.Misfit.{Misfit}
 use Rattle.map_updates.specs.declared.update.MapUpdate.{MapUpdate}
-use Rattle.xlb_commands.specs.declared.report.Report.{Report}
 use Rattle.xlb_commands.specs.declared.one_run.RunAnswer.{RunAnswer}
 use Rattle.xlb_commands.specs.declared.one_run.RunAnswer.TheVariants.{Printed, Mistaken}
 use Rattle.xlb_commands.specs.declared.serving.CommandAnswer.{CommandAnswer}
@@ -144,16 +143,11 @@ pub record IsMisfitReplay (before after : FileBytes) (files : ReplayFiles) (ring
   pub first : IsFirstMisfit program.maps updates place misfit
   pub kept : AreKept before after
 
--- a replay that is made: whether every command was carried out is said besides
-abbrev pub IsReplayReport : FileBytes → FileBytes → ReplayFiles → Options → Recording → ℕ → Bool → Bool → List MapUpdate → Report → Type 0
-IsReplayReport before after files options recording ring exact skip_long updates report = (refused : List Applied)
-    × IsReplayed before after files options recording ring exact skip_long updates (string_bytes report.text) refused
-    × ((refused ≡ []) ↔ (report.is_refused ≡ false))
-
 -- what a replay comes to that is not refused
 abbrev pub IsReplayAnswer : FileBytes → FileBytes → ReplayFiles → Options → Recording → ℕ → Bool → Bool → List MapUpdate → ReplayAnswer → Type 0
-IsReplayAnswer before after files options recording ring exact skip_long updates (replayed.Made report) =
-    IsReplayReport before after files options recording ring exact skip_long updates report
+IsReplayAnswer before after files options recording ring exact skip_long updates (replayed.Made report) = (refused : List Applied)
+    × IsReplayed before after files options recording ring exact skip_long updates (string_bytes report.text) refused
+    × ((refused ≡ []) ↔ (report.is_refused ≡ false))
 IsReplayAnswer before after files options recording ring exact skip_long updates (replayed.Mistaken place misfit) =
     IsMisfitReplay before after files ring updates place misfit
 

@@ -5,7 +5,6 @@ mod clashes;
 mod commands;
 mod fault;
 mod fault_lines;
-mod files;
 mod hints;
 mod last_table;
 mod notes;
@@ -18,6 +17,7 @@ mod report;
 mod serving;
 mod shipping;
 mod tables;
+mod written;
 
 pub use fault::{Fault, Refusal};
 pub use fault_lines::fault_line;

@@ -50,30 +50,18 @@ impl Notes<'_> {
         script: &Script,
         outcome: &Outcome,
     ) -> Result<String, AllocError> {
-        let mut text = self.lines(alloc, script, outcome, first_stopped(&outcome.ends))?;
-        if self.summary {
-            self.put_summary(alloc, &mut text, capture, script, outcome)?;
-        }
-        Ok(text)
-    }
-
-    /// The same without a summary. `stopped` is the place, from 0, of the first record whose run was stopped, if one was.
-    pub(crate) fn lines(
-        &self,
-        alloc: Global,
-        script: &Script,
-        outcome: &Outcome,
-        stopped: Option<u64>,
-    ) -> Result<String, AllocError> {
         let mut text = String::new(alloc);
         put_refused(alloc, &mut text, script, &outcome.refused)?;
         self.put_moments(&mut text, script)?;
         self.put_ring(alloc, &mut text)?;
         self.put_long(alloc, &mut text)?;
         self.put_cut(alloc, &mut text)?;
-        if let Some(place) = stopped {
-            put_stopped(alloc, &mut text, place)?;
+        if outcome.counts.stopped > 0 {
+            put_stopped(alloc, &mut text, &outcome.ends)?;
             put_full(alloc, &mut text, &outcome.journals)?;
+        }
+        if self.summary {
+            self.put_summary(alloc, &mut text, capture, script, outcome)?;
         }
         Ok(text)
     }
@@ -224,16 +212,14 @@ fn why_refused(fault: ControlFault) -> &'static str {
     }
 }
 
-/// The place, from 0, of the first record whose run a full journal stopped.
-pub(crate) fn first_stopped(ends: &[RecordEnd]) -> Option<u64> {
-    let place = ends
-        .iter()
-        .position(|end| matches!(end, RecordEnd::Stopped { .. }))?;
-    Some(place as u64)
-}
-
 /// The first record, counted from 1, whose run a full journal stopped.
-fn put_stopped(alloc: Global, text: &mut String, place: u64) -> Result<(), AllocError> {
+fn put_stopped(alloc: Global, text: &mut String, ends: &[RecordEnd]) -> Result<(), AllocError> {
+    let Some(place) = ends
+        .iter()
+        .position(|end| matches!(end, RecordEnd::Stopped { .. }))
+    else {
+        return Ok(());
+    };
     let record = place.saturating_add(1);
     let line = format!(in alloc; "record {record} is the first whose run was stopped\n")?;
     text.push_str(line.as_str())

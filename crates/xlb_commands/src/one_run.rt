@@ -11,9 +11,9 @@ ghost use Rattle.xlb_commands.specs.Refused.{HasFailed, IsRunFault, IsRunRefusal
 
 use crate::commands::{frame_of, judged_of};
 use crate::fault::{Fault, Refusal};
-use crate::files::{journal_bytes, write_journals_to};
 use crate::hints;
 use crate::report::outcome;
+use crate::written::{journal_bytes, write_journals_to};
 use command_line::RunFiles;
 use control::ControlFault;
 use ebpf_decode::MapDef;

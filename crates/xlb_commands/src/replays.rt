@@ -22,7 +22,7 @@ ghost use Rattle.replay.specs.declared.fault.ReplayFault.TheVariants.{BadOptions
 ghost use Rattle.replay.specs.Accounts.{frames_in};
 ghost use Rattle.replay.specs.Parts.{AreBadOptions};
 ghost use Rattle.map_updates.specs.Misfits.{AreFitting};
-ghost use Rattle.xlb_commands.specs.Results.{IsReplayAnswer, IsReplayReport};
+ghost use Rattle.xlb_commands.specs.Results.{IsReplayAnswer};
 ghost use Rattle.steered_replays.specs.SteeredRuns.{IsSteeredReplay};
 ghost use Rattle.steered_replays.specs.Totals.{AreTotals};
 ghost use Rattle.journals.specs.JournalText.{journals_text};
@@ -30,20 +30,20 @@ ghost use Rattle.command_line.specs.Reading.{text_of};
 ghost use Rattle.xlb_commands.specs.Files.{AreKept, AreAllButKept};
 ghost use Rattle.xlb_commands.specs.Refused.{HasFailed, LacksRoom, AreUnfiled, IsReplayProgramRefusal, IsScriptFileRefusal};
 ghost use Rattle.xlb_commands.specs.Refused.{IsScriptRefusal};
-ghost use Rattle.xlb_commands.specs.Refused.{IsGivenUp, IsNoCapture, IsNoCaptureIn, IsCaptureRefusal, IsReplayRefusal, IsUnreplayed};
-ghost use Rattle.xlb_commands.specs.Replays.{image_of, IsProgramOf, IsScriptOf, IsScriptFile, IsCaptureIn, IsCaptureOf, IsMade, HasBytes};
+ghost use Rattle.xlb_commands.specs.Refused.{IsGivenUp, IsNoCapture, IsNoCaptureIn, IsCaptureRefusal, IsReplayRefusal};
+ghost use Rattle.xlb_commands.specs.Replays.{IsProgramOf, IsScriptOf, IsScriptFile, IsCaptureIn, IsCaptureOf, IsMade, HasBytes};
 ghost use Rattle.xlb_commands.specs.Replays.{FollowsRule, IsByRule, SendsAlike, recording_of, counts_text, refusals_text, AreWritten};
 ghost use Rattle.xlb_commands.specs.RecordReports.{form_of, report_text};
 
-use crate::commands::judged_of;
+use crate::commands::{bytes_of, judged_of};
 use crate::fault::{Fault, Refusal};
-use crate::files::{bytes_of, journal_bytes, write_journals_to, write_text_to, write_to};
 use crate::notes::{Notes, Passed};
 use crate::one_run::maps_of;
 use crate::progress::{Progress, Rounds};
 use crate::record_report::report_for;
 use crate::report::{Report, replayed};
 use crate::shipping::shipped_program;
+use crate::written::{journal_bytes, write_journals_to, write_text_to, write_to};
 use crate::{hints, records};
 use command_line::ReplayFiles;
 use control::{Script, parse_script};
@@ -544,75 +544,6 @@ fn write_files<D: Folder>(
     Ok(())
 }
 
-/// Replays a capture that is read whole, and writes what is sent, the journals and the report, where files are named for these. The capture is read and
-/// checked before anything starts, and after it the options. No file is made where one is refused, nor where memory is refused for anything that is
-/// written or printed.
-fn replay_whole<R: Threads + Wait + Sync, D: Folder, P: Progress + Sync>(
-    rt: &R,
-    alloc: Global,
-    folder: &mut D,
-    files: &ReplayFiles<'_>,
-    verified: &Verified,
-    script: &Script,
-    options: Options,
-    recording: Recording,
-    ring: u32,
-    exact: bool,
-    summary: bool,
-    skip_long: bool,
-    updates: &[MapUpdate],
-    progress: &P,
-) -> Result<Report, Refusal>
-    requires failures { D.failure_count folder.old < 2 ^ 64 - 1 }
-    requires rows { (file : List ℕ) → text_of files.now.journals ≡ Some file → recording ≡ Rows }
-    requires size { text_of files.now.image ≡ None → IsRingSize ring }
-    requires program { IsProgramOf (D.holds folder.old) (text_of files.now.image) ring (image_of verified.now) }
-    requires safe { IsSafeImage verified.now.maps verified.now.code }
-    requires fit { AreFitting verified.now.maps updates.now }
-    requires script { IsScriptOf (D.holds folder.old) (text_of files.now.script) script.now }
-    ensures done { IfOk result
-        (IsReplayReport (D.holds folder.old) (D.holds folder.new) files.now options recording ring exact skip_long updates.now) }
-    ensures kept { AreAllButKept (D.holds folder.old) (D.holds folder.new) files.now.sent.now (text_of files.now.journals)
-        (text_of files.now.report) }
-    ensures refused { IfErr result (λ refusal. IsUnreplayed (D.holds folder.old) (D.holds folder.new)
-        (HasFailed (D.failure_count folder.old) (D.failure_count folder.new)) files.now options recording exact skip_long updates.now
-        (image_of verified.now) script.now refusal.fault) }
-{
-    let mut passed = Passed::default();
-    let capture = capture_of(alloc, folder, files.capture, skip_long, &mut passed)?;
-    let frames = capture.records.len() as u64;
-    let rounds = Rounds::of(progress, verified, &options, exact, frames);
-    let outcome = match outcome_with(
-        rt,
-        alloc,
-        exact,
-        verified,
-        files.image,
-        ring,
-        &capture,
-        updates,
-        script,
-        options,
-        recording,
-        &rounds,
-    ) {
-        Ok(outcome) => outcome,
-        Err(fault) => return Err(given_up(alloc, options, verified, fault)),
-    };
-    let notes = Notes {
-        passed,
-        ring,
-        image: files.image,
-        is_steering: files.is_steering,
-        exact,
-        summary,
-    };
-    let notes = notes.text(alloc, &capture, script, &outcome).ok();
-    let left = left_of(alloc, files, script, &capture, &outcome, notes)?;
-    write_files(alloc, folder, files, &left, &outcome.journals)?;
-    Ok(left.report)
-}
-
 /// What a replay comes to.
 #[derive(Drop)]
 pub enum ReplayAnswer {
@@ -655,9 +586,36 @@ pub fn replay_files<R: Threads + Wait + Sync, D: Folder, P: Progress + Sync>(
         return Ok(ReplayAnswer::Mistaken { place, misfit });
     }
     let script = script_of(alloc, folder, files.script)?;
-    let report = replay_whole(
-        rt, alloc, folder, files, &verified, &script, options, recording, ring, exact, summary,
-        skip_long, updates, progress,
-    )?;
-    Ok(ReplayAnswer::Made(report))
+    let mut passed = Passed::default();
+    let capture = capture_of(alloc, folder, files.capture, skip_long, &mut passed)?;
+    let rounds = Rounds::of(progress, &verified, &options, exact, &capture);
+    let outcome = match outcome_with(
+        rt,
+        alloc,
+        exact,
+        &verified,
+        files.image,
+        ring,
+        &capture,
+        updates,
+        &script,
+        options,
+        recording,
+        &rounds,
+    ) {
+        Ok(outcome) => outcome,
+        Err(fault) => return Err(given_up(alloc, options, &verified, fault)),
+    };
+    let notes = Notes {
+        passed,
+        ring,
+        image: files.image,
+        is_steering: files.is_steering,
+        exact,
+        summary,
+    };
+    let notes = notes.text(alloc, &capture, &script, &outcome).ok();
+    let left = left_of(alloc, files, &script, &capture, &outcome, notes)?;
+    write_files(alloc, folder, files, &left, &outcome.journals)?;
+    Ok(ReplayAnswer::Made(left.report))
 }
