@@ -38,7 +38,7 @@ use Rattle.replay.specs.Shares.{frames_of, share}
 use Rattle.replay.specs.RunJobs.{records_of}
 use Rattle.replay.specs.declared.outcome.Outcome.{Outcome}
 use Rattle.replay.specs.declared.outcome.RecordEnd.{RecordEnd}
-use Rattle.replay.specs.declared.shard_runner.Working.{Working}
+use Rattle.replay.specs.declared.worker.Working.{Working}
 use Rattle.replay.specs.RunsOverShards.{IsNewPass, IsNewAt, IsIdle, IsRunOf, IsRunBy, IsRunIn, IsExit, StopsFor, IsFullAtEnd, pass_in, start_of}
 use Rattle.shards.specs.declared.deeds.Deed.{Deed}
 use Rattle.shards.specs.declared.deeds.OrderPart.TheVariants.{ByCaller}

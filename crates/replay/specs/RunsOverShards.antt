@@ -22,7 +22,7 @@ use Rattle.shard_port.specs.PassSessions.{IsOutsideAt}
 use Rattle.replay.specs.declared.runner.RunEnd.{RunEnd}
 use Rattle.replay.specs.declared.runner.RunEnd.TheVariants.{Stopped, Exited}
 use Rattle.replay.specs.declared.runner.FrameFate.TheVariants.{Aborted, Dropped, Passed, Sent as IsSent}
-use Rattle.replay.specs.declared.shard_runner.Working.{Working}
+use Rattle.replay.specs.declared.worker.Working.{Working}
 
 -- ---- a worker's pass
 

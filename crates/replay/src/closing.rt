@@ -16,7 +16,7 @@ use crate::controller::Commanded;
 use crate::crew::{Handled, parted};
 use crate::first_updates::copied;
 use crate::outcome::{Applied, Outcome, RecordEnd};
-use crate::shard_runner::Working;
+use crate::worker::Working;
 use control::Script;
 use journals::Journals;
 use map_updates::MapUpdate;

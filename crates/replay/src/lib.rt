@@ -9,7 +9,7 @@
 //!
 //! | Thread | Its jobs | What it does for one |
 //! |---|---|---|
-//! | a worker (`worker`) | the numbers of the records of its flows | one run of the program on that frame (`runner`, `shard_runner`) |
+//! | a worker (`worker`) | the numbers of the records of its flows | one run of the program on that frame (`runner`) |
 //! | the controller (`controller`) | the numbers of the script's commands | the command's updates of the shared maps (`updates`) |
 //! | the reclaimer (`reclaimer`) | notes | a round: one Reclaim of each hash and LRU shard |
 //!
@@ -63,7 +63,6 @@ mod reclaimer;
 mod replaying;
 mod runner;
 mod setting;
-mod shard_runner;
 mod single_thread;
 mod threads;
 mod turn_shards;

@@ -18,8 +18,8 @@ use crate::outcome::Outcome;
 use crate::setting::{
     new_controller, new_reclaimer, new_workers, run_threads, starts_of, table_for,
 };
-use crate::shard_runner::ShardRunner;
 use crate::threads::{AllEnded, Setting};
+use crate::worker::ShardRunner;
 use control::Script;
 use map_updates::MapUpdate;
 use rx_queues::Queues;

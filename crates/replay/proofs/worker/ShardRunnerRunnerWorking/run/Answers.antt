@@ -4,7 +4,7 @@ use Rattle.machine.specs.Running.{program_of}
 use Rattle.shard_port.specs.PassPorts.{worker_of}
 use Rattle.runs.specs.FrameRuns.{HasStopped}
 use Rattle.runs.proofs.shared.Untold.{stopped_only}
-use Rattle.replay.proofs.shard_runner.ShardRunnerRunnerWorking.run.Goals as goal
+use Rattle.replay.proofs.worker.ShardRunnerRunnerWorking.run.Goals as goal
 
 pub returns-clause-run : goal.returns-clause-run
 returns-clause-run g c =
