@@ -6,6 +6,7 @@ ghost use Rattle.std.specs.Prelude.{◌≡◌, ◌-◌, ◌<◌, ◌^◌};
 
 mod assembling;
 mod audits;
+mod changed_captures;
 mod checked_sources;
 mod clashes;
 mod devices;
@@ -14,6 +15,7 @@ mod failing_devices;
 mod fault_texts;
 mod first_path;
 mod images;
+mod in_pieces;
 mod long_records;
 mod one_run;
 mod programs;
@@ -24,6 +26,7 @@ mod shipped;
 mod sources;
 mod tables;
 mod updates;
+mod weak_devices;
 
 use crate::asserting::{holds_of, same_bytes_of, same_status};
 use command_line::settings;

@@ -4,6 +4,8 @@
 #[cfg(test)]
 mod asserting;
 #[cfg(test)]
+mod captures_in_pieces;
+#[cfg(test)]
 mod commands;
 #[cfg(test)]
 mod counted_traffic;

@@ -1,2 +1,5 @@
 -- The lemmas that proofs of this crate share.
 pub mod FrontLemmas
+pub mod WindowLemmas
+pub mod CaptureFronts
+pub mod ReadingLemmas

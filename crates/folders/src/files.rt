@@ -3,6 +3,7 @@
 ghost use Rattle.std.specs.Prelude.{◌≡◌, ◌+◌, ◌-◌, ◌<◌, ◌≤◌, ◌^◌, IfOk, OnOk, length};
 ghost use Rattle.folders.specs.Fronts.{IsShortFront};
 
+use crate::failure::{Failure, Step, Trouble, failed};
 use crate::folder::{Folder, FolderFault, Front};
 use std::alloc::{AllocError, Global};
 use std::fs::{Metadata, OpenFile};
@@ -21,47 +22,24 @@ const MOST_OF_STREAM: u64 = 1 << 30;
 /// read has whole slots.
 const MORE: u64 = 8;
 
-/// Why no more is read of these, and what to do.
-const ENDLESS: &str = "it gave more than 1073741824 bytes: save it as a file, and name that";
-
 /// The longest name that the system takes.
 const LONGEST_NAME: usize = 4096;
 
 /// What stands behind the name of a file that is not finished.
 const UNFINISHED: &str = ".unfinished";
 
-/// What was done with a file when its device failed.
-#[derive(Clone, Copy, Debug, PartialEq, Eq)]
-enum Step {
-    Opening,
-    Reading,
-    Making,
-    Writing,
-}
+/// Why no more is read of these, and what to do.
+const ENDLESS: &str = "it gave more than 1073741824 bytes: save it as a file, and name that";
 
-/// A call that failed, and the system's word for why.
-#[derive(Clone, Copy, Debug)]
-struct Failure {
-    step: Step,
-    error: io::Error,
-}
+/// Why no more is read of a file in pieces.
+const TOO_LONG: &str = "it has more than 1099511627776 bytes";
 
-/// Why a file was not read.
-#[derive(Clone, Copy, Debug)]
-enum Trouble {
-    Device(Failure),
-    Memory,
-}
-
-impl From<AllocError> for Trouble {
-    fn from(_: AllocError) -> Trouble {
-        Trouble::Memory
-    }
-}
+/// Why a file is not made on.
+const NOT_BEGUN: &str = "it is not begun";
 
 /// A device or a pipe of which the front was read, and which has more.
 #[derive(Drop)]
-struct Begun<F: Drop> {
+struct Stream<F: Drop> {
     name: String,
     /// All that was read.
     bytes: Vec<u8>,
@@ -84,10 +62,17 @@ pub struct FileFolder<'a, R: Files, I, O> {
     input: I,
     output: O,
     /// The device or the pipe of which the front was read last, if it has more.
-    begun: Option<Begun<R::File>>,
+    stream: Option<Stream<R::File>>,
+    /// The file that is read in pieces.
+    reading: Option<R::File>,
+    /// How many bytes it gave.
+    given: u64,
+    /// The file that is made in pieces.
+    making: Option<Making<R::File>>,
     failures: u64,
     /// The last call that failed.
     last: Option<Failure>,
+    ghost bounded: { given ≤ 2 ^ 40 },
 }
 
 impl<'a, R: Files, I, O> FileFolder<'a, R, I, O> {
@@ -99,21 +84,12 @@ impl<'a, R: Files, I, O> FileFolder<'a, R, I, O> {
             rt,
             input,
             output,
-            begun: None,
+            stream: None,
+            reading: None,
+            given: 0,
+            making: None,
             failures: 0,
             last: None,
-        }
-    }
-}
-
-impl Step {
-    /// What could not be done.
-    fn word(self) -> &'static str {
-        match self {
-            Step::Opening => "open",
-            Step::Reading => "read",
-            Step::Making => "make",
-            Step::Writing => "write",
         }
     }
 }
@@ -156,6 +132,25 @@ fn read_on<S: Read>(
     }
 }
 
+/// Reads the next bytes of a file that gave `given` bytes before, and says how many: none at its end. It may give no more than 2^40 in all.
+fn read_piece<S: Read>(reader: &mut S, buffer: &mut [u8], given: u64) -> Result<usize, Failure>
+    requires { given ≤ 2 ^ 40 }
+    ensures within { IfOk result (λ count. count ≤ length buffer.new) }
+    ensures limit { IfOk result (λ count. given + count ≤ 2 ^ 40) }
+{
+    match reader.read(buffer) {
+        Ok(count) if count as u64 <= MOST_OF_FILE - given => Ok(count),
+        Ok(_) => Err(Failure {
+            step: Step::Reading,
+            error: io::Error::new(ErrorKind::FileTooLarge, TOO_LONG),
+        }),
+        Err(error) => Err(Failure {
+            step: Step::Reading,
+            error,
+        }),
+    }
+}
+
 /// The first bytes of an ordinary file, which has `size` bytes in all, if no more than `most` were added since.
 fn front_of_file<S: Read>(
     alloc: Global,
@@ -190,9 +185,48 @@ fn size_of<F: OpenFile>(file: &F) -> Option<u64> {
     }
 }
 
-/// A call that failed at this step.
-fn failed(step: Step, error: io::Error) -> Trouble {
-    Trouble::Device(Failure { step, error })
+/// No file is begun that could be made on.
+fn not_begun() -> Failure {
+    Failure {
+        step: Step::Making,
+        error: io::Error::new(ErrorKind::NotFound, NOT_BEGUN),
+    }
+}
+
+/// The folder of a name, and the name in it.
+fn parts_of(name: &str) -> (&str, &str) {
+    match name.rsplit_once('/') {
+        Some(("", last)) => ("/", last),
+        Some((folder, last)) => (folder, last),
+        None => (".", name),
+    }
+}
+
+/// Whether two names lead to one and the same node of a file system.
+fn is_one_node(found: &Metadata, other: &Metadata) -> bool {
+    found.dev() == other.dev() && found.ino() == other.ino()
+}
+
+/// Whether two names that nothing has would be those of one file: the same name in one folder.
+fn is_one_place<R: Files>(rt: &R, name: &str, other: &str) -> bool {
+    let (folder, last) = parts_of(name);
+    let (other_folder, other_last) = parts_of(other);
+    if last != other_last {
+        return false;
+    }
+    match (fs::metadata(rt, folder), fs::metadata(rt, other_folder)) {
+        (Ok(found), Ok(other_found)) => is_one_node(&found, &other_found),
+        _ => false,
+    }
+}
+
+/// Whether two different names are those of one ordinary file, or would be if it were made.
+fn is_one_file<R: Files>(rt: &R, name: &str, other: &str) -> bool {
+    match (fs::metadata(rt, name), fs::metadata(rt, other)) {
+        (Ok(found), Ok(other_found)) => found.is_file() && is_one_node(&found, &other_found),
+        (Err(_), Err(_)) => is_one_place(rt, name, other),
+        _ => false,
+    }
 }
 
 /// Gives all bytes to a writer.
@@ -246,18 +280,14 @@ fn take_permissions<R: Files>(rt: &R, unfinished: &str, name: &str) -> io::Resul
     }
 }
 
-/// Gives an unfinished file the bytes, and then the name. Where that fails, it is removed.
-fn finish<R: Files>(
+/// What was done with an unfinished file, which is removed where it failed.
+fn removed_where_failed<R: Files>(
     rt: &R,
-    mut file: R::File,
     unfinished: &str,
-    name: &str,
-    bytes: &[u8],
-) -> Result<(), Failure> {
-    let done = match put_all(&mut file, bytes) {
-        Ok(()) => named(rt, unfinished, name),
-        Err(failure) => Err(failure),
-    };
+    done: Result<(), Failure>,
+) -> Result<(), Failure>
+    ensures { result ≡ done }
+{
     if done.is_err() {
         let _ = fs::remove_file(rt, unfinished);
     }
@@ -279,22 +309,6 @@ fn named<R: Files>(rt: &R, unfinished: &str, name: &str) -> Result<(), Failure> 
     }
 }
 
-/// Makes a file of the bytes: beside its name, so that whoever finds the name finds all bytes; or under its name, where that is no ordinary file's or no
-/// new file can be made beside it. Takes no memory.
-fn make<R: Files>(rt: &R, name: &str, bytes: &[u8]) -> Result<(), Failure> {
-    let mut room = [0; LONGEST_NAME];
-    let Some(unfinished) = unfinished_name(&mut room, name) else {
-        return make_in_place(rt, name, bytes);
-    };
-    if !may_be_replaced(rt, name) {
-        return make_in_place(rt, name, bytes);
-    }
-    match fs::File::create_new(rt, unfinished) {
-        Ok(file) => finish(rt, file, unfinished, name, bytes),
-        Err(_) => make_in_place(rt, name, bytes),
-    }
-}
-
 /// The name of a file while it is unfinished, if it has room.
 fn unfinished_name<'a>(room: &'a mut [u8; LONGEST_NAME], name: &str) -> Option<&'a str> {
     let end = name.len();
@@ -306,39 +320,92 @@ fn unfinished_name<'a>(room: &'a mut [u8; LONGEST_NAME], name: &str) -> Option<&
     str::from_utf8(&room[..end + UNFINISHED.len()]).ok()
 }
 
-/// The folder of a name, and the name in it.
-fn parts_of(name: &str) -> (&str, &str) {
-    match name.rsplit_once('/') {
-        Some(("", last)) => ("/", last),
-        Some((folder, last)) => (folder, last),
-        None => (".", name),
+/// A new file beside this name, and the name that it has until it is finished. None where the name is no ordinary file's or no new file can be made
+/// beside it: then the bytes are written under the name itself.
+fn beside<'a, R: Files>(
+    rt: &R,
+    room: &'a mut [u8; LONGEST_NAME],
+    name: &str,
+) -> Option<(R::File, &'a str)> {
+    let unfinished = unfinished_name(room, name)?;
+    if !may_be_replaced(rt, name) {
+        return None;
+    }
+    match fs::File::create_new(rt, unfinished) {
+        Ok(file) => Some((file, unfinished)),
+        Err(_) => None,
     }
 }
 
-/// Whether two names lead to one and the same node of a file system.
-fn is_one_node(found: &Metadata, other: &Metadata) -> bool {
-    found.dev() == other.dev() && found.ino() == other.ino()
+/// Gives an unfinished file the bytes, and then its name.
+fn fill<R: Files>(
+    rt: &R,
+    mut file: R::File,
+    unfinished: &str,
+    name: &str,
+    bytes: &[u8],
+) -> Result<(), Failure> {
+    put_all(&mut file, bytes)?;
+    named(rt, unfinished, name)
 }
 
-/// Whether two names that nothing has would be those of one file: the same name in one folder.
-fn is_one_place<R: Files>(rt: &R, name: &str, other: &str) -> bool {
-    let (folder, last) = parts_of(name);
-    let (other_folder, other_last) = parts_of(other);
-    if last != other_last {
-        return false;
-    }
-    match (fs::metadata(rt, folder), fs::metadata(rt, other_folder)) {
-        (Ok(found), Ok(other_found)) => is_one_node(&found, &other_found),
-        _ => false,
+/// Makes a file of the bytes: beside its name, so that whoever finds the name finds all bytes; or under its name, where that is no ordinary file's or no
+/// new file can be made beside it. Takes no memory.
+fn make<R: Files>(rt: &R, name: &str, bytes: &[u8]) -> Result<(), Failure> {
+    let mut room = [0; LONGEST_NAME];
+    match beside(rt, &mut room, name) {
+        Some((file, unfinished)) => {
+            removed_where_failed(rt, unfinished, fill(rt, file, unfinished, name, bytes))
+        }
+        None => make_in_place(rt, name, bytes),
     }
 }
 
-/// Whether two different names are those of one ordinary file, or would be if it were made.
-fn is_one_file<R: Files>(rt: &R, name: &str, other: &str) -> bool {
-    match (fs::metadata(rt, name), fs::metadata(rt, other)) {
-        (Ok(found), Ok(other_found)) => found.is_file() && is_one_node(&found, &other_found),
-        (Err(_), Err(_)) => is_one_place(rt, name, other),
-        _ => false,
+/// A file that is made in pieces. Until it is finished it has a name of its own.
+#[derive(Drop)]
+struct Making<F: Drop> {
+    file: F,
+    name: String,
+    unfinished: String,
+}
+
+/// Begins a file beside its name; none where it can only be written in place.
+fn begun<R: Files>(rt: &R, alloc: Global, name: &str) -> Result<Option<Making<R::File>>, Trouble> {
+    let own = String::from_str(alloc, name)?;
+    let mut room = [0; LONGEST_NAME];
+    let Some((file, unfinished)) = beside(rt, &mut room, name) else {
+        return Ok(None);
+    };
+    match String::from_str(alloc, unfinished) {
+        Ok(unfinished) => Ok(Some(Making {
+            file,
+            name: own,
+            unfinished,
+        })),
+        Err(_) => {
+            let _ = fs::remove_file(rt, unfinished);
+            Err(Trouble::Memory)
+        }
+    }
+}
+
+impl<F: Write + Drop> Making<F> {
+    /// Puts bytes at the end. Where that fails the file is removed.
+    fn add<R: Files>(&mut self, rt: &R, bytes: &[u8]) -> Result<(), Failure> {
+        let done = put_all(&mut self.file, bytes);
+        removed_where_failed(rt, self.unfinished.as_str(), done)
+    }
+
+    /// Gives the file its name. Where that fails it is removed.
+    fn finish<R: Files>(self, rt: &R) -> Result<(), Failure> {
+        let unfinished = self.unfinished.as_str();
+        let done = named(rt, unfinished, self.name.as_str());
+        removed_where_failed(rt, unfinished, done)
+    }
+
+    /// Removes the file.
+    fn give_up<R: Files>(self, rt: &R) {
+        let _ = fs::remove_file(rt, self.unfinished.as_str());
     }
 }
 
@@ -379,7 +446,7 @@ impl<R: Files, I: Read, O: Write> FileFolder<'_, R, I, O> {
         }
         let front = Vec::from_slice(alloc, &bytes[..most])?;
         let name = String::from_str(alloc, name)?;
-        self.begun = Some(Begun { name, bytes, file });
+        self.stream = Some(Stream { name, bytes, file });
         Ok(Front {
             bytes: front,
             length: most as u64 + MORE,
@@ -408,19 +475,77 @@ impl<R: Files, I: Read, O: Write> FileFolder<'_, R, I, O> {
         ensures steady { self.new.failures ≡ self.old.failures }
     {
         if let Some(
-            Begun {
-                name: begun,
+            Stream {
+                name: fronted,
                 mut bytes,
                 mut file,
             },
-        ) = self.begun.take()
+        ) = self.stream.take()
         {
-            if begun.as_str() == name {
+            if fronted.as_str() == name {
                 self.read_stream(&mut file, &mut bytes, usize::MAX)?;
                 return Ok(bytes);
             }
         }
         Ok(self.front(alloc, name, usize::MAX)?.bytes)
+    }
+
+    /// A file that can be read in pieces; none where it can only be read whole. A device or a pipe is not opened: what it gives is lost when it is closed.
+    fn ordinary(&self, name: &str) -> Result<Option<R::File>, Failure> {
+        if name == STANDARD_INPUT {
+            return Ok(None);
+        }
+        if let Ok(found) = fs::metadata(self.rt, name) {
+            if !found.is_file() {
+                return Ok(None);
+            }
+        }
+        match fs::open(self.rt, name) {
+            Ok(file) => Ok(Some(file)),
+            Err(error) => Err(Failure {
+                step: Step::Opening,
+                error,
+            }),
+        }
+    }
+
+    /// The next bytes of the file that is read in pieces.
+    fn piece(&mut self, buffer: &mut [u8]) -> Result<usize, Failure>
+        ensures within { IfOk result (λ count. count ≤ length buffer.new) }
+        ensures given { IfOk result (λ count. self.new.given ≡ self.old.given + count) }
+        ensures steady { self.new.failures ≡ self.old.failures }
+    {
+        let Some(file) = &mut self.reading else {
+            return Ok(0);
+        };
+        let count = read_piece(file, buffer, self.given)?;
+        self.given += count as u64;
+        Ok(count)
+    }
+
+    /// Begins a file, after one that was begun before was given up.
+    fn make_begun(&mut self, alloc: Global, name: &str) -> Result<bool, Trouble>
+        ensures steady { self.new.failures ≡ self.old.failures }
+        ensures given { self.new.given ≡ self.old.given }
+    {
+        if name == STANDARD_OUTPUT {
+            return Ok(false);
+        }
+        self.making = begun(self.rt, alloc, name)?;
+        Ok(self.making.is_some())
+    }
+
+    /// Puts bytes at the end of the file that is begun.
+    fn put_on(&mut self, bytes: &[u8]) -> Result<(), Failure>
+        ensures steady { self.new.failures ≡ self.old.failures }
+        ensures given { self.new.given ≡ self.old.given }
+    {
+        let Some(mut making) = self.making.take() else {
+            return Err(not_begun());
+        };
+        making.add(self.rt, bytes)?;
+        self.making = Some(making);
+        Ok(())
     }
 
     /// Makes a file of the bytes, or gives them to the standard output.
@@ -441,6 +566,7 @@ impl<R: Files, I, O> FileFolder<'_, R, I, O> {
         requires { self.old.failures < 2 ^ 64 - 1 }
         ensures fault { result ≡ FolderFault.Device }
         ensures counted { self.new.failures ≡ self.old.failures + 1 }
+        ensures given { self.new.given ≡ self.old.given }
     {
         self.failures += 1;
         self.last = Some(failure);
@@ -452,6 +578,12 @@ impl<R: Files, I: Read, O: Write> Folder for FileFolder<'_, R, I, O> {
     ghost holds = { λ _ _ _. Unit {0} };
 
     ghost are_one = { λ _ _ _. Unit {0} };
+
+    ghost is_left = { λ _ _. Unit {0} };
+
+    ghost most_left = { λ folder. 2 ^ 40 - folder.given };
+
+    ghost is_begun = { λ _ _ _. Unit {0} };
 
     ghost failure_count = { λ folder. folder.failures };
 
@@ -475,6 +607,58 @@ impl<R: Files, I: Read, O: Write> Folder for FileFolder<'_, R, I, O> {
         match self.put(name, bytes) {
             Ok(()) => Ok(()),
             Err(failure) => Err(self.fail(failure)),
+        }
+    }
+
+    fn open(&mut self, _alloc: Global, name: &str) -> Result<bool, FolderFault> {
+        self.reading = None;
+        self.given = 0;
+        match self.ordinary(name) {
+            Ok(file) => {
+                self.reading = file;
+                Ok(self.reading.is_some())
+            }
+            Err(failure) => Err(self.fail(failure)),
+        }
+    }
+
+    fn next(&mut self, buffer: &mut [u8]) -> Result<usize, FolderFault> {
+        match self.piece(buffer) {
+            Ok(count) => Ok(count),
+            Err(failure) => Err(self.fail(failure)),
+        }
+    }
+
+    fn begin(&mut self, alloc: Global, name: &str) -> Result<bool, FolderFault> {
+        self.give_up();
+        match self.make_begun(alloc, name) {
+            Ok(in_pieces) => Ok(in_pieces),
+            Err(Trouble::Device(failure)) => Err(self.fail(failure)),
+            Err(Trouble::Memory) => Err(FolderFault::Memory),
+        }
+    }
+
+    fn add(&mut self, bytes: &[u8]) -> Result<(), FolderFault> {
+        match self.put_on(bytes) {
+            Ok(()) => Ok(()),
+            Err(failure) => Err(self.fail(failure)),
+        }
+    }
+
+    fn finish(&mut self) -> Result<(), FolderFault> {
+        let done = match self.making.take() {
+            Some(making) => making.finish(self.rt),
+            None => Err(not_begun()),
+        };
+        match done {
+            Ok(()) => Ok(()),
+            Err(failure) => Err(self.fail(failure)),
+        }
+    }
+
+    fn give_up(&mut self) {
+        if let Some(making) = self.making.take() {
+            making.give_up(self.rt);
         }
     }
 

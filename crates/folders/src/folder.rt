@@ -1,7 +1,9 @@
-//! Whole files by their names.
+//! Files by their names, whole and in pieces.
 
-ghost use Rattle.std.specs.Prelude.{◌≡◌, ◌≢◌, ℕ, ◌+◌, ◌-◌, ◌^◌, ◌<◌, ◌==◌, List, length, IfOk, OnOk, OnErr, ◌↔◌, IsErrOf, IsTrue};
+ghost use Rattle.std.specs.Prelude.{◌≡◌, ◌≢◌, ℕ, ◌+◌, ◌-◌, ◌^◌, ◌<◌, ◌≤◌, ◌==◌, ◌++◌, [], List, length, take};
+ghost use Rattle.std.specs.Prelude.{IfOk, IfErr, OnOk, OnErr, ◌↔◌, IsErrOf, IsTrue};
 ghost use Rattle.folders.specs.Fronts.{HasFront, IsFrontOf};
+ghost use Rattle.folders.specs.Pieces.{IsOpened, IsPiece};
 
 use std::alloc::{AllocError, Global};
 use thiserror::Error;
@@ -53,12 +55,24 @@ impl Front {
 }
 
 /// Files by their names: in memory, or the system's.
+///
+/// A file is read and written whole, or in pieces: `open` and then `next` until nothing more comes; `begin`, `add` and then `finish`, before which no file
+/// of the name is changed. At most one file is read in pieces at a time, and one made.
 pub trait Folder {
     /// The file of a name has these bytes; anything may where the type does not tell.
     ghost holds: { Self → List ℕ → List ℕ → Type 0 };
 
     /// Two names are those of one file; any two may be where the type does not tell.
     ghost are_one: { Self → List ℕ → List ℕ → Type 0 };
+
+    /// These bytes are left of the file that is read in pieces; any may be where the type does not say.
+    ghost is_left: { Self → List ℕ → Type 0 };
+
+    /// No more bytes than these are still to come of the file that is read in pieces.
+    ghost most_left: { Self → ℕ };
+
+    /// The file that is made in pieces will have this name, and has these bytes so far; any may where the type does not say.
+    ghost is_begun: { Self → List ℕ → List ℕ → Type 0 };
 
     /// How many calls failed.
     ghost failure_count: { Self → ℕ };
@@ -91,6 +105,77 @@ pub trait Folder {
         ensures steady { OnOk result (failure_count self.new ≡ failure_count self.old) }
         ensures device { IsErrOf result FolderFault.Device ↔ (failure_count self.new ≡ failure_count self.old + 1) }
         ensures no_device { IsErrOf result FolderFault.Memory → failure_count self.new ≡ failure_count self.old };
+
+    /// Begins to read a file in pieces, in place of one that was read so before. `false` where it can only be read whole: the standard input, a pipe, a
+    /// device. Then, and after a fault, nothing is left to read in pieces.
+    fn open(&mut self, alloc: Global, name: &str) -> Result<bool, FolderFault>
+        requires { failure_count self.old < 2 ^ 64 - 1 }
+        ensures opened { IfOk result (λ in_pieces. IsTrue in_pieces → IsOpened (holds self.old name.now) (is_left self.new)) }
+        ensures bounded { most_left self.new ≤ 2 ^ 40 }
+        ensures kept { (other bytes : List ℕ) → (holds self.old other bytes ↔ holds self.new other bytes) }
+        ensures begun_kept { (other bytes : List ℕ) → (is_begun self.old other bytes ↔ is_begun self.new other bytes) }
+        ensures steady { OnOk result (failure_count self.new ≡ failure_count self.old) }
+        ensures device { IsErrOf result FolderFault.Device ↔ (failure_count self.new ≡ failure_count self.old + 1) }
+        ensures no_device { IsErrOf result FolderFault.Memory → failure_count self.new ≡ failure_count self.old };
+
+    /// Fills a front of the buffer with the next bytes of the file that is read in pieces, and says how many: none at the end, nor where none is read.
+    ///
+    /// Refused with 7, where the file cannot be read on or has more than 2^40 bytes.
+    fn next(&mut self, buffer: &mut [u8]) -> Result<usize, FolderFault>
+        requires { failure_count self.old < 2 ^ 64 - 1 }
+        ensures within { IfOk result (λ count. count ≤ length buffer.new) }
+        ensures piece { IfOk result (λ count. IsPiece (is_left self.old) (is_left self.new) (take count buffer.new)) }
+        ensures end { IfOk result (λ count. count ≡ 0 → 0 < length buffer.new → is_left self.old [] × is_left self.new []) }
+        ensures fewer { IfOk result (λ count. most_left self.new + count ≤ most_left self.old) }
+        ensures kept { (other bytes : List ℕ) → (holds self.old other bytes ↔ holds self.new other bytes) }
+        ensures begun_kept { (other bytes : List ℕ) → (is_begun self.old other bytes ↔ is_begun self.new other bytes) }
+        ensures steady { OnOk result (failure_count self.new ≡ failure_count self.old) }
+        ensures only_device { IfErr result (λ fault. fault ≡ FolderFault.Device) }
+        ensures counted { OnErr result (failure_count self.new ≡ failure_count self.old + 1) };
+
+    /// Begins to make a file in pieces, in place of one that was begun before, which is given up. `false` where it can only be written whole: a device,
+    /// a link, the standard output, and wherever the type needs to. Then, and after a fault, no file is begun.
+    fn begin(&mut self, alloc: Global, name: &str) -> Result<bool, FolderFault>
+        requires { failure_count self.old < 2 ^ 64 - 1 }
+        ensures begun { IfOk result (λ in_pieces. IsTrue in_pieces → is_begun self.new name.now []) }
+        ensures kept { (other bytes : List ℕ) → (holds self.old other bytes ↔ holds self.new other bytes) }
+        ensures left_kept { (bytes : List ℕ) → (is_left self.old bytes ↔ is_left self.new bytes) }
+        ensures most_kept { most_left self.new ≡ most_left self.old }
+        ensures steady { OnOk result (failure_count self.new ≡ failure_count self.old) }
+        ensures device { IsErrOf result FolderFault.Device ↔ (failure_count self.new ≡ failure_count self.old + 1) }
+        ensures no_device { IsErrOf result FolderFault.Memory → failure_count self.new ≡ failure_count self.old };
+
+    /// Puts bytes at the end of the file that is made in pieces. After a fault it is given up. Refused with 7 where no file is begun.
+    fn add(&mut self, bytes: &[u8]) -> Result<(), FolderFault>
+        requires { failure_count self.old < 2 ^ 64 - 1 }
+        ensures added { OnOk result ((name before : List ℕ) → is_begun self.old name before → is_begun self.new name (before ++ bytes.now)) }
+        ensures kept { (other bytes : List ℕ) → (holds self.old other bytes ↔ holds self.new other bytes) }
+        ensures left_kept { (bytes : List ℕ) → (is_left self.old bytes ↔ is_left self.new bytes) }
+        ensures most_kept { most_left self.new ≡ most_left self.old }
+        ensures steady { OnOk result (failure_count self.new ≡ failure_count self.old) }
+        ensures device { IsErrOf result FolderFault.Device ↔ (failure_count self.new ≡ failure_count self.old + 1) }
+        ensures no_device { IsErrOf result FolderFault.Memory → failure_count self.new ≡ failure_count self.old };
+
+    /// Gives the file that is made in pieces its name, in place of a file that has the name already. After a fault it is given up, and that file is as it
+    /// was. Refused with 7 where no file is begun.
+    fn finish(&mut self) -> Result<(), FolderFault>
+        requires { failure_count self.old < 2 ^ 64 - 1 }
+        ensures written { OnOk result ((name bytes : List ℕ) → is_begun self.old name bytes → holds self.new name bytes) }
+        ensures others { (name begun other bytes : List ℕ) → is_begun self.old name begun → other ≢ name →
+            (holds self.old other bytes ↔ holds self.new other bytes) }
+        ensures refused_unchanged { OnErr result ((other bytes : List ℕ) → (holds self.old other bytes ↔ holds self.new other bytes)) }
+        ensures left_kept { (bytes : List ℕ) → (is_left self.old bytes ↔ is_left self.new bytes) }
+        ensures most_kept { most_left self.new ≡ most_left self.old }
+        ensures steady { OnOk result (failure_count self.new ≡ failure_count self.old) }
+        ensures device { IsErrOf result FolderFault.Device ↔ (failure_count self.new ≡ failure_count self.old + 1) }
+        ensures no_device { IsErrOf result FolderFault.Memory → failure_count self.new ≡ failure_count self.old };
+
+    /// Gives up the file that is made in pieces, if one is begun: no file of its name was changed.
+    fn give_up(&mut self)
+        ensures kept { (other bytes : List ℕ) → (holds self.old other bytes ↔ holds self.new other bytes) }
+        ensures left_kept { (bytes : List ℕ) → (is_left self.old bytes ↔ is_left self.new bytes) }
+        ensures most_kept { most_left self.new ≡ most_left self.old }
+        ensures steady { failure_count self.new ≡ failure_count self.old };
 
     /// Whether two names are those of one file: one name twice, or two names of which the folder knows it.
     fn is_same(&self, name: &str, other: &str) -> bool

@@ -1,10 +1,14 @@
-//! Whole files by their names: the system's, or in memory.
+//! Files by their names, whole or in pieces: the system's, or in memory; and captures that are read from them record by record.
 #![tactic(auto)]
 
+mod capture_reader;
+mod failure;
 mod files;
 mod folder;
 mod memory_folder;
+mod window;
 
+pub use capture_reader::CaptureReader;
 pub use files::{FileFolder, STANDARD_INPUT, STANDARD_OUTPUT};
 pub use folder::{Folder, FolderFault, Front};
 pub use memory_folder::MemoryFolder;

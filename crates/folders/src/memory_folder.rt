@@ -1,17 +1,33 @@
-//! Files in memory, which tell their bytes.
+//! Files in memory, whose bytes contracts know.
 
-ghost use Rattle.std.specs.Prelude.{◌≡◌, ℕ, List, Some, None, option_map, take};
+ghost use Rattle.std.specs.Prelude.{◌≡◌, ◌-◌, ◌≤◌, ℕ, List, Some, None, IsSomeAnd, option_map, take, drop, length, string_bytes};
 ghost use Rattle.std.specs.BTreeMap.{get_by_text};
 
 use crate::folder::{Folder, FolderFault, Front};
 use std::alloc::{AllocError, Global};
 use std::collections::BTreeMap;
 
+/// The most bytes of a file that is read in pieces.
+const MOST_IN_PIECES: u64 = 1 << 40;
+
+/// A file that is made in pieces.
+#[derive(Drop)]
+struct Making {
+    name: String,
+    bytes: Vec<u8>,
+}
+
 /// Files in memory. A file that is not there counts as a failure of the device.
 #[derive(Drop)]
 pub struct MemoryFolder {
     files: BTreeMap<String, Vec<u8>>,
     failures: u64,
+    /// The bytes of the file that is read in pieces, as they were when it was opened.
+    opened: Vec<u8>,
+    /// How many of these were read.
+    given: usize,
+    making: Option<Making>,
+    ghost within: { given ≤ length opened.items },
 }
 
 impl MemoryFolder {
@@ -23,6 +39,9 @@ impl MemoryFolder {
         MemoryFolder {
             files: BTreeMap::new(alloc),
             failures: 0,
+            opened: Vec::new(alloc),
+            given: 0,
+            making: None,
         }
     }
 }
@@ -31,6 +50,12 @@ impl Folder for MemoryFolder {
     ghost holds = { λ folder name bytes. option_map (λ v. v.items) (get_by_text folder.files name) ≡ Some bytes };
 
     ghost are_one = { λ _ name other. name ≡ other };
+
+    ghost is_left = { λ folder bytes. bytes ≡ drop folder.given folder.opened.items };
+
+    ghost most_left = { λ folder. length folder.opened.items - folder.given };
+
+    ghost is_begun = { λ folder name bytes. IsSomeAnd folder.making (λ made. (string_bytes made.name ≡ name) × (made.bytes.items ≡ bytes)) };
 
     ghost failure_count = { λ folder. folder.failures };
 
@@ -68,6 +93,75 @@ impl Folder for MemoryFolder {
             Ok(_) => Ok(()),
             Err(_) => Err(FolderFault::Memory),
         }
+    }
+
+    fn open(&mut self, alloc: Global, name: &str) -> Result<bool, FolderFault> {
+        self.given = 0;
+        self.opened = Vec::new(alloc);
+        let Some(bytes) = self.files.get(name) else {
+            self.failures += 1;
+            return Err(FolderFault::Device);
+        };
+        if bytes.len() as u64 > MOST_IN_PIECES {
+            self.failures += 1;
+            return Err(FolderFault::Device);
+        }
+        match Vec::from_slice(alloc, bytes) {
+            Ok(bytes) => {
+                self.opened = bytes;
+                Ok(true)
+            }
+            Err(_) => Err(FolderFault::Memory),
+        }
+    }
+
+    fn next(&mut self, buffer: &mut [u8]) -> Result<usize, FolderFault> {
+        let left = &self.opened[self.given..];
+        let count = left.len().min(buffer.len());
+        buffer[..count].copy_from_slice(&left[..count]);
+        self.given += count;
+        Ok(count)
+    }
+
+    fn begin(&mut self, alloc: Global, name: &str) -> Result<bool, FolderFault> {
+        self.making = None;
+        match String::from_str(alloc, name) {
+            Ok(name) => {
+                let bytes = Vec::new(alloc);
+                self.making = Some(Making { name, bytes });
+                Ok(true)
+            }
+            Err(_) => Err(FolderFault::Memory),
+        }
+    }
+
+    fn add(&mut self, bytes: &[u8]) -> Result<(), FolderFault> {
+        let Some(mut making) = self.making.take() else {
+            self.failures += 1;
+            return Err(FolderFault::Device);
+        };
+        match making.bytes.extend_from_slice(bytes) {
+            Ok(()) => {
+                self.making = Some(making);
+                Ok(())
+            }
+            Err(_) => Err(FolderFault::Memory),
+        }
+    }
+
+    fn finish(&mut self) -> Result<(), FolderFault> {
+        let Some(Making { name, bytes }) = self.making.take() else {
+            self.failures += 1;
+            return Err(FolderFault::Device);
+        };
+        match self.files.insert(name, bytes) {
+            Ok(_) => Ok(()),
+            Err(_) => Err(FolderFault::Memory),
+        }
+    }
+
+    fn give_up(&mut self) {
+        self.making = None;
     }
 
     fn is_same(&self, name: &str, other: &str) -> bool {

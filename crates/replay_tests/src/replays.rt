@@ -1,6 +1,7 @@
 //! Whole replays, each with threads.
 
 mod exact;
+mod in_pieces;
 mod moments;
 mod record_ends;
 mod schedules;
@@ -275,6 +276,15 @@ fn one_frame_is_sent(rt: HostRuntime) -> Result<(), Fail> {
     Ok(())
 }
 
+/// What forty flows of five frames each come to.
+const FORTY_COUNTS: Counts = Counts {
+    aborted: 185,
+    drop: 5,
+    pass: 5,
+    tx: 5,
+    ..NONE
+};
+
 /// Forty flows of five frames each.
 const FORTY_FLOWS: Row<'static> = Row {
     name: "forty flows",
@@ -287,13 +297,7 @@ const FORTY_FLOWS: Row<'static> = Row {
     },
     workers: 1,
     journal: 65536,
-    counts: Counts {
-        aborted: 185,
-        drop: 5,
-        pass: 5,
-        tx: 5,
-        ..NONE
-    },
+    counts: FORTY_COUNTS,
 };
 
 /// Replays the flows by this many workers, and compares what they send.

@@ -1,5 +1,7 @@
 -- The lemmas that proofs of this crate share.
+pub mod Earlier
 pub mod LongImages
 pub mod Outcomes
+pub mod PieceLemmas
 pub mod ReaderFiles
 pub mod Refusals

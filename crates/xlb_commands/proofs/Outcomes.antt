@@ -1,5 +1,5 @@
 -- A replay that was made or given up, from the clauses of the one that makes it.
-use Rattle.std.proofs.Common.{◌≡◌, ◌↔◌, ℕ, Bool, true, false, List, Result, Ok, Err, ap, subst}
+use Rattle.std.proofs.Common.{◌≡◌, ◌∙◌, ◌↔◌, Bool, true, false, List, Result, Ok, Err, ap, refl, subst, sym}
 use Rattle.std.specs.Prelude.{IfOk, IfErr, IsErrOf}
 use Rattle.ebpf_decode.specs.declared.map.MapDef.{MapDef}
 use Rattle.semantics.specs.Program.{Program}
@@ -24,6 +24,9 @@ Made = Result Outcome ReplayFault
 
 pub not_both : (test : Bool) → test ≡ true → test ≡ false → ⊥
 not_both test is isnt = cc
+
+abbrev failed_of : (X : Type 0) → ReplayFault → Result X ReplayFault
+failed_of X why = Err why
 
 abbrev failed : ReplayFault → Made
 failed why = Err why
@@ -58,3 +61,25 @@ pub options_fit : (program : Program) (script : List Command) (options : Options
 options_fit program script options records outcome fit accounted =
     subst (λ (o : Options). AreOptions program.maps o) accounted.options_are
     (subst (λ (m : List MapDef). AreOptions m outcome.journals.options) accounted.maps fit)
+
+-- the same of the journals, from the replay's options
+pub journals_fit : (program : Program) (script : List Command) (options : Options) (records : List Sent) (outcome : Outcome)
+    → AreOptions program.maps options → IsAccounted program script options records outcome → AreOptions outcome.journals.maps outcome.journals.options
+journals_fit program script options records outcome fit accounted =
+    subst (λ (m : List MapDef). AreOptions m outcome.journals.options) (sym accounted.maps)
+    (subst (λ (o : Options). AreOptions program.maps o) (sym accounted.options_are) fit)
+
+same_why : {X : Type 0} (why other : ReplayFault) → failed_of X why ≡ failed_of X other → why ≡ other
+same_why why other e = cc
+
+-- an exact replay that was given up, from the clauses of a call that failed
+pub given_up_in_turn : {X : Type 0} (maps : List MapDef) (updates : List MapUpdate) (script : List Command) (options : Options) (recording : Recording)
+    (result : Result X ReplayFault) (why : ReplayFault) → result ≡ failed_of X why
+    → (IsErrOf result BadOptions ↔ AreBadOptions maps options script) → (¬ IsErrOf result NoThread)
+    → OfUpdate (IsWhyInTurn maps (recorded recording options) updates) why → IsGivenUp true maps updates script options recording why
+given_up_in_turn {X} maps updates script options recording result why is bad no_thread refused = record {
+  options_are_bad = ((λ e. bad.0 (is ∙ ap (failed_of X) e)), (λ broken. same_why why BadOptions (sym is ∙ bad.1 broken)));
+  no_thread = λ exact e. no_thread (is ∙ ap (failed_of X) e);
+  by_pass = λ exact. absurd (not_both true refl exact);
+  in_turn = λ exact. refused;
+}

@@ -7,3 +7,5 @@ pub mod Tables
 pub mod Results
 pub mod FaultLines
 pub mod Refused
+pub mod AskedReplays
+pub mod InPieces

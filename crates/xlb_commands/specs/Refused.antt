@@ -347,14 +347,6 @@ pub data IsCaptureRefusal (files : FileBytes) (failed : Type 0) (skip_long : Boo
   no_capture_bytes : IsUnserved failed fault → IsCaptureRefusal files failed skip_long name fault
   no_capture : (bytes : List ℕ) → files name bytes → IsNoCaptureIn skip_long bytes fault → IsCaptureRefusal files failed skip_long name fault
 
--- what a replay reads: a program that may run and whose maps take the updates, a script and a capture
-pub record AreReplayInputs (files : FileBytes) (names : ReplayFiles) (ring : ℕ) (skip_long : Bool) (updates : List MapUpdate) (program : Contents)
-    (script : List Command) (records : List Sent) : Type 0 where
-  pub fits : AreFitting program.maps updates
-  pub program_is : IsReplayProgram files (text_of names.image) ring program
-  pub script_is : IsScriptOf files (text_of names.script) script
-  pub capture_is : IsCaptureOf files skip_long names.capture.now records
-
 -- why the replay was given up: for its options exactly where no shards are opened with them, or the script has commands and the maps are not those of
 -- steering; else memory was refused, an update was refused or met a full journal, or a thread could not be started, of which an exact replay has none
 pub record IsGivenUp (exact : Bool) (maps : List MapDef) (updates : List MapUpdate) (script : List Command) (options : Options) (recording : Recording)
@@ -375,8 +367,34 @@ pub data AreUnfiled (before after : FileBytes) (failed : Type 0) (names : Replay
       → (text_of names.report ≢ text_of names.journals → AreWritten after (text_of names.journals) journals)
       → AreUnwritten (text_of names.report) failed fault → AreUnfiled before after failed names sent journals fault
 
--- xlb replay: no program that may run; no script; no capture; a replay that was given up; one that was made, and memory was refused for its sent frames,
--- its journals, its report or what is printed; until then no file changed; or its files were not written
+-- what is read is right, and the replay was broken off while its capture was read, or its sent frames were written, in pieces: the device failed, or
+-- memory was refused for the replay, for what it was to write or for what it was to print
+pub data IsBrokenOff (journals : Option (List ℕ)) (failed : Type 0) (fault : Fault) : Type 0 where
+  no_piece : IsUnserved failed fault → IsBrokenOff journals failed fault
+  no_replay_memory : fault ≡ faults.Replay replays.Memory → IsBrokenOff journals failed fault
+  no_room_in_pieces : LacksRoom journals fault → IsBrokenOff journals failed fault
+
+-- Of a program that may run and whose maps take the updates, and a script: no capture; a replay that was given up; an exact one that was broken off; one that
+-- was made, and memory was refused for its sent frames, its journals, its report or what is printed; until then no file changed; or its files were not written.
+pub data IsUnreplayed (files after : FileBytes) (failed : Type 0) (names : ReplayFiles) (program : Contents) (script : List Command) (options : Options)
+    (recording : Recording) (exact skip_long : Bool) (updates : List MapUpdate) (fault : Fault) : Type 0 where
+  no_replay_capture : AreKept files after → IsCaptureRefusal files failed skip_long names.capture.now fault
+      → IsUnreplayed files after failed names program script options recording exact skip_long updates fault
+  given_up : (records : List Sent) (why : ReplayFault) → AreKept files after → IsCaptureOf files skip_long names.capture.now records
+      → IsGivenUp exact program.maps updates script options recording why → fault ≡ faults.Replay why
+      → IsUnreplayed files after failed names program script options recording exact skip_long updates fault
+  broken_off : (records : List Sent) → exact ≡ true → AreKept files after → IsCaptureOf files skip_long names.capture.now records
+      → IsBrokenOff (text_of names.journals) failed fault
+      → IsUnreplayed files after failed names program script options recording exact skip_long updates fault
+  not_reported : (records : List Sent) (outcome : Outcome) → AreKept files after → IsCaptureOf files skip_long names.capture.now records
+      → IsMade exact (program_of_replay program options) updates script (recorded recording options) records outcome
+      → LacksRoom (text_of names.journals) fault → IsUnreplayed files after failed names program script options recording exact skip_long updates fault
+  not_written_down : (records : List Sent) (outcome : Outcome) → IsCaptureOf files skip_long names.capture.now records
+      → IsMade exact (program_of_replay program options) updates script (recorded recording options) records outcome
+      → AreUnfiled files after failed names (capture_bytes outcome.sent.items) outcome.journals fault
+      → IsUnreplayed files after failed names program script options recording exact skip_long updates fault
+
+-- xlb replay: no program that may run; no script; or both, and no replay that was made and written down
 pub data IsReplayRefusal (files after : FileBytes) (failed : Type 0) (names : ReplayFiles) (options : Options) (recording : Recording) (ring : ℕ)
     (exact skip_long : Bool) (updates : List MapUpdate) (fault : Fault) : Type 0 where
   no_replay_program : AreKept files after → IsReplayProgramRefusal files failed (text_of names.image) ring fault
@@ -384,22 +402,9 @@ pub data IsReplayRefusal (files after : FileBytes) (failed : Type 0) (names : Re
   no_replay_script : (program : Contents) → AreKept files after → IsReplayProgram files (text_of names.image) ring program → AreFitting program.maps updates
       → IsScriptRefusal files failed (text_of names.script) fault
       → IsReplayRefusal files after failed names options recording ring exact skip_long updates fault
-  no_replay_capture : (program : Contents) (script : List Command) → AreKept files after → IsReplayProgram files (text_of names.image) ring program
-      → AreFitting program.maps updates
-      → IsScriptOf files (text_of names.script) script → IsCaptureRefusal files failed skip_long names.capture.now fault
-      → IsReplayRefusal files after failed names options recording ring exact skip_long updates fault
-  given_up : (program : Contents) (script : List Command) (records : List Sent) (why : ReplayFault) → AreKept files after
-      → AreReplayInputs files names ring skip_long updates program script records → IsGivenUp exact program.maps updates script options recording why
-      → fault ≡ faults.Replay why
-      → IsReplayRefusal files after failed names options recording ring exact skip_long updates fault
-  not_reported : (program : Contents) (script : List Command) (records : List Sent) (outcome : Outcome) → AreKept files after
-      → AreReplayInputs files names ring skip_long updates program script records
-      → IsMade exact (program_of_replay program options) updates script (recorded recording options) records outcome
-      → LacksRoom (text_of names.journals) fault → IsReplayRefusal files after failed names options recording ring exact skip_long updates fault
-  not_written_down : (program : Contents) (script : List Command) (records : List Sent) (outcome : Outcome)
-      → AreReplayInputs files names ring skip_long updates program script records
-      → IsMade exact (program_of_replay program options) updates script (recorded recording options) records outcome
-      → AreUnfiled files after failed names (capture_bytes outcome.sent.items) outcome.journals fault
+  not_replayed : (program : Contents) (script : List Command) → IsReplayProgram files (text_of names.image) ring program
+      → AreFitting program.maps updates → IsScriptOf files (text_of names.script) script
+      → IsUnreplayed files after failed names program script options recording exact skip_long updates fault
       → IsReplayRefusal files after failed names options recording ring exact skip_long updates fault
 
 -- ---- commands

@@ -1,5 +1,5 @@
 -- What it means that a replay is done: the files that it read and wrote, and its report.
-use Rattle.std.specs.Prelude.{◌≡◌, ◌≢◌, ◌+◌, ◌++◌, ◌∷◌, ℕ, Bool, true, false, List, [], Option, Some, None, codes, decimal, length}
+use Rattle.std.specs.Prelude.{◌≡◌, ◌≢◌, ◌↔◌, ◌+◌, ◌++◌, ◌∷◌, ℕ, Bool, true, false, List, [], Option, Some, None, codes, decimal, length, string_bytes}
 use Rattle.std.specs.List.{flat_map}
 use Rattle.ebpf_decode.specs.ImageContents.{Contents}
 use Rattle.semantics.specs.Safety.{IsSafeImage}
@@ -37,6 +37,7 @@ use Rattle.traffic.specs.LongRecords.{IsShortened}
 use Rattle.traffic.specs.declared.long_records.ShortenedCapture.{ShortenedCapture}
 use Rattle.command_line.specs.declared.commands.ReplayFiles.{ReplayFiles}
 use Rattle.command_line.specs.Reading.{text_of}
+use Rattle.xlb_commands.specs.declared.report.Report.{Report}
 use Rattle.xlb_commands.specs.Files.{FileBytes, IsImageFile}
 use Rattle.xlb_commands.specs.RecordReports.{IsReportFile}
 
@@ -129,6 +130,10 @@ recording_of true None = NoRows
 recording_of true (Some name) = Rows
 recording_of false name = Rows
 
+-- the image that was verified
+abbrev pub image_of : Verified → Contents
+image_of verified = record { version = verified.version; maps = verified.maps; code = verified.code }
+
 -- the image's program over maps of N shards each
 abbrev pub program_of_replay : Contents → Options → Program
 program_of_replay image options = record { code = image.code; maps = image.maps; shards = options.shards }
@@ -174,22 +179,16 @@ pub record IsMade (exact : Bool) (program : Program) (updates : List MapUpdate) 
 -- the headline, of what the verifier made of the image
 pub record KeepsHeadline (image : Contents) (script : List Command) (options : Options) (records : List Sent) (outcome : Outcome) : Type 0 where
   pub verified : Verified
-  pub image_is : record { version = verified.version; maps = verified.maps; code = verified.code } ≡ image
+  pub image_is : image_of verified ≡ image
   pub kept : Headline verified script options records outcome
 
--- The program may run; script and capture are read from their files; the replay was made, with these updates; the headline holds of it; without updates
--- the shipped program follows the steering rule, and one that only reads sends the same for every number of workers; the sent frames, the journals and
--- the report are written to their files; and what is printed are the counts, and the commands that were refused. Where no rows of journals are kept, the
+-- Of a program that may run and a script: the capture is read from its file; the replay was made, with these updates; the headline holds of it; without
+-- updates the shipped program follows the steering rule, and one that only reads sends the same for every number of workers; the sent frames, the journals
+-- and the report are written to their files; and what is printed are the counts, and the commands that were refused. Where no rows of journals are kept, the
 -- journals are known to proofs alone.
-pub record IsReplayed (before after : FileBytes) (files : ReplayFiles) (options : Options) (recording : Recording) (ring : ℕ)
-    (exact skip_long : Bool) (updates : List MapUpdate) (printed : List ℕ) (refused : List Applied) : Type 0 where
-  pub program : Contents
-  pub program_is : IsProgramOf before (text_of files.image) ring program
-  pub states : List (Option State)
-  pub accepted : Accepts program.version program.maps program.code states
-  pub safe : IsSafeImage program.maps program.code
-  pub script : List Command
-  pub script_is : IsScriptOf before (text_of files.script) script
+pub record IsReplayedWith (before after : FileBytes) (files : ReplayFiles) (program : Contents) (states : List (Option State)) (script : List Command)
+    (options : Options) (recording : Recording) (ring : ℕ) (exact skip_long : Bool) (updates : List MapUpdate) (printed : List ℕ)
+    (refused : List Applied) : Type 0 where
   pub records : List Sent
   pub capture : IsCaptureOf before skip_long files.capture.now records
   pub outcome : Outcome
@@ -204,6 +203,25 @@ pub record IsReplayed (before after : FileBytes) (files : ReplayFiles) (options 
   pub journals : text_of files.report ≢ text_of files.journals → AreWritten after (text_of files.journals) outcome.journals
   pub report : IsReportFile after (text_of files.report) files.is_steering script records outcome
   pub lines : printed ≡ counts_text outcome.counts ++ refusals_text refused
+
+-- the report is that of such a replay, and says whether a command was refused
+abbrev pub IsReplayReport : FileBytes → FileBytes → ReplayFiles → Contents → List (Option State) → List Command → Options → Recording → ℕ → Bool → Bool
+    → List MapUpdate → Report → Type 0
+IsReplayReport before after files program states script options recording ring exact skip_long updates report = (refused : List Applied)
+    × IsReplayedWith before after files program states script options recording ring exact skip_long updates (string_bytes report.text) refused
+    × ((refused ≡ []) ↔ (report.is_refused ≡ false))
+
+-- the program may run, the script is read from its file, and the replay was made with both
+pub record IsReplayed (before after : FileBytes) (files : ReplayFiles) (options : Options) (recording : Recording) (ring : ℕ)
+    (exact skip_long : Bool) (updates : List MapUpdate) (printed : List ℕ) (refused : List Applied) : Type 0 where
+  pub program : Contents
+  pub program_is : IsProgramOf before (text_of files.image) ring program
+  pub states : List (Option State)
+  pub accepted : Accepts program.version program.maps program.code states
+  pub safe : IsSafeImage program.maps program.code
+  pub script : List Command
+  pub script_is : IsScriptOf before (text_of files.script) script
+  pub replayed : IsReplayedWith before after files program states script options recording ring exact skip_long updates printed refused
 
 -- and every command of the script was carried out
 abbrev pub IsReplayedWhole : FileBytes → FileBytes → ReplayFiles → Options → Recording → ℕ → Bool → Bool → List MapUpdate → List ℕ → Type 0

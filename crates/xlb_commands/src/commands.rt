@@ -20,13 +20,14 @@ ghost use Rattle.xlb_commands.specs.Refused.{IsSpellingRefusal, IsAsmRefusal, Is
 ghost use Rattle.disasm.specs.declared.fault.AsmFault.TheVariants.{BadLine};
 
 use crate::fault::{Fault, Refusal};
+use crate::files::{bytes_of, front_of, unserved};
 use crate::hints;
 use crate::report::accepted;
 use audit::{AuditFault, audit};
 use disasm::{AsmFault, assemble, text};
 use ebpf_decode::image::{MAX_LEN, SLOT_LEN};
 use ebpf_decode::{DecodeFault, Image, decode, encode};
-use folders::{Folder, FolderFault, Front};
+use folders::{Folder, Front};
 use journals::{FileFault, Journals, journals_of};
 use reasons::explain;
 use semantics::facts::frame_may_come_in;
@@ -44,62 +45,6 @@ const MOST_OF_IMAGE: usize = MAX_LEN + 2 * SLOT_LEN;
 
 /// The most bytes that are kept of a frame's file: one more than the longest frame has.
 const MOST_OF_FRAME: usize = MAX_FRAME + 1;
-
-/// Why a file was not read or written, with the system's word for it.
-pub(crate) fn unserved<D: Folder>(
-    alloc: Global,
-    folder: &D,
-    name: &str,
-    fault: FolderFault,
-) -> Refusal
-    ensures { result.fault ≡ Fault.Folder fault }
-{
-    match fault {
-        FolderFault::Device => {
-            Refusal::noted(Fault::Folder(fault), folder.complaint(alloc, name))
-        }
-        FolderFault::Memory => Refusal::from(Fault::Folder(fault)),
-    }
-}
-
-/// The bytes of a file.
-pub(crate) fn bytes_of<D: Folder>(
-    alloc: Global,
-    folder: &mut D,
-    name: &str,
-) -> Result<Vec<u8>, Refusal>
-    requires { D.failure_count folder.old < 2 ^ 64 - 1 }
-    ensures bytes { IfOk result (λ bytes. D.holds folder.old name.now bytes.items) }
-    ensures kept { AreKept (D.holds folder.old) (D.holds folder.new) }
-    ensures steady { OnOk result (D.failure_count folder.new ≡ D.failure_count folder.old) }
-    ensures refused { IfErr result
-        (λ refusal. IsUnserved (HasFailed (D.failure_count folder.old) (D.failure_count folder.new)) refusal.fault) }
-{
-    match folder.read(alloc, name) {
-        Ok(bytes) => Ok(bytes),
-        Err(fault) => Err(unserved(alloc, folder, name, fault)),
-    }
-}
-
-/// The first bytes of a file.
-fn front_of<D: Folder>(
-    alloc: Global,
-    folder: &mut D,
-    name: &str,
-    most: usize,
-) -> Result<Front, Refusal>
-    requires { D.failure_count folder.old < 2 ^ 64 - 1 }
-    ensures front { IfOk result (HasFront (D.holds folder.old name.now) most) }
-    ensures kept { AreKept (D.holds folder.old) (D.holds folder.new) }
-    ensures steady { OnOk result (D.failure_count folder.new ≡ D.failure_count folder.old) }
-    ensures refused { IfErr result
-        (λ refusal. IsUnserved (HasFailed (D.failure_count folder.old) (D.failure_count folder.new)) refusal.fault) }
-{
-    match folder.read_front(alloc, name, most) {
-        Ok(front) => Ok(front),
-        Err(fault) => Err(unserved(alloc, folder, name, fault)),
-    }
-}
 
 /// How many of the first bytes of a file that is longer than any image have as many beyond whole slots as all have.
 fn shown_of_long(length: u64) -> usize

@@ -5,7 +5,9 @@ mod clashes;
 mod commands;
 mod fault;
 mod fault_lines;
+mod files;
 mod hints;
+mod in_pieces;
 mod last_table;
 mod notes;
 mod one_run;
@@ -17,7 +19,6 @@ mod report;
 mod serving;
 mod shipping;
 mod tables;
-mod written;
 
 pub use fault::{Fault, Refusal};
 pub use fault_lines::fault_line;

@@ -2,6 +2,7 @@
 
 use crate::last_table::put_shares;
 use crate::record_report::{is_tx, verdict_in};
+use crate::replays::Asked;
 use control::{ControlFault, Script};
 use journals::Journals;
 use replay::{Applied, Outcome, RecordEnd};
@@ -41,6 +42,20 @@ pub(crate) struct Notes<'a> {
     pub summary: bool,
 }
 
+impl<'a> Notes<'a> {
+    /// The notes of what is asked for.
+    pub(crate) fn of(asked: Asked<'a>, passed: Passed) -> Notes<'a> {
+        Notes {
+            passed,
+            ring: asked.ring,
+            image: asked.files.image,
+            is_steering: asked.files.is_steering,
+            exact: asked.exact,
+            summary: asked.summary,
+        }
+    }
+}
+
 impl Notes<'_> {
     /// The lines of a replay, or none.
     pub(crate) fn text(
@@ -50,6 +65,21 @@ impl Notes<'_> {
         script: &Script,
         outcome: &Outcome,
     ) -> Result<String, AllocError> {
+        let mut text = self.lines(alloc, script, outcome, first_stopped(&outcome.ends))?;
+        if self.summary {
+            self.put_summary(alloc, &mut text, capture, script, outcome)?;
+        }
+        Ok(text)
+    }
+
+    /// The lines that need no capture. `stopped` is the first record, counted from 0, whose run was stopped.
+    pub(crate) fn lines(
+        &self,
+        alloc: Global,
+        script: &Script,
+        outcome: &Outcome,
+        stopped: Option<usize>,
+    ) -> Result<String, AllocError> {
         let mut text = String::new(alloc);
         put_refused(alloc, &mut text, script, &outcome.refused)?;
         self.put_moments(&mut text, script)?;
@@ -57,11 +87,8 @@ impl Notes<'_> {
         self.put_long(alloc, &mut text)?;
         self.put_cut(alloc, &mut text)?;
         if outcome.counts.stopped > 0 {
-            put_stopped(alloc, &mut text, &outcome.ends)?;
+            put_stopped(alloc, &mut text, stopped)?;
             put_full(alloc, &mut text, &outcome.journals)?;
-        }
-        if self.summary {
-            self.put_summary(alloc, &mut text, capture, script, outcome)?;
         }
         Ok(text)
     }
@@ -212,12 +239,15 @@ fn why_refused(fault: ControlFault) -> &'static str {
     }
 }
 
-/// The first record, counted from 1, whose run a full journal stopped.
-fn put_stopped(alloc: Global, text: &mut String, ends: &[RecordEnd]) -> Result<(), AllocError> {
-    let Some(place) = ends
-        .iter()
+/// The first record, counted from 0, whose run a full journal stopped.
+pub(crate) fn first_stopped(ends: &[RecordEnd]) -> Option<usize> {
+    ends.iter()
         .position(|end| matches!(end, RecordEnd::Stopped { .. }))
-    else {
+}
+
+/// The same record, counted from 1.
+fn put_stopped(alloc: Global, text: &mut String, stopped: Option<usize>) -> Result<(), AllocError> {
+    let Some(place) = stopped else {
         return Ok(());
     };
     let record = place.saturating_add(1);

@@ -1,6 +1,7 @@
 //! The command that runs an image on one frame.
 
 ghost use Rattle.std.specs.Prelude.{◌≡◌, ◌↔◌, ◌+◌, ◌-◌, ◌<◌, ◌≤◌, ◌^◌, IfErr, IfOk, IsErrOf};
+ghost use Rattle.verifier.specs.Dataflow.{Accepts};
 ghost use Rattle.machine.specs.Running.{program_of};
 ghost use Rattle.runs.specs.SingleRuns.{HasRunAlone, HasStoppedAlone};
 ghost use Rattle.map_updates.specs.Misfits.{AreFitting};
@@ -11,9 +12,9 @@ ghost use Rattle.xlb_commands.specs.Refused.{HasFailed, IsRunFault, IsRunRefusal
 
 use crate::commands::{frame_of, judged_of};
 use crate::fault::{Fault, Refusal};
+use crate::files::{journal_bytes, write_journals_to};
 use crate::hints;
 use crate::report::outcome;
-use crate::written::{journal_bytes, write_journals_to};
 use command_line::RunFiles;
 use control::ControlFault;
 use ebpf_decode::MapDef;
@@ -110,7 +111,8 @@ pub fn run_once<D: Folder>(
 
 /// The maps of an accepted image.
 pub(crate) fn maps_of(verified: &Verified) -> &[MapDef]
-    ensures { result.now ≡ verified.now.maps }
+    ensures same { result.now ≡ verified.now.maps }
+    ensures accepted { Accepts verified.now.version verified.now.maps verified.now.code verified.now.states }
 {
     verified.image().maps()
 }

@@ -6,7 +6,6 @@ use shard_port::Gate;
 use std::rt::Clock;
 use std::time::Instant;
 use verifier::Verified;
-use wire::Capture;
 
 /// After how many rounds of the reclaimer a replay reports its progress.
 const ROUNDS: u64 = 512;
@@ -83,7 +82,7 @@ impl<'a, P> Rounds<'a, P> {
         verified: &Verified,
         options: &Options,
         exact: bool,
-        capture: &Capture,
+        frames: u64,
     ) -> Rounds<'a, P> {
         let maps = verified.image().maps();
         let keyed = maps.iter().filter(|map| map.kind != MapKind::Array).count() as u64;
@@ -94,7 +93,7 @@ impl<'a, P> Rounds<'a, P> {
             } else {
                 keyed.saturating_mul(options.shards as u64)
             },
-            frames: capture.records.len() as u64,
+            frames,
         }
     }
 }

@@ -1,7 +1,7 @@
 //! What `xlb replay` does with its files.
 
-ghost use Rattle.std.specs.Prelude.{◌≡◌, ◌≢◌, ◌==◌, ◌↔◌, ◌+◌, ◌++◌, ◌-◌, ◌<◌, ◌≤◌, ◌^◌, ℕ, [], true, false};
-ghost use Rattle.std.specs.Prelude.{List, Some, None, IfErr, IfOk, IsErrOf, OnOk, length, string_bytes};
+ghost use Rattle.std.specs.Prelude.{◌≡◌, ◌≢◌, ◌↔◌, ◌+◌, ◌++◌, ◌-◌, ◌<◌, ◌^◌, ℕ, [], true, false};
+ghost use Rattle.std.specs.Prelude.{List, Some, None, IfErr, IfNone, IfOk, IfSome, IsErrOf, IsTrue, OnOk, length, string_bytes};
 ghost use Rattle.semantics.specs.Safety.{IsSafeImage};
 ghost use Rattle.semantics.specs.ShardPlan.{KeepsRows, recorded};
 ghost use Rattle.semantics.specs.declared.options.Recording.TheVariants.{Rows};
@@ -27,23 +27,26 @@ ghost use Rattle.steered_replays.specs.SteeredRuns.{IsSteeredReplay};
 ghost use Rattle.steered_replays.specs.Totals.{AreTotals};
 ghost use Rattle.journals.specs.JournalText.{journals_text};
 ghost use Rattle.command_line.specs.Reading.{text_of};
+ghost use Rattle.xlb_commands.specs.AskedReplays.{IsAnswered, IsDenied, LeavesOthers};
 ghost use Rattle.xlb_commands.specs.Files.{AreKept, AreAllButKept};
 ghost use Rattle.xlb_commands.specs.Refused.{HasFailed, LacksRoom, AreUnfiled, IsReplayProgramRefusal, IsScriptFileRefusal};
 ghost use Rattle.xlb_commands.specs.Refused.{IsScriptRefusal};
 ghost use Rattle.xlb_commands.specs.Refused.{IsGivenUp, IsNoCapture, IsNoCaptureIn, IsCaptureRefusal, IsReplayRefusal};
+ghost use Rattle.xlb_commands.specs.Replays.{image_of};
 ghost use Rattle.xlb_commands.specs.Replays.{IsProgramOf, IsScriptOf, IsScriptFile, IsCaptureIn, IsCaptureOf, IsMade, HasBytes};
 ghost use Rattle.xlb_commands.specs.Replays.{FollowsRule, IsByRule, SendsAlike, recording_of, counts_text, refusals_text, AreWritten};
 ghost use Rattle.xlb_commands.specs.RecordReports.{form_of, report_text};
 
-use crate::commands::{bytes_of, judged_of};
+use crate::commands::judged_of;
 use crate::fault::{Fault, Refusal};
+use crate::files::{bytes_of, journal_bytes, write_journals_to, write_text_to, write_to};
+use crate::in_pieces::replay_in_pieces;
 use crate::notes::{Notes, Passed};
 use crate::one_run::maps_of;
 use crate::progress::{Progress, Rounds};
 use crate::record_report::report_for;
 use crate::report::{Report, replayed};
 use crate::shipping::shipped_program;
-use crate::written::{journal_bytes, write_journals_to, write_text_to, write_to};
 use crate::{hints, records};
 use command_line::ReplayFiles;
 use control::{Script, parse_script};
@@ -241,7 +244,7 @@ fn capture_of<D: Folder>(
 }
 
 /// The bytes of a capture file of these frames.
-fn bytes_of_frames(alloc: Global, frames: &[Sent]) -> Result<MemorySink, AllocError>
+pub(crate) fn bytes_of_frames(alloc: Global, frames: &[Sent]) -> Result<MemorySink, AllocError>
     ensures { IfOk result (λ sink. sink.bytes ≡ capture_bytes frames.now) }
 {
     let mut sink = MemorySink::new(alloc);
@@ -403,7 +406,7 @@ fn outcome_of<R: Threads + Wait + Sync, G: Gate + Sync>(
 }
 
 /// What a replay of a program sends that only reads.
-fn readers_send_alike(verified: &Verified)
+pub(crate) fn readers_send_alike(verified: &Verified)
     ensures sends { IsReader verified.now.code verified.now.states → SendsAsAtOpening verified.now.maps verified.now.code }
     ensures accepted { Accepts verified.now.version verified.now.maps verified.now.code verified.now.states }
 {
@@ -456,7 +459,12 @@ fn outcome_with<R: Threads + Wait + Sync, G: Gate + Sync>(
 }
 
 /// A replay that was given up.
-fn given_up(alloc: Global, options: Options, verified: &Verified, fault: ReplayFault) -> Refusal
+pub(crate) fn given_up(
+    alloc: Global,
+    options: Options,
+    verified: &Verified,
+    fault: ReplayFault,
+) -> Refusal
     ensures { result.fault ≡ Fault.Replay fault }
 {
     let hint = hints::of_replay(alloc, options, verified.image().maps(), fault);
@@ -553,6 +561,139 @@ pub enum ReplayAnswer {
     Mistaken { place: usize, misfit: Misfit },
 }
 
+/// What is replayed, and how.
+#[derive(Clone, Copy)]
+pub(crate) struct Asked<'a> {
+    pub files: &'a ReplayFiles<'a>,
+    pub verified: &'a Verified,
+    pub script: &'a Script,
+    pub updates: &'a [MapUpdate],
+    pub options: Options,
+    pub recording: Recording,
+    /// The slots of the shipped program's lookup table.
+    pub ring: u32,
+    /// Whether each command takes effect between the frames before and after it.
+    pub exact: bool,
+    /// Whether the summary of the traffic is printed.
+    pub summary: bool,
+    /// Whether records of more than 2048 bytes are skipped.
+    pub skip_long: bool,
+}
+
+impl Asked<'_> {
+    /// Whether the replay may be made in pieces: it is exact, and nothing is asked for that needs all records.
+    fn is_in_pieces(self) -> bool
+        ensures { IsTrue result → (self.entry.exact ≡ true) × (self.entry.skip_long ≡ false) × (text_of self.entry.files.now.report ≡
+            None) }
+    {
+        self.exact && !self.summary && !self.skip_long && self.files.report.is_none()
+    }
+}
+
+/// Makes the replay with the whole capture in memory.
+fn replay_whole<R: Threads + Wait + Sync, D: Folder, P: Progress + Sync>(
+    rt: &R,
+    alloc: Global,
+    folder: &mut D,
+    asked: Asked<'_>,
+    progress: &P,
+) -> Result<Report, Refusal>
+    requires failures { D.failure_count folder.old < 2 ^ 64 - 1 }
+    requires fit { AreFitting asked.verified.now.maps asked.updates.now }
+    requires rows { (file : List ℕ) → text_of asked.files.now.journals ≡ Some file → asked.recording ≡ Rows }
+    requires size { text_of asked.files.now.image ≡ None → IsRingSize asked.ring }
+    requires shipped { text_of asked.files.now.image ≡ None → image_of asked.verified.now ≡ shipped_image asked.ring }
+    ensures done { IfOk result (IsAnswered (D.holds folder.old) (D.holds folder.new) asked.entry) }
+    ensures kept { LeavesOthers (D.holds folder.old) (D.holds folder.new) asked.entry }
+    ensures refused { IfErr result (λ refusal. IsDenied (D.holds folder.old) (D.holds folder.new)
+        (HasFailed (D.failure_count folder.old) (D.failure_count folder.new)) asked.entry refusal.fault) }
+{
+    let files = asked.files;
+    let mut passed = Passed::default();
+    let capture = capture_of(alloc, folder, files.capture, asked.skip_long, &mut passed)?;
+    let frames = capture.records.len() as u64;
+    let rounds = Rounds::of(
+        progress,
+        asked.verified,
+        &asked.options,
+        asked.exact,
+        frames,
+    );
+    let outcome = match outcome_with(
+        rt,
+        alloc,
+        asked.exact,
+        asked.verified,
+        files.image,
+        asked.ring,
+        &capture,
+        asked.updates,
+        asked.script,
+        asked.options,
+        asked.recording,
+        &rounds,
+    ) {
+        Ok(outcome) => outcome,
+        Err(fault) => return Err(given_up(alloc, asked.options, asked.verified, fault)),
+    };
+    let notes = Notes::of(asked, passed)
+        .text(alloc, &capture, asked.script, &outcome)
+        .ok();
+    let left = left_of(alloc, files, asked.script, &capture, &outcome, notes)?;
+    write_files(alloc, folder, files, &left, &outcome.journals)?;
+    Ok(left.report)
+}
+
+/// Makes the replay in pieces, where it may be made so. None where it may not, or was not, and no file is changed.
+fn pieces_if_asked<D: Folder, P: Progress + Sync>(
+    alloc: Global,
+    folder: &mut D,
+    asked: Asked<'_>,
+    progress: &P,
+) -> Result<Option<Report>, Refusal>
+    requires failures { D.failure_count folder.old < 2 ^ 64 - 1 }
+    requires fit { AreFitting asked.verified.now.maps asked.updates.now }
+    requires rows { (file : List ℕ) → text_of asked.files.now.journals ≡ Some file → asked.recording ≡ Rows }
+    requires size { text_of asked.files.now.image ≡ None → IsRingSize asked.ring }
+    requires shipped { text_of asked.files.now.image ≡ None → image_of asked.verified.now ≡ shipped_image asked.ring }
+    ensures done { IfOk result (λ found. IfSome found (IsAnswered (D.holds folder.old) (D.holds folder.new) asked.entry)) }
+    ensures none { IfOk result (λ found. IfNone found (AreKept (D.holds folder.old) (D.holds folder.new))) }
+    ensures steady { IfOk result (λ found. IfNone found (D.failure_count folder.new ≡ D.failure_count folder.old)) }
+    ensures kept { LeavesOthers (D.holds folder.old) (D.holds folder.new) asked.entry }
+    ensures refused { IfErr result (λ refusal. IsDenied (D.holds folder.old) (D.holds folder.new)
+        (HasFailed (D.failure_count folder.old) (D.failure_count folder.new)) asked.entry refusal.fault) }
+{
+    if !asked.is_in_pieces() {
+        return Ok(None);
+    }
+    replay_in_pieces(alloc, folder, asked, progress)
+}
+
+/// Makes the replay, in pieces where that is possible, else with the whole capture in memory.
+fn replay_once<R: Threads + Wait + Sync, D: Folder, P: Progress + Sync>(
+    rt: &R,
+    alloc: Global,
+    folder: &mut D,
+    asked: Asked<'_>,
+    progress: &P,
+) -> Result<Report, Refusal>
+    requires failures { D.failure_count folder.old < 2 ^ 64 - 1 }
+    requires fit { AreFitting asked.verified.now.maps asked.updates.now }
+    requires rows { (file : List ℕ) → text_of asked.files.now.journals ≡ Some file → asked.recording ≡ Rows }
+    requires size { text_of asked.files.now.image ≡ None → IsRingSize asked.ring }
+    requires shipped { text_of asked.files.now.image ≡ None → image_of asked.verified.now ≡ shipped_image asked.ring }
+    ensures done { IfOk result (IsAnswered (D.holds folder.old) (D.holds folder.new) asked.entry) }
+    ensures kept { LeavesOthers (D.holds folder.old) (D.holds folder.new) asked.entry }
+    ensures refused { IfErr result (λ refusal. IsDenied (D.holds folder.old) (D.holds folder.new)
+        (HasFailed (D.failure_count folder.old) (D.failure_count folder.new)) asked.entry refusal.fault) }
+{
+    match pieces_if_asked(alloc, folder, asked, progress) {
+        Ok(Some(report)) => Ok(report),
+        Ok(None) => replay_whole(rt, alloc, folder, asked, progress),
+        Err(refusal) => Err(refusal),
+    }
+}
+
 /// Runs the frames of a capture, and writes those that are sent, and the journals and a line for each record where files are named for them. All
 /// input is read and checked before anything starts: the image, the script, the capture, then the options. Before the first frame the controller makes the
 /// updates; ones that the image's maps do not take are a mistake of the command line, and then neither script nor capture is read. No file is made where
@@ -586,36 +727,18 @@ pub fn replay_files<R: Threads + Wait + Sync, D: Folder, P: Progress + Sync>(
         return Ok(ReplayAnswer::Mistaken { place, misfit });
     }
     let script = script_of(alloc, folder, files.script)?;
-    let mut passed = Passed::default();
-    let capture = capture_of(alloc, folder, files.capture, skip_long, &mut passed)?;
-    let rounds = Rounds::of(progress, &verified, &options, exact, &capture);
-    let outcome = match outcome_with(
-        rt,
-        alloc,
-        exact,
-        &verified,
-        files.image,
-        ring,
-        &capture,
+    let asked = Asked {
+        files,
+        verified: &verified,
+        script: &script,
         updates,
-        &script,
         options,
         recording,
-        &rounds,
-    ) {
-        Ok(outcome) => outcome,
-        Err(fault) => return Err(given_up(alloc, options, &verified, fault)),
-    };
-    let notes = Notes {
-        passed,
         ring,
-        image: files.image,
-        is_steering: files.is_steering,
         exact,
         summary,
+        skip_long,
     };
-    let notes = notes.text(alloc, &capture, &script, &outcome).ok();
-    let left = left_of(alloc, files, &script, &capture, &outcome, notes)?;
-    write_files(alloc, folder, files, &left, &outcome.journals)?;
-    Ok(ReplayAnswer::Made(left.report))
+    let report = replay_once(rt, alloc, folder, asked, progress)?;
+    Ok(ReplayAnswer::Made(report))
 }

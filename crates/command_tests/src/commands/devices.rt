@@ -48,6 +48,12 @@ impl Folder for FullFolder {
 
     ghost are_one = { λ _ _ _. Unit {0} };
 
+    ghost is_left = { λ _ _. Unit {0} };
+
+    ghost most_left = { λ _. 0 };
+
+    ghost is_begun = { λ _ _ _. Unit {0} };
+
     ghost failure_count = { λ folder. folder.failures };
 
     fn read(&mut self, alloc: Global, _name: &str) -> Result<Vec<u8>, FolderFault> {
@@ -75,6 +81,30 @@ impl Folder for FullFolder {
             FolderFault::Memory => Err(FolderFault::Memory),
         }
     }
+
+    fn open(&mut self, _alloc: Global, _name: &str) -> Result<bool, FolderFault> {
+        Ok(false)
+    }
+
+    fn next(&mut self, _buffer: &mut [u8]) -> Result<usize, FolderFault> {
+        Ok(0)
+    }
+
+    fn begin(&mut self, _alloc: Global, _name: &str) -> Result<bool, FolderFault> {
+        Ok(false)
+    }
+
+    fn add(&mut self, _bytes: &[u8]) -> Result<(), FolderFault> {
+        self.failures += 1;
+        Err(FolderFault::Device)
+    }
+
+    fn finish(&mut self) -> Result<(), FolderFault> {
+        self.failures += 1;
+        Err(FolderFault::Device)
+    }
+
+    fn give_up(&mut self) {}
 
     fn is_same(&self, name: &str, other: &str) -> bool {
         name == other

@@ -1,156 +1,16 @@
 //! Devices that fail at one call, whichever it is: the command is then refused with 7, has printed a beginning of what it prints, and
 //! leaves no file in part.
 
-ghost use Rattle.std.specs.Prelude.{None, ◌≡◌, ◌+◌, ◌<◌, ◌-◌, ◌^◌, false};
-
 use super::first_path::IMAGE;
+use super::weak_devices::{Left, MOST, NEVER, SOUND_FOLDER, Weakness, has_few_failures, left_over};
 use super::{put, put_digits};
 use crate::asserting::{holds_of, same_bytes_of, same_status};
-use command_line::settings;
-use folders::{Folder, FolderFault, Front, MemoryFolder};
-use std::alloc::{AllocError, Global};
+use folders::{Folder, FolderFault, MemoryFolder};
+use std::alloc::Global;
 use std::process::Abort;
 use std::sync::Wait;
 use std::thread::Threads;
 use test_support::files::SERVICE;
-use wire::{Failed, MemorySink, Sink};
-use xlb_commands::{NoProgress, serve};
-
-/// A number of a call that no command here reaches.
-const NEVER: u64 = 1000;
-
-/// The most bytes that a weak stream takes at a time.
-const MOST: usize = 16;
-
-/// A stream that takes at most `MOST` bytes at a time, and fails at the call `fails_at`, counted from 0.
-#[derive(Drop)]
-struct WeakStream {
-    taken: Vec<u8>,
-    calls: u64,
-    fails_at: u64,
-    failures: u64,
-}
-
-impl WeakStream {
-    /// A stream to which nothing was written.
-    fn new(alloc: Global, fails_at: u64) -> WeakStream
-        ensures { result.failures ≡ 0 }
-    {
-        WeakStream {
-            taken: Vec::new(alloc),
-            calls: 0,
-            fails_at,
-            failures: 0,
-        }
-    }
-}
-
-impl Sink for WeakStream {
-    ghost held = { λ _. None };
-
-    ghost failure_count = { λ sink. sink.failures };
-
-    fn write(&mut self, bytes: &[u8]) -> Result<usize, Failed> {
-        let count = bytes.len().min(MOST);
-        let fails = self.calls == self.fails_at;
-        self.calls = self.calls.wrapping_add(1);
-        if fails || self.taken.extend_from_slice(&bytes[..count]).is_err() {
-            self.failures += 1;
-            return Err(Failed);
-        }
-        Ok(count)
-    }
-
-    fn failures(&self) -> u64 {
-        self.failures
-    }
-}
-
-/// A folder of which one call fails: that of this number, counted from 0.
-#[derive(Drop)]
-struct WeakFolder<D> {
-    files: D,
-    calls: u64,
-    fails_at: u64,
-    failures: u64,
-}
-
-impl<D: Folder> WeakFolder<D> {
-    /// Counts a call, and says whether it is the one that fails.
-    fn is_failing(&mut self) -> bool
-        ensures files { self.new.files ≡ self.old.files }
-        ensures failures { self.new.failures ≡ self.old.failures }
-        ensures room { result ≡ false → D.failure_count self.new.files < 2 ^ 64 - 1 }
-    {
-        let fails = self.calls == self.fails_at;
-        self.calls = self.calls.wrapping_add(1);
-        fails || self.files.failures() == u64::MAX
-    }
-
-    /// Counts a failure.
-    fn fail(&mut self) -> FolderFault
-        requires { self.old.failures < 2 ^ 64 - 1 }
-        ensures files { self.new.files ≡ self.old.files }
-        ensures fault { result ≡ FolderFault.Device }
-        ensures counted { self.new.failures ≡ self.old.failures + 1 }
-    {
-        self.failures += 1;
-        FolderFault::Device
-    }
-}
-
-impl<D: Folder> Folder for WeakFolder<D> {
-    ghost holds = { λ folder. D.holds folder.files };
-
-    ghost are_one = { λ folder. D.are_one folder.files };
-
-    ghost failure_count = { λ folder. folder.failures };
-
-    fn read(&mut self, alloc: Global, name: &str) -> Result<Vec<u8>, FolderFault> {
-        if self.is_failing() {
-            return Err(self.fail());
-        }
-        match self.files.read(alloc, name) {
-            Ok(bytes) => Ok(bytes),
-            Err(FolderFault::Memory) => Err(FolderFault::Memory),
-            Err(FolderFault::Device) => Err(self.fail()),
-        }
-    }
-
-    fn read_front(&mut self, alloc: Global, name: &str, most: usize) -> Result<Front, FolderFault> {
-        if self.is_failing() {
-            return Err(self.fail());
-        }
-        match self.files.read_front(alloc, name, most) {
-            Ok(front) => Ok(front),
-            Err(FolderFault::Memory) => Err(FolderFault::Memory),
-            Err(FolderFault::Device) => Err(self.fail()),
-        }
-    }
-
-    fn write(&mut self, alloc: Global, name: &str, bytes: &[u8]) -> Result<(), FolderFault> {
-        if self.is_failing() {
-            return Err(self.fail());
-        }
-        match self.files.write(alloc, name, bytes) {
-            Ok(()) => Ok(()),
-            Err(FolderFault::Memory) => Err(FolderFault::Memory),
-            Err(FolderFault::Device) => Err(self.fail()),
-        }
-    }
-
-    fn is_same(&self, name: &str, other: &str) -> bool {
-        self.files.is_same(name, other)
-    }
-
-    fn failures(&self) -> u64 {
-        self.failures
-    }
-
-    fn complaint(&self, alloc: Global, name: &str) -> Result<String, AllocError> {
-        format!(in alloc; "{name} failed")
-    }
-}
 
 /// A capture of a UDP datagram without data to port 80 of 203.0.113.1.
 const CAPTURE: &str = "\
@@ -166,7 +26,7 @@ const JOURNALS: &str =
 type Row = (&'static str, u64, &'static [&'static str]);
 
 #[rattlefmt::skip]
-const ROWS: [Row; 11] = [
+const ROWS: [Row; 13] = [
     ("xlb check image", 1, &[]),
     ("xlb check --explain image", 1, &[]),
     ("xlb run image frame", 2, &[]),
@@ -178,6 +38,8 @@ const ROWS: [Row; 11] = [
     ("xlb explain 7", 0, &[]),
     ("xlb replay capture made --script script --ring 7 --journal 256 --journals more", 4, &["made", "more"]),
     ("xlb replay capture made --script script --ring 7 --journal 256 --journals more --report lines", 5, &["made", "more", "lines"]),
+    ("xlb replay capture made --script script --ring 7 --journal 256 --exact", 15, &["made"]),
+    ("xlb replay capture made --script script --ring 7 --journal 256 --exact --journals more", 16, &["made", "more"]),
 ];
 
 /// The files that the commands read.
@@ -188,15 +50,6 @@ fn files_of<R: Abort>(rt: &R, alloc: Global) -> MemoryFolder {
     let folder = put(rt, alloc, folder, "journals", JOURNALS.as_bytes());
     let folder = put(rt, alloc, folder, "script", SERVICE.as_bytes());
     put_digits(rt, alloc, folder, "capture", CAPTURE)
-}
-
-/// What a command leaves: its status, its streams, and its folder.
-#[derive(Drop)]
-struct Left {
-    status: u8,
-    out: WeakStream,
-    err: WeakStream,
-    folder: WeakFolder<MemoryFolder>,
 }
 
 /// Which call of the folder fails, which of the output, and which of the error stream.
@@ -214,31 +67,12 @@ fn left_by<R: Abort + Threads + Wait + Sync>(
     line: &str,
     failing: Failing,
 ) -> Left {
-    let words: Vec<&str> = line.split(' ').collect(alloc).expect(rt, "words");
-    let settings = settings(alloc, words.as_slice()).expect(rt, "a command line");
-    let mut folder = WeakFolder {
-        files: files_of(rt, alloc),
-        calls: 0,
+    let files = files_of(rt, alloc);
+    let weakness = Weakness {
         fails_at: failing.folder,
-        failures: 0,
+        ..SOUND_FOLDER
     };
-    let mut out = WeakStream::new(alloc, failing.out);
-    let mut err = WeakStream::new(alloc, failing.err);
-    let status = serve(
-        rt,
-        alloc,
-        &settings,
-        &mut folder,
-        &NoProgress,
-        &mut out,
-        &mut err,
-    );
-    Left {
-        status,
-        out,
-        err,
-        folder,
-    }
+    left_over(rt, alloc, files, line, weakness, failing.out, failing.err)
 }
 
 /// No device fails.
@@ -247,13 +81,6 @@ const SOUND: Failing = Failing {
     out: NEVER,
     err: NEVER,
 };
-
-/// Ends the test where more calls of a folder failed than any command here makes.
-fn has_few_failures(rt: &impl Abort, line: &str, folder: &MemoryFolder)
-    ensures { folder.now.failures < NEVER }
-{
-    holds_of(rt, line, "few failures", folder.failures() < NEVER);
-}
 
 /// Compares a file that a command makes: it is whole, or it is not there.
 fn compare_made<R: Abort>(

@@ -11,17 +11,17 @@ use std::thread::Threads;
 const SENDS: &str = "version 1\nmov r0, 3\nexit\n";
 
 /// The header of a capture.
-const HEADER: [u8; 24] = [
+pub(super) const HEADER: [u8; 24] = [
     0xd4, 0xc3, 0xb2, 0xa1, 2, 0, 4, 0, 0, 0, 0, 0, 0, 0, 0, 0, 0xff, 0xff, 0, 0, 1, 0, 0, 0,
 ];
 
 /// A record of 14 zeros.
-const RECORD: [u8; 30] = [
+pub(super) const RECORD: [u8; 30] = [
     1, 0, 0, 0, 2, 0, 0, 0, 14, 0, 0, 0, 14, 0, 0, 0, 0, 0, 0, 0, 0, 0, 0, 0, 0, 0, 0, 0, 0, 0,
 ];
 
 /// The head of a record of 2049 bytes.
-const LONG_HEAD: [u8; 16] = [1, 0, 0, 0, 2, 0, 0, 0, 1, 8, 0, 0, 1, 8, 0, 0];
+pub(super) const LONG_HEAD: [u8; 16] = [1, 0, 0, 0, 2, 0, 0, 0, 1, 8, 0, 0, 1, 8, 0, 0];
 
 /// A capture of two frames of 14 zeros, at 1 second and 2 microseconds.
 const TWO_ZEROS: &str = "\

@@ -14,13 +14,13 @@ use test_support::files::{COUNTED_TO_THREE, SERVICE};
 use test_support::programs::{COUNTS_TO_THREE, READS_ONE};
 
 /// Sends every frame.
-const SENDS: &str = "version 1\nmov r0, 3\nexit\n";
+pub(super) const SENDS: &str = "version 1\nmov r0, 3\nexit\n";
 
 /// Reads a register that was never set.
 const UNSET: &str = "version 1\nexit\n";
 
 /// A capture of no frames: its head.
-const HEAD: &str = "d4c3b2a1020004000000000000000000ffff000001000000";
+pub(super) const HEAD: &str = "d4c3b2a1020004000000000000000000ffff000001000000";
 
 /// A capture of a frame of 14 zeros; each frame of a capture here is at 1 second and 2 microseconds.
 const ZEROS_14: &str = "\
@@ -78,19 +78,19 @@ const CUT_ZEROS: &str = "\
     01000000020000000e0000000e00000000";
 
 /// A capture of a UDP datagram without data to port 80 of 203.0.113.1.
-const DATAGRAM: &str = "\
+pub(super) const DATAGRAM: &str = "\
     d4c3b2a1020004000000000000000000ffff000001000000\
     01000000020000002a0000002a000000\
     02000000000102000000000208004500001c0001000040111494c6336407cb0071019c40005000080000";
 
 /// A capture of the same in a tunnel from 10.0.0.9 to 192.0.2.1.
-const IN_A_TUNNEL: &str = "\
+pub(super) const IN_A_TUNNEL: &str = "\
     d4c3b2a1020004000000000000000000ffff000001000000\
     01000000020000003e0000003e000000\
     02000000000b02000000000a0800450000300000400040046ec00a000009c00002014500001c0001000040111494c6336407cb0071019c40005000080000";
 
 /// A capture of the same in a tunnel to 192.0.2.2.
-const IN_THE_OTHER_TUNNEL: &str = "\
+pub(super) const IN_THE_OTHER_TUNNEL: &str = "\
     d4c3b2a1020004000000000000000000ffff000001000000\
     01000000020000003e0000003e000000\
     02000000000b02000000000a0800450000300000400040046ebf0a000009c00002024500001c0001000040111494c6336407cb0071019c40005000080000";
@@ -152,7 +152,7 @@ const FULL: &str = "  record 5 is the first whose run was stopped
   frames whose run needs a full journal are not run to their end: --journal N, at most 1048576, --shards N, at most 8, and --no-journals make more room
 ";
 
-const CUT_TWO: &str =
+pub(super) const CUT_TWO: &str =
     "  cut 2: bytes were left out when these records were captured; flows of such frames may be judged wrongly\n";
 
 const RING_8: &str =

@@ -19,7 +19,7 @@ use verifier::{Verified, verify};
 use wire::Capture;
 
 /// An exact replay over shards of one part.
-fn exactly<G: Gate>(
+pub(super) fn exactly<G: Gate>(
     alloc: Global,
     verified: &Verified,
     capture: &Capture,
@@ -97,7 +97,7 @@ const EXACT: [Row; 8] = [
 ];
 
 /// Whether these are the refused commands.
-fn are_refused(refused: &[Applied], want: &[(usize, u8)]) -> bool {
+pub(super) fn are_refused(refused: &[Applied], want: &[(usize, u8)]) -> bool {
     let want = want.iter().map(|(command, fault)| (*command, Some(*fault)));
     refused
         .iter()
@@ -148,13 +148,20 @@ fn commands_act_between_two_frames(rt: HostRuntime) -> Result<(), Fail> {
 /// The ports of 300 frames, in turn, and the slots of a table of seven that they have.
 const TURN: [(u16, u8); 5] = [(40001, 1), (40002, 3), (40004, 0), (40005, 1), (40008, 4)];
 
-/// Without tracking a frame goes to the owner of its slot: to backend 0 alone, from frame 137 on to backend 1 at slots 0, 3 and 6, and from frame 200
-/// on to backend 1 alone.
-const LONG: &str = "137 up 1 192.0.2.2\n200 down 0\n";
+/// Before which frame backend 1 comes up, and before which backend 0 goes down.
+#[derive(Clone, Copy)]
+pub(super) struct Changes {
+    pub up: usize,
+    pub down: usize,
+}
 
-fn backend_of(number: usize, slot: u8) -> u8 {
+const LONG: Changes = Changes { up: 137, down: 200 };
+
+/// Without tracking a frame goes to the owner of its slot: to backend 0 alone, then to backend 1 at slots 0, 3 and 6, and at last to backend 1 alone. The last
+/// byte of its address is one more.
+fn backend_of(number: usize, slot: u8, changes: Changes) -> u8 {
     let is_of_1 = slot % 3 == 0;
-    if number < 137 || (number < 200 && !is_of_1) {
+    if number < changes.up || (number < changes.down && !is_of_1) {
         1
     } else {
         2
@@ -162,15 +169,27 @@ fn backend_of(number: usize, slot: u8) -> u8 {
 }
 
 /// The port of each frame, and the last byte of its backend's address.
-fn long_frames(alloc: Global) -> Result<(Vec<u16>, Vec<(u16, u8)>), Fail> {
+pub(super) fn long_frames(
+    alloc: Global,
+    changes: Changes,
+) -> Result<(Vec<u16>, Vec<(u16, u8)>), Fail> {
     let mut ports = Vec::new(alloc);
     let mut sent = Vec::new(alloc);
     for (number, (port, slot)) in (0..300usize).zip(TURN.iter().cycle()) {
         ports.push(*port)?;
-        sent.push((*port, backend_of(number, *slot)))?;
+        sent.push((*port, backend_of(number, *slot, changes)))?;
     }
     Ok((ports, sent))
 }
+
+/// The script of these changes. Its fourth command, of a backend that is not up, is refused.
+pub(super) fn long_script(alloc: Global, changes: Changes) -> Result<String, Fail> {
+    let Changes { up, down } = changes;
+    Ok(format!(in alloc; "{UNTRACKED}{AT_FIRST}{up} down 6\n{up} up 1 192.0.2.2\n{down} down 0\n")?)
+}
+
+/// What is refused of it.
+pub(super) const LONG_REFUSED: &[(usize, u8)] = &[(3, 91)];
 
 /// A long replay by `workers` workers: where each frame goes, and the journals.
 fn long_replay<R: Abort, G: Gate>(
@@ -180,8 +199,8 @@ fn long_replay<R: Abort, G: Gate>(
     workers: u32,
     gate: &G,
 ) -> Result<Outcome, Fail> {
-    let (ports, want) = long_frames(alloc)?;
-    let script = format!(in alloc; "{UNTRACKED}{AT_FIRST}{LONG}")?;
+    let (ports, want) = long_frames(alloc, LONG)?;
+    let script = long_script(alloc, LONG)?;
     let capture = segments(alloc, &ports)?;
     let outcome = exactly(alloc, verified, &capture, &script, workers, 65536, gate)?;
     let wrong = first_wrong(&outcome.sent, &want);
@@ -207,8 +226,22 @@ fn a_long_replay_is_exact(rt: HostRuntime) -> Result<(), Fail> {
 
 /// Keeps the numbers that the reclaimer is called with, as decimal digits.
 #[derive(Drop)]
-struct Rounds {
+pub(super) struct Rounds {
     digits: AtomicU64,
+}
+
+impl Rounds {
+    /// Called with none.
+    pub(super) fn new() -> Rounds {
+        Rounds {
+            digits: AtomicU64::new(0),
+        }
+    }
+
+    /// The numbers, as decimal digits.
+    pub(super) fn digits(&self) -> u64 {
+        self.digits.load(Ordering::SeqCst)
+    }
 }
 
 impl Gate for Rounds {
@@ -226,12 +259,9 @@ impl Gate for Rounds {
 #[test]
 fn the_gate_counts_the_rounds(rt: HostRuntime) -> Result<(), Fail> {
     let verified = verify(rt.alloc(), shipped(rt.alloc(), 7)?)?;
-    let rounds = Rounds {
-        digits: AtomicU64::new(0),
-    };
+    let rounds = Rounds::new();
     let _ = long_replay(&rt, rt.alloc(), &verified, 2, &rounds)?;
-    let digits = rounds.digits.load(Ordering::SeqCst);
-    same_fact(&rt, "300 records", "the rounds", &digits, &1234);
+    same_fact(&rt, "300 records", "the rounds", &rounds.digits(), &1234);
     Ok(())
 }
 

@@ -12,7 +12,7 @@ use std::thread::Threads;
 use wire::Capture;
 
 /// Frames whose byte 13 is 0, 1, 2, 3 and 4, and two records of 13 bytes.
-fn byte_13s(alloc: Global) -> Result<Capture, Fail> {
+pub(super) fn byte_13s(alloc: Global) -> Result<Capture, Fail> {
     let mut records = Vec::new(alloc);
     for byte in [0, 1, 2, 3, 4] {
         let mut bytes = [0; 14];
@@ -70,10 +70,8 @@ fn exited(worker: u8, verdict: Verdict, steps: u64) -> RecordEnd {
 }
 
 /// The program takes eight instructions for each frame that has a byte 13, which is its answer.
-#[test]
-fn verdicts_and_steps_of_known_frames(rt: HostRuntime) -> Result<(), Fail> {
-    let capture = byte_13s(rt.alloc())?;
-    let wanted = [
+pub(super) fn ends_of_byte_13s() -> [RecordEnd; 7] {
+    [
         exited(0, Verdict::Aborted, 8),
         RecordEnd::Short,
         exited(0, Verdict::Drop, 8),
@@ -81,7 +79,13 @@ fn verdicts_and_steps_of_known_frames(rt: HostRuntime) -> Result<(), Fail> {
         exited(0, Verdict::Tx, 8),
         exited(0, Verdict::Aborted, 8),
         RecordEnd::Short,
-    ];
+    ]
+}
+
+#[test]
+fn verdicts_and_steps_of_known_frames(rt: HostRuntime) -> Result<(), Fail> {
+    let capture = byte_13s(rt.alloc())?;
+    let wanted = ends_of_byte_13s();
     ends_are(
         &rt,
         rt.alloc(),

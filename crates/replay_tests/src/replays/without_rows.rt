@@ -24,7 +24,7 @@ struct Row {
 }
 
 /// The first four frames, whose ports end in 0, 1, 2 and 3, fill the journal.
-const FULL: Counts = Counts {
+pub(super) const FULL: Counts = Counts {
     aborted: 1,
     drop: 1,
     pass: 1,

@@ -1,19 +1,75 @@
-//! Journals and reports, written to files.
+//! Files of commands, read and written.
 
 ghost use Rattle.std.specs.Prelude.{◌≡◌, ◌-◌, ◌<◌, ◌^◌, List, ℕ, Some, IfErr, IfOk, OnOk};
 ghost use Rattle.semantics.specs.ShardPlan.{KeepsRows};
 ghost use Rattle.journals.specs.JournalText.{journals_text};
 ghost use Rattle.command_line.specs.Reading.{text_of};
-ghost use Rattle.xlb_commands.specs.Files.{AreAllKeptBut, AreOthersKept};
+ghost use Rattle.folders.specs.Fronts.{HasFront};
+ghost use Rattle.xlb_commands.specs.Files.{AreAllKeptBut, AreKept, AreOthersKept};
 ghost use Rattle.xlb_commands.specs.Refused.{HasFailed, IsUnserved, AreUnwritten, LacksRoom};
 ghost use Rattle.xlb_commands.specs.Replays.{HasBytes};
 
-use crate::commands::unserved;
 use crate::fault::{Fault, Refusal};
-use folders::Folder;
+use folders::{Folder, FolderFault, Front};
 use journals::{FileFault, Journals, write_journals};
 use std::alloc::Global;
 use wire::MemorySink;
+
+/// Why a file was not read or written, with the system's word for it.
+pub(crate) fn unserved<D: Folder>(
+    alloc: Global,
+    folder: &D,
+    name: &str,
+    fault: FolderFault,
+) -> Refusal
+    ensures { result.fault ≡ Fault.Folder fault }
+{
+    match fault {
+        FolderFault::Device => {
+            Refusal::noted(Fault::Folder(fault), folder.complaint(alloc, name))
+        }
+        FolderFault::Memory => Refusal::from(Fault::Folder(fault)),
+    }
+}
+
+/// The bytes of a file.
+pub(crate) fn bytes_of<D: Folder>(
+    alloc: Global,
+    folder: &mut D,
+    name: &str,
+) -> Result<Vec<u8>, Refusal>
+    requires { D.failure_count folder.old < 2 ^ 64 - 1 }
+    ensures bytes { IfOk result (λ bytes. D.holds folder.old name.now bytes.items) }
+    ensures kept { AreKept (D.holds folder.old) (D.holds folder.new) }
+    ensures steady { OnOk result (D.failure_count folder.new ≡ D.failure_count folder.old) }
+    ensures refused { IfErr result
+        (λ refusal. IsUnserved (HasFailed (D.failure_count folder.old) (D.failure_count folder.new)) refusal.fault) }
+{
+    match folder.read(alloc, name) {
+        Ok(bytes) => Ok(bytes),
+        Err(fault) => Err(unserved(alloc, folder, name, fault)),
+    }
+}
+
+/// The first bytes of a file.
+pub(crate) fn front_of<D: Folder>(
+    alloc: Global,
+    folder: &mut D,
+    name: &str,
+    most: usize,
+) -> Result<Front, Refusal>
+    requires { D.failure_count folder.old < 2 ^ 64 - 1 }
+    ensures front { IfOk result (HasFront (D.holds folder.old name.now) most) }
+    ensures kept { AreKept (D.holds folder.old) (D.holds folder.new) }
+    ensures steady { OnOk result (D.failure_count folder.new ≡ D.failure_count folder.old) }
+    ensures refused { IfErr result
+        (λ refusal. IsUnserved (HasFailed (D.failure_count folder.old) (D.failure_count folder.new)) refusal.fault) }
+{
+    match folder.read_front(alloc, name, most) {
+        Ok(front) => Ok(front),
+        Err(fault) => Err(unserved(alloc, folder, name, fault)),
+    }
+}
 
 /// The bytes of the file of this name, of these journals; else 52, since writing to memory fails for lack of memory alone.
 fn bytes_of_journals(alloc: Global, name: &str, journals: &Journals) -> Result<MemorySink, Refusal>

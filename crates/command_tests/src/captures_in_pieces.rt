@@ -1,0 +1,270 @@
+//! Captures in memory that are read in pieces of one record. Their bytes are spelt by hand.
+
+ghost use Rattle.std.specs.Prelude.{◌≡◌, ◌≤◌, ◌+◌, ◌-◌, ◌*◌, ◌^◌, length};
+
+use folders::{CaptureReader, Folder, MemoryFolder};
+use std::alloc::Global;
+use std::process::Abort;
+use wire::{CaptureFault, Sent};
+
+/// The header of version 2.4 for Ethernet, low byte first.
+const HEADER: [u8; 24] = [
+    0xd4, 0xc3, 0xb2, 0xa1, 2, 0, 4, 0, 0, 0, 0, 0, 0, 0, 0, 0, 0xff, 0xff, 0, 0, 1, 0, 0, 0,
+];
+
+/// How many records a long capture has. They fill more than one window.
+const MANY: u8 = 40;
+
+/// What a row shows, what comes behind the header, how many records are read, and what comes then: `true` at the end of the file, or a fault.
+type Row = (&'static str, &'static [u8], u64, Result<bool, CaptureFault>);
+
+#[rattlefmt::skip]
+static ROWS: [Row; 9] = [
+    ("no record",                  b"", 0, Ok(true)),
+    ("a record with no bytes",     b"\x01\0\0\0\x02\0\0\0\0\0\0\0\x04\0\0\0", 1, Ok(true)),
+    ("two records",                b"\x01\0\0\0\x02\0\0\0\x01\0\0\0\x01\0\0\0a\x01\0\0\0\x02\0\0\0\x02\0\0\0\x02\0\0\0bc", 2, Ok(true)),
+    ("a head of one byte",         b"\x01", 0, Err(CaptureFault::CutHead { record: 1 })),
+    ("a head of 15 bytes",         b"\x01\0\0\0\x02\0\0\0\0\0\0\0\x04\0\0", 0, Err(CaptureFault::CutHead { record: 1 })),
+    ("a second head of one byte",  b"\x01\0\0\0\x02\0\0\0\x01\0\0\0\x01\0\0\0a\x01", 1, Err(CaptureFault::CutHead { record: 2 })),
+    ("a frame that lacks a byte",  b"\x01\0\0\0\x02\0\0\0\x02\0\0\0\x02\0\0\0a", 0, Err(CaptureFault::CutFrame { record: 1 })),
+    ("a second frame with none",   b"\x01\0\0\0\x02\0\0\0\0\0\0\0\0\0\0\0\x01\0\0\0\x02\0\0\0\x01\0\0\0\x01\0\0\0", 1, Err(CaptureFault::CutFrame { record: 2 })),
+    ("a frame of 2049 bytes",      b"\x01\0\0\0\x02\0\0\0\x01\x08\0\0\x01\x08\0\0", 0, Err(CaptureFault::FrameTooLong { record: 1 })),
+];
+
+/// Two records, of which each number shows the order of its bytes.
+#[rattlefmt::skip]
+const TWO_RECORDS: &[u8] = b"\x04\x03\x02\x01\x3f\x42\x0f\0\x03\0\0\0\x05\0\0\0abc\xff\xff\xff\xff\0\0\0\0\x01\0\0\0\x01\0\0\0\xfe";
+
+/// What a row shows, a file, and the fault of its header.
+type HeaderRow = (&'static str, &'static [u8], CaptureFault);
+
+#[rattlefmt::skip]
+static HEADERS: [HeaderRow; 6] = [
+    ("no bytes",           b"", CaptureFault::CutHead { record: 0 }),
+    ("23 bytes",           b"\xd4\xc3\xb2\xa1\x02\0\x04\0\0\0\0\0\0\0\0\0\xff\xff\0\0\x01\0\0", CaptureFault::CutHead { record: 0 }),
+    ("high byte first",    b"\xa1\xb2\xc3\xd4\0\x02\0\x04\0\0\0\0\0\0\0\0\0\0\xff\xff\0\0\0\x01", CaptureFault::BadMagic),
+    ("version 2.3",        b"\xd4\xc3\xb2\xa1\x02\0\x03\0\0\0\0\0\0\0\0\0\xff\xff\0\0\x01\0\0\0", CaptureFault::BadVersion),
+    ("version 3.4",        b"\xd4\xc3\xb2\xa1\x03\0\x04\0\0\0\0\0\0\0\0\0\xff\xff\0\0\x01\0\0\0", CaptureFault::BadVersion),
+    ("raw packets",        b"\xd4\xc3\xb2\xa1\x02\0\x04\0\0\0\0\0\0\0\0\0\xff\xff\0\0\x65\0\0\0", CaptureFault::BadLink),
+];
+
+/// Stops where this does not hold.
+fn holds_of<R: Abort>(rt: &R, name: &str, what: &str, holds: bool) {
+    assert!(rt; holds, "{name}: {what}");
+}
+
+/// A folder with one file, which has these bytes.
+fn folder_of<R: Abort>(rt: &R, alloc: Global, bytes: &[u8]) -> MemoryFolder
+    ensures { result.failures ≡ 0 }
+{
+    let mut folder = MemoryFolder::new(alloc);
+    folder
+        .write(alloc, "capture", bytes)
+        .expect(rt, "a file in memory");
+    folder
+}
+
+/// A file that has the header and these bytes.
+fn file_of<R: Abort>(rt: &R, alloc: Global, behind: &[u8]) -> Vec<u8> {
+    let mut bytes = Vec::from_slice(alloc, &HEADER).expect(rt, "a header");
+    bytes.extend_from_slice(behind).expect(rt, "records");
+    bytes
+}
+
+/// A file with many records of 2048 bytes. All bytes of a record are its number, counted from 0, as are its seconds.
+fn long_file_of<R: Abort>(rt: &R, alloc: Global) -> Vec<u8> {
+    let mut bytes = Vec::from_slice(alloc, &HEADER).expect(rt, "a header");
+    for number in 0..MANY {
+        let head = [number, 0, 0, 0, 0, 0, 0, 0, 0, 8, 0, 0, 0, 8, 0, 0];
+        bytes.extend_from_slice(&head).expect(rt, "a head");
+        bytes
+            .extend_from_slice(&[number; 2048])
+            .expect(rt, "a frame");
+    }
+    bytes
+}
+
+/// A folder, and a reader of the file that it has open.
+#[derive(Drop)]
+struct Reading {
+    reader: CaptureReader,
+    folder: MemoryFolder,
+    ghost failures: { folder.failures ≡ 0 },
+    ghost room: { 16 * reader.count + length reader.unread + (length folder.opened.items - folder.given) ≤ 2 ^ 40 },
+}
+
+/// A reader behind the header of a file that has these bytes.
+fn reading_of<R: Abort>(rt: &R, alloc: Global, bytes: &[u8]) -> Reading {
+    let mut folder = folder_of(rt, alloc, bytes);
+    let reader = CaptureReader::open(alloc, &mut folder, "capture")
+        .expect(rt, "a header")
+        .expect(rt, "a file in pieces");
+    Reading { reader, folder }
+}
+
+/// The next record, and what is read on.
+fn next_of<R: Abort>(rt: &R, alloc: Global, reading: Reading) -> (Sent, Reading) {
+    let Reading {
+        mut reader,
+        mut folder,
+    } = reading;
+    let mut piece = reader.next(alloc, &mut folder, 1).expect(rt, "no fault");
+    let sent = piece.records.pop().expect(rt, "a record");
+    (sent, Reading { reader, folder })
+}
+
+/// Holds what comes next against what is wanted: `true` at the end of the file, or a fault.
+fn compare_last<R: Abort>(
+    rt: &R,
+    alloc: Global,
+    name: &str,
+    reading: Reading,
+    wanted: Result<bool, CaptureFault>,
+) {
+    let Reading {
+        mut reader,
+        mut folder,
+    } = reading;
+    let found = match reader.next(alloc, &mut folder, 1) {
+        Ok(piece) => Ok(piece.records.is_empty()),
+        Err(fault) => Err(fault),
+    };
+    holds_of(rt, name, "what comes last", found == wanted);
+}
+
+/// Reads a file to its end.
+fn compare_row<R: Abort>(rt: &R, alloc: Global, row: &Row) {
+    let mut reading = reading_of(rt, alloc, &file_of(rt, alloc, row.1));
+    for _ in 0..row.2 {
+        reading = next_of(rt, alloc, reading).1;
+    }
+    holds_of(rt, row.0, "records", reading.reader.count() == row.2);
+    compare_last(rt, alloc, row.0, reading, row.3);
+}
+
+#[test]
+fn files_are_read_to_their_end(rt: HostRuntime) {
+    for row in &ROWS {
+        compare_row(&rt, rt.alloc(), row);
+    }
+}
+
+/// Opens a file that is refused.
+fn compare_header<R: Abort>(rt: &R, alloc: Global, row: &HeaderRow) {
+    let mut folder = folder_of(rt, alloc, row.1);
+    let found = match CaptureReader::open(alloc, &mut folder, "capture") {
+        Ok(_) => None,
+        Err(fault) => Some(fault),
+    };
+    holds_of(rt, row.0, "the fault", found == Some(row.2));
+}
+
+#[test]
+fn headers_are_refused(rt: HostRuntime) {
+    for row in &HEADERS {
+        compare_header(&rt, rt.alloc(), row);
+    }
+}
+
+#[test]
+fn a_file_that_is_not_there_is_a_failure(rt: HostRuntime) {
+    let mut folder = MemoryFolder::new(rt.alloc());
+    let found = match CaptureReader::open(rt.alloc(), &mut folder, "capture") {
+        Ok(_) => None,
+        Err(fault) => Some(fault),
+    };
+    let name = "a file that is not there";
+    holds_of(&rt, name, "fault", found == Some(CaptureFault::Device));
+    holds_of(&rt, name, "one failure", folder.failures() == 1);
+}
+
+#[test]
+fn records_have_their_moments_and_bytes(rt: HostRuntime) {
+    let alloc = rt.alloc();
+    let name = "two records";
+    let bytes = file_of(&rt, alloc, TWO_RECORDS);
+    let (first, reading) = next_of(&rt, alloc, reading_of(&rt, alloc, &bytes));
+    holds_of(&rt, name, "seconds", first.seconds == 16_909_060);
+    holds_of(&rt, name, "micros", first.micros == 999_999);
+    holds_of(
+        &rt,
+        name,
+        "bytes",
+        first.bytes.as_slice() == b"abc".as_slice(),
+    );
+    let (second, _) = next_of(&rt, alloc, reading);
+    holds_of(&rt, name, "last second", second.seconds == u32::MAX);
+    holds_of(&rt, name, "no micros", second.micros == 0);
+    holds_of(
+        &rt,
+        name,
+        "one byte",
+        second.bytes.as_slice() == b"\xfe".as_slice(),
+    );
+}
+
+/// Reads the first records of a long file.
+fn compare_long<R: Abort>(rt: &R, alloc: Global, mut reading: Reading, count: u8) -> Reading {
+    let name = "a long file";
+    for number in 0..count {
+        let (sent, rest) = next_of(rt, alloc, reading);
+        holds_of(rt, name, "seconds", sent.seconds == u32::from(number));
+        let same = sent.bytes.as_slice() == [number; 2048].as_slice();
+        holds_of(rt, name, "bytes", same);
+        reading = rest;
+    }
+    reading
+}
+
+#[test]
+fn records_lie_over_the_end_of_a_window(rt: HostRuntime) {
+    let alloc = rt.alloc();
+    let name = "a long file";
+    let start = reading_of(&rt, alloc, &long_file_of(&rt, alloc));
+    let reading = compare_long(&rt, alloc, start, MANY);
+    holds_of(&rt, name, "records", reading.reader.count() == 40);
+    compare_last(&rt, alloc, name, reading, Ok(true));
+}
+
+#[test]
+fn a_long_file_lacks_its_last_byte(rt: HostRuntime) {
+    let alloc = rt.alloc();
+    let mut bytes = long_file_of(&rt, alloc);
+    bytes.truncate(24 + 40 * 2064 - 1);
+    let start = reading_of(&rt, alloc, &bytes);
+    let reading = compare_long(&rt, alloc, start, MANY - 1);
+    let fault = Err(CaptureFault::CutFrame { record: 40 });
+    compare_last(&rt, alloc, "a long file that is cut", reading, fault);
+}
+
+#[test]
+fn pieces_have_as_many_records_as_are_asked_for(rt: HostRuntime) {
+    let alloc = rt.alloc();
+    let name = "a long file in pieces of 16";
+    let Reading {
+        mut reader,
+        mut folder,
+    } = reading_of(&rt, alloc, &long_file_of(&rt, alloc));
+    let first = reader.next(alloc, &mut folder, 16).expect(&rt, "a piece");
+    holds_of(&rt, name, "first", first.records.len() == 16);
+    let second = reader.next(alloc, &mut folder, 16).expect(&rt, "a piece");
+    holds_of(&rt, name, "second", second.records.len() == 16);
+    let last = reader.next(alloc, &mut folder, 16).expect(&rt, "a piece");
+    holds_of(&rt, name, "last", last.records.len() == 8);
+    holds_of(&rt, name, "cut", reader.cut() == 0);
+}
+
+#[test]
+fn cut_records_are_counted(rt: HostRuntime) {
+    let alloc = rt.alloc();
+    let bytes = file_of(&rt, alloc, TWO_RECORDS);
+    let (_, reading) = next_of(&rt, alloc, reading_of(&rt, alloc, &bytes));
+    holds_of(
+        &rt,
+        "a record of 5 bytes that keeps 3",
+        "cut",
+        reading.reader.cut() == 1,
+    );
+    let (_, reading) = next_of(&rt, alloc, reading);
+    holds_of(&rt, "and a whole one", "cut", reading.reader.cut() == 1);
+}

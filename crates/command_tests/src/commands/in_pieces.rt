@@ -1,0 +1,676 @@
+//! Exact replays, whose captures are read in pieces of 1,024 records, and whose sent frames are written in pieces: they come to what the replay of a
+//! whole capture in memory comes to, and to what was worked out.
+
+ghost use Rattle.std.specs.Prelude.{◌≡◌};
+
+use super::long_records::{HEADER, LONG_HEAD, RECORD};
+use super::replays::{CUT_TWO, DATAGRAM, IN_A_TUNNEL, IN_THE_OTHER_TUNNEL, SENDS};
+use super::weak_devices::{Call, Left, NEVER, SOUND_FOLDER, Weakness, has_few_failures, left_over};
+use super::{Wanted, put, with_image};
+use crate::asserting::{holds_of, same_bytes_of, same_status};
+use folders::{Folder, MemoryFolder};
+use std::alloc::{AllocError, Global};
+use std::process::Abort;
+use std::sync::Wait;
+use std::thread::Threads;
+use test_support::programs::{COUNTS_TO_THREE, READS_ONE};
+
+/// How many bytes of a capture are before its first record.
+const BEFORE: usize = 24;
+
+/// What a replay reads.
+#[derive(Clone, Copy)]
+struct Files<'a> {
+    /// The image's text; none: the shipped program.
+    text: &'a str,
+    script: &'a str,
+    capture: &'a [u8],
+}
+
+/// How a replay is made: the words for it, and what its folder does not do.
+#[derive(Clone, Copy)]
+struct Way<'a> {
+    name: &'a str,
+    words: &'a str,
+    opens: bool,
+    begins: bool,
+}
+
+/// Ways that are to come to the same, up to the last letter.
+#[rattlefmt::skip]
+const WAYS: [Way<'static>; 3] = [
+    IN_PIECES,
+    Way { name: "no file is made in pieces",   words: "--exact", opens: true,  begins: false },
+    Way { name: "no file is read in pieces",   words: "--exact", opens: false, begins: true },
+];
+
+const IN_PIECES: Way<'static> = Way {
+    name: "in pieces",
+    words: "--exact",
+    opens: true,
+    begins: true,
+};
+
+/// A way whose notes have a summary more.
+const SUMMARY: Way<'static> = Way {
+    name: "with a summary",
+    words: "--exact --summary",
+    opens: true,
+    begins: true,
+};
+
+/// The files of a replay.
+fn files_of<R: Abort + Threads + Wait + Sync>(
+    rt: &R,
+    alloc: Global,
+    name: &str,
+    files: Files<'_>,
+) -> MemoryFolder
+    ensures { result.failures ≡ 0 }
+{
+    let folder = MemoryFolder::new(alloc);
+    let folder = put(rt, alloc, folder, "script", files.script.as_bytes());
+    let folder = put(rt, alloc, folder, "capture", files.capture);
+    if files.text.is_empty() {
+        folder
+    } else {
+        with_image(rt, alloc, name, folder, files.text)
+    }
+}
+
+/// What a replay with these words leaves, made this way.
+fn left_by<R: Abort + Threads + Wait + Sync>(
+    rt: &R,
+    alloc: Global,
+    name: &str,
+    files: Files<'_>,
+    words: &str,
+    way: Way<'_>,
+) -> Left {
+    let folder = files_of(rt, alloc, name, files);
+    let by = way.words;
+    let line = format!(in alloc; "xlb replay capture sent {words} {by}");
+    let line = line.expect(rt, "a line");
+    let weakness = Weakness {
+        opens: way.opens,
+        begins: way.begins,
+        ..SOUND_FOLDER
+    };
+    left_over(rt, alloc, folder, &line, weakness, NEVER, NEVER)
+}
+
+/// Compares a file of a folder; none: there is no such file.
+pub(super) fn compare_file<R: Abort>(
+    rt: &R,
+    alloc: Global,
+    name: &str,
+    mut folder: MemoryFolder,
+    file: &str,
+    wanted: Option<&[u8]>,
+) {
+    has_few_failures(rt, name, &folder);
+    let found = folder.read(alloc, file);
+    match wanted {
+        Some(bytes) => {
+            let found = found.expect(rt, "a file");
+            same_bytes_of(rt, name, file, &found, bytes);
+        }
+        None => holds_of(rt, name, "no file", found.is_err()),
+    }
+}
+
+/// Compares what a replay leaves, with its notes too.
+fn compare_left<R: Abort>(
+    rt: &R,
+    alloc: Global,
+    name: &str,
+    left: Left,
+    wanted: Wanted<'_>,
+    sent: Option<&[u8]>,
+) {
+    same_bytes_of(rt, name, "error", &left.err.taken, wanted.err.as_bytes());
+    compare_printed(rt, alloc, name, left, wanted, sent);
+}
+
+/// The same without its notes.
+fn compare_printed<R: Abort>(
+    rt: &R,
+    alloc: Global,
+    name: &str,
+    left: Left,
+    wanted: Wanted<'_>,
+    sent: Option<&[u8]>,
+) {
+    same_bytes_of(rt, name, "output", &left.out.taken, wanted.out.as_bytes());
+    same_status(rt, name, left.status, wanted.status);
+    holds_of(rt, name, "no failure", left.folder.failures == 0);
+    compare_file(rt, alloc, name, left.folder.files, "sent", sent);
+}
+
+/// Compares what replays of these files come to, whichever way they are made.
+fn compare_ways<R: Abort + Threads + Wait + Sync>(
+    rt: &R,
+    alloc: Global,
+    name: &str,
+    files: Files<'_>,
+    words: &str,
+    wanted: Wanted<'_>,
+    sent: Option<&[u8]>,
+    ways: &[Way<'_>],
+) {
+    for way in ways {
+        let by = way.name;
+        let title = format!(in alloc; "{name}, {by}").expect(rt, "a title");
+        let left = left_by(rt, alloc, &title, files, words, *way);
+        compare_left(rt, alloc, &title, left, wanted, sent);
+    }
+    let left = left_by(rt, alloc, name, files, words, SUMMARY);
+    compare_printed(rt, alloc, name, left, wanted, sent);
+}
+
+/// A capture of this many records. Each has a frame of 14 bytes, which ends in the record's number, that many microseconds after 1 second.
+pub(super) fn numbered(alloc: Global, count: u16) -> Result<Vec<u8>, AllocError> {
+    let mut bytes = Vec::from_slice(alloc, &HEADER)?;
+    for number in 0..count {
+        let [low, high] = number.to_le_bytes();
+        let head = [1, 0, 0, 0, low, high, 0, 0, 14, 0, 0, 0, 14, 0, 0, 0];
+        bytes.extend_from_slice(&head)?;
+        bytes.extend_from_slice(&[0, 0, 0, 0, 0, 0, 0, 0, 0, 0, 0, 0, high, low])?;
+    }
+    Ok(bytes)
+}
+
+/// How many records a capture has, of which all are sent, and what is printed.
+#[rattlefmt::skip]
+const COUNTED: [(&str, u16, &str); 6] = [
+    ("no record",                    0,    "frames 0\nshort 0\nstopped 0\naborted 0\ndrop 0\npass 0\ntx 0\n"),
+    ("three records",                3,    "frames 3\nshort 0\nstopped 0\naborted 0\ndrop 0\npass 0\ntx 3\n"),
+    ("one fewer than a piece",       1023, "frames 1023\nshort 0\nstopped 0\naborted 0\ndrop 0\npass 0\ntx 1023\n"),
+    ("a piece",                      1024, "frames 1024\nshort 0\nstopped 0\naborted 0\ndrop 0\npass 0\ntx 1024\n"),
+    ("a piece and a record",         1025, "frames 1025\nshort 0\nstopped 0\naborted 0\ndrop 0\npass 0\ntx 1025\n"),
+    ("two pieces",                   2048, "frames 2048\nshort 0\nstopped 0\naborted 0\ndrop 0\npass 0\ntx 2048\n"),
+];
+
+/// Compares the replay of this many records: what is sent is the capture itself.
+fn compare_counted<R: Abort + Threads + Wait + Sync>(
+    rt: &R,
+    alloc: Global,
+    name: &str,
+    count: u16,
+    out: &str,
+) {
+    let capture = numbered(alloc, count).expect(rt, "a capture");
+    let files = Files {
+        text: SENDS,
+        script: "",
+        capture: &capture,
+    };
+    let wanted = Wanted {
+        status: 0,
+        out,
+        err: "",
+    };
+    let words = "--image image";
+    compare_ways(rt, alloc, name, files, words, wanted, Some(&capture), &WAYS);
+}
+
+#[test]
+fn all_records_are_sent(rt: HostRuntime) {
+    for row in &COUNTED {
+        compare_counted(&rt, rt.alloc(), row.0, row.1, row.2);
+    }
+}
+
+/// A capture of `HEADER`, and so often the record of a capture of one record, and then so often that of another one.
+fn repeated<R: Abort>(rt: &R, alloc: Global, first: (&str, u32), second: (&str, u32)) -> Vec<u8> {
+    let mut bytes = Vec::from_slice(alloc, &HEADER).expect(rt, "a header");
+    put_times(rt, alloc, &mut bytes, first.0, first.1);
+    put_times(rt, alloc, &mut bytes, second.0, second.1);
+    bytes
+}
+
+/// Puts the record of a capture of one record at the end of bytes, so often.
+fn put_times<R: Abort>(rt: &R, alloc: Global, bytes: &mut Vec<u8>, digits: &str, times: u32) {
+    let capture = hex::decode(alloc, digits).expect(rt, "hexadecimal digits");
+    let record = capture.get(BEFORE..).unwrap_or(b"");
+    for _ in 0..times {
+        bytes.extend_from_slice(record).expect(rt, "a record");
+    }
+}
+
+/// A service with a backend.
+const SERVED: &str =
+    "0 gateway 10.0.0.9 02:00:00:00:00:0a 02:00:00:00:00:0b\n0 vip 203.0.113.1 80 udp\n0 up 0 192.0.2.1\n";
+
+/// What a row shows; the script behind `SERVED`; how many datagrams of one flow are captured, how many of them go to the first backend, before the others go
+/// to the second one; the status, and what is printed on both streams.
+type Steered = (
+    &'static str,
+    &'static str,
+    u32,
+    u32,
+    u8,
+    &'static str,
+    &'static str,
+);
+
+/// What is printed of 1,030 records that are sent.
+const ALL_1030: &str = "frames 1030\nshort 0\nstopped 0\naborted 0\ndrop 0\npass 0\ntx 1030\n";
+
+/// What is printed where the fourth command is refused.
+const FOURTH_REFUSED: &str =
+    "frames 1030\nshort 0\nstopped 0\naborted 0\ndrop 0\npass 0\ntx 1030\ncommand 4 refused 91\n";
+
+const UNKNOWN: &str =
+    "  line 4 of the script, 1024 down 7: no such backend is up, or there is no such number: numbers are below 256 and below the ring's size\n";
+
+#[rattlefmt::skip]
+const STEERED: [Steered; 6] = [
+    ("before the last record of the first piece",    "1023 down 0\n1023 up 1 192.0.2.2\n", 1030, 1023, 0, ALL_1030, ""),
+    ("between two pieces",                           "1024 down 0\n1024 up 1 192.0.2.2\n", 1030, 1024, 0, ALL_1030, ""),
+    ("behind the first record of the second piece",  "1025 down 0\n1025 up 1 192.0.2.2\n", 1030, 1025, 0, ALL_1030, ""),
+    ("behind the last record",                       "1030 down 0\n1030 up 1 192.0.2.2\n", 1030, 1030, 0, ALL_1030, ""),
+    ("behind the last record of a whole piece",      "1024 down 0\n1024 up 1 192.0.2.2\n", 1024, 1024, 0,
+        "frames 1024\nshort 0\nstopped 0\naborted 0\ndrop 0\npass 0\ntx 1024\n", ""),
+    ("refused between two pieces",                   "1024 down 7\n1025 down 0\n1025 up 1 192.0.2.2\n", 1030, 1025, 1, FOURTH_REFUSED, UNKNOWN),
+];
+
+/// Compares the replay of a row.
+fn compare_steered<R: Abort + Threads + Wait + Sync>(rt: &R, alloc: Global, row: &Steered) {
+    let (name, later, count, first, status, out, err) = *row;
+    let script = format!(in alloc; "{SERVED}{later}").expect(rt, "a script");
+    let capture = repeated(rt, alloc, (DATAGRAM, count), ("", 0));
+    let second = count.saturating_sub(first);
+    let sent = repeated(
+        rt,
+        alloc,
+        (IN_A_TUNNEL, first),
+        (IN_THE_OTHER_TUNNEL, second),
+    );
+    let files = Files {
+        text: "",
+        script: &script,
+        capture: &capture,
+    };
+    let wanted = Wanted { status, out, err };
+    let words = "--script script --ring 7";
+    compare_ways(
+        rt,
+        alloc,
+        name,
+        files,
+        words,
+        wanted,
+        Some(&sent),
+        &[IN_PIECES],
+    );
+}
+
+#[test]
+fn commands_fall_on_the_ends_of_pieces(rt: HostRuntime) {
+    for row in &STEERED {
+        compare_steered(&rt, rt.alloc(), row);
+    }
+}
+
+/// The frame of one of these records passes: so none is sent.
+#[rattlefmt::skip]
+const STOPPED: [(&str, &str, u16, &str, &str); 3] = [
+    ("room for all", "--journal 4120", 1030, "frames 1030\nshort 0\nstopped 0\naborted 0\ndrop 0\npass 1030\ntx 0\n", ""),
+    ("full in the second piece", "--journal 4104", 1030, "frames 1030\nshort 0\nstopped 4\naborted 0\ndrop 0\npass 1026\ntx 0\n",
+        "  record 1027 is the first whose run was stopped\n  the journal of shard 0 is full, of map 0\n  \
+         frames whose run needs a full journal are not run to their end: --journal N, at most 1048576, --shards N, at most 8, and --no-journals make more room\n"),
+    ("full in the first piece", "--journal 16", 1030, "frames 1030\nshort 0\nstopped 1026\naborted 0\ndrop 0\npass 4\ntx 0\n",
+        "  record 5 is the first whose run was stopped\n  the journal of shard 0 is full, of map 0\n  \
+         frames whose run needs a full journal are not run to their end: --journal N, at most 1048576, --shards N, at most 8, and --no-journals make more room\n"),
+];
+
+/// Compares the replay of frames whose runs need four entries each of a journal.
+fn compare_stopped<R: Abort + Threads + Wait + Sync>(
+    rt: &R,
+    alloc: Global,
+    row: &(&str, &str, u16, &str, &str),
+) {
+    let (name, words, count, out, err) = *row;
+    let capture = numbered(alloc, count).expect(rt, "a capture");
+    let files = Files {
+        text: READS_ONE,
+        script: "",
+        capture: &capture,
+    };
+    let wanted = Wanted {
+        status: 0,
+        out,
+        err,
+    };
+    let words = format!(in alloc; "--image image {words}").expect(rt, "words");
+    compare_ways(rt, alloc, name, files, &words, wanted, Some(&HEADER), &WAYS);
+}
+
+#[test]
+fn the_first_stopped_run_is_named(rt: HostRuntime) {
+    for row in &STOPPED {
+        compare_stopped(&rt, rt.alloc(), row);
+    }
+}
+
+/// A record of a frame of 64 bytes, of which 14 zeros were kept.
+const CUT: [u8; 30] = [
+    1, 0, 0, 0, 2, 0, 0, 0, 14, 0, 0, 0, 64, 0, 0, 0, 0, 0, 0, 0, 0, 0, 0, 0, 0, 0, 0, 0, 0, 0,
+];
+
+/// A capture of a record, 1,023 numbered ones, and the same record again: it is in both pieces.
+fn in_both_pieces(alloc: Global, record: &[u8]) -> Result<Vec<u8>, AllocError> {
+    let numbered = numbered(alloc, 1023)?;
+    let mut bytes = Vec::from_slice(alloc, &HEADER)?;
+    bytes.extend_from_slice(record)?;
+    bytes.extend_from_slice(numbered.get(BEFORE..).unwrap_or(b""))?;
+    bytes.extend_from_slice(record)?;
+    Ok(bytes)
+}
+
+/// Records that were cut when they were captured are counted over all pieces, and are whole in what is sent.
+#[test]
+fn cut_records_are_counted(rt: HostRuntime) {
+    let alloc = rt.alloc();
+    let capture = in_both_pieces(alloc, &CUT).expect(&rt, "a capture");
+    let sent = in_both_pieces(alloc, &RECORD).expect(&rt, "what is sent");
+    let files = Files {
+        text: SENDS,
+        script: "",
+        capture: &capture,
+    };
+    let wanted = Wanted {
+        status: 0,
+        out: "frames 1025\nshort 0\nstopped 0\naborted 0\ndrop 0\npass 0\ntx 1025\n",
+        err: CUT_TWO,
+    };
+    let words = "--image image";
+    compare_ways(
+        &rt,
+        alloc,
+        "cut records",
+        files,
+        words,
+        wanted,
+        Some(&sent),
+        &WAYS,
+    );
+}
+
+/// What a row shows; the first bytes of a file, how many records behind them, and its last bytes; and what it is refused with.
+type Refused = (
+    &'static str,
+    &'static [u8],
+    u16,
+    &'static [u8],
+    &'static str,
+);
+
+/// The head of a record of 14 bytes, and the first one of these.
+pub(super) const CUT_FRAME: &[u8] = &[1, 0, 0, 0, 2, 0, 0, 0, 14, 0, 0, 0, 14, 0, 0, 0, 0];
+
+/// Record 1,030 begins at byte 24 + 1029 * 30.
+#[rattlefmt::skip]
+const REFUSED: [Refused; 4] = [
+    ("an empty file", b"", 0, b"", 
+        "fault 4 CutHead record 0\n  at byte 0 of 0\n  a header has 24 bytes, and the file ends after 0 of them\n"),
+    ("a cut frame", &HEADER, 1029, CUT_FRAME, 
+        "fault 5 CutFrame record 1030\n  at byte 30894 of 30911\n  \
+         the record keeps 14 bytes by its head, and the file has 1 of them, 13 too few\n"),
+    ("a cut head", &HEADER, 1029, b"\x01\0\0\0\x02\0\0\0\x0e\0\0\0\x0e\0\0", 
+        "fault 4 CutHead record 1030\n  at byte 30894 of 30909\n  the head of a record has 16 bytes, and the file ends after 15 of them\n"),
+    ("a record that is too long", &HEADER, 1029, &LONG_HEAD, 
+        "fault 6 FrameTooLong record 1030\n  at byte 30894 of 30910\n  \
+         the record keeps 2049 bytes by its head, and the file has 0 of them, 2049 too few\n"),
+];
+
+/// A file of these bytes, this many records behind them, and these at its end.
+pub(super) fn refused_file(
+    alloc: Global,
+    first: &[u8],
+    count: u16,
+    last: &[u8],
+) -> Result<Vec<u8>, AllocError> {
+    let mut bytes = Vec::from_slice(alloc, first)?;
+    let records = numbered(alloc, count)?;
+    bytes.extend_from_slice(records.get(BEFORE..).unwrap_or(b""))?;
+    bytes.extend_from_slice(last)?;
+    Ok(bytes)
+}
+
+/// Compares what a file that is no capture is refused with: no file is made.
+fn compare_refused<R: Abort + Threads + Wait + Sync>(rt: &R, alloc: Global, row: &Refused) {
+    let (name, first, count, last, err) = *row;
+    let capture = refused_file(alloc, first, count, last).expect(rt, "a file");
+    let files = Files {
+        text: SENDS,
+        script: "",
+        capture: &capture,
+    };
+    let wanted = Wanted {
+        status: 1,
+        out: "",
+        err,
+    };
+    let words = "--image image";
+    compare_ways(rt, alloc, name, files, words, wanted, None, &WAYS);
+}
+
+#[test]
+fn no_capture_makes_no_file(rt: HostRuntime) {
+    for row in &REFUSED {
+        compare_refused(&rt, rt.alloc(), row);
+    }
+}
+
+/// The entries of a run of `COUNTS_TO_THREE`, and of a round.
+const RUN: &str = "0 w0 enter ok
+0 w0 update 07000000 0200000000000000 0 answer 0
+0 w0 lookup 07000000 cell 0
+0 w0 atomic 0 0 8 1 1 0 word 2
+0 w0 load 0 0 8 word 3
+0 w0 leave ok
+";
+
+const ROUND: &str = "0 r reclaim freed 0\n";
+
+/// The journals of this many runs: a round comes behind each 64 of them, and behind the last one.
+fn counted_journals(alloc: Global, count: u16) -> Result<String, AllocError> {
+    let mut text = String::new(alloc);
+    text.push_str("XLBJ 1 1 1 65536\n")?;
+    for number in 0..count {
+        text.push_str(RUN)?;
+        if number % 64 == 63 {
+            text.push_str(ROUND)?;
+        }
+    }
+    text.push_str(ROUND)?;
+    Ok(text)
+}
+
+/// The journals of a replay that is made this way.
+fn journals_by<R: Abort + Threads + Wait + Sync>(
+    rt: &R,
+    alloc: Global,
+    name: &str,
+    files: Files<'_>,
+    words: &str,
+    way: Way<'_>,
+) -> Vec<u8> {
+    let mut left = left_by(rt, alloc, name, files, words, way);
+    same_status(rt, name, left.status, 0);
+    has_few_failures(rt, name, &left.folder.files);
+    let journals = left.folder.files.read(alloc, "journals");
+    journals.expect(rt, "the journals")
+}
+
+/// Compares the journals of replays of these files, whichever way they are made.
+fn compare_journals<R: Abort + Threads + Wait + Sync>(
+    rt: &R,
+    alloc: Global,
+    name: &str,
+    files: Files<'_>,
+    words: &str,
+    wanted: &[u8],
+    ways: &[Way<'_>],
+) {
+    for way in ways {
+        let found = journals_by(rt, alloc, name, files, words, *way);
+        same_bytes_of(rt, name, way.name, &found, wanted);
+    }
+}
+
+/// Compares the journals of runs that are all alike with those that were worked out.
+fn compare_counted_journals<R: Abort + Threads + Wait + Sync>(
+    rt: &R,
+    alloc: Global,
+    name: &str,
+    count: u16,
+) {
+    let capture = numbered(alloc, count).expect(rt, "a capture");
+    let wanted = counted_journals(alloc, count).expect(rt, "journals");
+    let files = Files {
+        text: COUNTS_TO_THREE,
+        script: "",
+        capture: &capture,
+    };
+    let words = "--image image --journals journals";
+    compare_journals(rt, alloc, name, files, words, wanted.as_bytes(), &WAYS);
+}
+
+/// Compares the journals of frames that are steered with those of the replay of a whole capture.
+fn compare_steered_journals<R: Abort + Threads + Wait + Sync>(
+    rt: &R,
+    alloc: Global,
+    name: &str,
+    count: u32,
+) {
+    let script = format!(in alloc; "{SERVED}1024 down 0\n1024 up 1 192.0.2.2\n");
+    let script = script.expect(rt, "a script");
+    let capture = repeated(rt, alloc, (DATAGRAM, count), ("", 0));
+    let files = Files {
+        text: "",
+        script: &script,
+        capture: &capture,
+    };
+    let words = "--script script --ring 7 --journals journals";
+    let wanted = journals_by(rt, alloc, name, files, words, SUMMARY);
+    compare_journals(rt, alloc, name, files, words, &wanted, &[IN_PIECES]);
+}
+
+#[test]
+fn journals_are_those_of_the_whole_way(rt: HostRuntime) {
+    compare_counted_journals(&rt, rt.alloc(), "a piece", 1024);
+    compare_counted_journals(&rt, rt.alloc(), "a piece and a record", 1025);
+    compare_steered_journals(&rt, rt.alloc(), "steered", 1030);
+}
+
+/// What a row shows, the words for a replay of 1,025 records, which call fails and its number from 0, the status, what is printed on the error stream,
+/// and how many bytes the sent file has, none where it isn't made.
+type Failing = (
+    &'static str,
+    &'static str,
+    Call,
+    u64,
+    u8,
+    &'static str,
+    Option<usize>,
+);
+
+/// All sent frames: 24 bytes, and 1025 times 30.
+const ALL_SENT: Option<usize> = Some(30774);
+
+const NO_SENT: &str = "fault 7 Device\n  sent failed\n";
+
+const NO_READ: &str = "fault 7 Device\n  capture failed\n";
+
+/// The whole capture has room in the reader's buffer: it takes one call of `next`, and from record 957 on, where fewer than 2,064 bytes are unread, one more
+/// before each record and one at the end. So the first reading has 70 of these calls.
+#[rattlefmt::skip]
+const FAILING: [Failing; 18] = [
+    ("the first reading is not opened",              "--exact", Call::Open,   0,  1, NO_READ, None),
+    ("the second one is not",                        "--exact", Call::Open,   1,  1, NO_READ, None),
+    ("there is no third one",                        "--exact", Call::Open,   2,  0, "", ALL_SENT),
+    ("the header is not read",                       "--exact", Call::Next,   0,  1, NO_READ, None),
+    ("the end is not read the first time",           "--exact", Call::Next,   69, 1, NO_READ, None),
+    ("the header is not read the second time",       "--exact", Call::Next,   70, 1, NO_READ, None),
+    ("the end is not read the second time",          "--exact", Call::Next,   139, 1, NO_READ, None),
+    ("the sent frames are not begun",                "--exact", Call::Begin,  0,  1, NO_SENT, None),
+    ("their header is not added",                    "--exact", Call::Add,    0,  1, NO_SENT, None),
+    ("those of the first piece are not",             "--exact", Call::Add,    1,  1, NO_SENT, None),
+    ("those of the second piece are not",            "--exact", Call::Add,    2,  1, NO_SENT, None),
+    ("there is no third piece",                      "--exact", Call::Add,    3,  0, "", ALL_SENT),
+    ("they are not finished",                        "--exact", Call::Finish, 0,  1, NO_SENT, None),
+    ("no capture is read whole",                     "--exact", Call::Read,   0,  0, "", ALL_SENT),
+    ("no file is written whole",                     "--exact", Call::Write,  0,  0, "", ALL_SENT),
+    ("a report needs the whole capture",             "--exact --report lines", Call::Read, 0, 1, NO_READ, None),
+    ("records that are skipped need it",             "--exact --skip-long", Call::Read, 0, 1, NO_READ, None),
+    ("and so does a replay with threads",            "--workers 1", Call::Read, 0, 1, NO_READ, None),
+];
+
+/// What a replay leaves in a folder of which a call fails.
+fn left_in_failing<R: Abort + Threads + Wait + Sync>(
+    rt: &R,
+    alloc: Global,
+    row: &Failing,
+    folder: MemoryFolder,
+) -> Left
+    requires { folder.failures ≡ 0 }
+{
+    let (name, words, call, fails_at, _status, _err, _sent) = *row;
+    let capture = numbered(alloc, 1025).expect(rt, "a capture");
+    let folder = put(rt, alloc, folder, "capture", &capture);
+    let folder = with_image(rt, alloc, name, folder, SENDS);
+    let line = format!(in alloc; "xlb replay capture sent --image image {words}");
+    let line = line.expect(rt, "a line");
+    let weakness = Weakness {
+        counts: Some(call),
+        fails_at,
+        ..SOUND_FOLDER
+    };
+    left_over(rt, alloc, folder, &line, weakness, NEVER, NEVER)
+}
+
+/// Compares a replay of a row, in a folder that has a file of the name that the sent frames are to have: where it isn't made, the file stays as it was.
+fn compare_failing<R: Abort + Threads + Wait + Sync>(rt: &R, alloc: Global, row: &Failing) {
+    let (name, _words, _call, _fails_at, status, err, sent) = *row;
+    let folder = put(rt, alloc, MemoryFolder::new(alloc), "sent", b"old");
+    let left = left_in_failing(rt, alloc, row, folder);
+    same_bytes_of(rt, name, "error", &left.err.taken, err.as_bytes());
+    same_status(rt, name, left.status, status);
+    compare_length(rt, alloc, name, left.folder.files, sent.unwrap_or(3));
+}
+
+/// The same in a folder that has no such file: where it isn't made, there is none.
+fn compare_failing_new<R: Abort + Threads + Wait + Sync>(rt: &R, alloc: Global, row: &Failing) {
+    let (name, _words, _call, _fails_at, status, err, sent) = *row;
+    let left = left_in_failing(rt, alloc, row, MemoryFolder::new(alloc));
+    same_bytes_of(rt, name, "error", &left.err.taken, err.as_bytes());
+    same_status(rt, name, left.status, status);
+    match sent {
+        Some(length) => compare_length(rt, alloc, name, left.folder.files, length),
+        None => compare_file(rt, alloc, name, left.folder.files, "sent", None),
+    }
+}
+
+/// Compares how many bytes the sent file has.
+fn compare_length<R: Abort>(
+    rt: &R,
+    alloc: Global,
+    name: &str,
+    mut folder: MemoryFolder,
+    length: usize,
+) {
+    has_few_failures(rt, name, &folder);
+    let found = folder.read(alloc, "sent").expect(rt, "a file");
+    holds_of(rt, name, "the length", found.len() == length);
+}
+
+#[test]
+fn a_call_that_fails_leaves_no_file_in_part(rt: HostRuntime) {
+    for row in &FAILING {
+        compare_failing(&rt, rt.alloc(), row);
+        compare_failing_new(&rt, rt.alloc(), row);
+    }
+}

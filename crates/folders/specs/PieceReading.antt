@@ -1,0 +1,65 @@
+-- A capture file that is read in pieces: what was read of it, and what is left.
+use Rattle.std.specs.Prelude.{◌≡◌, ℕ, ◌+◌, nat_lt, if◌then◌else◌, List, [], ◌∷◌, ◌++◌, length, drop}
+use Rattle.wire.specs.declared.records.Sent.{Sent}
+use Rattle.wire.specs.declared.capture_fault.CaptureFault.{CaptureFault}
+use Rattle.wire.specs.CaptureFormat.{le32_at, BeginsWithHeader, AreRecords, IsCaptureFile, Refuses}
+
+-- what a contract sees of a reader: the bytes that its folder returned and that are still unread, how many records it read, and how many of these were cut
+pub record ReaderView : Type 0 where
+  pub unread : List ℕ
+  pub count : ℕ
+  pub cut : ℕ
+
+-- 1 for a record at the front of the bytes that keeps fewer bytes than its frame had, else 0
+abbrev pub cut_at_front : List ℕ → Sent → ℕ
+cut_at_front bytes sent = if nat_lt (length sent.bytes.items) (le32_at 12 bytes) then 1 else 0
+
+-- how many of the records that the bytes begin with keep fewer bytes than their frames had
+abbrev pub cut_of : List ℕ → List Sent → ℕ
+cut_of bytes [] = 0
+cut_of bytes (sent ∷ sents) = cut_at_front bytes sent + cut_of (drop (16 + length sent.bytes.items) bytes) sents
+
+-- the file begins with a header and these records, of which so many were cut, and behind them it has these bytes
+pub record HasRecords (has : List ℕ → Type 0) (records : List Sent) (cut : ℕ) (behind : List ℕ) : Type 0 where
+  pub all : List ℕ
+  pub held : has all
+  pub header : BeginsWithHeader all
+  pub are : AreRecords (drop 24 all) records behind
+  pub cut_is : cut ≡ cut_of (drop 24 all) records
+
+-- the file has these records so far: something is left of it, and whatever that is, it comes behind them and the unread bytes
+pub record IsReadTo (has : List ℕ → Type 0) (is_left : List ℕ → Type 0) (records : List Sent) (reader : ReaderView) : Type 0 where
+  pub counted : reader.count ≡ length records
+  pub rest : List ℕ
+  pub left : is_left rest
+  pub file : (behind : List ℕ) → is_left behind → HasRecords has records reader.cut (reader.unread ++ behind)
+
+-- the file is a capture of these records, of which so many were cut
+pub record IsReadWhole (has : List ℕ → Type 0) (records : List Sent) (cut : ℕ) : Type 0 where
+  pub all : List ℕ
+  pub held : has all
+  pub capture : IsCaptureFile all records
+  pub cut_is : cut ≡ cut_of (drop 24 all) records
+
+-- the file is refused with this fault
+pub record IsRefused (has : List ℕ → Type 0) (fault : CaptureFault) : Type 0 where
+  pub all : List ℕ
+  pub held : has all
+  pub refused : Refuses all fault
+
+-- from the one state to the other these records were read: behind whatever records a file has in the one, it has these in the other
+abbrev pub ReadsOn : {F : Type 0} → (F → List ℕ → List ℕ → Type 0) → (List ℕ → Type 0) → (List ℕ → Type 0) → ReaderView → ReaderView → List Sent → Type 0
+ReadsOn holds was_left is_left was now sents =
+    (opened : _) (name : List ℕ) (records : List Sent) → IsReadTo (holds opened name) was_left records was →
+    IsReadTo (holds opened name) is_left (records ++ sents) now
+
+-- behind whatever records a file has in this state come these, and then it ends; of all of them so many were cut
+abbrev pub ReadsToEnd : {F : Type 0} → (F → List ℕ → List ℕ → Type 0) → (List ℕ → Type 0) → ReaderView → List Sent → ℕ → Type 0
+ReadsToEnd holds was_left was sents cut =
+    (opened : _) (name : List ℕ) (records : List Sent) → IsReadTo (holds opened name) was_left records was →
+    IsReadWhole (holds opened name) (records ++ sents) cut
+
+-- whatever file has some records in this state is refused with this fault
+abbrev pub RefusesNext : {F : Type 0} → (F → List ℕ → List ℕ → Type 0) → (List ℕ → Type 0) → ReaderView → CaptureFault → Type 0
+RefusesNext holds was_left was fault =
+    (opened : _) (name : List ℕ) (records : List Sent) → IsReadTo (holds opened name) was_left records was → IsRefused (holds opened name) fault

@@ -1,0 +1,113 @@
+//! The bytes of a file that were read and are not used yet.
+
+ghost use Rattle.std.specs.Prelude.{◌≡◌, ◌+◌, ◌-◌, ◌^◌, ◌<◌, ◌≤◌, ◌↔◌, ◌⊎◌, ℕ, [], List, length, take, drop};
+ghost use Rattle.std.specs.Prelude.{IfErr, IfOk, OnErr, OnOk};
+ghost use Rattle.folders.specs.Filling.{IsFilled};
+
+use crate::folder::{Folder, FolderFault};
+use std::alloc::{AllocError, Global};
+use std::marker::Model;
+use wire::{MAX_FRAME, RECORD_HEAD_LEN};
+
+/// How many bytes a window has room for.
+const ROOM: usize = 1 << 16;
+
+/// The most bytes of a record: those of its head, and those that it keeps.
+const MOST_OF_RECORD: usize = RECORD_HEAD_LEN + MAX_FRAME;
+
+/// The next bytes of a file that is read in pieces, in a buffer of one size.
+#[derive(Drop)]
+pub(crate) struct Window {
+    bytes: Vec<u8>,
+    /// Where the unread bytes begin.
+    at: usize,
+    /// Where they end.
+    end: usize,
+}
+
+impl Model for Window {
+    ghost use Rattle.std.specs.Prelude.{List, ℕ, ◌≤◌, length};
+    ghost use Rattle.std.specs.List.{between};
+
+    ghost Value = { List ℕ };
+
+    ghost view = { λ window. between window.at window.end window.bytes.items };
+
+    ghost invariant = { λ window.
+        (window.at ≤ window.end) × (window.end ≤ length window.bytes.items) × (2064 ≤ length window.bytes.items) };
+}
+
+/// Reads on into the buffer, which has `end` bytes, until a whole record must be there or the file has ended, and says how many bytes are there then.
+fn read_on<D: Folder>(folder: &mut D, bytes: &mut [u8], end: usize) -> Result<usize, FolderFault>
+    requires failures { D.failure_count folder.old < 2 ^ 64 - 1 }
+    requires room { (end ≤ length bytes.old) × (2064 ≤ length bytes.old) }
+    ensures filled { IfOk result (λ all. IsFilled (D.is_left folder.old) (D.is_left folder.new) (take end bytes.old) (take all bytes.new)) }
+    ensures within { IfOk result (λ all. (end ≤ all) × (all ≤ length bytes.new)) }
+    ensures enough { IfOk result (λ all. (2064 ≤ all) ⊎ D.is_left folder.new []) }
+    ensures fewer { IfOk result (λ all. all + D.most_left folder.new ≤ end + D.most_left folder.old) }
+    ensures kept { (name held : List ℕ) → (D.holds folder.old name held ↔ D.holds folder.new name held) }
+    ensures begun_kept { (name held : List ℕ) → (D.is_begun folder.old name held ↔ D.is_begun folder.new name held) }
+    ensures steady { OnOk result (D.failure_count folder.new ≡ D.failure_count folder.old) }
+    ensures counted { OnErr result (D.failure_count folder.new ≡ D.failure_count folder.old + 1) }
+{
+    let mut all = end;
+    'filling: while all < MOST_OF_RECORD {
+        match folder.next(&mut bytes[all..]) {
+            Ok(0) => return Ok(all),
+            Ok(count) => all += count,
+            Err(fault) => return Err(fault),
+        }
+    }
+    Ok(all)
+}
+
+impl Window {
+    /// A window with no bytes.
+    pub(crate) fn new(alloc: Global) -> Result<Window, AllocError>
+        ensures { IfOk result (λ window. window ≡ []) }
+    {
+        let bytes = vec![in alloc; 0; ROOM]?;
+        Ok(Window {
+            bytes,
+            at: 0,
+            end: 0,
+        })
+    }
+
+    /// The unread bytes.
+    pub(crate) fn unread(&self) -> &[u8]
+        ensures { result.now ≡ self.now }
+    {
+        &self.bytes[self.at..self.end]
+    }
+
+    /// Goes past this many of the unread bytes.
+    pub(crate) fn skip(&mut self, count: usize)
+        requires { count ≤ length self.old }
+        ensures { self.new ≡ drop count self.old }
+    {
+        self.at += count;
+    }
+
+    /// Reads on, until a whole record must be unread or the file has ended. After a fault it is not known what is unread.
+    pub(crate) fn fill<D: Folder>(&mut self, folder: &mut D) -> Result<(), FolderFault>
+        requires { D.failure_count folder.old < 2 ^ 64 - 1 }
+        ensures filled { OnOk result (IsFilled (D.is_left folder.old) (D.is_left folder.new) self.old self.new) }
+        ensures enough { OnOk result ((2064 ≤ length self.new) ⊎ D.is_left folder.new []) }
+        ensures fewer { OnOk result (length self.new + D.most_left folder.new ≤ length self.old + D.most_left folder.old) }
+        ensures kept { (name held : List ℕ) → (D.holds folder.old name held ↔ D.holds folder.new name held) }
+        ensures begun_kept { (name held : List ℕ) → (D.is_begun folder.old name held ↔ D.is_begun folder.new name held) }
+        ensures steady { OnOk result (D.failure_count folder.new ≡ D.failure_count folder.old) }
+        ensures counted { OnErr result (D.failure_count folder.new ≡ D.failure_count folder.old + 1) }
+    {
+        let unread = self.end - self.at;
+        if unread >= MOST_OF_RECORD {
+            return Ok(());
+        }
+        self.bytes.copy_within(self.at..self.end, 0);
+        self.at = 0;
+        self.end = unread;
+        self.end = read_on(folder, &mut self.bytes, unread)?;
+        Ok(())
+    }
+}

@@ -1,0 +1,100 @@
+-- What a later call did or refused, said of the files as they stood before earlier calls that changed none.
+use Rattle.std.proofs.Common.{ℕ, Bool, List, Option, Some, None}
+use Rattle.abstract_state.specs.declared.state.State.{State}
+use Rattle.ebpf_decode.specs.ImageContents.{Contents}
+use Rattle.semantics.specs.declared.options.Options.{Options}
+use Rattle.semantics.specs.declared.options.Recording.{Recording}
+use Rattle.map_updates.specs.declared.update.MapUpdate.{MapUpdate}
+use Rattle.wire.specs.declared.records.Sent.{Sent}
+use Rattle.control.specs.declared.command.Command.{Command}
+use Rattle.journals.specs.JournalsView.{JournalsView}
+use Rattle.command_line.specs.declared.commands.ReplayFiles.{ReplayFiles}
+use Rattle.command_line.specs.Reading.{text_of}
+use Rattle.xlb_commands.specs.declared.fault.Fault.{Fault}
+use Rattle.xlb_commands.specs.declared.report.Report.{Report}
+use Rattle.xlb_commands.specs.Files.{FileBytes, AreKept, AreOthersKept, AreAllButKept}
+use Rattle.xlb_commands.specs.Replays.{IsCaptureOf, IsReplayReport, IsScriptOf}
+use Rattle.xlb_commands.specs.Refused.{AreUnfiled, no_sent_file, no_journals_file, no_report_file}
+use Rattle.xlb_commands.specs.Refused.{IsBrokenOff, no_piece, no_replay_memory, no_room_in_pieces}
+use Rattle.xlb_commands.specs.Refused.{IsUnreplayed, no_replay_capture, given_up, broken_off, not_reported, not_written_down}
+use Rattle.xlb_commands.proofs.Refusals.{kept_twice, unserved_since, unfiled_since, capture_refusal_before}
+
+-- after calls that changed nothing
+pub all_but_kept : (a b c : FileBytes) (sent : List ℕ) (journals report : Option (List ℕ)) → AreKept a b → AreAllButKept b c sent journals report
+    → AreAllButKept a c sent journals report
+all_but_kept a b c sent journals report kept last = λ name bytes not_sent not_journals not_report. (
+  (λ had. (last name bytes not_sent not_journals not_report).0 ((kept name bytes).0 had)),
+  (λ has. (kept name bytes).1 ((last name bytes not_sent not_journals not_report).1 has)),
+)
+
+others_kept : (a b c : FileBytes) (sent : List ℕ) → AreKept a b → AreOthersKept b c sent → AreOthersKept a c sent
+others_kept a b c sent kept last = λ name bytes other. (
+  (λ had. (last name bytes other).0 ((kept name bytes).0 had)),
+  (λ has. (kept name bytes).1 ((last name bytes other).1 has)),
+)
+
+pub script_before : (a b : FileBytes) → AreKept a b → (name : Option (List ℕ)) (script : List Command) → IsScriptOf b name script → IsScriptOf a name script
+script_before a b kept None script is = is
+script_before a b kept (Some name) script is = record { bytes = is.bytes; read = (kept name is.bytes).1 is.read; spelled = is.spelled }
+
+pub capture_before : (a b : FileBytes) → AreKept a b → (skip_long : Bool) (name : List ℕ) (records : List Sent)
+    → IsCaptureOf b skip_long name records → IsCaptureOf a skip_long name records
+capture_before a b kept skip_long name records is =
+    record { bytes = is.bytes; read = (kept name is.bytes).1 is.read; spelled = is.spelled }
+
+pub unfiled_before : (a b c : FileBytes) (failed since : Type 0) (names : ReplayFiles) (sent : List ℕ) (journals : JournalsView) (fault : Fault)
+    → AreKept a b → (failed → since) → AreUnfiled b c failed names sent journals fault → AreUnfiled a c since names sent journals fault
+unfiled_before a b c failed since names sent journals fault kept so (no_sent_file others unserved) =
+    no_sent_file (others_kept a b c names.sent.now kept others) (unserved_since failed since fault so unserved)
+unfiled_before a b c failed since names sent journals fault kept so (no_journals_file stands unwritten) =
+    no_journals_file stands (unfiled_since (text_of names.journals) failed since fault so unwritten)
+unfiled_before a b c failed since names sent journals fault kept so (no_report_file stands written unwritten) =
+    no_report_file stands written (unfiled_since (text_of names.report) failed since fault so unwritten)
+
+pub broken_since : (journals : Option (List ℕ)) (failed since : Type 0) (fault : Fault) → (failed → since) → IsBrokenOff journals failed fault
+    → IsBrokenOff journals since fault
+broken_since journals failed since fault so (no_piece unserved) = no_piece (unserved_since failed since fault so unserved)
+broken_since journals failed since fault so (no_replay_memory is) = no_replay_memory is
+broken_since journals failed since fault so (no_room_in_pieces lacks) = no_room_in_pieces lacks
+
+pub report_before : (a b c : FileBytes) (files : ReplayFiles) (program : Contents) (states : List (Option State)) (script : List Command) (options : Options)
+    (recording : Recording) (ring : ℕ) (exact skip_long : Bool) (updates : List MapUpdate) (report : Report) → AreKept a b
+    → IsReplayReport b c files program states script options recording ring exact skip_long updates report
+    → IsReplayReport a c files program states script options recording ring exact skip_long updates report
+report_before a b c files program states script options recording ring exact skip_long updates report kept is = (
+  is.0,
+  record {
+    records = is.1.records;
+    capture = capture_before a b kept skip_long files.capture.now is.1.records is.1.capture;
+    outcome = is.1.outcome;
+    made = is.1.made;
+    headline = is.1.headline;
+    by_rule = is.1.by_rule;
+    readers = is.1.readers;
+    refused_are = is.1.refused_are;
+    sent = is.1.sent;
+    journals = is.1.journals;
+    report = is.1.report;
+    lines = is.1.lines;
+  },
+  is.2,
+)
+
+pub unreplayed_before : (a b c : FileBytes) (failed since : Type 0) (names : ReplayFiles) (program : Contents) (script : List Command) (options : Options)
+    (recording : Recording) (exact skip_long : Bool) (updates : List MapUpdate) (fault : Fault) → AreKept a b → (failed → since)
+    → IsUnreplayed b c failed names program script options recording exact skip_long updates fault
+    → IsUnreplayed a c since names program script options recording exact skip_long updates fault
+unreplayed_before a b c failed since names program script options recording exact skip_long updates fault kept so (no_replay_capture still refused) =
+    no_replay_capture (kept_twice a b c kept still) (capture_refusal_before a b failed since skip_long names.capture.now fault kept so refused)
+unreplayed_before a b c failed since names program script options recording exact skip_long updates fault kept so (given_up records why still capture given is) =
+    given_up records why (kept_twice a b c kept still) (capture_before a b kept skip_long names.capture.now records capture) given is
+unreplayed_before a b c failed since names program script options recording exact skip_long updates fault kept so (broken_off records is_exact still capture broken) =
+    broken_off records is_exact (kept_twice a b c kept still) (capture_before a b kept skip_long names.capture.now records capture)
+    (broken_since (text_of names.journals) failed since fault so broken)
+unreplayed_before a b c failed since names program script options recording exact skip_long updates fault kept so
+    (not_reported records outcome still capture made lacks) =
+    not_reported records outcome (kept_twice a b c kept still) (capture_before a b kept skip_long names.capture.now records capture) made lacks
+unreplayed_before a b c failed since names program script options recording exact skip_long updates fault kept so
+    (not_written_down records outcome capture made unfiled) =
+    not_written_down records outcome (capture_before a b kept skip_long names.capture.now records capture) made
+    (unfiled_before a b c failed since names _ outcome.journals fault kept so unfiled)

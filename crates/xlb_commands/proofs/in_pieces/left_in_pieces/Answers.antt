@@ -1,0 +1,101 @@
+use Rattle.std.proofs.Common.{◌≡◌, ◌∙◌, ◌++◌, ◌∷◌, ◌↔◌, Bool, false, ℕ, List, [], Option, Some, None, ap, refl, subst, sym}
+use Rattle.std.specs.List.{AllByRecursion}
+use Rattle.std.proofs.lemmas.Result.{err_from_is_err_and}
+use Rattle.guarantees.specs.ReaderReplays.{IsCaptured}
+use Rattle.journals.specs.JournalsView.{JournalsView}
+use Rattle.journals.specs.JournalText.{journals_text}
+use Rattle.machine.specs.Running.{program_of}
+use Rattle.replay.specs.declared.outcome.Applied.{Applied}
+use Rattle.replay.specs.declared.outcome.Outcome.{Outcome}
+use Rattle.replay.specs.declared.account.Counts.{Counts}
+use Rattle.replay.specs.Accounts.{frames_in}
+use Rattle.semantics.specs.ShardPlan.{KeepsRows, recorded, room_for}
+use Rattle.semantics.specs.declared.options.Recording.{Recording}
+use Rattle.semantics.specs.declared.options.Options.{Options}
+use Rattle.steered_replays.specs.SteeredRuns.{IsOfCapture}
+use Rattle.control.specs.declared.command.Command.{Command}
+use Rattle.wire.specs.declared.records.Sent.{Sent}
+use Rattle.command_line.specs.Reading.{text_of}
+use Rattle.xlb_commands.specs.Replays.{FollowsRule, IsByRule, counts_text, refusals_text}
+use Rattle.xlb_commands.specs.Refused.{no_room_in_pieces}
+use Rattle.xlb_commands.proofs.Outcomes.{journals_fit}
+use Rattle.xlb_commands.proofs.ReaderFiles.{reader_file_is}
+use Rattle.xlb_commands.proofs.in_pieces.left_in_pieces.Goals as goal
+
+-- a record that a capture has is short, and of bytes
+of_capture : (records : List Sent) → AllByRecursion IsCaptured records → AllByRecursion IsOfCapture records
+of_capture [] all = tt
+of_capture (first ∷ later) all = (record { short = all.0.short; bytes = all.0.bytes }, of_capture later all.1)
+
+-- of an image that is named nothing is said
+rule_of : (name : Option (List ℕ)) (ring : ℕ) (script : List Command) (options : Options) (records : List Sent) (outcome : Outcome)
+    → (name ≡ None → IsByRule ring script options records outcome) → FollowsRule name ring script options records outcome
+rule_of (Some name) ring script options records outcome rule = tt
+rule_of None ring script options records outcome rule = rule refl
+
+text_is : (text : List ℕ) (rest whole : Outcome) (refused : List Applied) → whole.counts ≡ rest.counts → whole.refused.items ≡ refused
+    → text ≡ counts_text rest.counts ++ refusals_text refused → text ≡ counts_text whole.counts ++ refusals_text whole.refused.items
+text_is text rest whole refused counts same is =
+    is ∙ (ap (λ (c : Counts). counts_text c ++ refusals_text refused) (sym counts)
+    ∙ ap (λ (r : List Applied). counts_text whole.counts ++ refusals_text r) (sym same))
+
+none_is : (is_refused : Bool) (whole : Outcome) (refused : List Applied) → whole.refused.items ≡ refused → ((refused ≡ []) ↔ (is_refused ≡ false))
+    → ((whole.refused.items ≡ []) ↔ (is_refused ≡ false))
+none_is is_refused whole refused same none = ((λ e. none.0 (sym same ∙ e)), (λ done. same ∙ none.1 done))
+
+pub journal_bytes-requires : goal.journal_bytes-requires
+journal_bytes-requires c = λ file named.
+    let asked = c.args.asked in
+    let going = c.requires.underway in
+    let replayed = c.in_ok-outcome.ensures.replayed (program_of asked.verified.now asked.options.shards) (recorded asked.recording asked.options)
+    going.records going.sent going.ends going.underway in
+    subst (λ (j : JournalsView). KeepsRows j.options.journal) replayed.is_whole.journals
+    (subst (λ (o : Options). KeepsRows o.journal) (sym replayed.accounted.options_are)
+    (subst (λ (r : Recording). KeepsRows (room_for r asked.options.journal)) (sym (c.requires.rows file named)) c.requires.served))
+
+pub replayed-requires : goal.replayed-requires
+replayed-requires c =
+    let asked = c.args.asked in
+    let going = c.requires.underway in
+    let replayed = c.in_ok-outcome.ensures.replayed (program_of asked.verified.now asked.options.shards) (recorded asked.recording asked.options)
+    going.records going.sent going.ends going.underway in
+    c.taken-frames.ensures ∙ (going.underway.taken ∙ (sym replayed.accounted.each_once ∙ ap frames_in replayed.is_whole.counts))
+
+pub returns-in_err-journals-clause-refused : goal.returns-in_err-journals-clause-refused
+returns-in_err-journals-clause-refused c =
+    let p = err_from_is_err_and c.from_residual-in_err-journals.result c.from_residual-in_err-journals.ensures.1 in
+    rw (p.1, p.2) (no_room_in_pieces c.in_err-journals.ensures.refused)
+
+pub returns-clause-left : goal.returns-clause-left
+returns-clause-left c = λ records sent ends under captured.
+    let asked = c.args.asked in
+    let options : Options = recorded asked.recording asked.options in
+    let program = program_of asked.verified.now asked.options.shards in
+    let replayed = c.in_ok-outcome.ensures.replayed program options records sent ends under in
+    let whole = replayed.whole in
+    let is = replayed.is_whole in
+    let updated : whole.updates.items ≡ asked.updates.now = is.updates ∙ c.in_ok-outcome.ensures.updates in
+    let told = replayed.accounted in
+    record {
+      whole = whole;
+      sent_are = is.sent_are;
+      made = record { updates_are = updated; accounted = told; in_turn = λ exact. replayed.in_turn };
+      headline = record {
+        verified = asked.verified.now;
+        image_is = refl;
+        kept = c.headline.ensures asked.script.now options records whole under.options_fit captured told;
+      };
+      by_rule = λ none. rule_of (text_of asked.files.now.image) asked.ring asked.script.now options records whole
+          (λ shipped. record {
+            runs = c.steered_where_shipped.ensures.steered shipped asked.script.now options records whole under.options_fit
+                (of_capture records captured) told;
+            totals = λ unstopped. c.steered_where_shipped.ensures.totals shipped asked.script.now options records whole under.options_fit
+                (of_capture records captured) told (updated ∙ none) unstopped;
+          });
+      readers = λ none reads no_commands unstopped. reader_file_is asked.verified.now.maps asked.verified.now.code asked.script.now options records whole
+          (c.readers_send_alike.ensures.sends reads)
+          (journals_fit program asked.script.now options records whole under.options_fit told) captured told (updated ∙ none) no_commands unstopped;
+      journals_are = λ file named. c.in_ok-journals.ensures.bytes file named ∙ ap journals_text (sym is.journals);
+      text = text_is _ c.in_ok-outcome.outcome whole c.deref.result.now is.counts (is.refused ∙ sym c.deref.ensures.value) c.in_ok-report.ensures.text;
+      none_refused = none_is _ whole c.deref.result.now (is.refused ∙ sym c.deref.ensures.value) c.in_ok-report.ensures.refused;
+    }

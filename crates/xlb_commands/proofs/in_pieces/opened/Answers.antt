@@ -1,0 +1,10 @@
+use Rattle.xlb_commands.proofs.Outcomes.{given_up_in_turn}
+use Rattle.xlb_commands.proofs.in_pieces.opened.Goals as goal
+
+pub returns-in-Err-clause-refused : goal.returns-in-Err-clause-refused
+returns-in-Err-clause-refused c = (
+  c.in-Err.fault,
+  c.given_up.ensures,
+  given_up_in_turn c.args.asked.verified.now.maps c.args.asked.updates.now c.args.asked.script.now c.args.asked.options c.args.asked.recording
+      c.open.result c.in-Err.fault c.in-Err.is c.open.ensures.bad_options c.open.ensures.no_thread c.in-Err.ensures.refused,
+)

@@ -1,0 +1,102 @@
+use Rattle.std.proofs.Common.{◌≡◌, ◌+◌, ◌++◌, ℕ, Bool, List, Option, arith, refl, subst, sym}
+use Rattle.std.proofs.lemmas.Result.{err_from_is_err_and}
+use Rattle.wire.specs.CaptureFormat.{capture_bytes, header_bytes, records_bytes}
+use Rattle.wire.specs.declared.records.Sent.{Sent}
+use Rattle.command_line.specs.Reading.{text_of}
+use Rattle.semantics.specs.ShardPlan.{recorded}
+use Rattle.xlb_commands.specs.RecordReports.{IsReportFile}
+use Rattle.xlb_commands.specs.Refused.{HasFailed, IsGivenUp, broken_off, given_up, not_written_down}
+use Rattle.xlb_commands.specs.Replays.{IsCaptureOf, IsMade, image_of, program_of_replay}
+use Rattle.xlb_commands.proofs.Earlier.{all_but_kept, broken_since, capture_before, unfiled_before}
+use Rattle.xlb_commands.proofs.Refusals.{failed_since, kept_twice, written_down}
+use Rattle.xlb_commands.proofs.in_pieces.replay_in_pieces.Goals as goal
+
+-- a failure between two calls that had none
+failed_within : (first second third fourth fifth : ℕ) → second ≡ first → third ≡ second → fifth ≡ fourth → HasFailed third fourth → HasFailed first fifth
+failed_within first second third fourth fifth same still after failed = omega arith
+
+pub returns-in_err-write_pieces-in-Ok-Some-clause-kept : goal.returns-in_err-write_pieces-in-Ok-Some-clause-kept
+returns-in_err-write_pieces-in-Ok-Some-clause-kept g c =
+    all_but_kept _ _ _ _ _ _
+    (kept_twice _ _ _ (kept_twice _ _ _ c.look_through.ensures.kept c.begin_sent.ensures.kept) c.left_by_pieces.ensures.kept) c.write_pieces.ensures.others
+
+pub returns-in_ok-write_pieces-in-Ok-Some-clause-kept : goal.returns-in_ok-write_pieces-in-Ok-Some-clause-kept
+returns-in_ok-write_pieces-in-Ok-Some-clause-kept g c =
+    all_but_kept _ _ _ _ _ _
+    (kept_twice _ _ _ (kept_twice _ _ _ c.look_through.ensures.kept c.begin_sent.ensures.kept) c.left_by_pieces.ensures.kept) c.write_pieces.ensures.others
+
+pub returns-in_err-going-clause-refused : goal.returns-in_err-going-clause-refused
+returns-in_err-going-clause-refused g c =
+    let asked = c.args.asked in
+    let seen = rw c.in-Some.is at c.in_ok-seen.ensures.capture in
+    let why = c.in_err-going.ensures.refused in
+    let p = err_from_is_err_and c.from_residual-in_err-going.result c.from_residual-in_err-going.ensures.1 in
+    rw (p.1, p.2)
+    (given_up seen.0 why.0 c.look_through.ensures.kept
+    (subst (λ (skip : Bool). IsCaptureOf (g.D.Folder.holds c.args.folder.now) skip asked.files.now.capture.now seen.0) (sym c.requires.all) seen.1)
+    (subst (λ (exact : Bool). IsGivenUp exact asked.verified.now.maps asked.updates.now asked.script.now asked.options asked.recording why.0)
+    (sym c.requires.exact) why.2)
+    why.1)
+
+pub returns-in_err-write_pieces-in-Ok-Some-clause-refused : goal.returns-in_err-write_pieces-in-Ok-Some-clause-refused
+returns-in_err-write_pieces-in-Ok-Some-clause-refused g c =
+    let asked = c.args.asked in
+    let left = rw c.in-Ok-Some.field-0-is at c.in-Ok-Some.ensures.left in
+    let made_of = left.made_of in
+    let before = kept_twice _ _ _ c.look_through.ensures.kept c.begin_sent.ensures.kept in
+    let begun = left.added asked.files.now.sent.now header_bytes (c.in_ok-begin_sent.ensures.begun c.if-not-branch.false) in
+    let p = err_from_is_err_and c.from_residual-in_err-write_pieces-in-Ok-Some.result c.from_residual-in_err-write_pieces-in-Ok-Some.ensures.1 in
+    rw (p.1, p.2)
+    (not_written_down left.records made_of.whole
+    (subst (λ (skip : Bool). IsCaptureOf (g.D.Folder.holds c.args.folder.now) skip asked.files.now.capture.now left.records) (sym c.requires.all)
+    (capture_before _ _ before _ _ left.records left.capture))
+    (subst (λ (exact : Bool). IsMade exact (program_of_replay (image_of asked.verified.now) asked.options) asked.updates.now asked.script.now
+    (recorded asked.recording asked.options) left.records made_of.whole) (sym c.requires.exact) made_of.made)
+    (unfiled_before _ _ _ _ _ _ _ _ _ (kept_twice _ _ _ before c.left_by_pieces.ensures.kept)
+    (λ failed. failed_since _ _ _ c.in_ok-seen.ensures.steady
+    (failed_since _ _ _ c.in_ok-begin_sent.ensures.steady (failed_since _ _ _ c.in-Ok-Some.ensures.steady failed)))
+    (c.in_err-write_pieces-in-Ok-Some.ensures.refused (capture_bytes made_of.whole.sent.items) made_of.whole.journals
+    (subst (λ (sent : List Sent). g.D.Folder.is_begun c.left_by_pieces.new.folder asked.files.now.sent.now (header_bytes ++ records_bytes sent))
+    (sym made_of.sent_are) begun))))
+
+pub returns-in_ok-write_pieces-in-Ok-Some-clause-done : goal.returns-in_ok-write_pieces-in-Ok-Some-clause-done
+returns-in_ok-write_pieces-in-Ok-Some-clause-done g c =
+    let asked = c.args.asked in
+    let left = rw c.in-Ok-Some.field-0-is at c.in-Ok-Some.ensures.left in
+    let made_of = left.made_of in
+    let before = kept_twice _ _ _ c.look_through.ensures.kept c.begin_sent.ensures.kept in
+    let begun = left.added asked.files.now.sent.now header_bytes (c.in_ok-begin_sent.ensures.begun c.if-not-branch.false) in (
+      made_of.whole.refused.items,
+      record {
+        records = left.records;
+        capture = subst (λ (skip : Bool). IsCaptureOf (g.D.Folder.holds c.args.folder.now) skip asked.files.now.capture.now left.records)
+            (sym c.requires.all) (capture_before _ _ before _ _ left.records left.capture);
+        outcome = made_of.whole;
+        made = subst (λ (exact : Bool). IsMade exact (program_of_replay (image_of asked.verified.now) asked.options) asked.updates.now asked.script.now
+            (recorded asked.recording asked.options) left.records made_of.whole) (sym c.requires.exact) made_of.made;
+        headline = made_of.headline;
+        by_rule = made_of.by_rule;
+        readers = made_of.readers;
+        refused_are = refl;
+        sent = λ other third. c.in_ok-write_pieces-in-Ok-Some.ensures.sent (capture_bytes made_of.whole.sent.items)
+            (subst (λ (sent : List Sent). g.D.Folder.is_begun c.left_by_pieces.new.folder asked.files.now.sent.now (header_bytes ++ records_bytes sent))
+            (sym made_of.sent_are) begun) other;
+        journals = λ apart. written_down (g.D.Folder.holds c.write_pieces.new.folder) (text_of asked.files.now.journals) _ made_of.whole.journals
+            made_of.journals_are c.in_ok-write_pieces-in-Ok-Some.ensures.journals;
+        report = subst (λ (name : Option (List ℕ)). IsReportFile (g.D.Folder.holds c.write_pieces.new.folder) name asked.files.now.is_steering
+            asked.script.now left.records made_of.whole) (sym c.requires.no_report) tt;
+        lines = made_of.text;
+      },
+      made_of.none_refused,
+    )
+
+pub returns-in-Err-clause-refused : goal.returns-in-Err-clause-refused
+returns-in-Err-clause-refused g c =
+    let asked = c.args.asked in
+    let seen = rw c.in-Some.is at c.in_ok-seen.ensures.capture in
+    broken_off seen.0 c.requires.exact
+    (kept_twice _ _ _ (kept_twice _ _ _ (kept_twice _ _ _ c.look_through.ensures.kept c.begin_sent.ensures.kept) c.left_by_pieces.ensures.kept)
+    c.give_up-in-Err.ensures.kept)
+    (subst (λ (skip : Bool). IsCaptureOf (g.D.Folder.holds c.args.folder.now) skip asked.files.now.capture.now seen.0) (sym c.requires.all) seen.1)
+    (broken_since _ _ _ _ (failed_within _ _ _ _ _ c.in_ok-seen.ensures.steady c.in_ok-begin_sent.ensures.steady c.give_up-in-Err.ensures.steady)
+    c.in-Err.ensures.refused)

@@ -1,0 +1,86 @@
+-- An exact replay whose capture is read, and whose sent frames are written, in pieces.
+use Rattle.std.specs.Prelude.{◌≡◌, ◌↔◌, ◌+◌, ◌*◌, ◌^◌, ◌≤◌, ◌++◌, ℕ, true, false, List, [], Option, Some, length, string_bytes}
+use Rattle.std.specs.List.{AllByRecursion}
+use Rattle.ebpf_decode.specs.ImageContents.{Contents}
+use Rattle.abstract_state.specs.declared.state.State.{State}
+use Rattle.semantics.specs.Program.{Program}
+use Rattle.semantics.specs.ShardPlan.{recorded}
+use Rattle.semantics.specs.declared.options.Options.{Options}
+use Rattle.semantics.specs.declared.options.Recording.{Recording}
+use Rattle.map_updates.specs.declared.update.MapUpdate.{MapUpdate}
+use Rattle.wire.specs.CaptureFormat.{records_bytes}
+use Rattle.wire.specs.declared.records.Sent.{Sent}
+use Rattle.folders.specs.PieceReading.{ReaderView}
+use Rattle.control.specs.declared.command.Command.{Command}
+use Rattle.guarantees.specs.ReaderReplays.{IsCaptured}
+use Rattle.journals.specs.JournalText.{journals_text}
+use Rattle.replay.specs.Pieces.{IsUnderway}
+use Rattle.replay.specs.declared.in_pieces.PieceReplay.{PieceReplay}
+use Rattle.replay.specs.declared.outcome.Outcome.{Outcome}
+use Rattle.replay.specs.declared.outcome.RecordEnd.{RecordEnd}
+use Rattle.command_line.specs.Reading.{text_of}
+use Rattle.command_line.specs.declared.commands.ReplayFiles.{ReplayFiles}
+use Rattle.xlb_commands.specs.declared.report.Report.{Report}
+use Rattle.xlb_commands.specs.Files.{FileBytes}
+use Rattle.xlb_commands.specs.Replays.{FollowsRule, IsCaptureOf, IsMade, KeepsHeadline, SendsAlike, counts_text, program_of_replay, refusals_text}
+
+-- no reader counts too far: each record takes 16 bytes at least
+abbrev pub HasRoom : ℕ → ReaderView → Type 0
+HasRoom most reader = 16 * reader.count + length reader.unread + most ≤ 2 ^ 40
+
+-- the replay took the turns of these records, of which these frames were sent and of which this became
+abbrev pub AreRun : Program → List Command → Options → PieceReplay → PieceReplay → List Sent → List Sent → List RecordEnd → Type 0
+AreRun program script options before after records sent ends =
+    (updates : List MapUpdate) (past past_sent : List Sent) (past_ends : List RecordEnd)
+    → IsUnderway program script options updates past past_sent past_ends before
+    → IsUnderway program script options updates (past ++ records) (past_sent ++ sent) (past_ends ++ ends) after
+
+-- the file that is being made has this many frames more
+abbrev pub AreAdded : FileBytes → FileBytes → List Sent → Type 0
+AreAdded before after sent = (name bytes : List ℕ) → before name bytes → after name (bytes ++ records_bytes sent)
+
+-- some records were run, and what of them is sent was added to the file that is being made
+pub record HaveRun (program : Program) (script : List Command) (options : Options) (before after : PieceReplay) (made made' : FileBytes)
+    (records : List Sent) : Type 0 where
+  pub captured : AllByRecursion IsCaptured records
+  pub sent : List Sent
+  pub ends : List RecordEnd
+  pub run : AreRun program script options before after records sent ends
+  pub added : AreAdded made made' sent
+
+-- the replay is at this place of some capture
+pub record IsGoing (program : Program) (script : List Command) (options : Options) (updates : List MapUpdate) (replay : PieceReplay) : Type 0 where
+  pub records : List Sent
+  pub sent : List Sent
+  pub ends : List RecordEnd
+  pub underway : IsUnderway program script options updates records sent ends replay
+
+-- the outcome of an exact replay of these records, which sent these frames, is one of which all holds that a replay promises; and the bytes of the journals
+-- and the report are its
+pub record IsMadeOf (files : ReplayFiles) (program : Contents) (states : List (Option State)) (script : List Command) (options : Options)
+    (recording : Recording) (ring : ℕ) (updates : List MapUpdate) (records sent : List Sent) (report : Report) (journals : List ℕ) : Type 0 where
+  pub whole : Outcome
+  pub sent_are : whole.sent.items ≡ sent
+  pub made : IsMade true (program_of_replay program options) updates script (recorded recording options) records whole
+  pub headline : KeepsHeadline program script (recorded recording options) records whole
+  pub by_rule : updates ≡ [] → FollowsRule (text_of files.image) ring script (recorded recording options) records whole
+  pub readers : updates ≡ [] → SendsAlike program states script (recorded recording options) records whole
+  pub journals_are : (file : List ℕ) → text_of files.journals ≡ Some file → journals ≡ journals_text whole.journals
+  pub text : string_bytes report.text ≡ counts_text whole.counts ++ refusals_text whole.refused.items
+  pub none_refused : (whole.refused.items ≡ []) ↔ (report.is_refused ≡ false)
+
+-- the file is a capture, and all its records were run
+pub record HasGoneThrough (files : FileBytes) (name : List ℕ) (program : Program) (script : List Command) (options : Options)
+    (before after : PieceReplay) (made made' : FileBytes) : Type 0 where
+  pub records : List Sent
+  pub capture : IsCaptureOf files false name records
+  pub have_run : HaveRun program script options before after made made' records
+
+-- besides, the replay came to its end, and the report and the bytes of the journals are its
+pub record IsLeft (before made made' : FileBytes) (files : ReplayFiles) (program : Contents) (states : List (Option State)) (script : List Command)
+    (options : Options) (recording : Recording) (ring : ℕ) (updates : List MapUpdate) (report : Report) (journals : List ℕ) : Type 0 where
+  pub records : List Sent
+  pub sent : List Sent
+  pub capture : IsCaptureOf before false files.capture.now records
+  pub added : AreAdded made made' sent
+  pub made_of : IsMadeOf files program states script options recording ring updates records sent report journals

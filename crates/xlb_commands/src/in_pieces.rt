@@ -1,0 +1,637 @@
+//! An exact replay whose capture is read, and whose sent frames are written, in pieces: its memory does not grow with the capture, unless the journals
+//! keep their rows.
+//!
+//! The capture is read twice: once to see that it is one, before anything is run, and once while its frames are run. Where it cannot be read in pieces, or
+//! the file of the sent frames cannot be made in pieces, or the capture is none or was changed in between, nothing was written, and the replay is
+//! made with the whole capture in memory, which also says what is wrong with it.
+
+ghost use Rattle.std.specs.Prelude.{◌≡◌, ◌≢◌, ◌↔◌, ◌⊎◌, ◌+◌, ◌*◌, ◌++◌, ◌-◌, ◌<◌, ◌≤◌, ◌^◌, ℕ, [], true, false};
+ghost use Rattle.std.specs.Prelude.{List, Some, None, IfErr, IfOk, IfSome, IfNone, OnOk, length};
+ghost use Rattle.std.specs.List.{AllByRecursion};
+ghost use Rattle.semantics.specs.Program.{Program};
+ghost use Rattle.semantics.specs.ShardPlan.{AreOptions, KeepsRows, recorded};
+ghost use Rattle.semantics.specs.declared.options.Options.{Options as Settings};
+ghost use Rattle.semantics.specs.declared.options.Recording.TheVariants.{Rows};
+ghost use Rattle.machine.specs.Running.{program_of};
+ghost use Rattle.maglev.specs.RingSize.{IsRingSize};
+ghost use Rattle.steer.specs.ShippedProgram.{shipped_image};
+ghost use Rattle.wire.specs.CaptureFormat.{header_bytes, records_bytes};
+ghost use Rattle.wire.specs.declared.records.Sent.{Sent as Record};
+ghost use Rattle.folders.specs.PieceReading.{IsReadTo, ReadsOn, ReadsToEnd};
+ghost use Rattle.control.specs.declared.command.Command.{Command};
+ghost use Rattle.guarantees.specs.ReaderReplays.{IsCaptured};
+ghost use Rattle.map_updates.specs.Misfits.{AreFitting};
+ghost use Rattle.replay.specs.Accounted.{IsAccounted};
+ghost use Rattle.replay.specs.Pieces.{GoesOn, IsUnderway, IsReplayed as IsReplayedInPieces};
+ghost use Rattle.replay.specs.declared.outcome.Outcome.{Outcome as Made};
+ghost use Rattle.replay.specs.declared.outcome.RecordEnd.{RecordEnd as End};
+ghost use Rattle.steered_replays.specs.SteeredRuns.{IsOfCapture, IsSteeredReplay};
+ghost use Rattle.steered_replays.specs.Totals.{AreTotals};
+ghost use Rattle.journals.specs.JournalsView.{JournalsView};
+ghost use Rattle.command_line.specs.Reading.{text_of};
+ghost use Rattle.xlb_commands.specs.Files.{AreAllButKept, AreKept, AreOthersKept};
+ghost use Rattle.xlb_commands.specs.AskedReplays.{IsAnswered, IsDenied, LeavesOthers};
+ghost use Rattle.xlb_commands.specs.InPieces.{HasGoneThrough, HasRoom, HaveRun, IsGoing, IsLeft, IsMadeOf};
+ghost use Rattle.xlb_commands.specs.Refused.{AreUnfiled, HasFailed, IsBrokenOff, IsGivenUp, IsUnserved};
+ghost use Rattle.xlb_commands.specs.Replays.{HasBytes, IsCaptureOf, image_of};
+
+use crate::fault::{Fault, Refusal};
+use crate::files::{journal_bytes, unserved, write_journals_to};
+use crate::notes::{Notes, Passed, first_stopped};
+use crate::progress::{Progress, Rounds};
+use crate::replays::{Asked, bytes_of_frames, given_up, readers_send_alike};
+use crate::report::{Report, replayed};
+use command_line::ReplayFiles;
+use folders::{CaptureReader, Folder, FolderFault};
+use guarantees::headline;
+use guarantees::replays::all_are_captured;
+use replay::{Outcome, PieceReplay, RecordEnd, ReplayFault};
+use shard_port::Gate;
+use std::alloc::Global;
+use steered_replays::laws::shipped_replays_are_steered;
+use wire::{CAPTURE_HEADER_LEN, Capture, CaptureFault, MemorySink, Sent};
+
+/// The most records of a piece.
+const PIECE: usize = 1024;
+
+/// A capture that was read once.
+#[derive(Clone, Copy)]
+struct Seen {
+    /// How many records it has.
+    records: u64,
+    /// How many of them have fewer bytes than the frames that were captured.
+    cut: u64,
+}
+
+/// A replay between two pieces.
+#[derive(Drop)]
+struct Going {
+    replay: PieceReplay,
+    /// The first record, counted from 0, whose run was stopped.
+    stopped: Option<usize>,
+}
+
+/// What came of a piece.
+#[derive(Clone, Copy, Debug, PartialEq, Eq)]
+enum Step {
+    More,
+    Last,
+    /// The rest of the file is no capture any more.
+    Changed,
+}
+
+/// What a replay leaves besides the sent frames, in memory.
+#[derive(Drop)]
+struct LeftInPieces {
+    journals: MemorySink,
+    report: Report,
+}
+
+/// The refusal for a device that failed, or for lack of memory, while a capture was read; none where its bytes are wrong.
+fn unserved_capture<D: Folder>(
+    alloc: Global,
+    folder: &D,
+    name: &str,
+    fault: CaptureFault,
+) -> Option<Refusal>
+    ensures some { IfSome result (λ refusal. (fault ≡ CaptureFault.Device) × (refusal.fault ≡ Fault.Folder FolderFault.Device)
+        ⊎ (fault ≡ CaptureFault.Memory) × (refusal.fault ≡ Fault.Folder FolderFault.Memory)) }
+    ensures none { IfNone result (fault ≢ CaptureFault.Device) }
+{
+    match fault {
+        CaptureFault::Device => Some(unserved(alloc, folder, name, FolderFault::Device)),
+        CaptureFault::Memory => Some(unserved(alloc, folder, name, FolderFault::Memory)),
+        _ => None,
+    }
+}
+
+/// Opens a capture, if it can be read in pieces and has a header.
+fn open_reader<D: Folder>(
+    alloc: Global,
+    folder: &mut D,
+    name: &str,
+) -> Result<Option<CaptureReader>, Refusal>
+    requires { D.failure_count folder.old < 2 ^ 64 - 1 }
+    ensures opened { IfOk result (λ found. IfSome found (IsReadTo (D.holds folder.old name.now) (D.is_left folder.new) [])) }
+    ensures room { IfOk result (λ found. IfSome found (HasRoom (D.most_left folder.new))) }
+    ensures kept { AreKept (D.holds folder.old) (D.holds folder.new) }
+    ensures made { AreKept (D.is_begun folder.old) (D.is_begun folder.new) }
+    ensures steady { OnOk result (D.failure_count folder.new ≡ D.failure_count folder.old) }
+    ensures refused { IfErr result
+        (λ refusal. IsUnserved (HasFailed (D.failure_count folder.old) (D.failure_count folder.new)) refusal.fault) }
+{
+    match CaptureReader::open(alloc, folder, name) {
+        Ok(found) => Ok(found),
+        Err(fault) => match unserved_capture(alloc, folder, name, fault) {
+            Some(refusal) => Err(refusal),
+            None => Ok(None),
+        },
+    }
+}
+
+/// The next records of a capture, at most `PIECE`, and fewer only at its end. None where the rest of the file is no capture.
+fn next_piece<D: Folder>(
+    alloc: Global,
+    folder: &mut D,
+    name: &str,
+    reader: &mut CaptureReader,
+) -> Result<Option<Capture>, Refusal>
+    requires failures { D.failure_count folder.old < 2 ^ 64 - 1 }
+    requires room { HasRoom (D.most_left folder.old) reader.old }
+    ensures read { IfOk result (λ found. IfSome found (λ piece.
+        ReadsOn D.holds (D.is_left folder.old) (D.is_left folder.new) reader.old reader.new piece.records.items)) }
+    ensures whole { IfOk result (λ found. IfSome found (λ piece. length piece.records.items < 1024 →
+        ReadsToEnd D.holds (D.is_left folder.old) reader.old piece.records.items reader.new.cut)) }
+    ensures count { IfOk result (λ found. IfSome found (λ piece. reader.new.count ≡ reader.old.count + length piece.records.items)) }
+    ensures fewer { IfOk result (λ found. IfSome found (λ piece. length reader.new.unread + D.most_left folder.new
+        + 16 * length piece.records.items ≤ length reader.old.unread + D.most_left folder.old)) }
+    ensures room { IfOk result (λ found. IfSome found (λ _. HasRoom (D.most_left folder.new) reader.new)) }
+    ensures kept { AreKept (D.holds folder.old) (D.holds folder.new) }
+    ensures made { AreKept (D.is_begun folder.old) (D.is_begun folder.new) }
+    ensures steady { OnOk result (D.failure_count folder.new ≡ D.failure_count folder.old) }
+    ensures refused { IfErr result
+        (λ refusal. IsUnserved (HasFailed (D.failure_count folder.old) (D.failure_count folder.new)) refusal.fault) }
+{
+    match reader.next(alloc, folder, PIECE) {
+        Ok(piece) => Ok(Some(piece)),
+        Err(fault) => match unserved_capture(alloc, folder, name, fault) {
+            Some(refusal) => Err(refusal),
+            None => Ok(None),
+        },
+    }
+}
+
+/// Reads a capture from its beginning to its end. None where it is not read in pieces, or is no capture.
+fn look_through<D: Folder>(
+    alloc: Global,
+    folder: &mut D,
+    name: &str,
+) -> Result<Option<Seen>, Refusal>
+    requires { D.failure_count folder.old < 2 ^ 64 - 1 }
+    ensures capture { IfOk result (λ found. IfSome found
+        (λ seen. (records : List Record) × IsCaptureOf (D.holds folder.old) false name.now records × (seen.records ≡ length records))) }
+    ensures kept { AreKept (D.holds folder.old) (D.holds folder.new) }
+    ensures steady { OnOk result (D.failure_count folder.new ≡ D.failure_count folder.old) }
+    ensures refused { IfErr result
+        (λ refusal. IsUnserved (HasFailed (D.failure_count folder.old) (D.failure_count folder.new)) refusal.fault) }
+{
+    let Some(mut reader) = open_reader(alloc, folder, name)? else {
+        return Ok(None);
+    };
+    'pieces: loop {
+        let Some(piece) = next_piece(alloc, folder, name, &mut reader)? else {
+            return Ok(None);
+        };
+        if piece.records.len() < PIECE {
+            return Ok(Some(Seen {
+                records: reader.count(),
+                cut: reader.cut(),
+            }));
+        }
+    }
+}
+
+/// Adds bytes to the file that is being made under this name.
+fn add_bytes<D: Folder>(
+    alloc: Global,
+    folder: &mut D,
+    name: &str,
+    bytes: &[u8],
+) -> Result<(), Refusal>
+    requires { D.failure_count folder.old < 2 ^ 64 - 1 }
+    ensures added { OnOk result ((file before : List ℕ) → D.is_begun folder.old file before →
+        D.is_begun folder.new file (before ++ bytes.now)) }
+    ensures kept { AreKept (D.holds folder.old) (D.holds folder.new) }
+    ensures left { (rest : List ℕ) → (D.is_left folder.old rest ↔ D.is_left folder.new rest) }
+    ensures most { D.most_left folder.new ≡ D.most_left folder.old }
+    ensures steady { OnOk result (D.failure_count folder.new ≡ D.failure_count folder.old) }
+    ensures refused { IfErr result
+        (λ refusal. IsUnserved (HasFailed (D.failure_count folder.old) (D.failure_count folder.new)) refusal.fault) }
+{
+    match folder.add(bytes) {
+        Ok(()) => Ok(()),
+        Err(fault) => Err(unserved(alloc, folder, name, fault)),
+    }
+}
+
+/// Adds the records of frames to the capture that is being made under this name.
+fn add_frames<D: Folder>(
+    alloc: Global,
+    folder: &mut D,
+    name: &str,
+    frames: &[Sent],
+) -> Result<(), Refusal>
+    requires { D.failure_count folder.old < 2 ^ 64 - 1 }
+    ensures added { OnOk result ((file before : List ℕ) → D.is_begun folder.old file before →
+        D.is_begun folder.new file (before ++ records_bytes frames.now)) }
+    ensures kept { AreKept (D.holds folder.old) (D.holds folder.new) }
+    ensures left { (rest : List ℕ) → (D.is_left folder.old rest ↔ D.is_left folder.new rest) }
+    ensures most { D.most_left folder.new ≡ D.most_left folder.old }
+    ensures steady { OnOk result (D.failure_count folder.new ≡ D.failure_count folder.old) }
+    ensures refused { IfErr result
+        (λ refusal. IsUnserved (HasFailed (D.failure_count folder.old) (D.failure_count folder.new)) refusal.fault) }
+{
+    let Ok(file) = bytes_of_frames(alloc, frames) else {
+        return Err(unserved(alloc, folder, name, FolderFault::Memory));
+    };
+    add_bytes(alloc, folder, name, &file.bytes()[CAPTURE_HEADER_LEN..])
+}
+
+/// Begins to make a capture under this name, if it can be made in pieces.
+fn begin_sent<D: Folder>(alloc: Global, folder: &mut D, name: &str) -> Result<bool, Refusal>
+    requires { D.failure_count folder.old < 2 ^ 64 - 1 }
+    ensures begun { IfOk result (λ may. may ≡ true → D.is_begun folder.new name.now header_bytes) }
+    ensures kept { AreKept (D.holds folder.old) (D.holds folder.new) }
+    ensures steady { OnOk result (D.failure_count folder.new ≡ D.failure_count folder.old) }
+    ensures refused { IfErr result
+        (λ refusal. IsUnserved (HasFailed (D.failure_count folder.old) (D.failure_count folder.new)) refusal.fault) }
+{
+    match folder.begin(alloc, name) {
+        Ok(true) => match add_header(alloc, folder, name) {
+            Ok(()) => Ok(true),
+            Err(refusal) => {
+                folder.give_up();
+                Err(refusal)
+            }
+        },
+        Ok(false) => Ok(false),
+        Err(fault) => Err(unserved(alloc, folder, name, fault)),
+    }
+}
+
+/// Adds the header of a capture to the file that is being made under this name.
+fn add_header<D: Folder>(alloc: Global, folder: &mut D, name: &str) -> Result<(), Refusal>
+    requires { D.failure_count folder.old < 2 ^ 64 - 1 }
+    ensures added { OnOk result ((file before : List ℕ) → D.is_begun folder.old file before →
+        D.is_begun folder.new file (before ++ header_bytes)) }
+    ensures kept { AreKept (D.holds folder.old) (D.holds folder.new) }
+    ensures steady { OnOk result (D.failure_count folder.new ≡ D.failure_count folder.old) }
+    ensures refused { IfErr result
+        (λ refusal. IsUnserved (HasFailed (D.failure_count folder.old) (D.failure_count folder.new)) refusal.fault) }
+{
+    let Ok(file) = bytes_of_frames(alloc, &[]) else {
+        return Err(unserved(alloc, folder, name, FolderFault::Memory));
+    };
+    add_bytes(alloc, folder, name, file.bytes())
+}
+
+impl Going {
+    /// Notes the first record whose run was stopped, among these that come behind `before` others.
+    fn note(&mut self, before: usize, ends: &[RecordEnd])
+        ensures { self.new.replay ≡ self.old.replay }
+    {
+        if self.stopped.is_some() {
+            return;
+        }
+        if let Some(place) = first_stopped(ends) {
+            self.stopped = Some(before.saturating_add(place));
+        }
+    }
+}
+
+/// The replay before its first record.
+fn opened(alloc: Global, asked: Asked<'_>) -> Result<Going, Refusal>
+    requires fit { AreFitting asked.verified.now.maps asked.updates.now }
+    ensures goes_on { IfOk result (λ going. GoesOn asked.entry.script.now going.replay) }
+    ensures maps { IfOk result (λ going. going.replay.turns.all.maps ≡ asked.entry.verified.now.maps) }
+    ensures underway { IfOk result (λ going. IsUnderway (program_of asked.entry.verified.now asked.entry.options.shards)
+        asked.entry.script.now
+        (recorded asked.entry.recording asked.entry.options) asked.entry.updates.now [] [] [] going.replay) }
+    ensures served { OnOk result (KeepsRows asked.entry.options.journal) }
+    ensures refused { IfErr result (λ refusal. (why : ReplayFault) × (refusal.fault ≡ Fault.Replay why)
+        × IsGivenUp true asked.entry.verified.now.maps asked.entry.updates.now asked.entry.script.now asked.entry.options
+        asked.entry.recording why) }
+{
+    match PieceReplay::open(
+        alloc,
+        asked.verified,
+        asked.updates,
+        asked.script,
+        asked.options,
+        asked.recording,
+    ) {
+        Ok(replay) => Ok(Going {
+            replay,
+            stopped: None,
+        }),
+        Err(fault) => Err(given_up(alloc, asked.options, asked.verified, fault)),
+    }
+}
+
+/// Runs the records of a piece, and adds what is sent to the file that is being made. No: there are too many records.
+fn run_piece<D: Folder, G: Gate>(
+    alloc: Global,
+    folder: &mut D,
+    asked: Asked<'_>,
+    going: &mut Going,
+    piece: &Capture,
+    gate: &G,
+) -> Result<bool, Refusal>
+    requires failures { D.failure_count folder.old < 2 ^ 64 - 1 }
+    requires goes_on { GoesOn asked.script.now going.old.replay }
+    requires maps { going.old.replay.turns.all.maps ≡ asked.verified.now.maps }
+    ensures run { IfOk result (λ went. went ≡ true → HaveRun (program_of asked.entry.verified.now asked.entry.options.shards)
+        asked.entry.script.now (recorded asked.entry.recording asked.entry.options) going.old.replay going.new.replay
+        (D.is_begun folder.old) (D.is_begun folder.new) piece.now.records.items) }
+    ensures goes_on { IfOk result (λ went. went ≡ true → GoesOn asked.entry.script.now going.new.replay) }
+    ensures maps { IfOk result (λ went. went ≡ true → going.new.replay.turns.all.maps ≡ asked.entry.verified.now.maps) }
+    ensures kept { AreKept (D.holds folder.old) (D.holds folder.new) }
+    ensures left { (rest : List ℕ) → (D.is_left folder.old rest ↔ D.is_left folder.new rest) }
+    ensures most { D.most_left folder.new ≡ D.most_left folder.old }
+    ensures steady { OnOk result (D.failure_count folder.new ≡ D.failure_count folder.old) }
+    ensures refused { IfErr result (λ refusal. IsBrokenOff (text_of asked.entry.files.now.journals)
+        (HasFailed (D.failure_count folder.old) (D.failure_count folder.new)) refusal.fault) }
+{
+    if !going.replay.has_room(piece) {
+        return Ok(false);
+    }
+    all_are_captured(piece);
+    let before = going.replay.taken();
+    match going
+        .replay
+        .go_on(alloc, asked.verified, asked.script, piece, gate)
+    {
+        Ok(done) => {
+            add_frames(alloc, folder, asked.files.sent, &done.sent)?;
+            going.note(before, &done.ends);
+            Ok(true)
+        }
+        Err(_) => Err(given_up(alloc, asked.options, asked.verified, ReplayFault::Memory)),
+    }
+}
+
+/// Reads a piece, and runs it.
+fn take_piece<D: Folder, G: Gate>(
+    alloc: Global,
+    folder: &mut D,
+    asked: Asked<'_>,
+    reader: &mut CaptureReader,
+    going: &mut Going,
+    gate: &G,
+) -> Result<Step, Refusal>
+    requires failures { D.failure_count folder.old < 2 ^ 64 - 1 }
+    requires room { HasRoom (D.most_left folder.old) reader.old }
+    requires goes_on { GoesOn asked.script.now going.old.replay }
+    requires maps { going.old.replay.turns.all.maps ≡ asked.verified.now.maps }
+    ensures more { IfOk result (λ step. step ≡ Step.More → (records : List Record)
+        × ReadsOn D.holds (D.is_left folder.old) (D.is_left folder.new) reader.old reader.new records
+        × HaveRun (program_of asked.entry.verified.now asked.entry.options.shards) asked.entry.script.now
+        (recorded asked.entry.recording asked.entry.options) going.old.replay going.new.replay
+        (D.is_begun folder.old) (D.is_begun folder.new) records) }
+    ensures last { IfOk result (λ step. step ≡ Step.Last → (records : List Record)
+        × ReadsToEnd D.holds (D.is_left folder.old) reader.old records reader.new.cut
+        × HaveRun (program_of asked.entry.verified.now asked.entry.options.shards) asked.entry.script.now
+        (recorded asked.entry.recording asked.entry.options) going.old.replay going.new.replay
+        (D.is_begun folder.old) (D.is_begun folder.new) records) }
+    ensures room { IfOk result (λ step. step ≢ Step.Changed → HasRoom (D.most_left folder.new) reader.new) }
+    ensures fewer { IfOk result (λ step. step ≡ Step.More →
+        length reader.new.unread + D.most_left folder.new < length reader.old.unread + D.most_left folder.old) }
+    ensures goes_on { IfOk result (λ step. step ≢ Step.Changed → GoesOn asked.entry.script.now going.new.replay) }
+    ensures maps { IfOk result (λ step. step ≢ Step.Changed → going.new.replay.turns.all.maps ≡ asked.entry.verified.now.maps) }
+    ensures kept { AreKept (D.holds folder.old) (D.holds folder.new) }
+    ensures steady { OnOk result (D.failure_count folder.new ≡ D.failure_count folder.old) }
+    ensures refused { IfErr result (λ refusal. IsBrokenOff (text_of asked.entry.files.now.journals)
+        (HasFailed (D.failure_count folder.old) (D.failure_count folder.new)) refusal.fault) }
+{
+    let Some(piece) = next_piece(alloc, folder, asked.files.capture, reader)? else {
+        return Ok(Step::Changed);
+    };
+    if !run_piece(alloc, folder, asked, going, &piece, gate)? {
+        return Ok(Step::Changed);
+    }
+    if piece.records.len() < PIECE {
+        return Ok(Step::Last);
+    }
+    Ok(Step::More)
+}
+
+/// Reads the capture once more, and runs all its records. No: it is no capture any more.
+fn go_through<D: Folder, G: Gate>(
+    alloc: Global,
+    folder: &mut D,
+    asked: Asked<'_>,
+    going: &mut Going,
+    gate: &G,
+) -> Result<bool, Refusal>
+    requires failures { D.failure_count folder.old < 2 ^ 64 - 1 }
+    requires goes_on { GoesOn asked.script.now going.old.replay }
+    requires maps { going.old.replay.turns.all.maps ≡ asked.verified.now.maps }
+    ensures gone { IfOk result (λ whole. whole ≡ true → HasGoneThrough (D.holds folder.old) asked.entry.files.now.capture.now
+        (program_of asked.entry.verified.now asked.entry.options.shards) asked.entry.script.now
+        (recorded asked.entry.recording asked.entry.options) going.old.replay going.new.replay
+        (D.is_begun folder.old) (D.is_begun folder.new)) }
+    ensures goes_on { IfOk result (λ whole. whole ≡ true → GoesOn asked.entry.script.now going.new.replay) }
+    ensures kept { AreKept (D.holds folder.old) (D.holds folder.new) }
+    ensures steady { OnOk result (D.failure_count folder.new ≡ D.failure_count folder.old) }
+    ensures refused { IfErr result (λ refusal. IsBrokenOff (text_of asked.entry.files.now.journals)
+        (HasFailed (D.failure_count folder.old) (D.failure_count folder.new)) refusal.fault) }
+{
+    let Some(mut reader) = open_reader(alloc, folder, asked.files.capture)? else {
+        return Ok(false);
+    };
+    'pieces: loop {
+        match take_piece(alloc, folder, asked, &mut reader, going, gate) {
+            Ok(Step::More) => {}
+            Ok(Step::Last) => return Ok(true),
+            Ok(Step::Changed) => return Ok(false),
+            Err(refusal) => return Err(refusal),
+        }
+    }
+}
+
+/// What holds of every replay of the shipped program, where no image is named.
+fn steered_where_shipped(asked: Asked<'_>)
+    requires size { text_of asked.files.now.image ≡ None → IsRingSize asked.ring }
+    requires shipped { text_of asked.files.now.image ≡ None → image_of asked.verified.now ≡ shipped_image asked.ring }
+    ensures steered { text_of asked.entry.files.now.image ≡ None → (script : List Command) (options : Settings) (records : List Record)
+        (outcome : Made) → AreOptions asked.entry.verified.now.maps options → AllByRecursion IsOfCapture records →
+        IsAccounted (program_of asked.entry.verified.now options.shards) script options records outcome →
+        IsSteeredReplay asked.entry.ring script options records outcome }
+    ensures totals { text_of asked.entry.files.now.image ≡ None → (script : List Command) (options : Settings) (records : List Record)
+        (outcome : Made) → AreOptions asked.entry.verified.now.maps options → AllByRecursion IsOfCapture records →
+        IsAccounted (program_of asked.entry.verified.now options.shards) script options records outcome →
+        outcome.updates.items ≡ [] → outcome.counts.stopped ≡ 0 → AreTotals outcome }
+{
+    match asked.files.image {
+        Some(_) => {}
+        None => shipped_replays_are_steered(asked.verified, asked.ring),
+    }
+}
+
+/// The outcome of a replay behind its last record; it has no sent frames and no ends.
+fn ended(alloc: Global, asked: Asked<'_>, replay: PieceReplay) -> Result<Outcome, Refusal>
+    requires { GoesOn asked.script.now replay }
+    ensures replayed { IfOk result (λ rest. (program : Program) (options : Settings) (records sent : List Record) (ends : List End) →
+        IsUnderway program asked.entry.script.now options asked.entry.updates.now records sent ends replay →
+        IsReplayedInPieces program asked.entry.script.now options records sent ends rest) }
+    ensures updates { IfOk result (λ rest. rest.updates.items ≡ asked.entry.updates.now) }
+    ensures refused { IfErr result (λ refusal. refusal.fault ≡ Fault.Replay ReplayFault.Memory) }
+{
+    match replay.finish(alloc, asked.updates, asked.script) {
+        Ok(rest) => Ok(rest),
+        Err(_) => Err(given_up(alloc, asked.options, asked.verified, ReplayFault::Memory)),
+    }
+}
+
+/// What a replay leaves besides the sent frames, behind its last record.
+fn left_in_pieces(
+    alloc: Global,
+    asked: Asked<'_>,
+    passed: Passed,
+    going: Going,
+) -> Result<LeftInPieces, Refusal>
+    requires goes_on { GoesOn asked.script.now going.replay }
+    requires underway { IsGoing (program_of asked.verified.now asked.options.shards) asked.script.now
+        (recorded asked.recording asked.options) asked.updates.now going.replay }
+    requires rows { (file : List ℕ) → text_of asked.files.now.journals ≡ Some file → asked.recording ≡ Rows }
+    requires served { KeepsRows asked.options.journal }
+    requires size { text_of asked.files.now.image ≡ None → IsRingSize asked.ring }
+    requires shipped { text_of asked.files.now.image ≡ None → image_of asked.verified.now ≡ shipped_image asked.ring }
+    ensures left { IfOk result (λ left. (records sent : List Record) (ends : List End) →
+        IsUnderway (program_of asked.entry.verified.now asked.entry.options.shards) asked.entry.script.now (recorded
+        asked.entry.recording asked.entry.options)
+        asked.entry.updates.now records sent ends going.replay → AllByRecursion IsCaptured records →
+        IsMadeOf asked.entry.files.now
+        (image_of asked.entry.verified.now)
+        asked.entry.verified.now.states asked.entry.script.now asked.entry.options asked.entry.recording asked.entry.ring
+        asked.entry.updates.now records sent
+        left.report left.journals.bytes) }
+    ensures refused { IfErr result (λ refusal. IsBrokenOff (text_of asked.entry.files.now.journals) ⊥ refusal.fault) }
+{
+    headline(asked.verified);
+    readers_send_alike(asked.verified);
+    steered_where_shipped(asked);
+    let frames = going.replay.taken();
+    let stopped = going.stopped;
+    let outcome = ended(alloc, asked, going.replay)?;
+    let journals = journal_bytes(alloc, asked.files.journals, &outcome.journals)?;
+    let notes = Notes::of(asked, passed)
+        .lines(alloc, asked.script, &outcome, stopped)
+        .ok();
+    let report = replayed(alloc, frames, outcome.counts, &outcome.refused, notes)?;
+    Ok(LeftInPieces { journals, report })
+}
+
+/// Runs the whole capture, and what it leaves. None where the file is no capture any more.
+fn left_by_pieces<D: Folder, G: Gate>(
+    alloc: Global,
+    folder: &mut D,
+    asked: Asked<'_>,
+    seen: Seen,
+    mut going: Going,
+    gate: &G,
+) -> Result<Option<LeftInPieces>, Refusal>
+    requires failures { D.failure_count folder.old < 2 ^ 64 - 1 }
+    requires goes_on { GoesOn asked.script.now going.replay }
+    requires maps { going.replay.turns.all.maps ≡ asked.verified.now.maps }
+    requires underway { IsUnderway (program_of asked.verified.now asked.options.shards) asked.script.now
+        (recorded asked.recording asked.options) asked.updates.now [] [] [] going.replay }
+    requires rows { (file : List ℕ) → text_of asked.files.now.journals ≡ Some file → asked.recording ≡ Rows }
+    requires served { KeepsRows asked.options.journal }
+    requires size { text_of asked.files.now.image ≡ None → IsRingSize asked.ring }
+    requires shipped { text_of asked.files.now.image ≡ None → image_of asked.verified.now ≡ shipped_image asked.ring }
+    ensures left { IfOk result (λ found. IfSome found (λ left. IsLeft (D.holds folder.old) (D.is_begun folder.old) (D.is_begun folder.new)
+        asked.entry.files.now (image_of asked.entry.verified.now)
+        asked.entry.verified.now.states asked.entry.script.now asked.entry.options asked.entry.recording asked.entry.ring
+        asked.entry.updates.now
+        left.report left.journals.bytes)) }
+    ensures kept { AreKept (D.holds folder.old) (D.holds folder.new) }
+    ensures steady { OnOk result (D.failure_count folder.new ≡ D.failure_count folder.old) }
+    ensures refused { IfErr result (λ refusal. IsBrokenOff (text_of asked.entry.files.now.journals)
+        (HasFailed (D.failure_count folder.old) (D.failure_count folder.new)) refusal.fault) }
+{
+    if !go_through(alloc, folder, asked, &mut going, gate)? {
+        return Ok(None);
+    }
+    let passed = Passed {
+        cut: seen.cut,
+        long: 0,
+    };
+    let left = left_in_pieces(alloc, asked, passed, going)?;
+    Ok(Some(left))
+}
+
+/// Gives the file of the sent frames its name, and after it writes the journals where a file is named for them.
+fn write_pieces<D: Folder>(
+    alloc: Global,
+    folder: &mut D,
+    files: &ReplayFiles<'_>,
+    journals: &MemorySink,
+) -> Result<(), Refusal>
+    requires failures { D.failure_count folder.old < 2 ^ 64 - 1 }
+    requires begun { (bytes : List ℕ) × D.is_begun folder.old files.now.sent.now bytes }
+    ensures sent { OnOk result ((bytes : List ℕ) → D.is_begun folder.old files.now.sent.now bytes →
+        text_of files.now.journals ≢ Some files.now.sent.now → D.holds folder.new files.now.sent.now bytes) }
+    ensures journals { OnOk result (HasBytes (D.holds folder.new) (text_of files.now.journals) journals.now.bytes) }
+    ensures others { AreAllButKept (D.holds folder.old) (D.holds folder.new) files.now.sent.now (text_of files.now.journals)
+        (text_of files.now.report) }
+    ensures refused { IfErr result (λ refusal. (bytes : List ℕ) (journals : JournalsView) →
+        D.is_begun folder.old files.now.sent.now bytes → AreUnfiled (D.holds folder.old) (D.holds folder.new)
+        (HasFailed (D.failure_count folder.old) (D.failure_count folder.new)) files.now bytes journals refusal.fault) }
+{
+    finish_sent(alloc, folder, files.sent)?;
+    write_journals_to(alloc, folder, files.journals, journals)?;
+    Ok(())
+}
+
+/// Gives the file that is being made its name.
+fn finish_sent<D: Folder>(alloc: Global, folder: &mut D, name: &str) -> Result<(), Refusal>
+    requires failures { D.failure_count folder.old < 2 ^ 64 - 1 }
+    requires begun { (bytes : List ℕ) × D.is_begun folder.old name.now bytes }
+    ensures made { OnOk result ((bytes : List ℕ) → D.is_begun folder.old name.now bytes → D.holds folder.new name.now bytes) }
+    ensures others { AreOthersKept (D.holds folder.old) (D.holds folder.new) name.now }
+    ensures steady { OnOk result (D.failure_count folder.new ≡ D.failure_count folder.old) }
+    ensures refused { IfErr result
+        (λ refusal. IsUnserved (HasFailed (D.failure_count folder.old) (D.failure_count folder.new)) refusal.fault) }
+{
+    match folder.finish() {
+        Ok(()) => Ok(()),
+        Err(fault) => Err(unserved(alloc, folder, name, fault)),
+    }
+}
+
+/// Makes the replay in pieces. None where the folder does not read or make the files so, or where the file is no capture: then no file is changed.
+pub(crate) fn replay_in_pieces<D: Folder, P: Progress + Sync>(
+    alloc: Global,
+    folder: &mut D,
+    asked: Asked<'_>,
+    progress: &P,
+) -> Result<Option<Report>, Refusal>
+    requires failures { D.failure_count folder.old < 2 ^ 64 - 1 }
+    requires exact { asked.exact ≡ true }
+    requires all { asked.skip_long ≡ false }
+    requires no_report { text_of asked.files.now.report ≡ None }
+    requires fit { AreFitting asked.verified.now.maps asked.updates.now }
+    requires rows { (file : List ℕ) → text_of asked.files.now.journals ≡ Some file → asked.recording ≡ Rows }
+    requires size { text_of asked.files.now.image ≡ None → IsRingSize asked.ring }
+    requires shipped { text_of asked.files.now.image ≡ None → image_of asked.verified.now ≡ shipped_image asked.ring }
+    ensures done { IfOk result (λ found. IfSome found (IsAnswered (D.holds folder.old) (D.holds folder.new) asked.entry)) }
+    ensures none { IfOk result (λ found. IfNone found (AreKept (D.holds folder.old) (D.holds folder.new))) }
+    ensures steady { IfOk result (λ found. IfNone found (D.failure_count folder.new ≡ D.failure_count folder.old)) }
+    ensures kept { LeavesOthers (D.holds folder.old) (D.holds folder.new) asked.entry }
+    ensures refused { IfErr result (λ refusal. IsDenied (D.holds folder.old) (D.holds folder.new)
+        (HasFailed (D.failure_count folder.old) (D.failure_count folder.new)) asked.entry refusal.fault) }
+{
+    let Some(seen) = look_through(alloc, folder, asked.files.capture)? else {
+        return Ok(None);
+    };
+    let going = opened(alloc, asked)?;
+    if !begin_sent(alloc, folder, asked.files.sent)? {
+        return Ok(None);
+    }
+    let rounds = Rounds::of(progress, asked.verified, &asked.options, true, seen.records);
+    match left_by_pieces(alloc, folder, asked, seen, going, &rounds) {
+        Ok(Some(left)) => {
+            write_pieces(alloc, folder, asked.files, &left.journals)?;
+            Ok(Some(left.report))
+        }
+        Ok(None) => {
+            folder.give_up();
+            Ok(None)
+        }
+        Err(refusal) => {
+            folder.give_up();
+            Err(refusal)
+        }
+    }
+}
