@@ -27,7 +27,8 @@ static ROWS: [Row; 9] = [
     ("a head of 15 bytes",         b"\x01\0\0\0\x02\0\0\0\0\0\0\0\x04\0\0", 0, Err(CaptureFault::CutHead { record: 1 })),
     ("a second head of one byte",  b"\x01\0\0\0\x02\0\0\0\x01\0\0\0\x01\0\0\0a\x01", 1, Err(CaptureFault::CutHead { record: 2 })),
     ("a frame that lacks a byte",  b"\x01\0\0\0\x02\0\0\0\x02\0\0\0\x02\0\0\0a", 0, Err(CaptureFault::CutFrame { record: 1 })),
-    ("a second frame with none",   b"\x01\0\0\0\x02\0\0\0\0\0\0\0\0\0\0\0\x01\0\0\0\x02\0\0\0\x01\0\0\0\x01\0\0\0", 1, Err(CaptureFault::CutFrame { record: 2 })),
+    ("a second frame with none",   b"\x01\0\0\0\x02\0\0\0\0\0\0\0\0\0\0\0\x01\0\0\0\x02\0\0\0\x01\0\0\0\x01\0\0\0", 1,
+        Err(CaptureFault::CutFrame { record: 2 })),
     ("a frame of 2049 bytes",      b"\x01\0\0\0\x02\0\0\0\x01\x08\0\0\x01\x08\0\0", 0, Err(CaptureFault::FrameTooLong { record: 1 })),
 ];
 

@@ -1,4 +1,4 @@
--- The steering rule: what becomes of a frame, by the records that stand in the maps. In this order: a frame without a flow, or for no
+-- The steering rule: what becomes of a frame, by the records that are in the maps. In this order: a frame without a flow, or for no
 -- service, passes; one whose packet cannot go through the tunnel is dropped, as is any frame before the tunnel is set up; else the
 -- backend that was noted for the flow gets it if that backend is up, and otherwise the owner of the flow's slot in the lookup table,
 -- which is then noted; where that is not up either, the frame is dropped. The flows of a service without tracking are neither looked up

@@ -19,7 +19,7 @@ abbrev pub cut_of : List ℕ → List Sent → ℕ
 cut_of bytes [] = 0
 cut_of bytes (sent ∷ sents) = cut_at_front bytes sent + cut_of (drop (16 + length sent.bytes.items) bytes) sents
 
--- the file begins with a header and these records, of which so many were cut, and behind them it has these bytes
+-- the file begins with a header and these records, with this number of cut ones among them, and behind them it has these bytes
 pub record HasRecords (has : List ℕ → Type 0) (records : List Sent) (cut : ℕ) (behind : List ℕ) : Type 0 where
   pub all : List ℕ
   pub held : has all
@@ -34,7 +34,7 @@ pub record IsReadTo (has : List ℕ → Type 0) (is_left : List ℕ → Type 0) 
   pub left : is_left rest
   pub file : (behind : List ℕ) → is_left behind → HasRecords has records reader.cut (reader.unread ++ behind)
 
--- the file is a capture of these records, of which so many were cut
+-- the file is a capture of these records, with this number of cut ones among them
 pub record IsReadWhole (has : List ℕ → Type 0) (records : List Sent) (cut : ℕ) : Type 0 where
   pub all : List ℕ
   pub held : has all
@@ -53,7 +53,7 @@ ReadsOn holds was_left is_left was now sents =
     (opened : _) (name : List ℕ) (records : List Sent) → IsReadTo (holds opened name) was_left records was →
     IsReadTo (holds opened name) is_left (records ++ sents) now
 
--- behind whatever records a file has in this state come these, and then it ends; of all of them so many were cut
+-- behind whatever records a file has in this state come these, and then it ends; this number of all of them were cut
 abbrev pub ReadsToEnd : {F : Type 0} → (F → List ℕ → List ℕ → Type 0) → (List ℕ → Type 0) → ReaderView → List Sent → ℕ → Type 0
 ReadsToEnd holds was_left was sents cut =
     (opened : _) (name : List ℕ) (records : List Sent) → IsReadTo (holds opened name) was_left records was →

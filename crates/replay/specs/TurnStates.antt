@@ -1,4 +1,4 @@
--- Where a replay on one thread stands, by what it keeps and what it handed out.
+-- How far a replay on one thread is, by what it keeps and what it handed out.
 use Rattle.std.specs.Prelude.{◌≡◌, List, [], ◌++◌}
 use Rattle.wire.specs.declared.records.Sent.{Sent}
 use Rattle.replay.specs.declared.outcome.RecordEnd.{RecordEnd}

@@ -1,4 +1,4 @@
-//! An exact replay of a capture that comes in pieces: what is kept between two pieces does not grow with the capture.
+//! An exact replay of a capture that comes in pieces: between two pieces nothing is kept of the records that were run.
 
 ghost use Rattle.std.specs.Prelude.{◌≡◌, ◌<◌, ◌+◌, ◌^◌, ◌++◌, ◌↔◌, [], List, length};
 ghost use Rattle.std.specs.Prelude.{OnOk, IfOk, IfErr, IsErrOf, IsTrue};
@@ -36,7 +36,7 @@ use wire::Capture;
 const MOST_RECORDS: usize = 1 << 63;
 
 /// An exact replay between two pieces of its capture. It keeps the shards, what came of the script's commands, and the counts. What was sent and what became
-/// of each record is handed out with the piece, so that a capture that is longer needs no more memory, unless the journals keep their rows.
+/// of each record is handed out with the piece, so that a longer capture needs no more memory, except for cells that are created and rows that journals keep.
 #[derive(Drop)]
 pub struct PieceReplay {
     turns: Turns,

@@ -1,4 +1,4 @@
--- The one order of everything that all callers did on all shards, when the shards are closed. Deeds stand with the newest first.
+-- The one order of everything that all callers did on all shards, when the shards are closed. Deeds are listed newest first.
 use Rattle.std.specs.Prelude.{◌≡◌, ℕ, ◌<◌, List, ◌∷◌, length, reverse}
 use Rattle.atomic_table.specs.Table.{Me}
 use Rattle.semantics.specs.declared.call.Entry.{Entry}

@@ -1,4 +1,4 @@
--- The shards of an image's maps as they are opened. Contracts see the list of them by their numbers, which stand map after map.
+-- The shards of an image's maps as they are opened. Contracts see the list of them by their numbers, map after map.
 use Rattle.std.specs.Prelude.{◌≡◌, ℕ, ◌*◌, ◌<◌, List, length, slice_get, option_map}
 use Rattle.ebpf_decode.specs.declared.map.MapDef.{MapDef}
 use Rattle.semantics.specs.declared.options.Options.{Options}

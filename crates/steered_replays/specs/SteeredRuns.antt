@@ -1,4 +1,4 @@
--- Runs of the shipped program as a replay makes them. On the replies that stand among its worker's entries a run makes the calls of the
+-- Runs of the shipped program as a replay makes them. On the replies that are among its worker's entries a run makes the calls of the
 -- steering rule's plan (conntrack's Steering) and ends with the plan's verdict and frame, which are a result of the rule (conntrack's
 -- Results); a run that a full journal stopped made a beginning of these calls.
 use Rattle.std.specs.Prelude.{◌≡◌, ℕ, ◌≤◌, ◌<◌, true, List, [], ◌∷◌, ◌++◌, length, Option, Some, None, All, slice_get}

@@ -15,7 +15,7 @@ use Rattle.xlb_commands.specs.declared.report.Report.{Report}
 use Rattle.xlb_commands.specs.Files.{FileBytes, AreKept, AreOthersKept, AreAllButKept}
 use Rattle.xlb_commands.specs.Replays.{IsCaptureOf, IsReplayReport, IsScriptOf}
 use Rattle.xlb_commands.specs.Refused.{AreUnfiled, no_sent_file, no_journals_file, no_report_file}
-use Rattle.xlb_commands.specs.Refused.{IsBrokenOff, no_piece, no_replay_memory, no_room_in_pieces}
+use Rattle.xlb_commands.specs.Refused.{IsBrokenOff, no_piece, no_replay_memory}
 use Rattle.xlb_commands.specs.Refused.{IsUnreplayed, no_replay_capture, given_up, broken_off, not_reported, not_written_down}
 use Rattle.xlb_commands.proofs.Refusals.{kept_twice, unserved_since, unfiled_since, capture_refusal_before}
 
@@ -51,11 +51,9 @@ unfiled_before a b c failed since names sent journals fault kept so (no_journals
 unfiled_before a b c failed since names sent journals fault kept so (no_report_file stands written unwritten) =
     no_report_file stands written (unfiled_since (text_of names.report) failed since fault so unwritten)
 
-pub broken_since : (journals : Option (List ℕ)) (failed since : Type 0) (fault : Fault) → (failed → since) → IsBrokenOff journals failed fault
-    → IsBrokenOff journals since fault
-broken_since journals failed since fault so (no_piece unserved) = no_piece (unserved_since failed since fault so unserved)
-broken_since journals failed since fault so (no_replay_memory is) = no_replay_memory is
-broken_since journals failed since fault so (no_room_in_pieces lacks) = no_room_in_pieces lacks
+pub broken_since : (failed since : Type 0) (fault : Fault) → (failed → since) → IsBrokenOff failed fault → IsBrokenOff since fault
+broken_since failed since fault so (no_piece unserved) = no_piece (unserved_since failed since fault so unserved)
+broken_since failed since fault so (no_replay_memory is) = no_replay_memory is
 
 pub report_before : (a b c : FileBytes) (files : ReplayFiles) (program : Contents) (states : List (Option State)) (script : List Command) (options : Options)
     (recording : Recording) (ring : ℕ) (exact skip_long : Bool) (updates : List MapUpdate) (report : Report) → AreKept a b
@@ -88,9 +86,10 @@ unreplayed_before a b c failed since names program script options recording exac
     no_replay_capture (kept_twice a b c kept still) (capture_refusal_before a b failed since skip_long names.capture.now fault kept so refused)
 unreplayed_before a b c failed since names program script options recording exact skip_long updates fault kept so (given_up records why still capture given is) =
     given_up records why (kept_twice a b c kept still) (capture_before a b kept skip_long names.capture.now records capture) given is
-unreplayed_before a b c failed since names program script options recording exact skip_long updates fault kept so (broken_off records is_exact still capture broken) =
-    broken_off records is_exact (kept_twice a b c kept still) (capture_before a b kept skip_long names.capture.now records capture)
-    (broken_since (text_of names.journals) failed since fault so broken)
+unreplayed_before a b c failed since names program script options recording exact skip_long updates fault kept so
+    (broken_off records is_exact all no_report still capture fit broken) =
+    broken_off records is_exact all no_report (kept_twice a b c kept still) (capture_before a b kept skip_long names.capture.now records capture) fit
+    (broken_since failed since fault so broken)
 unreplayed_before a b c failed since names program script options recording exact skip_long updates fault kept so
     (not_reported records outcome still capture made lacks) =
     not_reported records outcome (kept_twice a b c kept still) (capture_before a b kept skip_long names.capture.now records capture) made lacks

@@ -83,3 +83,14 @@ given_up_in_turn {X} maps updates script options recording result why is bad no_
   by_pass = λ exact. absurd (not_both true refl exact);
   in_turn = λ exact. refused;
 }
+
+abbrev made_of : (X : Type 0) → X → Result X ReplayFault
+made_of X made = Ok made
+
+no_failure : {X : Type 0} (made : X) (why : ReplayFault) → made_of X made ≡ failed_of X why → ⊥
+no_failure made why e = cc
+
+-- the options of a replay that was opened are good
+pub had_good : {X : Type 0} (maps : List MapDef) (script : List Command) (options : Options) (result : Result X ReplayFault) (made : X)
+    → result ≡ made_of X made → (IsErrOf result BadOptions ↔ AreBadOptions maps options script) → ¬ AreBadOptions maps options script
+had_good {X} maps script options result made is bad = λ are_bad. no_failure made BadOptions (sym is ∙ bad.1 are_bad)

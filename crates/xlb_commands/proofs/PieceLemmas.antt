@@ -1,5 +1,5 @@
 -- What is read, run and written in pieces, one piece after another.
-use Rattle.std.proofs.Common.{◌≡◌, ◌∙◌, ◌+◌, ◌++◌, ◌∷◌, ◌↔◌, ℕ, false, List, [], append-nil, append_assoc, ap, refl, subst, sym}
+use Rattle.std.proofs.Common.{◌≡◌, ◌∙◌, ◌++◌, ◌∷◌, ◌↔◌, ℕ, false, List, [], append-nil, append_assoc, ap, refl, subst, sym}
 use Rattle.std.specs.List.{AllByRecursion}
 use Rattle.folders.specs.PieceReading.{ReaderView, IsReadTo, IsReadWhole}
 use Rattle.control.specs.declared.command.Command.{Command}

@@ -1,11 +1,18 @@
 -- What a replay that is asked for comes to.
+use Rattle.std.specs.Prelude.{false, true, List}
+use Rattle.wire.specs.declared.records.Sent.{Sent}
+use Rattle.semantics.specs.ShardPlan.{recorded}
+use Rattle.machine.specs.Running.{program_of}
+use Rattle.replay.specs.Parts.{AreBadOptions}
+use Rattle.replay.specs.declared.fault.ReplayFault.{ReplayFault}
+use Rattle.replay.specs.declared.outcome.Outcome.{Outcome}
 use Rattle.command_line.specs.Reading.{text_of}
 use Rattle.xlb_commands.specs.declared.fault.Fault.{Fault}
 use Rattle.xlb_commands.specs.declared.replays.Asked.{Asked}
 use Rattle.xlb_commands.specs.declared.report.Report.{Report}
 use Rattle.xlb_commands.specs.Files.{FileBytes, AreAllButKept}
-use Rattle.xlb_commands.specs.Refused.{IsUnreplayed}
-use Rattle.xlb_commands.specs.Replays.{IsReplayReport, image_of}
+use Rattle.xlb_commands.specs.Refused.{IsGivenUp, IsUnreplayed}
+use Rattle.xlb_commands.specs.Replays.{IsCaptureOf, IsMade, IsReplayReport, image_of}
 
 -- it was made, and this is its report
 abbrev pub IsAnswered : FileBytes → FileBytes → Asked → Report → Type 0
@@ -23,3 +30,25 @@ IsDenied before after failed asked fault =
 abbrev pub LeavesOthers : FileBytes → FileBytes → Asked → Type 0
 LeavesOthers before after asked =
     AreAllButKept before after asked.files.now.sent.now (text_of asked.files.now.journals) (text_of asked.files.now.report)
+
+-- it was made of these records, with this outcome
+abbrev pub IsOutcome : Asked → List Sent → Outcome → Type 0
+IsOutcome asked records outcome =
+    IsMade asked.exact (program_of asked.verified.now asked.options.shards) asked.updates.now asked.script.now (recorded asked.recording asked.options)
+    records outcome
+
+-- it was given up, and this is why
+abbrev pub IsWhyNone : Asked → ReplayFault → Type 0
+IsWhyNone asked why = IsGivenUp asked.exact asked.verified.now.maps asked.updates.now asked.script.now asked.options asked.recording why
+
+-- no shards are opened with its options, or its script has commands and the maps are not those of steering
+abbrev pub HasBadOptions : Asked → Type 0
+HasBadOptions asked = AreBadOptions asked.verified.now.maps asked.options asked.script.now
+
+-- it was made in turn of the file's whole capture
+pub record IsMadeInTurn (before : FileBytes) (asked : Asked) : Type 0 where
+  pub records : List Sent
+  pub capture : IsCaptureOf before false asked.files.now.capture.now records
+  pub outcome : Outcome
+  pub made : IsMade true (program_of asked.verified.now asked.options.shards) asked.updates.now asked.script.now (recorded asked.recording asked.options)
+      records outcome

@@ -367,12 +367,11 @@ pub data AreUnfiled (before after : FileBytes) (failed : Type 0) (names : Replay
       → (text_of names.report ≢ text_of names.journals → AreWritten after (text_of names.journals) journals)
       → AreUnwritten (text_of names.report) failed fault → AreUnfiled before after failed names sent journals fault
 
--- what is read is right, and the replay was broken off while its capture was read, or its sent frames were written, in pieces: the device failed, or
--- memory was refused for the replay, for what it was to write or for what it was to print
-pub data IsBrokenOff (journals : Option (List ℕ)) (failed : Type 0) (fault : Fault) : Type 0 where
-  no_piece : IsUnserved failed fault → IsBrokenOff journals failed fault
-  no_replay_memory : fault ≡ faults.Replay replays.Memory → IsBrokenOff journals failed fault
-  no_room_in_pieces : LacksRoom journals fault → IsBrokenOff journals failed fault
+-- what is read and asked for is right, and the replay was broken off while its capture was read, or its sent frames were written, in pieces: the device
+-- failed, or memory was refused for a piece, for its sent frames, or for the replay
+pub data IsBrokenOff (failed : Type 0) (fault : Fault) : Type 0 where
+  no_piece : IsUnserved failed fault → IsBrokenOff failed fault
+  no_replay_memory : fault ≡ faults.Replay replays.Memory → IsBrokenOff failed fault
 
 -- Of a program that may run and whose maps take the updates, and a script: no capture; a replay that was given up; an exact one that was broken off; one that
 -- was made, and memory was refused for its sent frames, its journals, its report or what is printed; until then no file changed; or its files were not written.
@@ -383,8 +382,8 @@ pub data IsUnreplayed (files after : FileBytes) (failed : Type 0) (names : Repla
   given_up : (records : List Sent) (why : ReplayFault) → AreKept files after → IsCaptureOf files skip_long names.capture.now records
       → IsGivenUp exact program.maps updates script options recording why → fault ≡ faults.Replay why
       → IsUnreplayed files after failed names program script options recording exact skip_long updates fault
-  broken_off : (records : List Sent) → exact ≡ true → AreKept files after → IsCaptureOf files skip_long names.capture.now records
-      → IsBrokenOff (text_of names.journals) failed fault
+  broken_off : (records : List Sent) → exact ≡ true → skip_long ≡ false → text_of names.report ≡ None → AreKept files after
+      → IsCaptureOf files skip_long names.capture.now records → (¬ AreBadOptions program.maps options script) → IsBrokenOff failed fault
       → IsUnreplayed files after failed names program script options recording exact skip_long updates fault
   not_reported : (records : List Sent) (outcome : Outcome) → AreKept files after → IsCaptureOf files skip_long names.capture.now records
       → IsMade exact (program_of_replay program options) updates script (recorded recording options) records outcome

@@ -5,7 +5,8 @@
 //! the file of the sent frames cannot be made in pieces, or the capture is none or was changed in between, nothing was written, and the replay is
 //! made with the whole capture in memory, which also says what is wrong with it.
 
-ghost use Rattle.std.specs.Prelude.{◌≡◌, ◌≢◌, ◌↔◌, ◌⊎◌, ◌+◌, ◌*◌, ◌++◌, ◌-◌, ◌<◌, ◌≤◌, ◌^◌, ℕ, [], true, false};
+ghost use Rattle.std.specs.Prelude.{◌≡◌, ◌≢◌, ◌↔◌, ◌⊎◌, ◌+◌, ◌*◌, ◌++◌, ◌-◌, ◌<◌, ◌≤◌, ◌^◌};
+ghost use Rattle.std.specs.Prelude.{ℕ, [], true, false};
 ghost use Rattle.std.specs.Prelude.{List, Some, None, IfErr, IfOk, IfSome, IfNone, OnOk, length};
 ghost use Rattle.std.specs.List.{AllByRecursion};
 ghost use Rattle.semantics.specs.Program.{Program};
@@ -22,6 +23,7 @@ ghost use Rattle.control.specs.declared.command.Command.{Command};
 ghost use Rattle.guarantees.specs.ReaderReplays.{IsCaptured};
 ghost use Rattle.map_updates.specs.Misfits.{AreFitting};
 ghost use Rattle.replay.specs.Accounted.{IsAccounted};
+ghost use Rattle.replay.specs.Parts.{AreBadOptions};
 ghost use Rattle.replay.specs.Pieces.{GoesOn, IsUnderway, IsReplayed as IsReplayedInPieces};
 ghost use Rattle.replay.specs.declared.outcome.Outcome.{Outcome as Made};
 ghost use Rattle.replay.specs.declared.outcome.RecordEnd.{RecordEnd as End};
@@ -30,10 +32,10 @@ ghost use Rattle.steered_replays.specs.Totals.{AreTotals};
 ghost use Rattle.journals.specs.JournalsView.{JournalsView};
 ghost use Rattle.command_line.specs.Reading.{text_of};
 ghost use Rattle.xlb_commands.specs.Files.{AreAllButKept, AreKept, AreOthersKept};
-ghost use Rattle.xlb_commands.specs.AskedReplays.{IsAnswered, IsDenied, LeavesOthers};
+ghost use Rattle.xlb_commands.specs.AskedReplays.{IsAnswered, IsDenied, IsMadeInTurn, LeavesOthers};
 ghost use Rattle.xlb_commands.specs.InPieces.{HasGoneThrough, HasRoom, HaveRun, IsGoing, IsLeft, IsMadeOf};
-ghost use Rattle.xlb_commands.specs.Refused.{AreUnfiled, HasFailed, IsBrokenOff, IsGivenUp, IsUnserved};
-ghost use Rattle.xlb_commands.specs.Replays.{HasBytes, IsCaptureOf, image_of};
+ghost use Rattle.xlb_commands.specs.Refused.{AreUnfiled, HasFailed, IsBrokenOff, IsGivenUp, IsUnserved, LacksRoom};
+ghost use Rattle.xlb_commands.specs.Replays.{HasBytes, IsCaptureOf, IsMade, image_of};
 
 use crate::fault::{Fault, Refusal};
 use crate::files::{journal_bytes, unserved, write_journals_to};
@@ -298,6 +300,7 @@ fn opened(alloc: Global, asked: Asked<'_>) -> Result<Going, Refusal>
         asked.entry.script.now
         (recorded asked.entry.recording asked.entry.options) asked.entry.updates.now [] [] [] going.replay) }
     ensures served { OnOk result (KeepsRows asked.entry.options.journal) }
+    ensures good { OnOk result (¬ AreBadOptions asked.entry.verified.now.maps asked.entry.options asked.entry.script.now) }
     ensures refused { IfErr result (λ refusal. (why : ReplayFault) × (refusal.fault ≡ Fault.Replay why)
         × IsGivenUp true asked.entry.verified.now.maps asked.entry.updates.now asked.entry.script.now asked.entry.options
         asked.entry.recording why) }
@@ -339,8 +342,8 @@ fn run_piece<D: Folder, G: Gate>(
     ensures left { (rest : List ℕ) → (D.is_left folder.old rest ↔ D.is_left folder.new rest) }
     ensures most { D.most_left folder.new ≡ D.most_left folder.old }
     ensures steady { OnOk result (D.failure_count folder.new ≡ D.failure_count folder.old) }
-    ensures refused { IfErr result (λ refusal. IsBrokenOff (text_of asked.entry.files.now.journals)
-        (HasFailed (D.failure_count folder.old) (D.failure_count folder.new)) refusal.fault) }
+    ensures refused { IfErr result
+        (λ refusal. IsBrokenOff (HasFailed (D.failure_count folder.old) (D.failure_count folder.new)) refusal.fault) }
 {
     if !going.replay.has_room(piece) {
         return Ok(false);
@@ -390,8 +393,8 @@ fn take_piece<D: Folder, G: Gate>(
     ensures maps { IfOk result (λ step. step ≢ Step.Changed → going.new.replay.turns.all.maps ≡ asked.entry.verified.now.maps) }
     ensures kept { AreKept (D.holds folder.old) (D.holds folder.new) }
     ensures steady { OnOk result (D.failure_count folder.new ≡ D.failure_count folder.old) }
-    ensures refused { IfErr result (λ refusal. IsBrokenOff (text_of asked.entry.files.now.journals)
-        (HasFailed (D.failure_count folder.old) (D.failure_count folder.new)) refusal.fault) }
+    ensures refused { IfErr result
+        (λ refusal. IsBrokenOff (HasFailed (D.failure_count folder.old) (D.failure_count folder.new)) refusal.fault) }
 {
     let Some(piece) = next_piece(alloc, folder, asked.files.capture, reader)? else {
         return Ok(Step::Changed);
@@ -423,8 +426,8 @@ fn go_through<D: Folder, G: Gate>(
     ensures goes_on { IfOk result (λ whole. whole ≡ true → GoesOn asked.entry.script.now going.new.replay) }
     ensures kept { AreKept (D.holds folder.old) (D.holds folder.new) }
     ensures steady { OnOk result (D.failure_count folder.new ≡ D.failure_count folder.old) }
-    ensures refused { IfErr result (λ refusal. IsBrokenOff (text_of asked.entry.files.now.journals)
-        (HasFailed (D.failure_count folder.old) (D.failure_count folder.new)) refusal.fault) }
+    ensures refused { IfErr result
+        (λ refusal. IsBrokenOff (HasFailed (D.failure_count folder.old) (D.failure_count folder.new)) refusal.fault) }
 {
     let Some(mut reader) = open_reader(alloc, folder, asked.files.capture)? else {
         return Ok(false);
@@ -496,7 +499,13 @@ fn left_in_pieces(
         asked.entry.verified.now.states asked.entry.script.now asked.entry.options asked.entry.recording asked.entry.ring
         asked.entry.updates.now records sent
         left.report left.journals.bytes) }
-    ensures refused { IfErr result (λ refusal. IsBrokenOff (text_of asked.entry.files.now.journals) ⊥ refusal.fault) }
+    ensures refused { IfErr result (λ refusal. (refusal.fault ≡ Fault.Replay ReplayFault.Memory)
+        ⊎ ((records sent : List Record) (ends : List End) →
+        IsUnderway (program_of asked.entry.verified.now asked.entry.options.shards) asked.entry.script.now
+        (recorded asked.entry.recording asked.entry.options) asked.entry.updates.now records sent ends going.replay →
+        (outcome : Made) × IsMade true (program_of asked.entry.verified.now asked.entry.options.shards) asked.entry.updates.now
+        asked.entry.script.now (recorded asked.entry.recording asked.entry.options) records outcome)
+        × LacksRoom (text_of asked.entry.files.now.journals) refusal.fault) }
 {
     headline(asked.verified);
     readers_send_alike(asked.verified);
@@ -537,8 +546,9 @@ fn left_by_pieces<D: Folder, G: Gate>(
         left.report left.journals.bytes)) }
     ensures kept { AreKept (D.holds folder.old) (D.holds folder.new) }
     ensures steady { OnOk result (D.failure_count folder.new ≡ D.failure_count folder.old) }
-    ensures refused { IfErr result (λ refusal. IsBrokenOff (text_of asked.entry.files.now.journals)
-        (HasFailed (D.failure_count folder.old) (D.failure_count folder.new)) refusal.fault) }
+    ensures refused { IfErr result
+        (λ refusal. IsBrokenOff (HasFailed (D.failure_count folder.old) (D.failure_count folder.new)) refusal.fault
+        ⊎ IsMadeInTurn (D.holds folder.old) asked.entry × LacksRoom (text_of asked.entry.files.now.journals) refusal.fault) }
 {
     if !go_through(alloc, folder, asked, &mut going, gate)? {
         return Ok(None);

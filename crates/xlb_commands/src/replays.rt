@@ -7,7 +7,6 @@ ghost use Rattle.semantics.specs.ShardPlan.{KeepsRows, recorded};
 ghost use Rattle.semantics.specs.declared.options.Recording.TheVariants.{Rows};
 ghost use Rattle.verifier.specs.Dataflow.{Accepts};
 ghost use Rattle.verifier.specs.Readers.{IsReader};
-ghost use Rattle.machine.specs.Running.{program_of};
 ghost use Rattle.guarantees.specs.Headline.{Headline};
 ghost use Rattle.guarantees.specs.ReaderReplays.{SendsAsAtOpening};
 ghost use Rattle.maglev.specs.RingSize.{IsRingSize};
@@ -20,20 +19,19 @@ ghost use Rattle.control.specs.declared.fault.ControlFault.{ControlFault};
 ghost use Rattle.control.specs.declared.fault.ControlFault.TheVariants as scripts;
 ghost use Rattle.replay.specs.declared.fault.ReplayFault.TheVariants.{BadOptions};
 ghost use Rattle.replay.specs.Accounts.{frames_in};
-ghost use Rattle.replay.specs.Parts.{AreBadOptions};
 ghost use Rattle.map_updates.specs.Misfits.{AreFitting};
 ghost use Rattle.xlb_commands.specs.Results.{IsReplayAnswer};
 ghost use Rattle.steered_replays.specs.SteeredRuns.{IsSteeredReplay};
 ghost use Rattle.steered_replays.specs.Totals.{AreTotals};
 ghost use Rattle.journals.specs.JournalText.{journals_text};
 ghost use Rattle.command_line.specs.Reading.{text_of};
-ghost use Rattle.xlb_commands.specs.AskedReplays.{IsAnswered, IsDenied, LeavesOthers};
+ghost use Rattle.xlb_commands.specs.AskedReplays.{HasBadOptions, IsAnswered, IsDenied, IsOutcome, IsWhyNone, LeavesOthers};
 ghost use Rattle.xlb_commands.specs.Files.{AreKept, AreAllButKept};
 ghost use Rattle.xlb_commands.specs.Refused.{HasFailed, LacksRoom, AreUnfiled, IsReplayProgramRefusal, IsScriptFileRefusal};
 ghost use Rattle.xlb_commands.specs.Refused.{IsScriptRefusal};
-ghost use Rattle.xlb_commands.specs.Refused.{IsGivenUp, IsNoCapture, IsNoCaptureIn, IsCaptureRefusal, IsReplayRefusal};
+ghost use Rattle.xlb_commands.specs.Refused.{IsNoCapture, IsNoCaptureIn, IsCaptureRefusal, IsReplayRefusal};
 ghost use Rattle.xlb_commands.specs.Replays.{image_of};
-ghost use Rattle.xlb_commands.specs.Replays.{IsProgramOf, IsScriptOf, IsScriptFile, IsCaptureIn, IsCaptureOf, IsMade, HasBytes};
+ghost use Rattle.xlb_commands.specs.Replays.{IsProgramOf, IsScriptOf, IsScriptFile, IsCaptureIn, IsCaptureOf, HasBytes};
 ghost use Rattle.xlb_commands.specs.Replays.{FollowsRule, IsByRule, SendsAlike, recording_of, counts_text, refusals_text, AreWritten};
 ghost use Rattle.xlb_commands.specs.RecordReports.{form_of, report_text};
 
@@ -272,23 +270,25 @@ pub(crate) fn recording_of(no_journals: bool, journals: Option<&str>) -> Recordi
 fn replay_at<R: Threads + Wait + Sync, G: Gate + Sync>(
     rt: &R,
     alloc: Global,
-    exact: bool,
-    verified: &Verified,
+    asked: Asked<'_>,
     capture: &Capture,
-    updates: &[MapUpdate],
-    script: &Script,
-    options: Options,
-    recording: Recording,
     gate: &G,
 ) -> Result<Outcome, ReplayFault>
-    requires fit { AreFitting verified.now.maps updates.now }
-    ensures made { IfOk result (IsMade exact (program_of verified.now options.shards) updates.now script.now (recorded recording options)
-        capture.now.records.items) }
-    ensures given_up { IfErr result (IsGivenUp exact verified.now.maps updates.now script.now options recording) }
-    ensures served { OnOk result (KeepsRows options.journal) }
-    ensures bad_options { IsErrOf result BadOptions ↔ AreBadOptions verified.now.maps options script.now }
+    requires fit { AreFitting asked.verified.now.maps asked.updates.now }
+    ensures made { IfOk result (IsOutcome asked.entry capture.now.records.items) }
+    ensures given_up { IfErr result (IsWhyNone asked.entry) }
+    ensures served { OnOk result (KeepsRows asked.entry.options.journal) }
+    ensures bad_options { IsErrOf result BadOptions ↔ HasBadOptions asked.entry }
 {
-    if exact {
+    let Asked {
+        verified,
+        updates,
+        script,
+        options,
+        recording,
+        ..
+    } = asked;
+    if asked.exact {
         replay_in_turn(
             alloc, verified, capture, updates, script, options, recording, gate,
         )
@@ -299,30 +299,34 @@ fn replay_at<R: Threads + Wait + Sync, G: Gate + Sync>(
     }
 }
 
-/// The same of the shipped program for a lookup table of `ring` slots.
+/// The same of the shipped program, without updates.
 fn shipped_replay_at<R: Threads + Wait + Sync, G: Gate + Sync>(
     rt: &R,
     alloc: Global,
-    exact: bool,
-    verified: &Verified,
-    ring: u32,
+    asked: Asked<'_>,
     capture: &Capture,
-    script: &Script,
-    options: Options,
-    recording: Recording,
     gate: &G,
 ) -> Result<Outcome, ReplayFault>
-    requires size { IsRingSize ring }
-    requires image { record { version = verified.now.version; maps = verified.now.maps; code = verified.now.code } ≡ shipped_image ring }
-    ensures made { IfOk result (IsMade exact (program_of verified.now options.shards) [] script.now (recorded recording options)
-        capture.now.records.items) }
-    ensures steered { IfOk result (IsSteeredReplay ring script.now (recorded recording options) capture.now.records.items) }
+    requires size { IsRingSize asked.ring }
+    requires image { image_of asked.verified.now ≡ shipped_image asked.ring }
+    requires none { asked.updates.now ≡ [] }
+    ensures made { IfOk result (IsOutcome asked.entry capture.now.records.items) }
+    ensures steered { IfOk result (IsSteeredReplay asked.entry.ring asked.entry.script.now
+        (recorded asked.entry.recording asked.entry.options) capture.now.records.items) }
     ensures totals { IfOk result (λ outcome. outcome.counts.stopped ≡ 0 → AreTotals outcome) }
-    ensures given_up { IfErr result (IsGivenUp exact verified.now.maps [] script.now options recording) }
-    ensures served { OnOk result (KeepsRows options.journal) }
-    ensures bad_options { IsErrOf result BadOptions ↔ AreBadOptions verified.now.maps options script.now }
+    ensures given_up { IfErr result (IsWhyNone asked.entry) }
+    ensures served { OnOk result (KeepsRows asked.entry.options.journal) }
+    ensures bad_options { IsErrOf result BadOptions ↔ HasBadOptions asked.entry }
 {
-    if exact {
+    let Asked {
+        verified,
+        ring,
+        script,
+        options,
+        recording,
+        ..
+    } = asked;
+    if asked.exact {
         exact_shipped_replay(
             alloc, verified, ring, capture, script, options, recording, gate,
         )
@@ -333,75 +337,51 @@ fn shipped_replay_at<R: Threads + Wait + Sync, G: Gate + Sync>(
     }
 }
 
-/// The same behind updates of its maps, of which nothing is said of the steering rule.
+/// The same with updates before the first frame, of which nothing is said of the steering rule.
 fn shipped_outcome<R: Threads + Wait + Sync, G: Gate + Sync>(
     rt: &R,
     alloc: Global,
-    exact: bool,
-    verified: &Verified,
-    ring: u32,
+    asked: Asked<'_>,
     capture: &Capture,
-    updates: &[MapUpdate],
-    script: &Script,
-    options: Options,
-    recording: Recording,
     gate: &G,
 ) -> Result<Outcome, ReplayFault>
-    requires size { IsRingSize ring }
-    requires image { record { version = verified.now.version; maps = verified.now.maps; code = verified.now.code } ≡ shipped_image ring }
-    requires fit { AreFitting verified.now.maps updates.now }
-    ensures made { IfOk result (IsMade exact (program_of verified.now options.shards) updates.now script.now (recorded recording options)
-        capture.now.records.items) }
-    ensures steered { updates.now ≡ [] → IfOk result (IsByRule ring script.now (recorded recording options) capture.now.records.items) }
-    ensures given_up { IfErr result (IsGivenUp exact verified.now.maps updates.now script.now options recording) }
-    ensures served { OnOk result (KeepsRows options.journal) }
-    ensures bad_options { IsErrOf result BadOptions ↔ AreBadOptions verified.now.maps options script.now }
+    requires size { IsRingSize asked.ring }
+    requires image { image_of asked.verified.now ≡ shipped_image asked.ring }
+    requires fit { AreFitting asked.verified.now.maps asked.updates.now }
+    ensures made { IfOk result (IsOutcome asked.entry capture.now.records.items) }
+    ensures steered { asked.entry.updates.now ≡ [] → IfOk result (IsByRule asked.entry.ring asked.entry.script.now
+        (recorded asked.entry.recording asked.entry.options) capture.now.records.items) }
+    ensures given_up { IfErr result (IsWhyNone asked.entry) }
+    ensures served { OnOk result (KeepsRows asked.entry.options.journal) }
+    ensures bad_options { IsErrOf result BadOptions ↔ HasBadOptions asked.entry }
 {
-    if updates.is_empty() {
-        return shipped_replay_at(
-            rt, alloc, exact, verified, ring, capture, script, options, recording, gate,
-        );
+    if asked.updates.is_empty() {
+        return shipped_replay_at(rt, alloc, asked, capture, gate);
     }
-    replay_at(
-        rt, alloc, exact, verified, capture, updates, script, options, recording, gate,
-    )
+    replay_at(rt, alloc, asked, capture, gate)
 }
 
-/// Runs the frames of a capture: by the shipped program for a lookup table of `ring` slots, whose runs follow the steering rule, or by that
-/// of an image. Before the first frame the controller makes these updates. `exact`: each command takes effect between the frames before and after it.
+/// Runs the frames of a capture: by the shipped program, whose runs follow the steering rule, or by that of an image.
 fn outcome_of<R: Threads + Wait + Sync, G: Gate + Sync>(
     rt: &R,
     alloc: Global,
-    exact: bool,
-    verified: &Verified,
-    image: Option<&str>,
-    ring: u32,
+    asked: Asked<'_>,
     capture: &Capture,
-    updates: &[MapUpdate],
-    script: &Script,
-    options: Options,
-    recording: Recording,
     gate: &G,
 ) -> Result<Outcome, ReplayFault>
-    requires size { text_of image ≡ None → IsRingSize ring }
-    requires shipped { text_of image ≡ None →
-        record { version = verified.now.version; maps = verified.now.maps; code = verified.now.code } ≡ shipped_image ring }
-    requires fit { AreFitting verified.now.maps updates.now }
-    ensures made { IfOk result (IsMade exact (program_of verified.now options.shards) updates.now script.now (recorded recording options)
-        capture.now.records.items) }
-    ensures steered { updates.now ≡ [] → IfOk result (FollowsRule (text_of image.entry) ring script.now (recorded recording options)
-        capture.now.records.items) }
-    ensures given_up { IfErr result (IsGivenUp exact verified.now.maps updates.now script.now options recording) }
-    ensures served { OnOk result (KeepsRows options.journal) }
-    ensures bad_options { IsErrOf result BadOptions ↔ AreBadOptions verified.now.maps options script.now }
+    requires size { text_of asked.files.now.image ≡ None → IsRingSize asked.ring }
+    requires shipped { text_of asked.files.now.image ≡ None → image_of asked.verified.now ≡ shipped_image asked.ring }
+    requires fit { AreFitting asked.verified.now.maps asked.updates.now }
+    ensures made { IfOk result (IsOutcome asked.entry capture.now.records.items) }
+    ensures steered { asked.entry.updates.now ≡ [] → IfOk result (FollowsRule (text_of asked.entry.files.now.image) asked.entry.ring
+        asked.entry.script.now (recorded asked.entry.recording asked.entry.options) capture.now.records.items) }
+    ensures given_up { IfErr result (IsWhyNone asked.entry) }
+    ensures served { OnOk result (KeepsRows asked.entry.options.journal) }
+    ensures bad_options { IsErrOf result BadOptions ↔ HasBadOptions asked.entry }
 {
-    match image {
-        Some(_) => replay_at(
-            rt, alloc, exact, verified, capture, updates, script, options, recording, gate,
-        ),
-        None => shipped_outcome(
-            rt, alloc, exact, verified, ring, capture, updates, script, options, recording, gate,
-        ),
+    match asked.files.image {
+        Some(_) => replay_at(rt, alloc, asked, capture, gate),
+        None => shipped_outcome(rt, alloc, asked, capture, gate),
     }
 }
 
@@ -420,40 +400,29 @@ pub(crate) fn readers_send_alike(verified: &Verified)
 fn outcome_with<R: Threads + Wait + Sync, G: Gate + Sync>(
     rt: &R,
     alloc: Global,
-    exact: bool,
-    verified: &Verified,
-    image: Option<&str>,
-    ring: u32,
+    asked: Asked<'_>,
     capture: &Capture,
-    updates: &[MapUpdate],
-    script: &Script,
-    options: Options,
-    recording: Recording,
     gate: &G,
 ) -> Result<Outcome, ReplayFault>
-    requires size { text_of image ≡ None → IsRingSize ring }
-    requires shipped { text_of image ≡ None →
-        record { version = verified.now.version; maps = verified.now.maps; code = verified.now.code } ≡ shipped_image ring }
-    requires fit { AreFitting verified.now.maps updates.now }
-    ensures made { IfOk result (IsMade exact (program_of verified.now options.shards) updates.now script.now (recorded recording options)
+    requires size { text_of asked.files.now.image ≡ None → IsRingSize asked.ring }
+    requires shipped { text_of asked.files.now.image ≡ None → image_of asked.verified.now ≡ shipped_image asked.ring }
+    requires fit { AreFitting asked.verified.now.maps asked.updates.now }
+    ensures made { IfOk result (IsOutcome asked.entry capture.now.records.items) }
+    ensures headline { IfOk result (Headline asked.entry.verified.now asked.entry.script.now
+        (recorded asked.entry.recording asked.entry.options) capture.now.records.items) }
+    ensures readers { asked.entry.updates.now ≡ [] → IfOk result (SendsAlike (image_of asked.entry.verified.now)
+        asked.entry.verified.now.states asked.entry.script.now (recorded asked.entry.recording asked.entry.options)
         capture.now.records.items) }
-    ensures accepted { Accepts verified.now.version verified.now.maps verified.now.code verified.now.states }
-    ensures headline { IfOk result (Headline verified.now script.now (recorded recording options) capture.now.records.items) }
-    ensures readers { updates.now ≡ [] → IfOk result (SendsAlike
-        (record { version = verified.now.version; maps = verified.now.maps; code = verified.now.code }) verified.now.states script.now
-        (recorded recording options) capture.now.records.items) }
-    ensures steered { updates.now ≡ [] → IfOk result (FollowsRule (text_of image.entry) ring script.now (recorded recording options)
-        capture.now.records.items) }
-    ensures given_up { IfErr result (IsGivenUp exact verified.now.maps updates.now script.now options recording) }
-    ensures served { OnOk result (KeepsRows options.journal) }
-    ensures bad_options { IsErrOf result BadOptions ↔ AreBadOptions verified.now.maps options script.now }
+    ensures steered { asked.entry.updates.now ≡ [] → IfOk result (FollowsRule (text_of asked.entry.files.now.image) asked.entry.ring
+        asked.entry.script.now (recorded asked.entry.recording asked.entry.options) capture.now.records.items) }
+    ensures given_up { IfErr result (IsWhyNone asked.entry) }
+    ensures served { OnOk result (KeepsRows asked.entry.options.journal) }
+    ensures bad_options { IsErrOf result BadOptions ↔ HasBadOptions asked.entry }
 {
-    headline(verified);
-    readers_send_alike(verified);
+    headline(asked.verified);
+    readers_send_alike(asked.verified);
     all_are_captured(capture);
-    let outcome = outcome_of(
-        rt, alloc, exact, verified, image, ring, capture, updates, script, options, recording, gate,
-    )?;
+    let outcome = outcome_of(rt, alloc, asked, capture, gate)?;
     let _ = outcome.journals.options();
     Ok(outcome)
 }
@@ -583,8 +552,8 @@ pub(crate) struct Asked<'a> {
 impl Asked<'_> {
     /// Whether the replay may be made in pieces: it is exact, and nothing is asked for that needs all records.
     fn is_in_pieces(self) -> bool
-        ensures { IsTrue result → (self.entry.exact ≡ true) × (self.entry.skip_long ≡ false) × (text_of self.entry.files.now.report ≡
-            None) }
+        ensures { IsTrue result → (self.entry.exact ≡ true) × (self.entry.skip_long ≡ false)
+            × (text_of self.entry.files.now.report ≡ None) }
     {
         self.exact && !self.summary && !self.skip_long && self.files.report.is_none()
     }
@@ -619,20 +588,7 @@ fn replay_whole<R: Threads + Wait + Sync, D: Folder, P: Progress + Sync>(
         asked.exact,
         frames,
     );
-    let outcome = match outcome_with(
-        rt,
-        alloc,
-        asked.exact,
-        asked.verified,
-        files.image,
-        asked.ring,
-        &capture,
-        asked.updates,
-        asked.script,
-        asked.options,
-        asked.recording,
-        &rounds,
-    ) {
+    let outcome = match outcome_with(rt, alloc, asked, &capture, &rounds) {
         Ok(outcome) => outcome,
         Err(fault) => return Err(given_up(alloc, asked.options, asked.verified, fault)),
     };

@@ -319,10 +319,12 @@ const STOPPED: [(&str, &str, u16, &str, &str); 3] = [
     ("room for all", "--journal 4120", 1030, "frames 1030\nshort 0\nstopped 0\naborted 0\ndrop 0\npass 1030\ntx 0\n", ""),
     ("full in the second piece", "--journal 4104", 1030, "frames 1030\nshort 0\nstopped 4\naborted 0\ndrop 0\npass 1026\ntx 0\n",
         "  record 1027 is the first whose run was stopped\n  the journal of shard 0 is full, of map 0\n  \
-         frames whose run needs a full journal are not run to their end: --journal N, at most 1048576, --shards N, at most 8, and --no-journals make more room\n"),
+         frames whose run needs a full journal are not run to their end: --journal N, at most 1048576, --shards N, at most 8, \
+         and --no-journals make more room\n"),
     ("full in the first piece", "--journal 16", 1030, "frames 1030\nshort 0\nstopped 1026\naborted 0\ndrop 0\npass 4\ntx 0\n",
         "  record 5 is the first whose run was stopped\n  the journal of shard 0 is full, of map 0\n  \
-         frames whose run needs a full journal are not run to their end: --journal N, at most 1048576, --shards N, at most 8, and --no-journals make more room\n"),
+         frames whose run needs a full journal are not run to their end: --journal N, at most 1048576, --shards N, at most 8, \
+         and --no-journals make more room\n"),
 ];
 
 /// Compares the replay of frames whose runs need four entries each of a journal.

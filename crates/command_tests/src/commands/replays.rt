@@ -218,7 +218,8 @@ const ROWS: [Row; 18] = [
     ("a down and a full journal", "", "0 up 0 10.0.0.1\n0 up 1 10.0.0.2\n0 down 0\n0 up 2 10.0.0.3\n", HEAD, "--script script --journal 400", 1,
         "frames 0\nshort 0\nstopped 0\naborted 0\ndrop 0\npass 0\ntx 0\ncommand 3 refused 94\ncommand 4 refused 94\n",
         "  line 3 of the script, 0 down 0: a journal is full: --journal N, at most 1048576, --shards N, at most 8, and --no-journals make more room\n  \
-         line 4 of the script, 0 up 2 10.0.0.3: a journal is full: --journal N, at most 1048576, --shards N, at most 8, and --no-journals make more room\n", HEAD),
+         line 4 of the script, 0 up 2 10.0.0.3: a journal is full: --journal N, at most 1048576, --shards N, at most 8, \
+         and --no-journals make more room\n", HEAD),
     ("an image before a script", UNSET, "0 up\n", "", "--image image", 1, "", "fault 35 UnsetRegister slot 0 register 0\n", ""),
     ("a ring before a script",   "", "0 up\n", "", "--script script --ring 8", 1, "",
         "fault 73 BadSize\n  --ring 8\n  expected the number of slots of a lookup table: 7, 251, 4093 or 65537\n  the next larger one is 251\n", ""),

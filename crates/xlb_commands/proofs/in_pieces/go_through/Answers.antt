@@ -47,4 +47,4 @@ returns-in-Ok-Last-clause-gone g c = λ is.
     }
 
 pub returns-in-Err-clause-refused : goal.returns-in-Err-clause-refused
-returns-in-Err-clause-refused g c = broken_since _ _ _ _ (failed_since _ _ _ c.pieces.invariant.steady) c.in-Err.ensures.refused
+returns-in-Err-clause-refused g c = broken_since _ _ _ (failed_since _ _ _ c.pieces.invariant.steady) c.in-Err.ensures.refused

@@ -1,6 +1,9 @@
-use Rattle.std.proofs.Common.{[]}
+use Rattle.std.proofs.Common.{◌≡◌, ◌⊎◌, inl, inr, ℕ, List, [], Option}
 use Rattle.std.proofs.lemmas.Result.{err_from_is_err_and}
-use Rattle.xlb_commands.proofs.Earlier.{broken_since}
+use Rattle.replay.specs.declared.fault.ReplayFault.TheVariants as replays
+use Rattle.xlb_commands.specs.declared.fault.Fault.{Fault}
+use Rattle.xlb_commands.specs.declared.fault.Fault.TheVariants as faults
+use Rattle.xlb_commands.specs.Refused.{IsBrokenOff, LacksRoom, no_replay_memory}
 use Rattle.xlb_commands.proofs.in_pieces.left_by_pieces.Goals as goal
 
 pub left_in_pieces-requires-clause-underway : goal.left_in_pieces-requires-clause-underway
@@ -13,10 +16,28 @@ left_in_pieces-requires-clause-underway g c =
       underway = gone.have_run.run c.args.asked.updates.now [] [] [] c.requires.underway;
     }
 
+-- nothing was left: memory was refused for the replay's end, or the replay was made
+not_left : (failed ended made : Type 0) (journals : Option (List ℕ)) (fault : Fault) → (ended → made)
+    → ((fault ≡ faults.Replay replays.Memory) ⊎ (ended × LacksRoom journals fault)) → IsBrokenOff failed fault ⊎ (made × LacksRoom journals fault)
+not_left failed ended made journals fault so (inl is) = inl (no_replay_memory is)
+not_left failed ended made journals fault so (inr both) = inr (so both.0, both.1)
+
+pub returns-in_err-go_through-clause-refused : goal.returns-in_err-go_through-clause-refused
+returns-in_err-go_through-clause-refused g c =
+    let p = err_from_is_err_and c.from_residual.result c.from_residual.ensures.1 in
+    rw (p.1, p.2) (inl c.in_err-go_through.ensures.refused)
+
 pub returns-in_err-left-clause-refused : goal.returns-in_err-left-clause-refused
 returns-in_err-left-clause-refused g c =
+    let gone = c.in_ok-go_through.ensures.gone c.if-not-branch.false in
     let p = err_from_is_err_and c.from_residual-in_err-left.result c.from_residual-in_err-left.ensures.1 in
-    rw (p.1, p.2) (broken_since _ _ _ _ (λ never. absurd never) c.in_err-left.ensures.refused)
+    rw (p.1, p.2)
+    (not_left _ _ _ _ _
+    (λ ended.
+    let made = ended gone.records gone.have_run.sent gone.have_run.ends
+    (gone.have_run.run c.args.asked.updates.now [] [] [] c.requires.underway) in
+    record { records = gone.records; capture = gone.capture; outcome = made.0; made = made.1 })
+    c.in_err-left.ensures.refused)
 
 pub returns-clause-left : goal.returns-clause-left
 returns-clause-left g c =

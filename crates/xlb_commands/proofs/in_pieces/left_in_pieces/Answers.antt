@@ -1,4 +1,4 @@
-use Rattle.std.proofs.Common.{◌≡◌, ◌∙◌, ◌++◌, ◌∷◌, ◌↔◌, Bool, false, ℕ, List, [], Option, Some, None, ap, refl, subst, sym}
+use Rattle.std.proofs.Common.{◌≡◌, ◌∙◌, ◌++◌, ◌∷◌, ◌↔◌, inl, inr, Bool, false, ℕ, List, [], Option, Some, None, ap, refl, subst, sym}
 use Rattle.std.specs.List.{AllByRecursion}
 use Rattle.std.proofs.lemmas.Result.{err_from_is_err_and}
 use Rattle.guarantees.specs.ReaderReplays.{IsCaptured}
@@ -17,7 +17,7 @@ use Rattle.control.specs.declared.command.Command.{Command}
 use Rattle.wire.specs.declared.records.Sent.{Sent}
 use Rattle.command_line.specs.Reading.{text_of}
 use Rattle.xlb_commands.specs.Replays.{FollowsRule, IsByRule, counts_text, refusals_text}
-use Rattle.xlb_commands.specs.Refused.{no_room_in_pieces}
+use Rattle.xlb_commands.specs.Refused.{no_report_room}
 use Rattle.xlb_commands.proofs.Outcomes.{journals_fit}
 use Rattle.xlb_commands.proofs.ReaderFiles.{reader_file_is}
 use Rattle.xlb_commands.proofs.in_pieces.left_in_pieces.Goals as goal
@@ -61,10 +61,50 @@ replayed-requires c =
     going.records going.sent going.ends going.underway in
     c.taken-frames.ensures ∙ (going.underway.taken ∙ (sym replayed.accounted.each_once ∙ ap frames_in replayed.is_whole.counts))
 
+pub returns-in_err-outcome-clause-refused : goal.returns-in_err-outcome-clause-refused
+returns-in_err-outcome-clause-refused c =
+    let p = err_from_is_err_and c.from_residual.result c.from_residual.ensures.1 in
+    rw (p.1, p.2) (inl c.in_err-outcome.ensures.refused)
+
 pub returns-in_err-journals-clause-refused : goal.returns-in_err-journals-clause-refused
 returns-in_err-journals-clause-refused c =
+    let asked = c.args.asked in
+    let options : Options = recorded asked.recording asked.options in
+    let program = program_of asked.verified.now asked.options.shards in
     let p = err_from_is_err_and c.from_residual-in_err-journals.result c.from_residual-in_err-journals.ensures.1 in
-    rw (p.1, p.2) (no_room_in_pieces c.in_err-journals.ensures.refused)
+    rw (p.1, p.2)
+    (inr (
+      (λ records sent ends under.
+          let replayed = c.in_ok-outcome.ensures.replayed program options records sent ends under in (
+            replayed.whole,
+            record {
+              updates_are = replayed.is_whole.updates ∙ c.in_ok-outcome.ensures.updates;
+              accounted = replayed.accounted;
+              in_turn = λ exact. replayed.in_turn;
+            },
+          )),
+      c.in_err-journals.ensures.refused,
+    ))
+
+pub returns-in_err-report-clause-refused : goal.returns-in_err-report-clause-refused
+returns-in_err-report-clause-refused c =
+    let asked = c.args.asked in
+    let options : Options = recorded asked.recording asked.options in
+    let program = program_of asked.verified.now asked.options.shards in
+    let p = err_from_is_err_and c.from_residual-in_err-report.result c.from_residual-in_err-report.ensures.1 in
+    rw p.1
+    (inr (
+      (λ records sent ends under.
+          let replayed = c.in_ok-outcome.ensures.replayed program options records sent ends under in (
+            replayed.whole,
+            record {
+              updates_are = replayed.is_whole.updates ∙ c.in_ok-outcome.ensures.updates;
+              accounted = replayed.accounted;
+              in_turn = λ exact. replayed.in_turn;
+            },
+          )),
+      no_report_room p.2,
+    ))
 
 pub returns-clause-left : goal.returns-clause-left
 returns-clause-left c = λ records sent ends under captured.

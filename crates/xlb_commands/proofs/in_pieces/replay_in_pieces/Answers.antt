@@ -1,14 +1,19 @@
-use Rattle.std.proofs.Common.{◌≡◌, ◌+◌, ◌++◌, ℕ, Bool, List, Option, arith, refl, subst, sym}
+use Rattle.std.proofs.Common.{◌≡◌, ◌++◌, ◌⊎◌, inl, inr, ℕ, Bool, true, false, List, Option, None, arith, refl, subst, sym}
 use Rattle.std.proofs.lemmas.Result.{err_from_is_err_and}
 use Rattle.wire.specs.CaptureFormat.{capture_bytes, header_bytes, records_bytes}
 use Rattle.wire.specs.declared.records.Sent.{Sent}
 use Rattle.command_line.specs.Reading.{text_of}
 use Rattle.semantics.specs.ShardPlan.{recorded}
 use Rattle.xlb_commands.specs.RecordReports.{IsReportFile}
-use Rattle.xlb_commands.specs.Refused.{HasFailed, IsGivenUp, broken_off, given_up, not_written_down}
+use Rattle.xlb_commands.specs.declared.fault.Fault.{Fault}
+use Rattle.xlb_commands.specs.declared.replays.Asked.{Asked}
+use Rattle.xlb_commands.specs.AskedReplays.{HasBadOptions, IsDenied, IsMadeInTurn}
+use Rattle.xlb_commands.specs.Files.{FileBytes, AreKept}
+use Rattle.xlb_commands.specs.Refused.{HasFailed, IsBrokenOff, IsGivenUp, LacksRoom}
+use Rattle.xlb_commands.specs.Refused.{broken_off, given_up, no_piece, not_reported, not_written_down}
 use Rattle.xlb_commands.specs.Replays.{IsCaptureOf, IsMade, image_of, program_of_replay}
 use Rattle.xlb_commands.proofs.Earlier.{all_but_kept, broken_since, capture_before, unfiled_before}
-use Rattle.xlb_commands.proofs.Refusals.{failed_since, kept_twice, written_down}
+use Rattle.xlb_commands.proofs.Refusals.{failed_since, kept_twice, unserved_since, written_down}
 use Rattle.xlb_commands.proofs.in_pieces.replay_in_pieces.Goals as goal
 
 -- a failure between two calls that had none
@@ -90,13 +95,38 @@ returns-in_ok-write_pieces-in-Ok-Some-clause-done g c =
       made_of.none_refused,
     )
 
+-- the replay was broken off, or it was made and memory was refused for what it leaves
+denied : (before after held : FileBytes) (failed since : Type 0) (asked : Asked) (records : List Sent) (fault : Fault) → asked.exact ≡ true
+    → asked.skip_long ≡ false → text_of asked.files.now.report ≡ None → AreKept before held → AreKept before after → IsCaptureOf before false asked.files.now.capture.now records
+    → (¬ HasBadOptions asked) → (failed → since)
+    → (IsBrokenOff failed fault ⊎ (IsMadeInTurn held asked × LacksRoom (text_of asked.files.now.journals) fault)) → IsDenied before after since asked fault
+denied before after held failed since asked records fault exact all no_report same kept capture good so (inl broken) =
+    broken_off records exact all no_report kept
+    (subst (λ (skip : Bool). IsCaptureOf before skip asked.files.now.capture.now records) (sym all) capture) good (broken_since failed since fault so broken)
+denied before after held failed since asked records fault exact all no_report same kept capture good so (inr both) =
+    let made = both.0 in
+    not_reported made.records made.outcome kept
+    (subst (λ (skip : Bool). IsCaptureOf before skip asked.files.now.capture.now made.records) (sym all)
+    (capture_before before held same false asked.files.now.capture.now made.records made.capture))
+    (subst (λ (exact : Bool). IsMade exact (program_of_replay (image_of asked.verified.now) asked.options) asked.updates.now asked.script.now
+    (recorded asked.recording asked.options) made.records made.outcome) (sym exact) made.made)
+    both.1
+
 pub returns-in-Err-clause-refused : goal.returns-in-Err-clause-refused
 returns-in-Err-clause-refused g c =
+    let seen = rw c.in-Some.is at c.in_ok-seen.ensures.capture in
+    let before = kept_twice _ _ _ c.look_through.ensures.kept c.begin_sent.ensures.kept in
+    denied _ _ _ _ _ c.args.asked seen.0 _ c.requires.exact c.requires.all c.requires.no_report before
+    (kept_twice _ _ _ (kept_twice _ _ _ before c.left_by_pieces.ensures.kept) c.give_up-in-Err.ensures.kept) seen.1 c.in_ok-going.ensures.good
+    (failed_within _ _ _ _ _ c.in_ok-seen.ensures.steady c.in_ok-begin_sent.ensures.steady c.give_up-in-Err.ensures.steady) c.in-Err.ensures.refused
+
+pub returns-in_err-begin_sent-clause-refused : goal.returns-in_err-begin_sent-clause-refused
+returns-in_err-begin_sent-clause-refused g c =
     let asked = c.args.asked in
     let seen = rw c.in-Some.is at c.in_ok-seen.ensures.capture in
-    broken_off seen.0 c.requires.exact
-    (kept_twice _ _ _ (kept_twice _ _ _ (kept_twice _ _ _ c.look_through.ensures.kept c.begin_sent.ensures.kept) c.left_by_pieces.ensures.kept)
-    c.give_up-in-Err.ensures.kept)
+    let p = err_from_is_err_and c.from_residual-in_err-begin_sent.result c.from_residual-in_err-begin_sent.ensures.1 in
+    rw (p.1, p.2)
+    (broken_off seen.0 c.requires.exact c.requires.all c.requires.no_report (kept_twice _ _ _ c.look_through.ensures.kept c.begin_sent.ensures.kept)
     (subst (λ (skip : Bool). IsCaptureOf (g.D.Folder.holds c.args.folder.now) skip asked.files.now.capture.now seen.0) (sym c.requires.all) seen.1)
-    (broken_since _ _ _ _ (failed_within _ _ _ _ _ c.in_ok-seen.ensures.steady c.in_ok-begin_sent.ensures.steady c.give_up-in-Err.ensures.steady)
-    c.in-Err.ensures.refused)
+    c.in_ok-going.ensures.good
+    (no_piece (unserved_since _ _ _ (failed_since _ _ _ c.in_ok-seen.ensures.steady) c.in_err-begin_sent.ensures.refused)))

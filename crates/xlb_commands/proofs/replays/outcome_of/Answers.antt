@@ -16,5 +16,5 @@ where_none name ring script options records outcome none rule =
 pub returns-in-None-clause-steered : goal.returns-in-None-clause-steered
 returns-in-None-clause-steered g c = λ none_set.
     IfOk-weaker c.shipped_outcome.result _ _
-    (λ outcome rule. where_none (text_of c.args.image) c.args.ring _ _ _ outcome (ap text_of c.in-None.is) rule)
+    (λ outcome rule. where_none (text_of c.args.asked.files.now.image) c.args.asked.ring _ _ _ outcome (ap text_of c.in-None.is) rule)
     (c.shipped_outcome.ensures.steered none_set)

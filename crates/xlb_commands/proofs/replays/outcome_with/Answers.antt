@@ -7,13 +7,13 @@ use Rattle.xlb_commands.proofs.replays.outcome_with.Goals as goal
 
 pub returns-clause-readers : goal.returns-clause-readers
 returns-clause-readers g c = λ none_set reads none unstopped.
-    reader_file_is c.args.verified.now.maps c.args.verified.now.code c.args.script.now (recorded c.args.recording c.args.options) c.args.capture.now.records.items
+    reader_file_is c.args.asked.verified.now.maps c.args.asked.verified.now.code c.args.asked.script.now (recorded c.args.asked.recording c.args.asked.options) c.args.capture.now.records.items
     c.in_ok-outcome.outcome (c.readers_send_alike.ensures.sends reads) c.options.ensures.fit c.all_are_captured.ensures
     c.in_ok-outcome.ensures.made.accounted (c.in_ok-outcome.ensures.made.updates_are ∙ none_set) none unstopped
 
 pub returns-clause-headline : goal.returns-clause-headline
 returns-clause-headline g c =
     let told = c.in_ok-outcome.ensures.made.accounted in
-    c.headline.ensures c.args.script.now (recorded c.args.recording c.args.options) c.args.capture.now.records.items c.in_ok-outcome.outcome
-    (options_fit (program_of c.args.verified.now c.args.options.shards) c.args.script.now (recorded c.args.recording c.args.options)
+    c.headline.ensures c.args.asked.script.now (recorded c.args.asked.recording c.args.asked.options) c.args.capture.now.records.items c.in_ok-outcome.outcome
+    (options_fit (program_of c.args.asked.verified.now c.args.asked.options.shards) c.args.asked.script.now (recorded c.args.asked.recording c.args.asked.options)
     c.args.capture.now.records.items c.in_ok-outcome.outcome c.options.ensures.fit told) c.all_are_captured.ensures told

@@ -1,18 +1,15 @@
-use Rattle.std.proofs.Common.{◌≡◌, ◌∙◌, ℕ, Bool, true, false, List, [], ◌∷◌, length, Result, Ok, Err, arith, refl, subst, sym}
-use Rattle.std.specs.Prelude.{◌==◌, IfOk, IfErr}
+use Rattle.std.proofs.Common.{◌≡◌, ◌∙◌, ℕ, Bool, true, false, List, [], ◌∷◌, length, Result, Ok, Err, arith, refl, sym}
+use Rattle.std.specs.Prelude.{◌==◌, IfOk}
 use Rattle.std.proofs.lemmas.Bool.Decides.{Decides-eqb}
 use Rattle.map_updates.specs.declared.update.MapUpdate.{MapUpdate}
 use Rattle.wire.specs.declared.records.Sent.{Sent}
 use Rattle.semantics.specs.declared.options.Options.{Options}
-use Rattle.semantics.specs.ShardPlan.{recorded}
 use Rattle.control.specs.declared.command.Command.{Command}
 use Rattle.replay.specs.declared.fault.ReplayFault.{ReplayFault}
 use Rattle.replay.specs.declared.outcome.Outcome.{Outcome}
-use Rattle.machine.specs.Running.{program_of}
 use Rattle.steered_replays.specs.SteeredRuns.{IsSteeredReplay}
 use Rattle.steered_replays.specs.Totals.{AreTotals}
-use Rattle.xlb_commands.specs.Refused.{IsGivenUp}
-use Rattle.xlb_commands.specs.Replays.{IsByRule, IsMade}
+use Rattle.xlb_commands.specs.Replays.{IsByRule}
 use Rattle.xlb_commands.proofs.replays.shipped_outcome.Goals as goal
 
 -- both halves of the rule, of a replay that was made
@@ -32,21 +29,12 @@ some : (test : Bool) (updates : List MapUpdate) → test ≡ (length updates == 
 some test [] is untrue none = cc
 some test (update ∷ later) is untrue none = cc
 
+pub shipped_replay_at-requires-clause-none : goal.shipped_replay_at-requires-clause-none
+shipped_replay_at-requires-clause-none g c = λ κs within. empty c.is_empty.result c.args.asked.updates.now c.is_empty.ensures c.if-is_empty.true
+
 pub returns-then-is_empty-clause-steered : goal.returns-then-is_empty-clause-steered
 returns-then-is_empty-clause-steered g c = λ none.
-    by_rule c.args.ring _ _ _ c.shipped_replay_at.result c.shipped_replay_at.ensures.steered c.shipped_replay_at.ensures.totals
-
-pub returns-then-is_empty-clause-made : goal.returns-then-is_empty-clause-made
-returns-then-is_empty-clause-made g c =
-    let none : c.args.updates.now ≡ [] = empty c.is_empty.result c.args.updates.now c.is_empty.ensures c.if-is_empty.true in
-    subst (λ (updates : List MapUpdate). IfOk c.shipped_replay_at.result (IsMade c.args.exact (program_of c.args.verified.now c.args.options.shards)
-    updates c.args.script.now (recorded c.args.recording c.args.options) c.args.capture.now.records.items)) (sym none) c.shipped_replay_at.ensures.made
-
-pub returns-then-is_empty-clause-given_up : goal.returns-then-is_empty-clause-given_up
-returns-then-is_empty-clause-given_up g c =
-    let none : c.args.updates.now ≡ [] = empty c.is_empty.result c.args.updates.now c.is_empty.ensures c.if-is_empty.true in
-    subst (λ (updates : List MapUpdate). IfErr c.shipped_replay_at.result (IsGivenUp c.args.exact c.args.verified.now.maps updates c.args.script.now
-    c.args.options c.args.recording)) (sym none) c.shipped_replay_at.ensures.given_up
+    by_rule c.args.asked.ring _ _ _ c.shipped_replay_at.result c.shipped_replay_at.ensures.steered c.shipped_replay_at.ensures.totals
 
 pub returns-clause-steered : goal.returns-clause-steered
-returns-clause-steered g c = λ none. absurd (some c.is_empty.result c.args.updates.now c.is_empty.ensures c.if-is_empty.false none)
+returns-clause-steered g c = λ none. absurd (some c.is_empty.result c.args.asked.updates.now c.is_empty.ensures c.if-is_empty.false none)
