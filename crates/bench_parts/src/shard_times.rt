@@ -62,6 +62,7 @@ fn put(shard: &mut Shard, key: u32) -> Result<i32, JournalFull>
 }
 
 /// The cell of a key.
+#[inline(always)]
 fn look(shard: &mut Shard, key: u32) -> Result<Option<u64>, JournalFull>
     requires { IsAtWork shard.old }
     ensures work { IsAtWork shard.new }
@@ -71,6 +72,7 @@ fn look(shard: &mut Shard, key: u32) -> Result<Option<u64>, JournalFull>
 }
 
 /// The number in a cell.
+#[inline(always)]
 fn load(shard: &mut Shard, cell: u64) -> Result<u64, JournalFull>
     requires work { IsAtWork shard.old }
     requires held { HoldsThere shard.old cell }
@@ -86,6 +88,7 @@ fn load(shard: &mut Shard, cell: u64) -> Result<u64, JournalFull>
 }
 
 /// Adds 1 to the number in a cell.
+#[inline(always)]
 fn add(shard: &mut Shard, cell: u64) -> Result<u64, JournalFull>
     requires work { IsAtWork shard.old }
     requires held { HoldsThere shard.old cell }

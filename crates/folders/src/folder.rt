@@ -148,7 +148,8 @@ pub trait Folder {
     /// Puts bytes at the end of the file that is made in pieces. After a fault it is given up. Refused with 7 where no file is begun.
     fn add(&mut self, bytes: &[u8]) -> Result<(), FolderFault>
         requires { failure_count self.old < 2 ^ 64 - 1 }
-        ensures added { OnOk result ((name before : List ℕ) → is_begun self.old name before → is_begun self.new name (before ++ bytes.now)) }
+        ensures added { OnOk result
+            ((name before : List ℕ) → is_begun self.old name before → is_begun self.new name (before ++ bytes.now)) }
         ensures kept { (other bytes : List ℕ) → (holds self.old other bytes ↔ holds self.new other bytes) }
         ensures left_kept { (bytes : List ℕ) → (is_left self.old bytes ↔ is_left self.new bytes) }
         ensures most_kept { most_left self.new ≡ most_left self.old }

@@ -40,8 +40,21 @@ fn atomic_word(operation: AtomicOp, old: u32, operand: u32, expected: u32) -> u3
     }
 }
 
-/// The table's row on numbers of 64 bits.
+/// The table's row on numbers of 64 bits. Nearly all programs only add.
 fn atomic_double(operation: AtomicOp, old: u64, operand: u64, expected: u64) -> u64
+    ensures { result ≡ atomic_result 64 operation old operand expected }
+{
+    match operation {
+        AtomicOp::AtomicAdd => old.wrapping_add(operand),
+        AtomicOp::FetchAdd => old.wrapping_add(operand),
+        other => any_double(other, old, operand, expected),
+    }
+}
+
+/// The same for any operation. It stays out of its callers: inlined there, the operations would be one jump through a table, which takes longer than
+/// the operation.
+#[inline(never)]
+fn any_double(operation: AtomicOp, old: u64, operand: u64, expected: u64) -> u64
     ensures { result ≡ atomic_result 64 operation old operand expected }
 {
     match operation {

@@ -249,13 +249,20 @@ fn put_row(rows: &mut Vec<Row>, row: Row)
     rows.push_reserved(row);
 }
 
-/// Puts bytes behind the others, for which there is room.
+/// Puts bytes behind the others, for which there is room. Most keys have four, eight or sixteen bytes and most values eight, for which a
+/// store or two serve in place of a call that copies.
 pub fn put_bytes(bytes: &mut Vec<u8>, more: &[u8])
     requires { vec_len bytes.old + length more.now ≤ vec_capacity bytes.old }
     ensures items { bytes.new.items ≡ bytes.old.items ++ more.now }
     ensures room { vec_capacity bytes.old ≤ vec_capacity bytes.new }
 {
-    if bytes.extend_from_slice(more).is_err() {
+    let put = match more.len() {
+        4 => bytes.extend_from_slice(&more[..4]),
+        8 => bytes.extend_from_slice(&more[..8]),
+        16 => bytes.extend_from_slice(&more[..16]),
+        _ => bytes.extend_from_slice(more),
+    };
+    if put.is_err() {
         unreachable!()
     }
 }

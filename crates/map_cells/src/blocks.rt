@@ -24,11 +24,15 @@ pub fn write_at(bytes: &mut Vec<u8>, size: usize, number: usize, offset: usize, 
     write(bytes, number * size + offset, piece);
 }
 
-/// Writes a piece from an index on.
+/// Writes a piece from an index on. Most pieces are eight bytes, for which one store serves in place of a call that copies.
 fn write(bytes: &mut Vec<u8>, start: usize, piece: &[u8])
     requires { start + length piece.now ≤ length bytes.old.items }
     ensures items { bytes.new.items ≡ overwritten_at start piece.now bytes.old.items }
     ensures len { length bytes.new.items ≡ length bytes.old.items }
 {
-    bytes[start..start + piece.len()].copy_from_slice(piece);
+    if piece.len() == 8 {
+        bytes[start..start + 8].copy_from_slice(&piece[..8]);
+    } else {
+        bytes[start..start + piece.len()].copy_from_slice(piece);
+    }
 }

@@ -3,6 +3,9 @@
 ghost use Rattle.std.specs.Prelude.{◌≡◌, ◌≢◌, ◌<◌, ◌≤◌, ◌+◌, ◌*◌, ◌^◌, ◌⊎◌, ℕ, IsTrue, IfOk, IfSome, Some, None};
 ghost use Rattle.std.specs.Prelude.{true, false, List, [], ◌∷◌, ◌++◌, length, filter, vec_len, vec_capacity, slice_index_or};
 ghost use Rattle.isa.specs.Atomic.{atomic_result};
+ghost use Rattle.wire.specs.FrameView.{overwritten_at};
+ghost use Rattle.semantics.specs.LittleEndian.{bytes_of_number};
+ghost use Rattle.map_cells.specs.Blocks.{block_of};
 ghost use Rattle.map_cells.specs.Places.{place_at};
 ghost use Rattle.map_cells.specs.CellTable.{CellTable, empty_table, is_kept, bytes_at, number_at, with_new_cell, with_bytes, with_number};
 ghost use Rattle.map_cells.specs.CellTable.{with_change, with_retired};
@@ -142,8 +145,7 @@ impl Cells {
         ensures { self.new ≡ with_number self.old id offset size value }
     {
         let place = place_in(&self.place_of, id);
-        let number = bytes_of_number(size as u64, value);
-        write_at(&mut self.bytes, self.size, place, offset, number.as_slice());
+        put_number(&mut self.bytes, self.size, place, offset, size, value);
     }
 
     /// Changes a number in a kept cell by an atomic operation, and returns what it was. `size` is 4 or 8.
@@ -218,6 +220,52 @@ impl Cells {
         self.place_of[one.id as usize] = NO_PLACE;
         give_place(&mut self.free, place as u32);
     }
+}
+
+/// Writes a number of `count` bytes into the part of a number, from an offset on. Nearly all numbers have eight bytes.
+fn put_number(
+    bytes: &mut Vec<u8>,
+    size: usize,
+    place: usize,
+    offset: usize,
+    count: usize,
+    value: u64,
+)
+    requires count { count ≤ 8 }
+    requires within { place * size + size ≤ length bytes.old.items }
+    requires piece { offset + count ≤ size }
+    ensures here { block_of size bytes.new.items place ≡
+        overwritten_at offset (bytes_of_number count value) (block_of size bytes.old.items place) }
+    ensures elsewhere { (other : ℕ) → other ≢ place → block_of size bytes.new.items other ≡ block_of size bytes.old.items other }
+    ensures len { length bytes.new.items ≡ length bytes.old.items }
+{
+    if count == 8 {
+        write_at(bytes, size, place, offset, &value.to_le_bytes());
+    } else {
+        put_short_number(bytes, size, place, offset, count, value);
+    }
+}
+
+/// The same for any count. It stays out of its callers: inlined there, the counts would be one jump through a table, which takes longer than the write.
+#[inline(never)]
+fn put_short_number(
+    bytes: &mut Vec<u8>,
+    size: usize,
+    place: usize,
+    offset: usize,
+    count: usize,
+    value: u64,
+)
+    requires count { count ≤ 8 }
+    requires within { place * size + size ≤ length bytes.old.items }
+    requires piece { offset + count ≤ size }
+    ensures here { block_of size bytes.new.items place ≡
+        overwritten_at offset (bytes_of_number count value) (block_of size bytes.old.items place) }
+    ensures elsewhere { (other : ℕ) → other ≢ place → block_of size bytes.new.items other ≡ block_of size bytes.old.items other }
+    ensures len { length bytes.new.items ≡ length bytes.old.items }
+{
+    let number = bytes_of_number(count as u64, value);
+    write_at(bytes, size, place, offset, number.as_slice());
 }
 
 /// What an atomic operation makes of a number of 4 or 8 bytes.

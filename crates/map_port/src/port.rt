@@ -82,7 +82,8 @@ pub trait MapPort {
         ensures gives { IfOk result
             (λ code. gives self.old (update_call (serves self.old) map key.now value.now flags) (Answer code) self.new) }
         ensures refuses { OnErr result (refuses self.old (update_call (serves self.old) map key.now value.now flags) self.new) }
-        ensures names_the_shard { IfErr result (λ fault. fault.shard ≡ shard_of_call (update_call (serves self.old) map key.now value.now flags)) };
+        ensures names_the_shard { IfErr result
+            (λ fault. fault.shard ≡ shard_of_call (update_call (serves self.old) map key.now value.now flags)) };
 
     /// Asks for a key to be removed, and returns the answer. Refused as `lookup` is.
     fn delete(&mut self, map: u32, key: &Key) -> Result<i32, JournalFull>

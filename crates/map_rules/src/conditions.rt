@@ -78,7 +78,6 @@ fn part_of_number(number: u64, parts: u32) -> u32
     ensures { result ≡ number % parts }
 {
     match parts {
-        1 => 0,
         2 => (number % 2) as u32,
         4 => (number % 4) as u32,
         8 => (number % 8) as u32,
@@ -86,8 +85,23 @@ fn part_of_number(number: u64, parts: u32) -> u32
     }
 }
 
-/// The number of the shard of a key, in a map of this place and kind with this many shards.
+/// The number of the shard of a key, in a map of this place and kind with this many shards. Of one shard the key is not read.
 pub fn shard_of_kind(map: u32, kind: MapKind, parts: u32, key: &Key) -> u32
+    requires map { map ≤ 16 }
+    requires parts { 0 < parts }
+    requires few { parts ≤ 8 }
+    requires size { IsIndexSize kind (length key.now) }
+    ensures { result ≡ shard_of_key map kind parts key.now }
+{
+    if parts == 1 {
+        map
+    } else {
+        shard_among(map, kind, parts, key)
+    }
+}
+
+/// The same by the key's number.
+fn shard_among(map: u32, kind: MapKind, parts: u32, key: &Key) -> u32
     requires map { map ≤ 16 }
     requires parts { 0 < parts }
     requires few { parts ≤ 8 }

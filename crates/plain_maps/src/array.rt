@@ -55,8 +55,21 @@ fn rank_of(index: u64, parts: u32) -> u64
     requires { 0 < parts }
     ensures { result ≡ index / parts }
 {
+    if parts == 1 {
+        index
+    } else {
+        rank_among(index, parts)
+    }
+}
+
+/// The same among several parts. It is a function of its own, since from four cases on they would be one jump through a table, which takes longer than
+/// a lookup's other steps.
+#[inline(never)]
+fn rank_among(index: u64, parts: u32) -> u64
+    requires { 0 < parts }
+    ensures { result ≡ index / parts }
+{
     match parts {
-        1 => index,
         2 => index / 2,
         4 => index / 4,
         8 => index / 8,

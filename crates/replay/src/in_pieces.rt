@@ -144,7 +144,8 @@ impl PieceReplay {
         requires goes_on { GoesOn script.now self.old }
         requires maps { self.old.turns.all.maps ≡ verified.now.maps }
         requires room { self.old.taken + length piece.now.records.items < 2 ^ 63 }
-        ensures underway { IfOk result (λ done. (options : Settings) (updates : List Update) (records sent : List Record) (ends : List End) →
+        ensures underway { IfOk result
+            (λ done. (options : Settings) (updates : List Update) (records sent : List Record) (ends : List End) →
             IsUnderway (program_of verified.now options.shards) script.now options updates records sent ends self.old →
             IsUnderway (program_of verified.now options.shards) script.now options updates (records ++ piece.now.records.items)
             (sent ++ done.sent.items) (ends ++ done.ends.items) self.new) }

@@ -296,7 +296,8 @@ fn filled<R: Wait>(
 ) -> Result<(Queues, TakePass), OpenFault>
     requires who { HasQueue 1 who }
     requires place { (place ≡ queue_of 1 who) × (place ≤ 2) }
-    ensures take { IfOk result (λ filled. IsTakePassOf filled.0 filled.1 × (place_taken_from filled.1 ≡ place) × (jobs_taken filled.1 ≡ [])) }
+    ensures take { IfOk result
+        (λ filled. IsTakePassOf filled.0 filled.1 × (place_taken_from filled.1 ≡ place) × (jobs_taken filled.1 ≡ [])) }
     ensures jobs { IfOk result (λ filled. (workers_of filled.0 ≡ 1) × (commands_of filled.0 ≡ count)) }
 {
     let (queues, mut put, mut takes) = Queues::open(alloc, 1, count, count)?;

@@ -101,12 +101,18 @@ impl<const N: usize> Bytes<N> {
     }
 }
 
-/// Writes the items over those from an index on.
+/// Writes the items over those from an index on. Most keys have four, eight or sixteen bytes, for which a store or two serve in place of a
+/// call that copies.
 fn write(bytes: &mut [u8], at: usize, items: &[u8])
     requires { at + length items.now ≤ length bytes.old }
     ensures { bytes.new ≡ overwritten_at at items.now bytes.old }
 {
-    bytes[at..at + items.len()].copy_from_slice(items);
+    match items.len() {
+        4 => bytes[at..at + 4].copy_from_slice(&items[..4]),
+        8 => bytes[at..at + 8].copy_from_slice(&items[..8]),
+        16 => bytes[at..at + 16].copy_from_slice(&items[..16]),
+        _ => bytes[at..at + items.len()].copy_from_slice(items),
+    }
 }
 
 /// The first `count` bytes, or all where there are fewer.

@@ -48,6 +48,7 @@ impl KeyTable {
     }
 
     /// The cell of a key. This is no use of the key.
+    #[inline(always)]
     pub(crate) fn find(&self, key: &[u8]) -> Option<u64>
         requires { IsAskedSize self.now (length key.now) }
         ensures { result ≡ cell_in self.now key.now }

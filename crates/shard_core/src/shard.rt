@@ -166,6 +166,7 @@ impl Shard {
 
     /// The cell of a key, which the worker then holds; none where the key is absent. Refused where the journal is full; then nothing is
     /// changed.
+    #[inline(always)]
     pub fn lookup(&mut self, who: Caller, key: &[u8]) -> Result<Option<u64>, JournalFull>
         requires { MayCall self.old who (lookup_call self.old key.now) }
         ensures replied { IfOk result
@@ -186,6 +187,7 @@ impl Shard {
     }
 
     /// The number that some bytes of a held cell make, the lowest first. Refused where the journal is full; then nothing is changed.
+    #[inline(always)]
     pub fn load(&mut self, who: Caller, range: &CellRange) -> Result<u64, JournalFull>
         requires { MayCall self.old who (load_call self.old range.now) }
         ensures of_its_cell { IfOk result
@@ -205,6 +207,7 @@ impl Shard {
     }
 
     /// Writes a number into some bytes of a held cell, the lowest first. Refused where the journal is full; then nothing is changed.
+    #[inline(always)]
     pub fn store(&mut self, who: Caller, range: &CellRange, value: u64) -> Result<(), JournalFull>
         requires { MayCall self.old who (store_call self.old range.now value) }
         ensures entered { OnOk result (self.new ≡ after_call self.old who (store_call self.old range.now value) Done) }
@@ -223,6 +226,7 @@ impl Shard {
 
     /// Changes the number in some bytes of a held cell in one step, and returns what it was. Refused where the journal is full; then nothing
     /// is changed.
+    #[inline(always)]
     pub fn atomic(
         &mut self,
         who: Caller,

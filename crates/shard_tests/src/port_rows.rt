@@ -106,7 +106,8 @@ fn look<P: MapPort>(port: &mut P, map: u32, index: u32) -> Result<u64, JournalFu
     requires maps { (P.serves port.old).maps ≡ example_maps }
     requires map { map < 3 }
     ensures same { OnOk result (P.serves port.new ≡ P.serves port.old) }
-    ensures held { IfOk result (λ handle. 0 < handle → IsReadable (P.serves port.new) (P.has_handed_out port.new) (P.cell_of port.new handle) 0 8) }
+    ensures held { IfOk result
+        (λ handle. 0 < handle → IsReadable (P.serves port.new) (P.has_handed_out port.new) (P.cell_of port.new handle) 0 8) }
 {
     port.lookup(map, &key_of(index))
 }

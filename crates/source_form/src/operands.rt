@@ -83,7 +83,8 @@ fn last_text(
     operand: &str,
 ) -> Result<String, LineFault>
     requires { place ≤ length statements.now }
-    ensures ok { IfOk result (λ text. last_meaning (map (λ line. line.now) statements.now) place form operand.now ≡ Ok (string_bytes text)) }
+    ensures ok { IfOk result
+        (λ text. last_meaning (map (λ line. line.now) statements.now) place form operand.now ≡ Ok (string_bytes text)) }
     ensures err { IfErr result (λ fault. IsToldBy (last_meaning (map (λ line. line.now) statements.now) place form operand.now) fault) }
 {
     match form {
