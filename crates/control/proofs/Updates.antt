@@ -125,9 +125,10 @@ done_alone gives state before after update room table one = record {
 }
 
 pub stopped_alone : {P : Type 0} (gives : P → UpdateBytes → ℤ → P → Type 0) (refuses : P → UpdateBytes → P → Type 0) (state : ControllerState) (before after : P) (update : Update) (state' : ControllerState)
-    → IsTable state.size state.up state.owners → state' ≡ record { size = state.size; up = state.up; owners = state.owners; is_full = true } → refuses before (map_update update) after
+    → state.is_full ≡ false → IsTable state.size state.up state.owners → state' ≡ record { size = state.size; up = state.up; owners = state.owners; is_full = true } → refuses before (map_update update) after
     → IsStopped gives refuses state before (update ∷ []) state.up state' after
-stopped_alone gives refuses state before after update state' table full one = record {
+stopped_alone gives refuses state before after update state' room table full one = record {
+  not_full = room;
   owners = state.owners;
   table = table;
   state_is = full;

@@ -139,10 +139,11 @@ pub record IsCarriedOut {P : Type 0} (gives : P → UpdateBytes → ℤ → P �
   pub state_is : state' ≡ record { size = state.size; up = up; owners = owners; is_full = false }
   pub are_made : AreMade gives before (updates_of state firsts owners) after
 
--- an update met a full journal: those before it remain, and the controller is full
+-- an update met a full journal, of a controller that had met none before: those before it remain, and the controller is full
 pub record IsStopped {P : Type 0} (gives : P → UpdateBytes → ℤ → P → Type 0) (refuses : P → UpdateBytes → P → Type 0)
     (state : ControllerState) (before : P)
     (firsts : List Update) (up : List Server) (state' : ControllerState) (after : P) : Type 0 where
+  pub not_full : state.is_full ≡ false
   pub owners : List ℕ
   pub table : IsTable state.size up owners
   pub state_is : state' ≡ record { size = state.size; up = state.up; owners = state.owners; is_full = true }

@@ -100,6 +100,7 @@ stopped plan within gives refuses has state action state' before after who first
       fault_is = refl;
       done = record {
         did = inr (record {
+          not_full = cut.not_full;
           owners = cut.owners;
           table = cut.table;
           state_is = cut.state_is;

@@ -296,6 +296,7 @@ module _ (plan : ℕ → ShardPlan) (count : ℕ) (numbered : (number : ℕ) →
         more = more_on Controller order made.order' last.order' made.more last.more;
         stands = last.stands;
         left = inr (record {
+          not_full = stopped.not_full;
           owners = stopped.owners;
           table = stopped.table;
           state_is = stopped.state_is;

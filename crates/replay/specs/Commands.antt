@@ -114,8 +114,9 @@ pub record IsTurnedDown (state : ControllerState) (one : CommandDone) (answer : 
   pub not_stopped : one.stopped ≡ None
   pub state_is : state' ≡ state
 
--- an update met a full journal: those before it were made, and no other
+-- an update met a full journal, of a controller that had met none before: those before it were made, and no other
 pub record IsCutShort (state : ControllerState) (one : CommandDone) (state' : ControllerState) : Type 0 where
+  pub not_full : state.is_full ≡ false
   pub owners : List ℕ
   pub table : IsTable state.size (up_after state.up one.action) owners
   pub state_is : state' ≡ record { size = state.size; up = state.up; owners = state.owners; is_full = true }
