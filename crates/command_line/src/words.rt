@@ -64,7 +64,7 @@ pub enum WordsFault<'a> {
 
 /// What words ask for that the parser finds no fault in.
 #[derive(Debug, Drop)]
-enum ReplayWords<'a> {
+enum AskedWords<'a> {
     /// A command.
     Command(Settings<'a>),
     /// What a word means that is neither the number nor the name of a fault.
@@ -140,19 +140,19 @@ pub fn settings<'a, S: AsStr>(alloc: Global, words: &'a [S]) -> Result<Settings<
         × AsksInVain name rows fault)) }
 {
     match parsed(alloc, words) {
-        Ok(ReplayWords::Command(settings)) => Ok(settings),
-        Ok(ReplayWords::NoSuchFault(word)) => Err(WordsFault::UnknownFault(word)),
-        Ok(ReplayWords::ImageAndScript) => Err(WordsFault::Both),
-        Ok(ReplayWords::ImageAndProgram) => Err(WordsFault::TwoImages),
-        Ok(ReplayWords::UpdatesAlone) => Err(WordsFault::UpdatesAlone),
-        Ok(ReplayWords::JournalsOfNone) => Err(WordsFault::JournalsOfNone),
-        Ok(ReplayWords::NoUpdate { place, mistake }) => Err(WordsFault::Update { place, mistake }),
+        Ok(AskedWords::Command(settings)) => Ok(settings),
+        Ok(AskedWords::NoSuchFault(word)) => Err(WordsFault::UnknownFault(word)),
+        Ok(AskedWords::ImageAndScript) => Err(WordsFault::Both),
+        Ok(AskedWords::ImageAndProgram) => Err(WordsFault::TwoImages),
+        Ok(AskedWords::UpdatesAlone) => Err(WordsFault::UpdatesAlone),
+        Ok(AskedWords::JournalsOfNone) => Err(WordsFault::JournalsOfNone),
+        Ok(AskedWords::NoUpdate { place, mistake }) => Err(WordsFault::Update { place, mistake }),
         Err(error) => Err(WordsFault::Parser(error)),
     }
 }
 
 /// What the parser makes of the words.
-fn parsed<'a, S: AsStr>(alloc: Global, words: &'a [S]) -> Result<ReplayWords<'a>, Error>
+fn parsed<'a, S: AsStr>(alloc: Global, words: &'a [S]) -> Result<AskedWords<'a>, Error>
     ensures found { IfOk result (λ asked. (name : Text) × (rows : List Row)
         × (subcommand_of program (map S.text words.entry.now) ≡ Some (name, rows)) × IsAsked name rows asked) }
     ensures kinds { FailsBy (fault_of program (map S.text words.entry.now)) result }
@@ -166,7 +166,7 @@ fn parsed<'a, S: AsStr>(alloc: Global, words: &'a [S]) -> Result<ReplayWords<'a>
 }
 
 /// What the command of a name asks for, with its words.
-fn asked_of<'a>(alloc: Global, name: &str, found: &ArgMatches<'a>) -> ReplayWords<'a>
+fn asked_of<'a>(alloc: Global, name: &str, found: &ArgMatches<'a>) -> AskedWords<'a>
     requires { IsCommand name.now }
     ensures { IsAsked name.now (rows_of (found_of found.now)) result }
 {
@@ -180,22 +180,22 @@ fn asked_of<'a>(alloc: Global, name: &str, found: &ArgMatches<'a>) -> ReplayWord
         return replay_of(alloc, found);
     }
     if name == "shipped" {
-        return ReplayWords::Command(shipped_of(found));
+        return AskedWords::Command(shipped_of(found));
     }
     if name == "table" {
-        return ReplayWords::Command(table_of(found));
+        return AskedWords::Command(table_of(found));
     }
-    ReplayWords::Command(command_of(name, found))
+    AskedWords::Command(command_of(name, found))
 }
 
 /// What is asked of a fault.
-fn explain_of<'a>(found: &ArgMatches<'a>) -> ReplayWords<'a>
+fn explain_of<'a>(found: &ArgMatches<'a>) -> AskedWords<'a>
     ensures { IsAsked (codes "explain") (rows_of (found_of found.now)) result }
 {
     let word = word(found, FAULT);
     match fault_said(word) {
-        Some(about) => ReplayWords::Command(Settings::Explain { about }),
-        None => ReplayWords::NoSuchFault(word),
+        Some(about) => AskedWords::Command(Settings::Explain { about }),
+        None => AskedWords::NoSuchFault(word),
     }
 }
 
@@ -250,25 +250,25 @@ fn fault_if_named(number: u32, word: &str) -> Option<Explanation>
 }
 
 /// What is asked of a replay.
-fn replay_of<'a>(alloc: Global, found: &ArgMatches<'a>) -> ReplayWords<'a>
+fn replay_of<'a>(alloc: Global, found: &ArgMatches<'a>) -> AskedWords<'a>
     ensures { IsAsked (codes "replay") (rows_of (found_of found.now)) result }
 {
     if are_both_given(found, REPLAY_IMAGE, SCRIPT) {
-        return ReplayWords::ImageAndScript;
+        return AskedWords::ImageAndScript;
     }
     if are_both_given(found, REPLAY_IMAGE, PROGRAM) {
-        return ReplayWords::ImageAndProgram;
+        return AskedWords::ImageAndProgram;
     }
     if are_updates_alone(found) {
-        return ReplayWords::UpdatesAlone;
+        return AskedWords::UpdatesAlone;
     }
     let no_journals = switch(found, NO_JOURNALS);
     if no_journals && has_journals(found) {
-        return ReplayWords::JournalsOfNone;
+        return AskedWords::JournalsOfNone;
     }
     match updates_found(alloc, found) {
-        Ok(updates) => ReplayWords::Command(replay_with(found, no_journals, updates)),
-        Err((place, mistake)) => ReplayWords::NoUpdate { place, mistake },
+        Ok(updates) => AskedWords::Command(replay_with(found, no_journals, updates)),
+        Err((place, mistake)) => AskedWords::NoUpdate { place, mistake },
     }
 }
 
@@ -440,12 +440,12 @@ fn command_of<'a>(name: &str, found: &ArgMatches<'a>) -> Settings<'a>
 }
 
 /// What is asked of a run.
-fn run_of<'a>(alloc: Global, found: &ArgMatches<'a>) -> ReplayWords<'a>
+fn run_of<'a>(alloc: Global, found: &ArgMatches<'a>) -> AskedWords<'a>
     ensures { IsAsked (codes "run") (rows_of (found_of found.now)) result }
 {
     match updates_found(alloc, found) {
-        Ok(updates) => ReplayWords::Command(run_with(found, updates)),
-        Err((place, mistake)) => ReplayWords::NoUpdate { place, mistake },
+        Ok(updates) => AskedWords::Command(run_with(found, updates)),
+        Err((place, mistake)) => AskedWords::NoUpdate { place, mistake },
     }
 }
 
