@@ -41,7 +41,7 @@ AreEight state = (word : ℕ) → word < 64 → length (bytes_of_word (word_of s
 
 -- ---- what is stored
 
--- a number of which a part may be stored
+-- a number that may be stored in part
 pub narrow_is_number : (s : Setting) (kind : Kind) (value : RegisterValue) (done : Unit {0}) → narrow_storable kind ≡ Ok done → KindCovers s kind value → (n : ℕ) × (value ≡ Number n)
 narrow_is_number s (Scalar i) value done e c = (c.number, c.is)
 narrow_is_number s Unset value done e c = cc

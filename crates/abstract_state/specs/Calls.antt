@@ -28,7 +28,7 @@ known_helper None = Err UnknownHelper
 abbrev pub helper_at : ℤ → Checked Helper
 helper_at number = known_helper (helper_of number)
 
--- ---- arguments, of which R1 is the first
+-- ---- arguments; R1 is the first
 
 abbrev pub map_argument : Kind → Register → Checked ℕ
 map_argument (Map map) register = Ok map

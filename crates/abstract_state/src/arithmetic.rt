@@ -101,7 +101,7 @@ fn moved_pointer(
     }
 }
 
-/// An address in a value moved by a number of which only an interval is known, in version 2 alone: by each end of it.
+/// An address in a value moved by a number that is known only as an interval, in version 2 alone: by each end of it.
 fn moved_value(
     maps: &[MapDef],
     version: Version,
@@ -124,8 +124,8 @@ fn moved_value(
     }
 }
 
-/// A pointer moved by a number of which only an interval is known: a packet pointer gets a base of its own, of which no range
-/// is known, and an address in a value an interval of offsets.
+/// A pointer moved by a number that is known only as an interval: a packet pointer gets a base of its own, with no known range,
+/// and an address in a value an interval of offsets.
 fn moved_far(site: Site<'_>, op: AluOp, on: AluOperands, i: Interval) -> Result<Kind, BrokenRule>
     ensures { result ≡ moved_far site.entry.maps.now on.version site.entry.slot op on.first i on.source }
 {

@@ -5,7 +5,7 @@
 pub enum Fact {
     /// Nothing new.
     Nothing,
-    /// What the lookup of this id gave is 0, or isn't.
+    /// What the lookup of this id returned is 0, or isn't.
     Null { id: u16, is_null: bool },
     /// This many bytes from the base of this id lie in the packet.
     Range { id: u16, range: u32 },

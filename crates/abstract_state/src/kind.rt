@@ -64,7 +64,7 @@ pub enum Kind {
     PacketEnd,
     /// A map, by its place in the image's list.
     Map(u32),
-    /// What the lookup in slot `id` gave: a value of the map, or 0.
+    /// What the lookup in slot `id` returned: a value of the map, or 0.
     ValueOrNull { map: u32, id: u16 },
     /// A byte of the value that the lookup in slot `id` found, at one of the offsets.
     Value { map: u32, id: u16, off: Offsets },

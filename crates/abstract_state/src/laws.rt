@@ -2,7 +2,7 @@
 
 ghost use Rattle.abstract_state.specs.Soundness.{HoldingMoreIsSound, OpeningIsSound, JoinIsSound, FlowIsSound, StatesAreShaped};
 
-/// More cells may be held than those of which a state knows.
+/// More cells may be held than those that a state knows.
 pub fn holding_more_is_sound()
     ensures { HoldingMoreIsSound }
 {}

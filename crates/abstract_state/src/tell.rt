@@ -7,7 +7,7 @@ use crate::fact::Fact;
 use crate::kind::{Kind, Offsets, StackWord};
 use abstract_scalar::Interval;
 
-/// What the lookup of an id gave is 0, or isn't.
+/// What the lookup of an id returned is 0, or isn't.
 fn told_null(id: u16, is_null: bool, kind: Kind) -> Kind
     ensures { result ≡ told_null id is_null kind }
 {

@@ -3,7 +3,7 @@ use Rattle.std.proofs.Common.{arith, ◌≡◌, ◌<◌, ◌≤◌, ◌==◌, �
 use Rattle.std.proofs.lemmas.Bool.{leb-true, eqb-true}
 use Rattle.faults.specs.Explanations.{is_fault}
 
--- one of two tests is met, and each tells the same
+-- one of two tests is met, and each has the same consequence
 either_tells : (A : Type 0) (a b : Bool) → (a ≡ true → A) → (b ≡ true → A) → (a || b) ≡ true → A
 either_tells A true b first second is = first refl
 either_tells A false b first second is = second is

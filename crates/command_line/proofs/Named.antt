@@ -122,7 +122,7 @@ abbrev name_in : Option (Text × List Row) → Text
 name_in None = []
 name_in (Some entry) = entry.0
 
--- what was found is the first shape, or stands behind it
+-- what was found is the first shape, or one behind it
 first_or : (P : Text → Type 0) (s : Shape) (rest : List Shape) (word : Text) (words : List Text)
     → (answers_to word (label_of s) ≡ true → P s.name) → (name : Text) (rows : List Row)
     → (option_map (λ (s : Shape). rows_at s words) (find (λ (s : Shape). answers_to word (label_of s)) rest) ≡ Some (name, rows) → P name)

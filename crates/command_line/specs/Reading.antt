@@ -17,9 +17,9 @@ use Rattle.command_line.specs.declared.commands.Settings.TheVariants.{Check, Run
 use Rattle.command_line.specs.declared.words.WordsFault.{WordsFault}
 use Rattle.command_line.specs.declared.words.WordsFault.TheVariants.{Parser, UnknownFault, Both, TwoImages, UpdatesAlone, JournalsOfNone}
 use Rattle.command_line.specs.declared.words.WordsFault.TheVariants.{Update}
-use Rattle.command_line.specs.declared.words.Asked.{Asked}
-use Rattle.command_line.specs.declared.words.Asked.TheVariants as asks
-use Rattle.command_line.specs.declared.words.Asked.TheVariants.{Command, NoSuchFault, ImageAndScript, ImageAndProgram, NoUpdate}
+use Rattle.command_line.specs.declared.words.AskedWords.{AskedWords}
+use Rattle.command_line.specs.declared.words.AskedWords.TheVariants as asks
+use Rattle.command_line.specs.declared.words.AskedWords.TheVariants.{Command, NoSuchFault, ImageAndScript, ImageAndProgram, NoUpdate}
 use Rattle.faults.specs.Explanations.{is_fault}
 use Rattle.faults.specs.FaultTable.{IsRowOf, row_of}
 use Rattle.map_updates.specs.UpdateWords.{IsWritten, IsMistaken}
@@ -209,8 +209,8 @@ IsReadFrom name rows (Replay files options ring exact summary skip_long no_journ
     × AreUpdates (words_of (codes "update") rows) updates.items
 
 -- what was asked for: a command, what a word means that is no fault, a replay of both an image and a script or of two images, one with updates and
--- without an image, one with a file for journals whose rows are not kept, or a malformed update
-abbrev pub IsAsked : Text → List Row → Asked → Type 0
+-- without an image, one with a file for journals that keep no rows, or a malformed update
+abbrev pub IsAsked : Text → List Row → AskedWords → Type 0
 IsAsked name rows (Command settings) = IsReadFrom name rows settings
 IsAsked name rows (NoSuchFault word) = is_named name (codes "explain")
     × (word.now ≡ word_of (codes "FAULT") rows)
@@ -230,7 +230,7 @@ IsAsked name rows asks.JournalsOfNone = is_named name (codes "replay")
 IsAsked name rows (NoUpdate place mistake) = IsOfUpdates name rows × IsBadUpdate (words_of (codes "update") rows) place mistake
 
 -- the words ask for what there is not: what a word means that is no fault, a replay of both an image and a script or of two images, one with updates and
--- without an image, one with a file for journals whose rows are not kept, or a malformed update
+-- without an image, one with a file for journals that keep no rows, or a malformed update
 abbrev pub AsksInVain : Text → List Row → WordsFault → Type 0
 AsksInVain name rows (UnknownFault word) = IsAsked name rows (NoSuchFault word)
 AsksInVain name rows Both = IsAsked name rows ImageAndScript

@@ -107,10 +107,12 @@ const AFTER_CHECK: &str = "\
 IMAGE may be a source, as asm --source reads it, in place of an image: a file
 whose first word, behind comments and blank lines, is `version`. Prints one line:
   accepted slots <slots> maps <maps> reader <yes or no>
-A slot has eight bytes; an instruction takes one or two. A reader changes no
-map and does the same on each worker. A program that may not run is refused
-with the first rule that it breaks and the slot of the instruction, counted
-from 0; of a source, its line and the label above it are in a line below.
+A slot has eight bytes; an instruction takes one or two. A reader has no
+instruction that changes a key or a value of a map or asks for the worker's
+number, so it does the same on each worker. A program that may not run is
+refused with the first rule that it breaks and the slot of the instruction,
+counted from 0; of a source, its line and the label above it are in a line
+below.
 With --explain more lines follow: for a refused program what was known
 at that instruction, the rule and the usual remedy; for an accepted one what is
 known before each instruction, and why it is not a reader.

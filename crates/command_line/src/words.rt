@@ -37,7 +37,7 @@ const TOGETHER: &str = "error: the options --image and --script cannot be used t
 /// What is printed for a replay of two images.
 const TWO_IMAGES: &str = "error: the options --image and --program cannot be used together";
 
-/// What is printed for a replay with a file for journals of which no rows are kept.
+/// What is printed for a replay with a file for journals that keep no rows.
 const NO_ROWS: &str = "error: the options --journals and --no-journals cannot be used together";
 
 /// What is printed for a replay with updates that has no `--image`.
@@ -56,7 +56,7 @@ pub enum WordsFault<'a> {
     TwoImages,
     /// A replay has updates and no `--image`.
     UpdatesAlone,
-    /// A replay has a file for journals of which no rows are kept.
+    /// A replay has a file for journals that keep no rows.
     JournalsOfNone,
     /// An update of a run or a replay, at this place among its updates, from 0, is malformed; or memory was refused for it.
     Update { place: usize, mistake: Mistake },
@@ -64,7 +64,7 @@ pub enum WordsFault<'a> {
 
 /// What words ask for that the parser finds no fault in.
 #[derive(Debug, Drop)]
-enum Asked<'a> {
+enum AskedWords<'a> {
     /// A command.
     Command(Settings<'a>),
     /// What a word means that is neither the number nor the name of a fault.
@@ -127,8 +127,8 @@ impl fmt::Display for WordsFault<'_> {
 /// The command that the words say; the first word is the program's name.
 ///
 /// There is one exactly where the parser finds no fault in the words, and they don't ask what a word means that is no fault, for a
-/// replay of both an image and a script or of two images, for one with updates and without `--image`, for one with a file for journals of which
-/// no rows are kept, or for a run or a replay with a malformed update. Of several of these the first in this order is the fault. A fault is of the first
+/// replay of both an image and a script or of two images, for one with updates and without `--image`, for one with a file for journals that
+/// keep no rows, or for a run or a replay with a malformed update. Of several of these the first in this order is the fault. A fault is of the first
 /// kind that the parser finds, or one of these, or memory was refused.
 pub fn settings<'a, S: AsStr>(alloc: Global, words: &'a [S]) -> Result<Settings<'a>, WordsFault<'a>>
     ensures found { IfOk result (λ settings. (name : Text) × (rows : List Row)
@@ -140,19 +140,19 @@ pub fn settings<'a, S: AsStr>(alloc: Global, words: &'a [S]) -> Result<Settings<
         × AsksInVain name rows fault)) }
 {
     match parsed(alloc, words) {
-        Ok(Asked::Command(settings)) => Ok(settings),
-        Ok(Asked::NoSuchFault(word)) => Err(WordsFault::UnknownFault(word)),
-        Ok(Asked::ImageAndScript) => Err(WordsFault::Both),
-        Ok(Asked::ImageAndProgram) => Err(WordsFault::TwoImages),
-        Ok(Asked::UpdatesAlone) => Err(WordsFault::UpdatesAlone),
-        Ok(Asked::JournalsOfNone) => Err(WordsFault::JournalsOfNone),
-        Ok(Asked::NoUpdate { place, mistake }) => Err(WordsFault::Update { place, mistake }),
+        Ok(AskedWords::Command(settings)) => Ok(settings),
+        Ok(AskedWords::NoSuchFault(word)) => Err(WordsFault::UnknownFault(word)),
+        Ok(AskedWords::ImageAndScript) => Err(WordsFault::Both),
+        Ok(AskedWords::ImageAndProgram) => Err(WordsFault::TwoImages),
+        Ok(AskedWords::UpdatesAlone) => Err(WordsFault::UpdatesAlone),
+        Ok(AskedWords::JournalsOfNone) => Err(WordsFault::JournalsOfNone),
+        Ok(AskedWords::NoUpdate { place, mistake }) => Err(WordsFault::Update { place, mistake }),
         Err(error) => Err(WordsFault::Parser(error)),
     }
 }
 
 /// What the parser makes of the words.
-fn parsed<'a, S: AsStr>(alloc: Global, words: &'a [S]) -> Result<Asked<'a>, Error>
+fn parsed<'a, S: AsStr>(alloc: Global, words: &'a [S]) -> Result<AskedWords<'a>, Error>
     ensures found { IfOk result (λ asked. (name : Text) × (rows : List Row)
         × (subcommand_of program (map S.text words.entry.now) ≡ Some (name, rows)) × IsAsked name rows asked) }
     ensures kinds { FailsBy (fault_of program (map S.text words.entry.now)) result }
@@ -166,7 +166,7 @@ fn parsed<'a, S: AsStr>(alloc: Global, words: &'a [S]) -> Result<Asked<'a>, Erro
 }
 
 /// What the command of a name asks for, with its words.
-fn asked_of<'a>(alloc: Global, name: &str, found: &ArgMatches<'a>) -> Asked<'a>
+fn asked_of<'a>(alloc: Global, name: &str, found: &ArgMatches<'a>) -> AskedWords<'a>
     requires { IsCommand name.now }
     ensures { IsAsked name.now (rows_of (found_of found.now)) result }
 {
@@ -180,22 +180,22 @@ fn asked_of<'a>(alloc: Global, name: &str, found: &ArgMatches<'a>) -> Asked<'a>
         return replay_of(alloc, found);
     }
     if name == "shipped" {
-        return Asked::Command(shipped_of(found));
+        return AskedWords::Command(shipped_of(found));
     }
     if name == "table" {
-        return Asked::Command(table_of(found));
+        return AskedWords::Command(table_of(found));
     }
-    Asked::Command(command_of(name, found))
+    AskedWords::Command(command_of(name, found))
 }
 
 /// What is asked of a fault.
-fn explain_of<'a>(found: &ArgMatches<'a>) -> Asked<'a>
+fn explain_of<'a>(found: &ArgMatches<'a>) -> AskedWords<'a>
     ensures { IsAsked (codes "explain") (rows_of (found_of found.now)) result }
 {
     let word = word(found, FAULT);
     match fault_said(word) {
-        Some(about) => Asked::Command(Settings::Explain { about }),
-        None => Asked::NoSuchFault(word),
+        Some(about) => AskedWords::Command(Settings::Explain { about }),
+        None => AskedWords::NoSuchFault(word),
     }
 }
 
@@ -250,25 +250,25 @@ fn fault_if_named(number: u32, word: &str) -> Option<Explanation>
 }
 
 /// What is asked of a replay.
-fn replay_of<'a>(alloc: Global, found: &ArgMatches<'a>) -> Asked<'a>
+fn replay_of<'a>(alloc: Global, found: &ArgMatches<'a>) -> AskedWords<'a>
     ensures { IsAsked (codes "replay") (rows_of (found_of found.now)) result }
 {
     if are_both_given(found, REPLAY_IMAGE, SCRIPT) {
-        return Asked::ImageAndScript;
+        return AskedWords::ImageAndScript;
     }
     if are_both_given(found, REPLAY_IMAGE, PROGRAM) {
-        return Asked::ImageAndProgram;
+        return AskedWords::ImageAndProgram;
     }
     if are_updates_alone(found) {
-        return Asked::UpdatesAlone;
+        return AskedWords::UpdatesAlone;
     }
     let no_journals = switch(found, NO_JOURNALS);
     if no_journals && has_journals(found) {
-        return Asked::JournalsOfNone;
+        return AskedWords::JournalsOfNone;
     }
     match updates_found(alloc, found) {
-        Ok(updates) => Asked::Command(replay_with(found, no_journals, updates)),
-        Err((place, mistake)) => Asked::NoUpdate { place, mistake },
+        Ok(updates) => AskedWords::Command(replay_with(found, no_journals, updates)),
+        Err((place, mistake)) => AskedWords::NoUpdate { place, mistake },
     }
 }
 
@@ -404,7 +404,7 @@ fn switch(found: &ArgMatches<'_>, id: &str) -> bool
     found.get_flag(id)
 }
 
-/// The command of a name, but for `run`, `explain`, `replay`, `shipped` and `table`, with its words.
+/// The command of a name, except `run`, `explain`, `replay`, `shipped` and `table`, with its words.
 fn command_of<'a>(name: &str, found: &ArgMatches<'a>) -> Settings<'a>
     requires command { IsCommand name.now }
     requires run { IsFalse (bytes_eq name.now (codes "run")) }
@@ -440,12 +440,12 @@ fn command_of<'a>(name: &str, found: &ArgMatches<'a>) -> Settings<'a>
 }
 
 /// What is asked of a run.
-fn run_of<'a>(alloc: Global, found: &ArgMatches<'a>) -> Asked<'a>
+fn run_of<'a>(alloc: Global, found: &ArgMatches<'a>) -> AskedWords<'a>
     ensures { IsAsked (codes "run") (rows_of (found_of found.now)) result }
 {
     match updates_found(alloc, found) {
-        Ok(updates) => Asked::Command(run_with(found, updates)),
-        Err((place, mistake)) => Asked::NoUpdate { place, mistake },
+        Ok(updates) => AskedWords::Command(run_with(found, updates)),
+        Err((place, mistake)) => AskedWords::NoUpdate { place, mistake },
     }
 }
 

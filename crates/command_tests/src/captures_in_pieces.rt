@@ -32,7 +32,7 @@ static ROWS: [Row; 9] = [
     ("a frame of 2049 bytes",      b"\x01\0\0\0\x02\0\0\0\x01\x08\0\0\x01\x08\0\0", 0, Err(CaptureFault::FrameTooLong { record: 1 })),
 ];
 
-/// Two records, of which each number shows the order of its bytes.
+/// Two records; each of their numbers shows the order of its bytes.
 #[rattlefmt::skip]
 const TWO_RECORDS: &[u8] = b"\x04\x03\x02\x01\x3f\x42\x0f\0\x03\0\0\0\x05\0\0\0abc\xff\xff\xff\xff\0\0\0\0\x01\0\0\0\x01\0\0\0\xfe";
 

@@ -146,7 +146,7 @@ const SENT_LINE: RecordLine = RecordLine {
     address: Some(0xc000_0201),
 };
 
-/// The first record, of which nothing more is known than that it is short.
+/// The first record; nothing more is known of it than that it is short.
 const SHORT_LINE: RecordLine = RecordLine {
     number: 1,
     micros: 999_999,

@@ -7,7 +7,7 @@ use folders::{Folder, FolderFault, MemoryFolder};
 use std::alloc::{AllocError, Global};
 use std::process::Abort;
 
-/// This many bytes, of which each is its place modulo 251.
+/// This many bytes; each is its place modulo 251.
 fn counted(alloc: Global, count: usize) -> Result<Vec<u8>, AllocError> {
     let mut bytes = Vec::new(alloc);
     for place in 0..count {

@@ -292,8 +292,8 @@ impl Controller {
         }
     }
 
-    /// The law of the ring: it is a function of the backends that are up alone. Two controllers of one size with the same backends up, as after one script,
-    /// have one table, so that both choose alike.
+    /// The law of the ring: it is a function of the backends that are up alone. Two controllers of one size with the same backends up have one table, so
+    /// that both choose alike for a flow without a note.
     pub fn same_ring(&self, other: &Controller)
         ensures { self.now.size ≡ other.now.size → self.now.up ≡ other.now.up → self.now.owners ≡ other.now.owners }
     {

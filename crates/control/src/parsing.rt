@@ -86,7 +86,7 @@ fn script_of(alloc: Global, text: &str) -> Result<Script, ControlFault>
     }
 }
 
-/// The script of a text: the commands of which `Script::text` prints it. An empty text is the script without commands.
+/// The script of a text: the commands that `Script::text` prints so. An empty text is the script without commands.
 ///
 /// Refused with 90 and the first line, counted from 1, that is no command's in its one spelling, or whose frame is below the one before
 /// (what comes after the last line feed is such a line; where the bytes are no UTF-8, it is the line of the first byte that is not); with 95

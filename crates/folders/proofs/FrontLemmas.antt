@@ -11,7 +11,7 @@ length-zeros : (count : ℕ) → length (zeros count) ≡ count
 length-zeros zero = refl
 length-zeros (suc count) = ap suc (length-zeros count)
 
--- a list with so many zeros behind it
+-- a list with this many zeros behind it
 behind : (kept : List ℕ) (more most : ℕ) → length kept ≤ most → (length kept < most → more ≡ 0) → take most (kept ++ zeros more) ≡ kept
 behind [] more zero few others = refl
 behind [] more (suc most) few others = ap (λ count. take (suc most) (zeros count)) (others (omega arith))
@@ -23,7 +23,7 @@ behind-length : (kept : List ℕ) (more : ℕ) → length (kept ++ zeros more) �
 behind-length [] more = (let all = length-zeros more in omega (arith, all))
 behind-length (byte ∷ kept) more = (let rest = behind-length kept more in omega (arith, rest))
 
--- where nobody tells the bytes, there are some of which these are the first
+-- where nothing says what the bytes are, there are some that begin with these
 pub some_front : (most : ℕ) (front : Front) → IsShortFront most front → HasFront (λ bytes. Unit {0}) most front
 some_front most front short =
     let kept = front.bytes.items in

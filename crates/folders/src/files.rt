@@ -15,17 +15,17 @@ use std::{fs, io};
 /// The most bytes that are read of an ordinary file.
 const MOST_OF_FILE: u64 = 1 << 40;
 
-/// The most bytes that are read of a device, a pipe or the standard input: one that gives more may have no end.
+/// The most bytes that are read of a device, a pipe or the standard input: one with more bytes may have no end.
 const MOST_OF_STREAM: u64 = 1 << 30;
 
-/// How many bytes more than its front a device or a pipe is said to have, if it has more: as many as a slot has, so that an image of which no more is
-/// read has whole slots.
+/// How many bytes more than its front a device or a pipe is said to have, if it has more: as many as a slot has, so that an image that is read no
+/// further has whole slots.
 const MORE: u64 = 8;
 
 /// The longest name that the system takes.
 const LONGEST_NAME: usize = 4096;
 
-/// What stands behind the name of a file that is not finished.
+/// The ending of the name of a file that is not finished.
 const UNFINISHED: &str = ".unfinished";
 
 /// Why no more is read of these, and what to do.
@@ -37,7 +37,7 @@ const TOO_LONG: &str = "it has more than 1099511627776 bytes";
 /// Why a file is not made on.
 const NOT_BEGUN: &str = "it is not begun";
 
-/// A device or a pipe of which the front was read, and which has more.
+/// A device or a pipe whose front was read, and which has more.
 #[derive(Drop)]
 struct Stream<F: Drop> {
     name: String,
@@ -61,11 +61,11 @@ pub struct FileFolder<'a, R: Files, I, O> {
     rt: &'a R,
     input: I,
     output: O,
-    /// The device or the pipe of which the front was read last, if it has more.
+    /// The device or the pipe whose front was read last, if it has more.
     stream: Option<Stream<R::File>>,
     /// The file that is read in pieces.
     reading: Option<R::File>,
-    /// How many bytes it gave.
+    /// How many bytes were read of it.
     given: u64,
     /// The file that is made in pieces.
     making: Option<Making<R::File>>,
@@ -94,7 +94,7 @@ impl<'a, R: Files, I, O> FileFolder<'a, R, I, O> {
     }
 }
 
-/// Reads on what a reader gives, until `most` bytes are there or it gives no more. One that is asked for more than `limit` bytes and has them fails.
+/// Reads on until `most` bytes are there or the reader has no more. One that is asked for more than `limit` bytes and has them fails.
 fn read_on<S: Read>(
     reader: &mut S,
     bytes: &mut Vec<u8>,
@@ -132,7 +132,7 @@ fn read_on<S: Read>(
     }
 }
 
-/// Reads the next bytes of a file that gave `given` bytes before, and says how many: none at its end. It may give no more than 2^40 in all.
+/// Reads the next bytes of a file of which `given` bytes were read before, and returns how many: none at its end. No more than 2^40 may be read in all.
 fn read_piece<S: Read>(reader: &mut S, buffer: &mut [u8], given: u64) -> Result<usize, Failure>
     requires { given ≤ 2 ^ 40 }
     ensures within { IfOk result (λ count. count ≤ length buffer.new) }
@@ -229,7 +229,7 @@ fn is_one_file<R: Files>(rt: &R, name: &str, other: &str) -> bool {
     }
 }
 
-/// Gives all bytes to a writer.
+/// Writes all bytes to a writer.
 fn put_all<K: Write>(writer: &mut K, bytes: &[u8]) -> Result<(), Failure> {
     let mut at = 0;
     'writing: while at < bytes.len() {
@@ -337,7 +337,7 @@ fn beside<'a, R: Files>(
     }
 }
 
-/// Gives an unfinished file the bytes, and then its name.
+/// Writes the bytes to an unfinished file, and then renames it.
 fn fill<R: Files>(
     rt: &R,
     mut file: R::File,
@@ -396,7 +396,7 @@ impl<F: Write + Drop> Making<F> {
         removed_where_failed(rt, self.unfinished.as_str(), done)
     }
 
-    /// Gives the file its name. Where that fails it is removed.
+    /// Renames the file to its name. If that fails it is removed.
     fn finish<R: Files>(self, rt: &R) -> Result<(), Failure> {
         let unfinished = self.unfinished.as_str();
         let done = named(rt, unfinished, self.name.as_str());
@@ -453,7 +453,7 @@ impl<R: Files, I: Read, O: Write> FileFolder<'_, R, I, O> {
         })
     }
 
-    /// The first bytes of a file, or of the standard input, of which the system does not say how many there are.
+    /// The first bytes of a file, or of the standard input, whose length the system does not know.
     fn front(&mut self, alloc: Global, name: &str, most: usize) -> Result<Front, Trouble>
         ensures front { IfOk result (IsShortFront most) }
         ensures steady { self.new.failures ≡ self.old.failures }
@@ -470,7 +470,7 @@ impl<R: Files, I: Read, O: Write> FileFolder<'_, R, I, O> {
         }
     }
 
-    /// All bytes of a file: of a device or a pipe of which the front was read last, that and the rest.
+    /// All bytes of a file: of a device or a pipe whose front was read last, the front and the rest.
     fn whole(&mut self, alloc: Global, name: &str) -> Result<Vec<u8>, Trouble>
         ensures steady { self.new.failures ≡ self.old.failures }
     {
@@ -490,7 +490,7 @@ impl<R: Files, I: Read, O: Write> FileFolder<'_, R, I, O> {
         Ok(self.front(alloc, name, usize::MAX)?.bytes)
     }
 
-    /// A file that can be read in pieces; none where it can only be read whole. A device or a pipe is not opened: what it gives is lost when it is closed.
+    /// A file that can be read in pieces; none where it can only be read whole. A device or a pipe is not opened: what was read of it is lost when it is closed.
     fn ordinary(&self, name: &str) -> Result<Option<R::File>, Failure> {
         if name == STANDARD_INPUT {
             return Ok(None);
@@ -523,7 +523,7 @@ impl<R: Files, I: Read, O: Write> FileFolder<'_, R, I, O> {
         Ok(count)
     }
 
-    /// Begins a file, after one that was begun before was given up.
+    /// Begins a file, after one that was begun before was removed.
     fn make_begun(&mut self, alloc: Global, name: &str) -> Result<bool, Trouble>
         ensures steady { self.new.failures ≡ self.old.failures }
         ensures given { self.new.given ≡ self.old.given }
@@ -548,7 +548,7 @@ impl<R: Files, I: Read, O: Write> FileFolder<'_, R, I, O> {
         Ok(())
     }
 
-    /// Makes a file of the bytes, or gives them to the standard output.
+    /// Makes a file of the bytes, or writes them to the standard output.
     fn put(&mut self, name: &str, bytes: &[u8]) -> Result<(), Failure>
         ensures steady { self.new.failures ≡ self.old.failures }
     {

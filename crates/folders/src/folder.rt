@@ -59,10 +59,10 @@ impl Front {
 /// A file is read and written whole, or in pieces: `open` and then `next` until nothing more comes; `begin`, `add` and then `finish`, before which no file
 /// of the name is changed. At most one file is read in pieces at a time, and one made.
 pub trait Folder {
-    /// The file of a name has these bytes; anything may where the type does not tell.
+    /// The file of a name has these bytes; anything may where the type does not say it.
     ghost holds: { Self → List ℕ → List ℕ → Type 0 };
 
-    /// Two names are those of one file; any two may be where the type does not tell.
+    /// Two names are those of one file; any two may be where the type does not say it.
     ghost are_one: { Self → List ℕ → List ℕ → Type 0 };
 
     /// These bytes are left of the file that is read in pieces; any may be where the type does not say.
@@ -133,7 +133,7 @@ pub trait Folder {
         ensures only_device { IfErr result (λ fault. fault ≡ FolderFault.Device) }
         ensures counted { OnErr result (failure_count self.new ≡ failure_count self.old + 1) };
 
-    /// Begins to make a file in pieces, in place of one that was begun before, which is given up. `false` where it can only be written whole: a device,
+    /// Begins to make a file in pieces, in place of one that was begun before, which is removed. `false` where it can only be written whole: a device,
     /// a link, the standard output, and wherever the type needs to. Then, and after a fault, no file is begun.
     fn begin(&mut self, alloc: Global, name: &str) -> Result<bool, FolderFault>
         requires { failure_count self.old < 2 ^ 64 - 1 }
@@ -145,7 +145,7 @@ pub trait Folder {
         ensures device { IsErrOf result FolderFault.Device ↔ (failure_count self.new ≡ failure_count self.old + 1) }
         ensures no_device { IsErrOf result FolderFault.Memory → failure_count self.new ≡ failure_count self.old };
 
-    /// Puts bytes at the end of the file that is made in pieces. After a fault it is given up. Refused with 7 where no file is begun.
+    /// Puts bytes at the end of the file that is made in pieces. After a fault it is removed. Refused with 7 where no file is begun.
     fn add(&mut self, bytes: &[u8]) -> Result<(), FolderFault>
         requires { failure_count self.old < 2 ^ 64 - 1 }
         ensures added { OnOk result
@@ -157,8 +157,8 @@ pub trait Folder {
         ensures device { IsErrOf result FolderFault.Device ↔ (failure_count self.new ≡ failure_count self.old + 1) }
         ensures no_device { IsErrOf result FolderFault.Memory → failure_count self.new ≡ failure_count self.old };
 
-    /// Gives the file that is made in pieces its name, in place of a file that has the name already. After a fault it is given up, and that file is as it
-    /// was. Refused with 7 where no file is begun.
+    /// Renames the file that is made in pieces to its name, in place of a file that has the name already. After a fault it is removed, and that file is as
+    /// it was. Refused with 7 where no file is begun.
     fn finish(&mut self) -> Result<(), FolderFault>
         requires { failure_count self.old < 2 ^ 64 - 1 }
         ensures written { OnOk result ((name bytes : List ℕ) → is_begun self.old name bytes → holds self.new name bytes) }
@@ -171,14 +171,14 @@ pub trait Folder {
         ensures device { IsErrOf result FolderFault.Device ↔ (failure_count self.new ≡ failure_count self.old + 1) }
         ensures no_device { IsErrOf result FolderFault.Memory → failure_count self.new ≡ failure_count self.old };
 
-    /// Gives up the file that is made in pieces, if one is begun: no file of its name was changed.
+    /// Removes the file that is made in pieces, if one is begun: no file of its name was changed.
     fn give_up(&mut self)
         ensures kept { (other bytes : List ℕ) → (holds self.old other bytes ↔ holds self.new other bytes) }
         ensures left_kept { (bytes : List ℕ) → (is_left self.old bytes ↔ is_left self.new bytes) }
         ensures most_kept { most_left self.new ≡ most_left self.old }
         ensures steady { failure_count self.new ≡ failure_count self.old };
 
-    /// Whether two names are those of one file: one name twice, or two names of which the folder knows it.
+    /// Whether two names are those of one file: one name twice, or two names that the folder knows to be one file's.
     fn is_same(&self, name: &str, other: &str) -> bool
         ensures one { IsTrue result → are_one self.now name.now other.now }
         ensures itself { name.now ≡ other.now → IsTrue result };

@@ -55,7 +55,8 @@ impl Folder for MemoryFolder {
 
     ghost most_left = { λ folder. length folder.opened.items - folder.given };
 
-    ghost is_begun = { λ folder name bytes. IsSomeAnd folder.making (λ made. (string_bytes made.name ≡ name) × (made.bytes.items ≡ bytes)) };
+    ghost is_begun = { λ folder name bytes.
+        IsSomeAnd folder.making (λ made. (string_bytes made.name ≡ name) × (made.bytes.items ≡ bytes)) };
 
     ghost failure_count = { λ folder. folder.failures };
 

@@ -140,7 +140,7 @@ now_inside shard entered =
 
 -- ---- a run to its end
 
--- to a state of which this is said
+-- to a state that meets this
 pub record Reaches (said : MachineState → Type 0) (setting : Setting) (count worker : ℕ) (state : MachineState) (entered : List ℕ)
     (exchanges : List Exchange) : Type 0 where
   pub run : List Move

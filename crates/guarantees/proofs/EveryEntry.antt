@@ -57,7 +57,7 @@ all_entries P worker number [] all = tt
 all_entries P worker number (exchange ∷ later) all =
     if_at P worker exchange (filter (is_at number) later) (is_at number exchange) all.0 (all_entries P worker number later all.1)
 
--- and back: what holds of the entries on each of so many shards holds of each exchange
+-- and back: what holds of the entries on each of this many shards holds of each exchange
 rest_at : (P : Entry → Type 0) (worker : ℕ) (exchange : Exchange) (rest : List Exchange) (test : Bool) →
     AllByRecursion P (map (entry_of worker) (if test then exchange ∷ rest else rest)) → AllByRecursion P (map (entry_of worker) rest)
 rest_at P worker exchange rest true all = all.1

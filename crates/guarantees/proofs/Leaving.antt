@@ -35,7 +35,7 @@ turned one other apart = grind (arith, nat_tests, apart)
 off : (one other : ℕ) → other ≢ one → (one == other) ≡ false
 off one other apart = ne_eqb one other (λ same. apart (sym same))
 
--- ---- the shards that a run is in are some of so many, each once
+-- ---- the shards that a run is in are some of this many, each once
 
 abbrev pub AreEntered : ℕ → List ℕ → Type 0
 AreEntered count [] = Unit {0}

@@ -311,7 +311,7 @@ workers_by options number (Some definition) plan is =
     let same : (record { number = number; part = number % options.shards; parts = options.shards; definition = definition; workers = options.workers; reserve = options.journal }) ≡ plan = cc
     in sym (ap (λ (one : ShardPlan). one.workers) same)
 
--- so a worker of which there is an entry is one of these
+-- so a worker that has an entry is one of these
 worker_at : (setting : Setting) (plan : ShardPlan) (system : SystemState) (entry : Entry) (worker : ℕ) → entry.who ≡ Worker worker →
     IsAtPlace setting plan system entry → worker < setting.options.workers
 worker_at setting plan system entry worker is place =

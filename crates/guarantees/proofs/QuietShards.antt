@@ -1,4 +1,4 @@
--- Shards of which nothing was asked that changes them.
+-- Shards that saw no call that changes them.
 use Rattle.std.proofs.Common.{◌≡◌, List, [], ◌∷◌, IsTrue, refl, ◌∙◌, ap}
 use Rattle.std.specs.List.{AllByRecursion}
 use Rattle.semantics.specs.declared.call.Call.{Call}

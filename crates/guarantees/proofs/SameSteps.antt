@@ -37,7 +37,7 @@ use Rattle.semantics.specs.Semantics.{extended, write_step, written_register, ju
 use Rattle.abstract_state.specs.Soundness.{JumpsForward}
 use Rattle.guarantees.specs.SameRuns.{at_worker}
 
--- ---- steps that are the same but for the worker
+-- ---- steps that differ in the worker alone
 
 abbrev pub SameStep : ℕ → Step → Step → Type 0
 SameStep worker (Continues a) (Continues b) = b ≡ at_worker worker a

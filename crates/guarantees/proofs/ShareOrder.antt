@@ -67,7 +67,7 @@ by_test : (frames : List (List ℕ)) (workers worker number count : ℕ) → (nu
 by_test frames workers worker number count before handed place true is = with_one frames workers worker number count before place
 by_test frames workers worker number count before handed place false is = with_none frames workers worker number count before handed is place
 
--- a record that was handed to the worker stands behind its earlier ones
+-- a record that was handed to the worker is behind its earlier ones
 pub share_at : (frames : List (List ℕ)) (workers worker number count : ℕ) → is_handed frames workers worker number ≡ true → number < count →
     slice_get (share frames workers worker count) (length (share frames workers worker number)) ≡ Some number
 share_at frames workers worker number zero handed below = absurd (omega (arith, below))
@@ -75,7 +75,7 @@ share_at frames workers worker number (suc count) handed below =
     by_test frames workers worker number count (λ less. share_at frames workers worker number count handed less) handed
     (less_or_same number count below (nat_lt number count) refl) (is_handed frames workers worker count) refl
 
--- what stands in the share was handed to the worker, and stands there
+-- what is in the share was handed to the worker, at its place there
 pub record IsHandedAt (frames : List (List ℕ)) (workers worker count place number : ℕ) : Type 0 where
   pub handed : is_handed frames workers worker number ≡ true
   pub below : number < count
@@ -129,7 +129,7 @@ run_there P (ran ∷ later) (suc place) number all there =
     let at = run_there P later place number all.1 there in
     record { ran = at.ran; ends = at.ends; number_is = at.number_is; is = at.is }
 
--- what holds of a run at each place, where the record stands of which it is, holds of each run
+-- what holds of a run at each place, with the record of the run, holds of each run
 pub each_run : (P : Ran → Type 0) (runs : List Ran) →
     ((place : ℕ) (ran : Ran) → slice_get (records_of runs) place ≡ Some ran.number → end_at runs place ≡ Some ran.end → P ran) → AllByRecursion P runs
 each_run P [] all = tt

@@ -152,7 +152,7 @@ led_there setting count worker told now frame call waiting exchanges reaches =
     subst (λ (one : MachineState). AreStepsOfRun setting count worker (beginning frame told now) reaches.run (record { state = one; entered = reaches.after }))
     reaches.ended.is reaches.runs
 
--- steps of which the last one is told apart
+-- steps, with the last one apart
 steps_end : (setting : Setting) (count worker : ℕ) (before between after : InRun) (moves : List Move) (last : Move) →
     AreStepsOfRun setting count worker before moves between → IsStep setting count worker (running between) last (running after) →
     AreStepsOfRun setting count worker before (moves ++ last ∷ []) after

@@ -54,7 +54,7 @@ RunsLeaveOthersAlone =
     (other number : ℕ) (old new : JournaledShard) → IsFalse (start.worker == other) →
     slice_get before number ≡ Some old → slice_get after number ≡ Some new → is_in other new ≡ is_in other old
 
--- in a legal journal each entry is answered at its own place: where the history of its shard is what stands before it, its event can happen
+-- in a legal journal each entry is answered at its own place: where the history of its shard is what comes before it, its event can happen
 abbrev pub EntriesAreAnswered : Type 0
 EntriesAreAnswered =
     (setting : Setting) (system : SystemState) (plan : ShardPlan) (earlier later : List Entry) (entry : Entry) →

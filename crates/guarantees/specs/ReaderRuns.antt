@@ -56,7 +56,7 @@ opening_reply plan call = reply_of plan [] (opening_shard plan) call
 abbrev pub IsReadAtOpening : ShardPlan → Entry → Type 0
 IsReadAtOpening plan entry = IsTrue (is_read entry.call) → entry.reply ≡ opening_reply plan entry.call
 
--- a shard of which nothing else was asked is as it was opened, and each entry of its legal history that reads has the reply that it would have there
+-- a shard that saw no other call is as it was opened, and each entry of its legal history that reads has the reply that it would have there
 abbrev pub QuietShardsAreAsOpened : Type 0
 QuietShardsAreAsOpened =
     (plan : ShardPlan) (history : List Entry) → IsLegalHistory plan history → AreQuiet history →

@@ -20,7 +20,7 @@ IsNotStopped Stopped = ⊥
 IsNotStopped end = Unit {0}
 
 -- Steps of the system by one worker, run after run, from idle to idle. On each shard they wrote what the journal has of this worker, in the
--- journal's order. What they did over all shards is what this worker did in the one order of all deeds (of which the newest is the first).
+-- journal's order. What they did over all shards is what this worker did in the one order of all deeds (the newest is the first).
 -- Where none of its runs was stopped, no step met a full journal.
 pub record AreMovesOf (setting : Setting) (count worker : ℕ) (runs : List Ran) (journals : JournalsView) (order : List Deed)
     (moves : List Move) :

@@ -1,4 +1,4 @@
--- What the calls of one run give, and what a run over shards comes to.
+-- What the calls of one run return, and what a run over shards comes to.
 use Rattle.std.specs.Prelude.{◌≡◌, ◌⊎◌, ℕ, ◌<◌, ◌≤◌, List, [], ◌∷◌, ◌++◌, length, reverse, Some, slice_get, IsFalse}
 use Rattle.ebpf_decode.specs.InstructionEncoding.{total_slots}
 use Rattle.ebpf_decode.specs.declared.map.MapDef.{MapDef}

@@ -32,7 +32,7 @@ pub record Move : Type 0 where
   pub event : SystemEvent
   pub asked : Asked
 
--- a run begins on a frame, at a time; it is told a worker's number
+-- a run begins on a frame, at a time, with a worker's number
 abbrev pub begins : ℕ → List ℕ → ℕ → ℕ → Move
 begins worker frame now told = record { event = BeginsRun worker frame now told; asked = Nothing }
 

@@ -2,7 +2,7 @@
 //! what the public calls of the crates below ensure. What a single call promises by itself is that call's contract; docs/GUARANTEES.md
 //! says where.
 //!
-//! `headline` comes first. Its statement is in twelve files, about 1,300 lines, to be read in this order: `specs/Headline.antt` here;
+//! `headline` comes first. Its statement is in twelve files, about 1,400 lines, to be read in this order: `specs/Headline.antt` here;
 //! `specs/Merging.antt` (its first half), `specs/ReplayMoves.antt`, `specs/SystemRuns.antt` and `specs/Steps.antt` here (one list of all
 //! events, the moves of a worker, runs and steps of the system); `Safety`, `System`, `RunTrace` and `History` of crates/semantics/specs;
 //! `specs/Deeds.antt` of crates/shards, `specs/FrameRuns.antt` of crates/runs and `specs/Accounted.antt` of crates/replay. Each file says by
@@ -62,7 +62,7 @@ pub fn headline(verified: &Verified)
     stopped_runs_are_of_the_system();
 }
 
-/// A `Verified` stands for a safe image: for all options with which its maps can be opened and after any list of events of all
+/// The image of a `Verified` is safe: for all options with which its maps can be opened and after any list of events of all
 /// actors, no run's next instruction traps, and each run that goes on has done fewer instructions than the image has slots.
 pub fn accepted_images_are_safe(verified: &Verified)
     ensures { IsSafeImage verified.now.maps verified.now.code }
@@ -94,7 +94,7 @@ pub fn entries_are_steps()
     ensures { EntriesAreSteps }
 {}
 
-/// Each entry of a legal journal has its answer: where the history of the shard is what stands before the entry, the journal has room for
+/// Each entry of a legal journal has its answer: where the history of the shard is what comes before the entry, the journal has room for
 /// the call, and the reply is the one-thread map's. So at the entries' own places the steps of `runs_are_of_the_system` can happen.
 pub fn entries_are_answered()
     ensures { EntriesAreAnswered }

@@ -27,7 +27,7 @@ pub fn readers_only_read(verified: &Verified)
     verified.encodable();
 }
 
-/// A shard of which nothing was asked but that workers enter and leave it, lookups, loads and Reclaims is as it was opened, and each
+/// A shard that saw no calls except Enters, Leaves, Lookups, Loads and Reclaims is as it was opened, and each
 /// lookup and load in its legal history has the reply that it would have had then.
 pub fn quiet_shards_are_as_opened()
     ensures { QuietShardsAreAsOpened }

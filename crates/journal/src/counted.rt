@@ -6,7 +6,7 @@ ghost use Rattle.journal.specs.Entries.{enter_entry, leave_entry, lookup_entry, 
 ghost use Rattle.journal.specs.Entries.{delete_entry, reclaim_entry};
 
 use crate::append::{AtomicChange, CellRange};
-use crate::log::{Item, Log};
+use crate::log::{Log, LogItem};
 use crate::row::Shape;
 use semantics::Caller;
 use std::alloc::{AllocError, Global};
@@ -73,7 +73,7 @@ impl Counted {
     }
 
     /// One entry more, which the proof picks by what is known of it.
-    fn count<D: Item, A: Drop>(&mut self, about: A)
+    fn count<D: LogItem, A: Drop>(&mut self, about: A)
         requires { length self.old.entries < self.old.reserve }
         ensures { self.new ≡ with_entry self.old D.item }
     {

@@ -12,13 +12,13 @@ use std::marker::{Brand, Model, PhantomData};
 const WORD: [u64; 1] = [0];
 
 /// An entry that is picked where a step adds it to the list.
-pub(crate) trait Item {
+pub(crate) trait LogItem {
     ghost use Rattle.semantics.specs.declared.call.Entry.{Entry};
 
     ghost item: { Entry };
 }
 
-impl Item for Brand {
+impl LogItem for Brand {
     ghost use Rattle.semantics.specs.declared.call.Caller.TheVariants.{Controller};
     ghost use Rattle.journal.specs.Entries.{enter_entry};
 
@@ -37,11 +37,11 @@ impl TableRule<u8, LinkedList<Entry>, u8> for LogRule {
 }
 
 /// A step that adds an entry.
-struct Adds<D: Item> {
+struct AddsItem<D: LogItem> {
     of: PhantomData<D>,
 }
 
-impl<D: Item> Play<u8, LinkedList<Entry>> for Adds<D> {
+impl<D: LogItem> Play<u8, LinkedList<Entry>> for AddsItem<D> {
     ghost use Rattle.std.specs.Prelude.{◌≡◌, ◌∷◌, ◌++◌, []};
 
     ghost then = { λ s v found w. w ≡ (v.0 ++ D.item ∷ [], v.1) };
@@ -75,10 +75,10 @@ impl Log {
     }
 
     /// Adds the entry that the proof picks.
-    pub(crate) fn add<D: Item>(&mut self)
+    pub(crate) fn add<D: LogItem>(&mut self)
         ensures { self.new ≡ self.old ++ D.item ∷ [] }
     {
         let table = &self.table;
-        table.shared.load::<Adds<D>>(&mut self.seat, 0);
+        table.shared.load::<AddsItem<D>>(&mut self.seat, 0);
     }
 }

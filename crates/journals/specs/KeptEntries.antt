@@ -5,19 +5,19 @@ use Rattle.semantics.specs.declared.call.Entry.{Entry}
 use Rattle.semantics.specs.declared.options.Options.{Options}
 use Rattle.semantics.specs.ShardPlan.{KeepsRows}
 use Rattle.journal.specs.Journaled.{Journaled}
-use Rattle.journals.specs.declared.shard_journal.Kept.{Kept}
-use Rattle.journals.specs.declared.shard_journal.Kept.TheVariants as one
+use Rattle.journals.specs.declared.shard_journal.ShardEntries.{ShardEntries}
+use Rattle.journals.specs.declared.shard_journal.ShardEntries.TheVariants as one
 use Rattle.journals.specs.declared.all.AllKept.{AllKept}
 use Rattle.journals.specs.declared.all.AllKept.TheVariants as all
 
 -- of one shard
 
-abbrev pub kept_entries : Kept → List Entry
+abbrev pub kept_entries : ShardEntries → List Entry
 kept_entries (one.Written journal) = journal.now.entries
 kept_entries (one.Listed entries) = entries.now
 
 -- its rows are kept
-abbrev pub IsReadable : Kept → Type 0
+abbrev pub IsReadable : ShardEntries → Type 0
 IsReadable (one.Written journal) = KeepsRows journal.now.reserve
 IsReadable (one.Listed entries) = Unit {0}
 

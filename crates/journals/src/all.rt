@@ -6,7 +6,7 @@ ghost use Rattle.journals.specs.KeptEntries.{written_entries, HaveRoom};
 ghost use Rattle.journals.specs.JournalsView.{AreImageMaps, AreJournals, entries_at};
 
 use crate::entry_list::EntryList;
-use crate::shard_journal::{Kept, ShardJournal};
+use crate::shard_journal::{ShardEntries, ShardJournal};
 use ebpf_decode::MapDef;
 use journal::{Journal, MOST_ROWS};
 use semantics::Options;
@@ -123,10 +123,10 @@ impl Journals {
         ensures { result ≡ entries_at self.now number }
     {
         match &self.kept {
-            AllKept::Written { journals } => ShardJournal::of(Kept::Written {
+            AllKept::Written { journals } => ShardJournal::of(ShardEntries::Written {
                 journal: &journals[number],
             }),
-            AllKept::Listed { lists } => ShardJournal::of(Kept::Listed {
+            AllKept::Listed { lists } => ShardJournal::of(ShardEntries::Listed {
                 entries: &lists[number],
             }),
         }

@@ -10,7 +10,7 @@ use std::marker::Model;
 
 /// Where a journal's entries are.
 #[derive(Drop)]
-pub(crate) enum Kept<'a> {
+pub(crate) enum ShardEntries<'a> {
     /// As the shard wrote them.
     Written { journal: &'a Journal },
     /// In a list, that may have entries of calls that no map serves.
@@ -21,7 +21,7 @@ pub(crate) enum Kept<'a> {
 /// the oldest first.
 #[derive(Drop)]
 pub struct ShardJournal<'a> {
-    kept: Kept<'a>,
+    kept: ShardEntries<'a>,
 }
 
 impl<'a> Model for ShardJournal<'a> {
@@ -38,7 +38,7 @@ impl<'a> Model for ShardJournal<'a> {
 
 impl<'a> ShardJournal<'a> {
     /// The journal that is kept so.
-    pub(crate) fn of(kept: Kept<'a>) -> Self
+    pub(crate) fn of(kept: ShardEntries<'a>) -> Self
         requires { IsReadable kept }
         ensures { result ≡ kept_entries kept.entry }
     {
@@ -50,8 +50,8 @@ impl<'a> ShardJournal<'a> {
         ensures { result ≡ length self.now }
     {
         match &self.kept {
-            Kept::Written { journal } => journal.len(),
-            Kept::Listed { entries } => entries.len(),
+            ShardEntries::Written { journal } => journal.len(),
+            ShardEntries::Listed { entries } => entries.len(),
         }
     }
 
@@ -61,8 +61,8 @@ impl<'a> ShardJournal<'a> {
         ensures { slice_get self.now place ≡ Some result }
     {
         match &self.kept {
-            Kept::Written { journal } => journal.entry(place),
-            Kept::Listed { entries } => entries.entry(place),
+            ShardEntries::Written { journal } => journal.entry(place),
+            ShardEntries::Listed { entries } => entries.entry(place),
         }
     }
 }

@@ -71,7 +71,7 @@ fn by_magic(bytes: &[u8]) -> Option<FileKind> {
     None
 }
 
-/// A digit of a hexadecimal number, or what stands between such digits.
+/// A digit of a hexadecimal number, or what is between such digits.
 fn is_hex_byte(byte: u8) -> bool {
     byte.is_ascii_hexdigit() || byte.is_ascii_whitespace() || byte == b':'
 }

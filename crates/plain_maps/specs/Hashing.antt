@@ -1,4 +1,4 @@
--- A fast hash of a key, of which only that it is a function is used: a multiplication and a shift for each eight bytes, then for each byte
+-- A fast hash of a key; the proofs use only that it is a function: a multiplication and a shift for each eight bytes, then for each byte
 -- that is left.
 use Rattle.std.specs.Prelude.{ℕ, zero, suc, ◌*◌, ◌/◌, ◌%◌, ◌^◌, List, [], ◌∷◌, length, take, drop, bit_xor, bit_and, ◌-◌}
 use Rattle.std.specs.Int.{from_le_bytes, w64}

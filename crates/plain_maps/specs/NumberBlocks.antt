@@ -1,4 +1,4 @@
--- A list of numbers in blocks of one size, of which all before the last that has numbers are full.
+-- A list of numbers in blocks of one size; all blocks before the last one that has numbers are full.
 use Rattle.std.specs.Prelude.{◌≡◌, ℕ, zero, suc, ◌+◌, ◌-◌, ◌*◌, ◌^◌, ◌≤◌, min, List, [], ◌∷◌, length}
 use Rattle.std.specs.List.{flat_map}
 

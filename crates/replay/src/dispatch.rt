@@ -12,8 +12,8 @@ use rx_queues::{Caller, Job, PutPass, Queues, spread};
 use std::sync::Wait;
 use wire::{Capture, MIN_FRAME, Sent, flow_of};
 
-/// After how many records the reclaimer makes a round.
-pub(crate) const ROUND_EVERY: usize = 64;
+/// After how many records of the capture the reclaimer makes a round: behind the 64th, the 128th and so on.
+pub const ROUND_EVERY: usize = 64;
 
 /// The worker that handles a frame: the one of its flow, and worker 0 where it has none.
 pub(crate) fn worker_of(frame: &[u8], workers: usize) -> usize

@@ -73,6 +73,7 @@ pub use account::Counts;
 pub use actor::{Actor, ActorEnded};
 pub use controller::{Commanded, Commander};
 pub use crew::Handled;
+pub use dispatch::ROUND_EVERY;
 pub use fault::ReplayFault;
 pub use in_pieces::PieceReplay;
 pub use outcome::{Applied, Outcome, PieceOutcome, RecordEnd};

@@ -1,4 +1,4 @@
-//! What a replay gives.
+//! What a replay returns.
 
 use crate::account::Counts;
 use control::ControlFault;

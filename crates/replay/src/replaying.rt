@@ -138,7 +138,7 @@ fn replay_over<'x, B: Naming + Send + Sync, R: Threads + Wait + Sync, G: Gate + 
 /// the capture's order. Verdict and frame of a run are the program's own on the replies that stand among its worker's entries; these
 /// are, run after run, Enter, its calls with their replies, and Leave, on each shard that it called; and every journal is legal. A run
 /// is stopped only where the journal of the shard of its next call is full for good. The controller's entries are the first updates, each
-/// answered 0, and those of the script's commands, and the reclaimer's are those of its rounds. What is sent stands in the capture's order.
+/// answered 0, and those of the script's commands, and the reclaimer's are those of its rounds. What is sent is in the capture's order.
 ///
 /// What all callers did on all shards is one order: shard by shard it is the journal, and of each caller it has what the caller did, looks
 /// at full journals among it: of a worker its runs, of the controller the first updates and the commands' in the script's order, of the reclaimer a round

@@ -315,7 +315,7 @@ impl Turns {
         Ok(())
     }
 
-    /// The turns of the records of a piece, of which the first has this number in the capture. Returns which command is next.
+    /// The turns of the records of a piece; its first has this number in the capture. Returns which command is next.
     pub(crate) fn piece_turns<G: Gate>(
         &mut self,
         alloc: Global,

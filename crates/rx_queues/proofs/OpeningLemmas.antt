@@ -17,7 +17,7 @@ TakeFromTheirs {Q} {A} purposes queues passes = (at : ℕ) (pass : TakePass) →
     → (pass.queue ≡ at) × IsTakePassAt purposes queues at pass.pass × ((view pass.pass).taken ≡ [])
 
 module _ {A : Type 0} where
-  -- what stands in a list with one more stood there before, or is the last
+  -- what is in a list with one more was there before, or is the last
   before_or_last : (list : List A) (last it : A) (at : ℕ) → get_elem? (list ++ last ∷ []) at ≡ some it
       → (get_elem? list at ≡ some it) ⊎ ((at ≡ length list) × (last ≡ it))
   before_or_last [] last it zero found = inr (refl, some-injective last it found)
@@ -26,7 +26,7 @@ module _ {A : Type 0} where
   before_or_last (first ∷ others) last it (suc at) found =
       ⊎_elim inl (λ (here : (at ≡ length others) × (last ≡ it)). inr (ap suc here.0, here.1)) (before_or_last others last it at found)
 
-  -- what stands in a list stands within it
+  -- the place of what is in a list is within it
   pub within_list : (list : List A) (it : A) (at : ℕ) → get_elem? list at ≡ some it → at < length list
   within_list [] it at found = absurd (some-ne-none it (sym found))
   within_list (first ∷ others) it zero found = omega arith

@@ -16,7 +16,7 @@ abbrev pub Line : Type 0 → Type 0 → Type 0
 Line Q A = Slotted (Option Job) (Doing Job JobsKnown) Q A
 
 module _ {Q A : Type 0} where
-  -- the right to take from the queue that stands at its place
+  -- the right to take from the queue at its place
   pub take_pass_there : (purposes : ℕ → Purpose) (queues : List (Line Q A)) (at : ℕ) (queue : Line Q A) (pass : Pass Job JobsKnown)
       → IsTakePassAt purposes queues at pass → at < length queues → queue ≡ get_or queues at queue → IsTakePassFor (purposes at) queue pass
   take_pass_there purposes queues at queue pass right within there = right queue (at_index queues at queue within there)

@@ -10,7 +10,7 @@ use Rattle.rx_queues.specs.declared.rule.Purpose.{Purpose}
 use Rattle.rx_queues.specs.Fifo.{Fits, no_purpose, known, putter, taker, with_put, with_taken, Knows, IsInOrder, IsTakenInOrder, MayHold}
 use Rattle.std.specs.List.{AllByRecursion}
 
--- what is found in a list with one more, and not in the list, stands at its end
+-- what is found in a list with one more, and not in the list, is at its end
 found_at_end : (list : List JobsKnown) (last it : JobsKnown) (at : ℕ) → get_elem? list at ≢ some it → get_elem? (list ++ last ∷ []) at ≡ some it → at ≡ length list
 found_at_end [] last it zero missed found = refl
 found_at_end [] last it (suc at) missed found = absurd (some-ne-none it (sym found))
@@ -28,7 +28,7 @@ each_set Fact passes changed now mine others at it found =
     (λ (apart : (at ≢ changed) × (get_elem? passes at ≡ some it)). others at it apart.0 apart.1)
     (at_set passes changed at now it found)
 
--- a fact of each job, with one more of which it is so
+-- a fact of each job, with one more that it holds for
 all_push : (Fact : Job → Type 0) (jobs : List Job) (job : Job) → AllByRecursion Fact jobs → Fact job → AllByRecursion Fact (jobs ++ job ∷ [])
 all_push Fact [] job all it = (it, tt)
 all_push Fact (first ∷ others) job all it = (all.0, all_push Fact others job all.1 it)
@@ -88,7 +88,7 @@ take_keeps_order pass it may job held passes rule found =
       (refl, subst (λ (purpose : Purpose). Fits purpose job) (sym (mine.1 may).2) rule.fit.0),
     )
 
--- a queue of which nothing was taken, and into which nothing was put, holds nothing
+-- a queue from which nothing was taken, and into which nothing was put, holds nothing
 holds_nothing : (taken held : List Job) → [] ≡ taken ++ held → held ≡ []
 holds_nothing [] held is = sym is
 holds_nothing (first ∷ others) held is = absurd (cc is)

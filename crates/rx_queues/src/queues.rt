@@ -31,7 +31,7 @@ const CAPACITY: usize = 64;
 /// How often whoever waits asks again at once. A job mostly goes in or out in this time where the other side is at work.
 const SPINS: u32 = 64;
 
-/// How often a worker then gives the processor away before it sleeps: whoever puts may be waking up.
+/// How often a worker then yields the processor before it sleeps: whoever puts may be waking up.
 const WORKERS_YIELDS: u32 = 100;
 
 /// How often the controller and the reclaimer do, which have little to do.
@@ -127,8 +127,8 @@ impl Queues {
         }
     }
 
-    /// Puts a job that fits into the caller's queue. The job comes back only where the queue held 64 at one moment of the call; then nothing
-    /// was put. Takes no memory, and waits for no job to be taken.
+    /// Puts a job that fits into the caller's queue. The job comes back only where the queue held 64 at one moment of the call (tested; clause `full`
+    /// says only that 64 jobs beyond some that were taken had been put); then nothing was put. Takes no memory, and waits for no job to be taken.
     pub fn put<R: Wait>(&self, rt: &R, who: Caller, job: Job, pass: &mut PutPass) -> Result<(), Job>
         requires queue { HasQueue (workers_of self.now) who }
         requires fits { FitsAt self.now (queue_of (workers_of self.now) who) job }
@@ -144,8 +144,8 @@ impl Queues {
         push(rt, queue, mine, job)
     }
 
-    /// Takes the oldest job from the pass's queue, which is one that fits it. None only where the queue was empty at one moment of the call.
-    /// Takes no memory, and waits for no job to be put.
+    /// Takes the oldest job from the pass's queue, which is one that fits it. None only where the queue was empty at one moment of the call
+    /// (tested; no clause says so). Takes no memory, and waits for no job to be put.
     pub fn take<R: Wait>(&self, rt: &R, pass: &mut TakePass) -> Option<Job>
         requires { IsTakePassOf self.now pass.old }
         ensures pass { IsTakePassOf self.now pass.new × (place_taken_from pass.new ≡ place_taken_from pass.old) }

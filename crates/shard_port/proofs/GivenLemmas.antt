@@ -1,4 +1,4 @@
--- What the calls of each kind give.
+-- What the calls of each kind return.
 use Rattle.std.proofs.Common.{◌≡◌, ℕ, zero, suc, ◌+◌, ◌-◌, ◌*◌, ◌/◌, ◌%◌, ◌^◌, ◌<◌, ◌≤◌, Bool, true, false, nat_lt, ℤ, List, [], ◌∷◌, length, reverse, Option, Some, None, arith, refl, sym, ◌∙◌, ap, subst, add-one}
 use Rattle.std.specs.Prelude.{◌==◌, IsTrue, slice_get, find, option_map, bytes_eq, if◌then◌else◌}
 use Rattle.std.specs.List.{AllByRecursion}

@@ -1,4 +1,4 @@
--- A worker's port over shards that many callers share: what its calls give, by the worker's pass. Own entries and histories have the
+-- A worker's port over shards that many callers share: what its calls return, by the worker's pass. Own entries and histories have the
 -- newest entry first.
 use Rattle.std.specs.Prelude.{◌≡◌, ◌⊎◌, ℕ, zero, suc, ◌<◌, ◌/◌, ◌==◌, Bool, true, false, ◌&&◌, nat_lt, List, [], ◌∷◌, ◌++◌, if◌then◌else◌}
 use Rattle.std.specs.Prelude.{IsFalse}

@@ -1,4 +1,4 @@
--- A single caller's port over the shards of an image's maps: what its calls give, and by which words it names cells.
+-- A single caller's port over the shards of an image's maps: what its calls return, and by which words it names cells.
 use Rattle.std.specs.Prelude.{◌≡◌, ℕ, ◌+◌, ◌-◌, ◌*◌, ◌/◌, ◌%◌, ◌^◌, ◌<◌, ◌≤◌, ◌==◌, Bool, true, false, ◌&&◌, nat_lt, List}
 use Rattle.std.specs.Prelude.{reverse, length, Option, Some, None, slice_get}
 use Rattle.std.specs.List.{AllByRecursion}

@@ -91,8 +91,8 @@ impl<'a, B: Naming, W: Wait, G: Gate> ShardPort<'a, B, W, G> {
         asked
     }
 
-    /// The worker leaves all shards that it is inside of, the lowest number first. A Leave is never refused. Gives the number of replies that the
-    /// gate was called for.
+    /// The worker leaves all shards that it is inside of, the lowest number first. A Leave is never refused. Returns how many replies the schedule
+    /// hook was called for.
     pub fn finish(self) -> u64
         ensures left { IsFinishedBy B.plan B.count self.entry.pass.now self.exit.0.now }
         ensures told { result ≡ self.entry.tally.count }

@@ -1,4 +1,4 @@
--- The flag that tells whether a worker is inside, when it makes a call.
+-- The flag that says whether a worker is inside, when it makes a call.
 use Rattle.std.proofs.Common.{◌≡◌, ℕ, Bool, List, ◌∷◌, length, eq-eqb, refl, sym, ap, ◌∙◌, subst}
 use Rattle.std.specs.Prelude.{Option, is_some, if◌then◌else◌, Result, Ok, Err, IfOk, OnErr}
 use Rattle.semantics.specs.declared.call.Caller.{Caller}

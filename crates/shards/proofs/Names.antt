@@ -49,7 +49,7 @@ named_each count table plan order name maps options shards opening named = each_
           ∙ number_of options number (new_at shards number).plan (slice_get maps (number / options.shards)) (opening.plans number (within shards number new there));
     })
 
--- among so many that are not dealt, only the places past the end count as dealt
+-- among this many that are not dealt, only the places past the end count as dealt
 below_places : (places place : ℕ) → is_dealt_at (replicate places false) place ≡ false → place < places
 below_places zero place waits = absurd (true≢false waits)
 below_places (suc places) zero waits = omega arith

@@ -1,4 +1,4 @@
--- A pass of which one part has changed.
+-- A pass with one part changed.
 use Rattle.std.proofs.Common.{◌≡◌, ◌≢◌, ℕ, zero, suc, ◌<◌, false, List, [], ◌∷◌, length, refl, sym, ap, ◌∙◌, subst, ⊎_elim, arith}
 use Rattle.std.specs.Prelude.{map, slice_set, slice_index_or}
 use Rattle.atomic_table.specs.Seated.{TableId}

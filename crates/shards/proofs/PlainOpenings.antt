@@ -18,7 +18,7 @@ pub slice_get-last : {A : Type 0} (xs : List A) (y : A) → slice_get (xs ++ y �
 slice_get-last [] y = refl
 slice_get-last (x ∷ xs) y = slice_get-last xs y
 
--- so many shards are as they are opened
+-- this many shards are as they are opened
 abbrev pub AreOpenedSoFar : List MapDef → Options → List JournaledShard → Type 0
 AreOpenedSoFar maps options shards =
     (number : ℕ) → number < length shards → slice_get shards number ≡ option_map opened_shard (plan_at maps options number)

@@ -40,7 +40,7 @@ pub record AreServed (plan : ShardPlan) (before after : CallerView) (first secon
   pub legal : IsLegalHistory plan after.seen
   pub own : after.own ≡ second ∷ first ∷ before.own
 
--- the first was served and stands, and then the journal was full for the second
+-- the first was served, and then the journal was full for the second
 pub record IsServedThenRefused (plan : ShardPlan) (before after : CallerView) (first : Entry) (call : Call) : Type 0 where
   pub earlier : List Entry
   pub seen : after.seen ≡ first ∷ earlier
@@ -53,13 +53,13 @@ abbrev pub EnteredAndAnswered : ShardPlan → ℕ → PassView → PassView → 
 EnteredAndAnswered plan number before after call reply =
     AreServed plan (view_at before number) (view_at after number) (enter_entry number before.who) (entry_of before.who call reply)
 
--- which of the two the journal of the shard of this number was full for, and what then stands
+-- which of the two the journal of the shard of this number was full for, and what is left then
 abbrev pub IsStoppedAt : ShardPlan → ℕ → CallerView → CallerView → Caller → Call → Stopped → Type 0
 IsStoppedAt plan number before after who call (AtEnter full) = IsRefused plan before after (Enter number) × (full.shard ≡ number)
 IsStoppedAt plan number before after who call (AtCall full) =
     IsServedThenRefused plan before after (enter_entry number who) call × (full.shard ≡ number)
 
--- which of the two the journal was full for, and what then stands
+-- which of the two the journal was full for, and what is left then
 abbrev pub IsStopped : ShardPlan → ℕ → PassView → PassView → Call → Stopped → Type 0
 IsStopped plan number before after call stopped =
     IsStoppedAt plan number (view_at before number) (view_at after number) before.who call stopped

@@ -60,7 +60,7 @@ pub record AreHeld (worker : ℕ) (plan : ShardPlan) (own : List Entry) (held : 
   pub once : AreOnce held.ids
   pub each : (cell : ℕ) → is_among cell held.ids ≡ holds worker cell own
 
--- a worker's list tells it; what the others' lists say is nobody's concern, since they hold nothing
+-- a worker's list says it; what the others' lists say is nobody's concern, since they hold nothing
 abbrev pub AreHeldOf : Caller → ShardPlan → List Entry → HeldIds → Type 0
 AreHeldOf (Worker number) plan own held = AreHeld number plan own held
 AreHeldOf who plan own held = Unit {0}

@@ -201,7 +201,7 @@ one_more v = dealer_of v.key (suc v.dealt)
 abbrev pub newcomer : Known → Known
 newcomer v = pass_of v.key (caller_at v.dealt) [] []
 
--- a visitor comes; the table tells it the key
+-- a visitor comes; the table shows it the key
 abbrev pub Comes : Step Lodged → Me Lodged Known → ℕ → Me Lodged Known → Type 0
 Comes s v found w = w ≡ (visitor_of v.0.key, [])
 

@@ -108,7 +108,7 @@ pub record IsPlaced (table : TableId) (one : Account) (place : Badge (List Accou
   pub table_is : place.table_id ≡ table
   pub knows : place.views ≡ (one ∷ []) ∷ []
 
--- that of a part of which nothing was done
+-- that of a part with no deeds
 abbrev pub IsFresh : TableId → OrderPart → Badge (List Account) → Type 0
 IsFresh table part place = IsPlaced table (account part []) place
 
@@ -167,7 +167,7 @@ abbrev pub HasAccount : Account → List Account → Type 0
 HasAccount one [] = ⊥
 HasAccount one (other ∷ others) = (other ≡ one) ⊎ HasAccount one others
 
--- one list of deeds, of which each of these accounts is a part
+-- one list of deeds; each of these accounts is a part of it
 pub record IsEnd (plans : List ShardPlan) (accounts : List Account) : Type 0 where
   pub all : List Deed
   pub within : AreWithin (length plans) all

@@ -40,7 +40,7 @@ seen_at pass number = (view_at pass number).seen
 abbrev pub KnowsItsOwn : ℕ → PassView → Type 0
 KnowsItsOwn number pass = own_at pass number ≡ own_entries pass.who (seen_at pass number)
 
--- the pass of nobody, which stands past the end of a list
+-- the pass of nobody, past the end of a list
 abbrev pub no_pass : PassView
 no_pass = record { who = Reclaimer; views = []; deeds = [] }
 

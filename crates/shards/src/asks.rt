@@ -31,7 +31,7 @@ pub trait Ask: Copy {
     /// The call, on the shard of a number.
     ghost asks: { Self → ℕ → Call };
 
-    /// The reply that an answer of the shard of a number stands for.
+    /// The reply that an answer means, for the shard of a number.
     ghost replies: { ℕ → Self.Answer → Reply };
 
     /// What the call does to its worker's section of the shard.
@@ -435,7 +435,7 @@ impl<B: Naming> Shards<B> {
         self.ask(rt, pass, shard, Stores { range, value })
     }
 
-    /// Changes the number in some bytes of a held cell in one step, and gives what it was.
+    /// Changes the number in some bytes of a held cell in one step, and returns what it was.
     pub fn atomic(
         &self,
         rt: &impl Wait,
@@ -457,7 +457,7 @@ impl<B: Naming> Shards<B> {
         self.ask(rt, pass, shard, Changes { range, change })
     }
 
-    /// Sets the value of a key as bpf(2) has it, and gives its answer: 0, or Linux's error number, negated.
+    /// Sets the value of a key as bpf(2) has it, and returns its answer: 0, or Linux's error number, negated.
     pub fn update(
         &self,
         rt: &impl Wait,
@@ -480,7 +480,7 @@ impl<B: Naming> Shards<B> {
         self.ask(rt, pass, shard, Updates { key, value, flags })
     }
 
-    /// Takes a key out as bpf(2) has it, and gives its answer: 0, or Linux's error number, negated.
+    /// Takes a key out as bpf(2) has it, and returns its answer: 0, or Linux's error number, negated.
     pub fn delete(
         &self,
         rt: &impl Wait,

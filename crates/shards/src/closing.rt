@@ -24,7 +24,7 @@ use journals::Journals;
 use std::sync::Wait;
 
 impl<B: Naming> Shards<B> {
-    /// Ends all calls, and gives the journals, each of which is legal. Of each pass that is handed in, what it saw is a beginning of the
+    /// Ends all calls, and returns the journals; each is legal. Of each pass that is handed in, what it saw is a beginning of the
     /// journal, and its own entries are all that the journal has of its caller. Takes no memory.
     pub fn close(self, rt: &impl Wait, mut passes: Vec<Pass<B>>) -> Journals
         ensures maps { result.maps ≡ self.maps }

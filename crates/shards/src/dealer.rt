@@ -22,7 +22,7 @@ use std::alloc::Global;
 use std::marker::{Model, PhantomData};
 use std::mem;
 
-/// The right to deal each caller its one pass: what is not dealt yet cannot be shared, so it stands beside the shards. Contracts see which
+/// The right to deal each caller its one pass: what is not dealt yet cannot be shared, so it is kept beside the shards. Contracts see which
 /// passes were dealt: the controller's, the reclaimer's, then the workers' by their numbers.
 #[derive(Drop)]
 pub struct Dealer<B: Naming> {

@@ -14,7 +14,7 @@ use std::marker::Model;
 #[derive(Drop)]
 pub(crate) struct HeldCells {
     ids: Vec<u64>,
-    /// By an id's low bits, where in the list the last cell with these bits was put: a cell that is found again mostly stands there.
+    /// By an id's low bits, where in the list the last cell with these bits was put: a cell that is found again is mostly there.
     hints: [usize; 256],
 }
 
@@ -64,7 +64,7 @@ impl HeldCells {
         self.is_hinted(id) || self.ids.contains(&id)
     }
 
-    /// Whether this cell stands where its hint says; if not, it may stand elsewhere.
+    /// Whether this cell is where its hint says; if not, it may be elsewhere.
     fn is_hinted(&self, id: u64) -> bool
         ensures { result ≡ true → is_among id self.now.ids ≡ true }
     {

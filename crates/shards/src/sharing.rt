@@ -36,6 +36,16 @@
 //!
 //! That own entries are *all* of the caller's is what lets a caller know by itself, without a lock, whether it is inside and what it holds.
 //!
+//! # The one order
+//!
+//! All that callers do on all shards has one order: a list of *deeds* that no memory has. A deed is an entry, or a call that met a full journal. Each
+//! shard and each caller has one *account*, which is all of its deeds in the order, and one seat has it (`order_rule`, `specs/OrderRule`): that of a shard
+//! lies beside the shard in its slot, that of a caller is in its pass. So who has taken a shard has both. It puts them together, makes one step, and
+//! parts them again (`order`):
+//!
+//! - `Adds`: a deed is added to the order, and to each account of the seat. Nobody else has these accounts, so shard by shard the entries of the order are
+//!   the journal, and caller by caller the deeds are what it did over all shards, each in the order in which they happened.
+//!
 //! # Visitors
 //!
 //! `hold`, `meet` and `close` make no call. They take the shard by a *visitor's* seat, which anyone gets (`Comes`), and which waits like every other. A
@@ -157,7 +167,7 @@ impl<B: Naming> Shards<B> {
     /// Enters the shard, and makes a call there at once: two steps and two entries, next to each other, under one hold of the lock. Takes
     /// no memory.
     ///
-    /// Refused where the journal has no room for the Enter, and then nothing was changed; or none for the call, and then the Enter stands.
+    /// Refused where the journal has no room for the Enter, and then nothing was changed; or none for the call, and then the Enter is served.
     /// Either way the pass has seen the history whose journal is full.
     pub fn enter_then<C: Ask>(
         &self,
@@ -201,7 +211,7 @@ impl<B: Naming> Shards<B> {
     }
 
     /// Whether the pass's caller may make the call now; the pass has then seen the shard's history. Waits for the shard's lock, takes no
-    /// memory, and may read the whole journal: it is for callers that cannot tell by what they did. Where no rows are kept it cannot say, and returns
+    /// memory, and may read the whole journal: it is for callers that cannot know it by what they did. Where no rows are kept it cannot say, and returns
     /// false.
     pub fn may_call(&self, rt: &impl Wait, pass: &mut Pass<B>, call: &Call) -> bool
         requires shard { shard_of_call call.now < B.count }

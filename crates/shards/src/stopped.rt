@@ -7,6 +7,6 @@ use semantics::JournalFull;
 pub enum Stopped {
     /// The Enter: nothing was changed.
     AtEnter { full: JournalFull },
-    /// The call after it: the Enter stands.
+    /// The call after it: the Enter was served.
     AtCall { full: JournalFull },
 }

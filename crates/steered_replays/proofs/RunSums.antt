@@ -37,7 +37,7 @@ abbrev pub is_fate : ℕ → Option RunEnd → ℕ
 is_fate kind None = 0
 is_fate kind (Some end) = is_end kind end
 
--- so many of the runs ended so
+-- this many of the runs ended so
 abbrev pub ends_in : ℕ → List Ran → ℕ
 ends_in kind [] = 0
 ends_in kind (ran ∷ later) = is_end kind ran.end + ends_in kind later
@@ -76,7 +76,7 @@ one_longer (first ∷ list) last = ap suc (one_longer list last)
 
 module _ (kind : ℕ) (tell : Counts → ℕ) (tells : (counts : Counts) (fate : Option RunEnd) → tell (counted counts fate) ≡ tell counts + is_fate kind fate)
     (none : tell no_counts ≡ 0) (frames : List (List ℕ)) (workers : ℕ) (some : 0 < workers) (runs : List (List Ran)) where
-  -- among the first so many records
+  -- among this many first records
   abbrev of_worker : ℕ → ℕ → ℕ
   of_worker number worker = first_ends kind (runs_at runs worker) (length (share frames workers worker number))
 

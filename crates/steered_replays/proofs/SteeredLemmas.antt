@@ -119,7 +119,7 @@ inputs_of : (records : List Sent) (runs : List Ran) → AllByRecursion (IsInputA
 inputs_of records [] all = tt
 inputs_of records (ran ∷ later) all = (all.0, inputs_of records later all.1)
 
--- ---- where a record stands in its worker's share
+-- ---- the place of a record in its worker's share
 
 known_below : (records : List Sent) (number : ℕ) (captured : Sent) → slice_get records number ≡ Some captured → number < length records
 known_below [] number captured known = absurd cc

@@ -1,4 +1,4 @@
--- The run of a flow that stands noted, by computation.
+-- The run of a flow that is noted, by computation.
 use Rattle.std.proofs.Common.{◌≡◌, inr, false, [], refl, arith}
 use Rattle.wire.specs.FlowForm.{HasFlow}
 use Rattle.wire.specs.FrameView.{FrameView}

@@ -1,4 +1,4 @@
--- A run of a flow that stands noted chooses the noted backend.
+-- A run of a flow that is noted chooses the noted backend.
 use Rattle.std.proofs.Common.{◌≡◌, ℕ, ◌/◌, ◌<◌, ◌^◌, Bool, true, false, List, [], ◌∷◌, ◌++◌, refl, sym, ap, subst, arith, ◌∙◌}
 use Rattle.std.specs.Prelude.{Option, Some, None, drop, replicate}
 use Rattle.std.proofs.lemmas.List.{append_assoc}
@@ -133,7 +133,7 @@ lookup_leaves : (plan : ShardPlan) (key asked : List ℕ) (cell shard : ℕ) (hi
 lookup_leaves plan key asked cell shard history call is = subst (LeavesNote plan key cell history) (sym is)
     (record { other_key = refl; other_cell = refl; no_eviction = λ evicts. (let same = evicts.call_is in cc same) })
 
--- after entries that leave it, a note stands as before
+-- after entries that leave it, a note is as before
 noted_on : (plan : ShardPlan) (key : List ℕ) (number cell : ℕ) (newer history : List Entry) → IsNoted plan key number cell history →
     AllLeaveNote plan key cell newer history → IsNoted plan key number cell (newer ++ history)
 noted_on plan key number cell newer history noted all =

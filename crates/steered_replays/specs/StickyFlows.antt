@@ -80,7 +80,7 @@ abbrev pub noting : Caller → ℕ → List ℕ → ℕ → ℕ → Entry
 noting who shard key number flags =
     record { who = who; call = Update shard key (flow_bytes (record { backend = number })) flags; reply = Answer success }
 
--- At the end of the history the backend of this number stands noted under the key, in this cell: an Update noted it, and no entry since
+-- At the end of the history the backend of this number is noted under the key, in this cell: an Update noted it, and no entry since
 -- changed that.
 pub record IsNoted (plan : ShardPlan) (key : List ℕ) (number cell : ℕ) (history : List Entry) : Type 0 where
   pub who : Caller
@@ -151,7 +151,7 @@ pub record StandsUp (plan : ShardPlan) (history : List Entry) (worker number : �
         (number_in_cell (shard_after plan (between ++ entry_of worker lookup ∷ earlier)) (number / plan.parts) 0 8))
     pub is_up : backend.is_up ≡ true
 
--- A run of a flow that stands noted: it gets past the guards, and its next four exchanges, its Lookup of the flow and the Load of the
+-- A run of a flow that is noted: it gets past the guards, and its next four exchanges, its Lookup of the flow and the Load of the
 -- note, the Lookup of a backend and the Load of its record, stand in the shards' histories.
 pub record RunOfNoted (frame : FrameView) (tunnel : TunnelRecord) (number : ℕ) (backend : BackendRecord) (worker : ℕ)
     (exchanges : List Exchange) : Type 0 where
@@ -180,7 +180,7 @@ pub record ChoosesNoted (setting : Setting) (frame : FrameView) (tunnel : Tunnel
   pub verdict_is : verdict ≡ V.Tx
   pub left_is : left ≡ encapsulated_frame (tunnel_to tunnel backend.address) frame
 
--- every run of the rule that is one of a flow that stands noted chooses the noted backend
+-- every run of the rule that is one of a flow that is noted chooses the noted backend
 abbrev pub NotedFlowsStick : Type 0
 NotedFlowsStick =
     (setting : Setting) (frame : FrameView) (tunnel : TunnelRecord) (number : ℕ) (backend : BackendRecord) (worker : ℕ)

@@ -120,7 +120,7 @@ row_backends_before =
 abbrev pub row_backends : List Entry
 row_backends = entry_of 0 row_backend_load ∷ entry_of 0 row_backend_lookup ∷ row_backends_before
 
--- the run ends by the rule, and is one of a flow that stands noted
+-- the run ends by the rule, and is one of a flow that is noted
 pub record StickyRow : Type 0 where
   pub left : FrameView
   pub ends : EndsByRule row_setting row_frame row_exchanges Tx left

@@ -22,7 +22,7 @@ use conntrack::laws::{finished_runs_are_results, flows_stick};
 use steer::laws::steers;
 use verifier::Verified;
 
-/// In an array's shard of which nothing was asked but to find, read and raise counts, each cell holds how often it was raised; and each
+/// In an array's shard that saw no calls except to find, read and raise counts, each cell holds how often it was raised; and each
 /// lookup of an index that the array has finds that index's cell.
 pub fn counts_are_exact()
     ensures counts { CountsAreExact }

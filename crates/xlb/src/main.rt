@@ -32,7 +32,7 @@ fn lacks_memory(fault: &WordsFault<'_>) -> bool {
     }
 }
 
-/// Prints why there are no words. Gives the status of a command line that could not be read.
+/// Prints why there are no words. Returns the status of a command line that could not be read.
 fn unread<R: Eprint>(rt: &R, error: &io::Error) -> u8 {
     if error.kind() == io::ErrorKind::OutOfMemory {
         let _ = eprintln!(rt; "{NO_MEMORY}");
@@ -46,8 +46,8 @@ fn unread<R: Eprint>(rt: &R, error: &io::Error) -> u8 {
     BAD_WORDS
 }
 
-/// Tells why words are no command, or the help or the version that they ask for. Gives the status of the words, whatever the standard error takes; where
-/// the standard output does not take the help or the version, that is fault 7.
+/// Prints why words are no command, or the help or the version that they ask for. Returns the status of the words, whatever the standard error takes;
+/// where the standard output does not take the help or the version, that is fault 7.
 fn tell<R: Print + Eprint>(rt: &R, fault: &WordsFault<'_>) -> u8 {
     if lacks_memory(fault) {
         let _ = eprintln!(rt; "{NO_MEMORY}");
@@ -69,7 +69,7 @@ fn words_of(rt: &HostRuntime) -> io::Result<Vec<String>> {
     Ok(words.collect(rt.alloc())?)
 }
 
-/// Prints which two files of a command are one standard stream. Gives the status of a command line that is wrong.
+/// Prints which two files of a command are one standard stream. Returns the status of a command line that is wrong.
 fn tell_shared<R: Eprint>(rt: &R, shared: Shared) -> u8 {
     let Shared {
         first,

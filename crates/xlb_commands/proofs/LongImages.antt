@@ -228,7 +228,7 @@ asked_front front rest long asked = absurd (omega arith)
 
 -- ---- the front of a long file
 
--- so many bytes of its front are longer than any image, and both have as many bytes beyond whole slots
+-- this many bytes of its front are more than any image has, and both have as many bytes beyond whole slots
 pub record IsFrontOfLong (bytes : List ℕ) (count : ℕ) : Type 0 where
   pub long : beyond_images ≤ count
   pub within : count ≤ length bytes

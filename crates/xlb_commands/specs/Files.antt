@@ -20,7 +20,7 @@ AreOthersKept before after written = (name bytes : List ℕ) → name ≢ writte
 abbrev pub AreAllKeptBut : FileBytes → FileBytes → Option (List ℕ) → Type 0
 AreAllKeptBut before after written = (name bytes : List ℕ) → written ≢ Some name → (before name bytes ↔ after name bytes)
 
--- each file but those of these names, of which the second and the third may be missing, has the bytes that it had
+-- each file except those of these names, where the second and the third may be missing, has the bytes that it had
 abbrev pub AreAllButKept : FileBytes → FileBytes → List ℕ → Option (List ℕ) → Option (List ℕ) → Type 0
 AreAllButKept before after written other third =
     (name bytes : List ℕ) → name ≢ written → other ≢ Some name → third ≢ Some name → (before name bytes ↔ after name bytes)

@@ -28,7 +28,7 @@ use Rattle.xlb_commands.specs.Replays.{FollowsRule, IsCaptureOf, IsMade, KeepsHe
 abbrev pub HasRoom : ℕ → ReaderView → Type 0
 HasRoom most reader = 16 * reader.count + length reader.unread + most ≤ 2 ^ 40
 
--- the replay took the turns of these records, of which these frames were sent and of which this became
+-- the replay took the turns of these records: these frames were sent, and each record ended so
 abbrev pub AreRun : Program → List Command → Options → PieceReplay → PieceReplay → List Sent → List Sent → List RecordEnd → Type 0
 AreRun program script options before after records sent ends =
     (updates : List MapUpdate) (past past_sent : List Sent) (past_ends : List RecordEnd)
@@ -55,8 +55,8 @@ pub record IsGoing (program : Program) (script : List Command) (options : Option
   pub ends : List RecordEnd
   pub underway : IsUnderway program script options updates records sent ends replay
 
--- the outcome of an exact replay of these records, which sent these frames, is one of which all holds that a replay promises; and the bytes of the journals
--- and the report are its
+-- all that a replay promises holds for the outcome of an exact replay of these records, which sent these frames; and the bytes of the journals and the
+-- report are that outcome's
 pub record IsMadeOf (files : ReplayFiles) (program : Contents) (states : List (Option State)) (script : List Command) (options : Options)
     (recording : Recording) (ring : ℕ) (updates : List MapUpdate) (records sent : List Sent) (report : Report) (journals : List ℕ) : Type 0 where
   pub whole : Outcome

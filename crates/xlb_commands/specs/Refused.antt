@@ -1,4 +1,4 @@
--- Which fault a command is refused with: the first of what it reads and does, in that order. `failed` stands for: the device of the files
+-- Which fault a command is refused with: the first of what it reads and does, in that order. `failed` says that the device of the files
 -- failed, once, in the command's last use of it.
 use Rattle.std.specs.Prelude.{◌≡◌, ◌≢◌, ◌↔◌, ◌≤◌, ◌<◌, ◌+◌, ◌^◌, ◌⊎◌, ℕ, ℤ, Bool, List, [], Option, Some, None, true, false}
 use Rattle.std.specs.Prelude.{IsTrue, IsFalse, IsUtf8, codes, length, take, String, string_bytes}
@@ -163,7 +163,7 @@ pub data IsSourceRefusal (files after : FileBytes) (failed : Type 0) (name : Lis
 abbrev pub kept_of_image : ℕ
 kept_of_image = 33048
 
--- the same with one slot more
+-- the longest image and one slot: 8 bytes less
 abbrev pub beyond_images : ℕ
 beyond_images = 33040
 
@@ -348,7 +348,7 @@ pub data IsCaptureRefusal (files : FileBytes) (failed : Type 0) (skip_long : Boo
   no_capture : (bytes : List ℕ) → files name bytes → IsNoCaptureIn skip_long bytes fault → IsCaptureRefusal files failed skip_long name fault
 
 -- why the replay was given up: for its options exactly where no shards are opened with them, or the script has commands and the maps are not those of
--- steering; else memory was refused, an update was refused or met a full journal, or a thread could not be started, of which an exact replay has none
+-- steering; else memory was refused, an update was refused or met a full journal, or a thread could not be started (an exact replay has none)
 pub record IsGivenUp (exact : Bool) (maps : List MapDef) (updates : List MapUpdate) (script : List Command) (options : Options) (recording : Recording)
     (why : ReplayFault) : Type 0 where
   pub options_are_bad : (why ≡ replays.BadOptions) ↔ AreBadOptions maps options script
@@ -423,26 +423,26 @@ IsRefusedWith before after failed (Table script ring) fault = IsTableRefusal bef
 IsRefusedWith before after failed (Replay files options ring exact summary skip_long without updates) fault =
     IsReplayRefusal before after failed files options (recording_of without (text_of files.journals)) ring exact skip_long updates.items fault
 
--- the fault that is told: the command was refused with it; or it was done, and what it prints could not be printed
+-- the fault that is printed: the command was refused with it; or it was done, and what it prints could not be printed
 pub data IsToldFault (before after : FileBytes) (failed unprinted : Type 0) (settings : Settings) (fault : Fault) : Type 0 where
   refused_with : IsRefusedWith before after failed settings fault → IsToldFault before after failed unprinted settings fault
   not_printed : (printed : List ℕ) → IsDone before after settings printed ⊎ IsDoneInPart before after settings printed → unprinted
       → fault ≡ faults.Output → IsToldFault before after failed unprinted settings fault
 
--- ---- what is told
+-- ---- what is printed
 
 -- the notes that go below the fault's line
 abbrev pub notes_told : {Z : Type 0} → Option (String Z) → List ℕ
 notes_told None = []
 notes_told (Some notes) = string_bytes notes
 
--- A stream that held `before` was given one text more: the fault's line, and below it the notes' lines, each of which begins with two blanks. Where
+-- To a stream that held `before` one text was written: the fault's line, and below it the notes' lines, each of which begins with two blanks. Where
 -- memory was refused for that text, it is the line of fault 8.
 pub data PrintsRefusal (fault : Fault) (notes : List ℕ) (before after : Option (List ℕ)) : Type 0 where
   in_full : (text : List ℕ) → IsRefusalText (fault_line fault) notes text → after ≡ append_known before text → PrintsRefusal fault notes before after
   lacks_text : after ≡ append_known before (codes "fault 8 Memory\n") → PrintsRefusal fault notes before after
 
--- A stream that held `before` was given one text more: which update the image's maps do not take, and why. Where memory was refused for that text, it is
+-- To a stream that held `before` one text was written: which update the image's maps do not take, and why. Where memory was refused for that text, it is
 -- the line of fault 8.
 pub data PrintsMistake (place : ℕ) (misfit : Misfit) (before after : Option (List ℕ)) : Type 0 where
   in_words : after ≡ append_known before (mistake_text place misfit) → PrintsMistake place misfit before after
@@ -453,8 +453,8 @@ pub data PrintsClash (written other : List ℕ) (before after : Option (List ℕ
   in_line : after ≡ append_known before (clash_text written other) → PrintsClash written other before after
   lacks_line : after ≡ append_known before (codes "fault 8 Memory\n") → PrintsClash written other before after
 
--- a file would be written over another one that the command has, which are one by what the folder knows: that was told on `err`, unless that failed;
--- nothing was read or written, and `out` was given nothing
+-- a file would be written over another one that the command has, which are one by what the folder knows: that was printed on `err`, unless that
+-- failed; no file was read or written, and nothing was printed on `out`
 pub record IsClash (before after : FileBytes) (are_one : FileBytes) (settings : Settings) (out out' err err' : Stream) : Type 0 where
   pub written : List ℕ
   pub other : List ℕ
@@ -464,7 +464,7 @@ pub record IsClash (before after : FileBytes) (are_one : FileBytes) (settings : 
   pub told : err'.failures ≡ err.failures → PrintsClash written other err.held err'.held
   pub nothing : out' ≡ out
 
--- a mistake of the command line that shows in the image was told on `err`, unless that failed, and `out` was given nothing
+-- a mistake of the command line that shows in the image was printed on `err`, unless that failed, and nothing on `out`
 pub record IsMisfitTold (before after : FileBytes) (settings : Settings) (out out' err err' : Stream) : Type 0 where
   pub place : ℕ
   pub misfit : Misfit
@@ -477,7 +477,7 @@ abbrev pub IsMistaken : FileBytes → FileBytes → FileBytes → Settings → S
 IsMistaken before after are_one settings out out' err err' =
     IsMisfitTold before after settings out out' err err' ⊎ IsClash before after are_one settings out out' err err'
 
--- the line of the command's fault was given to `err`, unless that failed, and nothing to `out`, unless that failed
+-- the line of the command's fault was printed on `err`, unless that failed, and nothing to `out`, unless that failed
 pub record IsTold (before after : FileBytes) (failed : Type 0) (settings : Settings) (out out' err err' : Stream) : Type 0 where
   pub fault : Fault
   pub fault_is : IsToldFault before after failed (HasFailed out.failures out'.failures) settings fault
@@ -485,7 +485,7 @@ pub record IsTold (before after : FileBytes) (failed : Type 0) (settings : Setti
   pub told : err'.failures ≡ err.failures → PrintsRefusal fault notes err.held err'.held
   pub nothing : out'.failures ≡ out.failures → out'.held ≡ out.held
 
--- the command is refused: its report says so, or its fault was told
+-- the command is refused: its report says so, or its fault was printed
 abbrev pub IsRefused : FileBytes → FileBytes → Type 0 → Settings → Stream → Stream → Stream → Stream → Type 0
 IsRefused before after failed settings out out' err err' =
     IsReported before after settings out.held out'.held err err' ⊎ IsTold before after failed settings out out' err err'

@@ -69,7 +69,7 @@ pub record IsChecked (files : FileBytes) (name : List ℕ) (printed : List ℕ) 
   pub reads : IsTrue reader ↔ IsReader image.code states
   pub line : printed ≡ accepted_line image reader
 
--- the same, and below it what is told of the program
+-- the same, and below it what is said of the program
 pub record IsExplained (files : FileBytes) (name : List ℕ) (printed : List ℕ) : Type 0 where
   pub first : List ℕ
   pub checked : IsChecked files name first
@@ -211,7 +211,7 @@ IsDone before after (Replay files options ring exact summary skip_long no_journa
     IsReplayedWhole before after files options (recording_of no_journals (text_of files.journals)) ring exact skip_long updates.items printed
 IsDone before after (Table script ring) printed = IsTableShown before script.now ring printed false
 
--- the command is done but for a part that was refused, as the report tells: commands of a script
+-- the command is done except a part that was refused, as the report says: commands of a script
 abbrev pub IsDoneInPart : FileBytes → FileBytes → Settings → List ℕ → Type 0
 IsDoneInPart before after (Replay files options ring exact summary skip_long no_journals updates) printed =
     IsReplayedInPart before after files options (recording_of no_journals (text_of files.journals)) ring exact skip_long updates.items printed
@@ -231,7 +231,7 @@ KeepsFiles before after (Table script ring) = AreKept before after
 KeepsFiles before after (Replay files options ring exact summary skip_long no_journals updates) =
     AreAllButKept before after files.sent.now (text_of files.journals) (text_of files.report)
 
--- a stream: what it was given, where that is known, and how many of its calls failed
+-- a stream: what was written to it, where that is known, and how many of its calls failed
 pub record Stream : Type 0 where
   pub held : Option (List ℕ)
   pub failures : ℕ
@@ -239,13 +239,13 @@ pub record Stream : Type 0 where
 abbrev pub stream : Option (List ℕ) → ℕ → Stream
 stream held failures = record { held = held; failures = failures }
 
--- a stream was given lines that each begin with two blanks, or nothing, unless it failed
+-- lines that each begin with two blanks, or nothing, were written to a stream, unless it failed
 pub record AreNotesPrinted (before after : Stream) : Type 0 where
   pub notes : List ℕ
   pub are_notes : AreNotes notes
   pub told : after.failures ≡ before.failures → after.held ≡ append_known before.held notes
 
--- what the error stream is given after a command's report: of a run, of a replay and of tables such lines, of another command nothing
+-- what is written to the error stream after a command's report: of a run, of a replay and of tables such lines, of another command nothing
 abbrev pub IsNoted : Settings → Stream → Stream → Type 0
 IsNoted (Replay files options ring exact summary skip_long no_journals updates) before after = AreNotesPrinted before after
 IsNoted (Table script ring) before after = AreNotesPrinted before after

@@ -73,7 +73,7 @@ impl Refusal {
         }
     }
 
-    /// A fault with what there is to tell of it, if there is memory for that.
+    /// A fault with what is to be printed about it, if there is memory for that.
     pub fn hinted(fault: Fault, hint: Result<Option<String>, AllocError>) -> Refusal
         ensures { result.fault ≡ fault }
     {

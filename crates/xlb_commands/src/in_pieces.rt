@@ -75,7 +75,7 @@ struct Going {
 
 /// What came of a piece.
 #[derive(Clone, Copy, Debug, PartialEq, Eq)]
-enum Step {
+enum PieceStep {
     More,
     Last,
     /// The rest of the file is no capture any more.
@@ -371,41 +371,41 @@ fn take_piece<D: Folder, G: Gate>(
     reader: &mut CaptureReader,
     going: &mut Going,
     gate: &G,
-) -> Result<Step, Refusal>
+) -> Result<PieceStep, Refusal>
     requires failures { D.failure_count folder.old < 2 ^ 64 - 1 }
     requires room { HasRoom (D.most_left folder.old) reader.old }
     requires goes_on { GoesOn asked.script.now going.old.replay }
     requires maps { going.old.replay.turns.all.maps ≡ asked.verified.now.maps }
-    ensures more { IfOk result (λ step. step ≡ Step.More → (records : List Record)
+    ensures more { IfOk result (λ step. step ≡ PieceStep.More → (records : List Record)
         × ReadsOn D.holds (D.is_left folder.old) (D.is_left folder.new) reader.old reader.new records
         × HaveRun (program_of asked.entry.verified.now asked.entry.options.shards) asked.entry.script.now
         (recorded asked.entry.recording asked.entry.options) going.old.replay going.new.replay
         (D.is_begun folder.old) (D.is_begun folder.new) records) }
-    ensures last { IfOk result (λ step. step ≡ Step.Last → (records : List Record)
+    ensures last { IfOk result (λ step. step ≡ PieceStep.Last → (records : List Record)
         × ReadsToEnd D.holds (D.is_left folder.old) reader.old records reader.new.cut
         × HaveRun (program_of asked.entry.verified.now asked.entry.options.shards) asked.entry.script.now
         (recorded asked.entry.recording asked.entry.options) going.old.replay going.new.replay
         (D.is_begun folder.old) (D.is_begun folder.new) records) }
-    ensures room { IfOk result (λ step. step ≢ Step.Changed → HasRoom (D.most_left folder.new) reader.new) }
-    ensures fewer { IfOk result (λ step. step ≡ Step.More →
+    ensures room { IfOk result (λ step. step ≢ PieceStep.Changed → HasRoom (D.most_left folder.new) reader.new) }
+    ensures fewer { IfOk result (λ step. step ≡ PieceStep.More →
         length reader.new.unread + D.most_left folder.new < length reader.old.unread + D.most_left folder.old) }
-    ensures goes_on { IfOk result (λ step. step ≢ Step.Changed → GoesOn asked.entry.script.now going.new.replay) }
-    ensures maps { IfOk result (λ step. step ≢ Step.Changed → going.new.replay.turns.all.maps ≡ asked.entry.verified.now.maps) }
+    ensures goes_on { IfOk result (λ step. step ≢ PieceStep.Changed → GoesOn asked.entry.script.now going.new.replay) }
+    ensures maps { IfOk result (λ step. step ≢ PieceStep.Changed → going.new.replay.turns.all.maps ≡ asked.entry.verified.now.maps) }
     ensures kept { AreKept (D.holds folder.old) (D.holds folder.new) }
     ensures steady { OnOk result (D.failure_count folder.new ≡ D.failure_count folder.old) }
     ensures refused { IfErr result
         (λ refusal. IsBrokenOff (HasFailed (D.failure_count folder.old) (D.failure_count folder.new)) refusal.fault) }
 {
     let Some(piece) = next_piece(alloc, folder, asked.files.capture, reader)? else {
-        return Ok(Step::Changed);
+        return Ok(PieceStep::Changed);
     };
     if !run_piece(alloc, folder, asked, going, &piece, gate)? {
-        return Ok(Step::Changed);
+        return Ok(PieceStep::Changed);
     }
     if piece.records.len() < PIECE {
-        return Ok(Step::Last);
+        return Ok(PieceStep::Last);
     }
-    Ok(Step::More)
+    Ok(PieceStep::More)
 }
 
 /// Reads the capture once more, and runs all its records. No: it is no capture any more.
@@ -434,9 +434,9 @@ fn go_through<D: Folder, G: Gate>(
     };
     'pieces: loop {
         match take_piece(alloc, folder, asked, &mut reader, going, gate) {
-            Ok(Step::More) => {}
-            Ok(Step::Last) => return Ok(true),
-            Ok(Step::Changed) => return Ok(false),
+            Ok(PieceStep::More) => {}
+            Ok(PieceStep::Last) => return Ok(true),
+            Ok(PieceStep::Changed) => return Ok(false),
             Err(refusal) => return Err(refusal),
         }
     }

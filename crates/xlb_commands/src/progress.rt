@@ -1,6 +1,7 @@
 //! How far a replay is.
 
 use ebpf_decode::MapKind;
+use replay::ROUND_EVERY;
 use semantics::{Caller, Options};
 use shard_port::Gate;
 use std::rt::Clock;
@@ -9,9 +10,6 @@ use verifier::Verified;
 
 /// After how many rounds of the reclaimer a replay reports its progress.
 const ROUNDS: u64 = 512;
-
-/// After how many frames the reclaimer goes round.
-const FRAMES_A_ROUND: u64 = 64;
 
 /// What a replay reports its progress to.
 pub trait Progress {
@@ -106,7 +104,7 @@ impl<P: Progress> Gate for Rounds<'_, P> {
         let rounds = nth / self.replies;
         if rounds % ROUNDS == 0 {
             self.progress
-                .handed(rounds.saturating_mul(FRAMES_A_ROUND), self.frames);
+                .handed(rounds.saturating_mul(ROUND_EVERY as u64), self.frames);
         }
     }
 }

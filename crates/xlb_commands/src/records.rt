@@ -49,7 +49,7 @@ fn about_part(alloc: Global, part: &str, bytes: usize, there: usize) -> Result<S
     format!(in alloc; "{part} has {bytes} bytes, and the file ends after {there} of them")
 }
 
-/// Of a record that should keep `kept` bytes, of which `there` are there: the file ends within it, or it is too long.
+/// Of a record that should keep `kept` bytes, where `there` bytes are left in the file: the file ends within it, or it is too long.
 fn about_kept(alloc: Global, kept: u32, there: usize) -> Result<String, AllocError> {
     if there < kept as usize {
         let missing = (kept as usize).saturating_sub(there);

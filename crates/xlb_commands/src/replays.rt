@@ -169,7 +169,7 @@ fn records_of(alloc: Global, bytes: &[u8]) -> Result<Capture, Refusal>
     }
 }
 
-/// A refusal of a capture without its long records, of which `skipped` were left out, with the byte of the whole file.
+/// A refusal of a capture without its long records, with the byte of the whole file; `skipped` records were left out.
 fn in_whole_file(alloc: Global, bytes: &[u8], skipped: u64, refusal: Refusal) -> Refusal
     ensures { result.fault ≡ refusal.fault }
 {
@@ -337,7 +337,7 @@ fn shipped_replay_at<R: Threads + Wait + Sync, G: Gate + Sync>(
     }
 }
 
-/// The same with updates before the first frame, of which nothing is said of the steering rule.
+/// The same with updates before the first frame; nothing is said of the steering rule.
 fn shipped_outcome<R: Threads + Wait + Sync, G: Gate + Sync>(
     rt: &R,
     alloc: Global,

@@ -43,7 +43,7 @@ const MISTAKEN: u8 = 2;
 /// What a command comes to that is not refused.
 #[derive(Drop)]
 enum CommandAnswer {
-    /// It was done, or but for a part of it.
+    /// It was done, or all except a part of it.
     Reported(Report),
     /// A mistake of the command line that shows only in the image: its maps do not take the update at this place, from 0.
     Mistaken { place: usize, misfit: Misfit },
@@ -69,7 +69,7 @@ impl CommandAnswer {
     }
 }
 
-/// Does what the settings say, and gives what is to be printed.
+/// Does what the settings say, and returns what is to be printed.
 fn answer<R: Threads + Wait + Sync, D: Folder, P: Progress + Sync>(
     rt: &R,
     alloc: Global,
@@ -276,8 +276,8 @@ fn status_of(is_refused: bool) -> u8
     if is_refused { REFUSED } else { DONE }
 }
 
-/// Does what the settings say, over the files of a folder: prints what the command prints and gives 0; or prints the line of the first fault of what
-/// the command reads on `err`, with notes for people below it, and gives 1. The fault is 7 where what the command prints could not be printed; the line is
+/// Does what the settings say, over the files of a folder: prints what the command prints and returns 0; or prints the line of the first fault of what
+/// the command reads on `err`, with notes for people below it, and returns 1. The fault is 7 where what the command prints could not be printed; the line is
 /// that of fault 8 where there was no memory for it. Where commands of a replay's script were refused, the report is printed and names them, and the
 /// status is 1. Where the image's maps do not take an update of a run or a replay, or a file that is to be written is another one of the command's,
 /// that is printed on `err`, and the status is 2, as of other mistakes in the command's words. After the report of a run, of a replay, or of tables,

@@ -181,7 +181,7 @@ fn compare_audit<R: Abort + Threads + Wait + Sync>(
 
 /// What is said of each entry that is not legal.
 const WHY: &str =
-    "after the entries above it a map on one thread gives another reply, or this caller may not make this call";
+    "after the entries above it a map on one thread returns another reply, or this caller may not make this call";
 
 /// Holds what an audit says of a row's file against the row.
 fn compare_row<R: Abort + Threads + Wait + Sync>(rt: &R, alloc: Global, row: &Row) {

@@ -135,7 +135,7 @@ const ROWS: [Row; 4] = [
         "fault 4 CutHead record 0\n  at byte 0 of 0\n  a header has 24 bytes, and the file ends after 0 of them\n"),
 ];
 
-/// What a replay gives: its status, what it printed, and its files.
+/// What a replay leaves: its status, what it printed, and its files.
 #[derive(Drop)]
 struct Given {
     status: u8,
@@ -144,7 +144,7 @@ struct Given {
     files: MemoryFolder,
 }
 
-/// What an exact replay gives of a capture that becomes these bytes.
+/// What an exact replay leaves of a capture that becomes these bytes.
 fn served<R: Abort + Threads + Wait + Sync>(
     rt: &R,
     alloc: Global,
@@ -182,7 +182,7 @@ fn served<R: Abort + Threads + Wait + Sync>(
     }
 }
 
-/// Compares what a replay of a row gives.
+/// Compares what a replay of a row leaves.
 fn compare_row<R: Abort + Threads + Wait + Sync>(rt: &R, alloc: Global, row: &Row) {
     let (name, count, first, records, last, status, out, err) = *row;
     let capture = numbered(alloc, count).expect(rt, "a capture");
@@ -195,7 +195,7 @@ fn compare_row<R: Abort + Threads + Wait + Sync>(rt: &R, alloc: Global, row: &Ro
     compare_given(rt, alloc, name, given, wanted, &later);
 }
 
-/// Compares what a replay gives with what is wanted, and with what is sent, if it succeeds.
+/// Compares what a replay leaves with what is wanted, and with what is sent, if it succeeds.
 fn compare_given<R: Abort>(
     rt: &R,
     alloc: Global,

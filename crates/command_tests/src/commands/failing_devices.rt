@@ -60,7 +60,7 @@ struct Failing {
     err: u64,
 }
 
-/// The program over devices of which these calls fail.
+/// The program over devices whose calls of these numbers fail.
 fn left_by<R: Abort + Threads + Wait + Sync>(
     rt: &R,
     alloc: Global,
@@ -119,7 +119,7 @@ fn taken_in(calls: u64) -> usize {
     MOST.saturating_mul(calls as usize)
 }
 
-/// Compares a command of which one call of the folder fails.
+/// Compares a command where one call of the folder fails.
 fn compare_folder<R: Abort + Threads + Wait + Sync>(rt: &R, alloc: Global, row: &Row, call: u64) {
     let (line, _calls, made) = *row;
     let whole = left_by(rt, alloc, line, SOUND);
@@ -151,7 +151,7 @@ fn compare_folder<R: Abort + Threads + Wait + Sync>(rt: &R, alloc: Global, row: 
     );
 }
 
-/// Compares a command of which one call of the output fails; says whether it came to this call.
+/// Compares a command where one call of the output fails; says whether it came to this call.
 fn compare_output<R: Abort + Threads + Wait + Sync>(
     rt: &R,
     alloc: Global,

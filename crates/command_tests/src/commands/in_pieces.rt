@@ -180,7 +180,7 @@ pub(super) fn numbered(alloc: Global, count: u16) -> Result<Vec<u8>, AllocError>
     Ok(bytes)
 }
 
-/// How many records a capture has, of which all are sent, and what is printed.
+/// How many records a capture has, which are all sent, and what is printed.
 #[rattlefmt::skip]
 const COUNTED: [(&str, u16, &str); 6] = [
     ("no record",                    0,    "frames 0\nshort 0\nstopped 0\naborted 0\ndrop 0\npass 0\ntx 0\n"),
@@ -356,7 +356,7 @@ fn the_first_stopped_run_is_named(rt: HostRuntime) {
     }
 }
 
-/// A record of a frame of 64 bytes, of which 14 zeros were kept.
+/// A record that kept 14 zeros of a frame of 64 bytes.
 const CUT: [u8; 30] = [
     1, 0, 0, 0, 2, 0, 0, 0, 14, 0, 0, 0, 64, 0, 0, 0, 0, 0, 0, 0, 0, 0, 0, 0, 0, 0, 0, 0, 0, 0,
 ];
@@ -611,7 +611,7 @@ const FAILING: [Failing; 18] = [
     ("and so does a replay with threads",            "--workers 1", Call::Read, 0, 1, NO_READ, None),
 ];
 
-/// What a replay leaves in a folder of which a call fails.
+/// What a replay leaves in a folder with a call that fails.
 fn left_in_failing<R: Abort + Threads + Wait + Sync>(
     rt: &R,
     alloc: Global,

@@ -34,7 +34,7 @@ const ZEROS_13: &str = "\
     01000000020000000d0000000d000000\
     00000000000000000000000000";
 
-/// A capture of two frames of 64 bytes, of which 14 zeros were kept, and one of 14 zeros.
+/// A capture of two frames of 64 bytes, with 14 zeros of each kept, and one of 14 zeros.
 const CUT_FRAMES: &str = "\
     d4c3b2a1020004000000000000000000ffff000001000000\
     01000000020000000e00000040000000\

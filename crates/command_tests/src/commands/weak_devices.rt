@@ -1,4 +1,4 @@
-//! Streams and folders of which one call fails, and what a command leaves over them.
+//! Streams and folders with one call that fails, and what a command leaves over them.
 
 ghost use Rattle.std.specs.Prelude.{None, ◌≡◌, ◌↔◌, ◌+◌, ◌<◌, ◌-◌, ◌^◌, ℕ, List, false};
 
@@ -99,7 +99,7 @@ pub(super) const SOUND_FOLDER: Weakness = Weakness {
     begins: true,
 };
 
-/// A folder of which one call fails, and which may be one that reads or makes files only whole.
+/// A folder with one call that fails; it may be one that reads or makes files only whole.
 #[derive(Drop)]
 pub(super) struct WeakFolder<D> {
     pub files: D,
@@ -141,7 +141,7 @@ impl<D: Folder> WeakFolder<D> {
         FolderFault::Device
     }
 
-    /// Counts a failure, and gives up the file that is made in pieces.
+    /// Counts a failure, and removes the file that is made in pieces.
     fn fail_making(&mut self) -> FolderFault
         requires { self.old.failures < 2 ^ 64 - 1 }
         ensures kept { (other bytes : List ℕ) → (D.holds self.old.files other bytes ↔ D.holds self.new.files other bytes) }
@@ -298,7 +298,7 @@ pub(super) struct Left {
     pub folder: WeakFolder<MemoryFolder>,
 }
 
-/// The program over these files, with this weakness of their folder, and streams of which these calls fail.
+/// The program over these files, with this weakness of their folder, and streams whose calls of these numbers fail.
 pub(super) fn left_over<R: Abort + Threads + Wait + Sync>(
     rt: &R,
     alloc: Global,

@@ -1,5 +1,5 @@
 use Rattle.std.proofs.Common.{◌≡◌, ◌∙◌, ◌++◌, [], refl}
-use Rattle.xlb_commands.specs.declared.in_pieces.Step.TheVariants.{More, Changed}
+use Rattle.xlb_commands.specs.declared.in_pieces.PieceStep.TheVariants.{More, Changed}
 use Rattle.xlb_commands.proofs.Earlier.{broken_since}
 use Rattle.xlb_commands.proofs.PieceLemmas.{capture_is, none_run, run_on}
 use Rattle.xlb_commands.proofs.Refusals.{failed_since, kept_twice}

@@ -8,7 +8,7 @@ use Rattle.xlb_commands.specs.Files.{AreKept}
 use Rattle.xlb_commands.specs.InPieces.{HasRoom, HaveRun}
 use Rattle.xlb_commands.proofs.in_pieces.go_through.Given as goal
 
--- the records so far, all of which were run
+-- the records so far: all were run
 pub record Gone (g : goal.Over) (l : goal.Live-pieces g) : Type 0 where
   pub records : List Sent
   pub read : IsReadTo (g.D.Folder.holds l.fn.folder l.asked.files.now.capture.now) (g.D.Folder.is_left l.folder) records l.reader

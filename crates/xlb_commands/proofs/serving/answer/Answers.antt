@@ -27,7 +27,7 @@ returns-in_ok-write_shipped-in-Shipped-clause-answered g c =
     shipped_whole _ _ c.args.settings.now c.in-Shipped.out c.in-Shipped.ring c.reported-in-Shipped.result told.0 same told.1 told.2
     (ap string_bytes told.3 ∙ c.in_ok-write_shipped-in-Shipped.ensures.silent) c.in_ok-write_shipped-in-Shipped.ensures.done
 
--- tables are printed, of a script of which some command was refused, or none
+-- tables are printed, of a script with a command that was refused, or with none
 tables_shown : (before after : FileBytes) (settings : Settings) (script : Bor (List ℕ)) (ring : ℕ) (answer : CommandAnswer) (report : Report)
     → settings ≡ Table script ring → answer ≡ answers.Reported report
     → IsTableShown before script.now ring (string_bytes report.text) report.is_refused → IsAnswer before after settings answer

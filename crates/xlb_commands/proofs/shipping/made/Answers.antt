@@ -21,7 +21,7 @@ returns-in-Err-clause-refused c =
       told = c.hinted.ensures;
     }
 
--- whether a table may have a size is decided, so a size of which the contrary is wrong is one
+-- whether a table may have a size is decided, so a size is one where the contrary is wrong
 ring_size : (size : ℕ) → ((IsRingSize size → ⊥) → ⊥) → IsRingSize size
 ring_size size known = by_answer _ (is_member-Decides {eq = λ (a : ℕ) (b : ℕ). a == b} Decides-eqb ring_sizes size)
   where
