@@ -19,6 +19,7 @@ pub use command::{Action, Command, Script};
 pub use controller::Controller;
 pub use fault::ControlFault;
 pub use parsing::{parse_script, round_trip};
+pub use printing::transport_text;
 pub use ring_changes::{Slot, ring_updates};
 pub use update::Update;
 pub use update_list::{MadeUpdate, UpdateList};

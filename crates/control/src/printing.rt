@@ -77,7 +77,8 @@ fn put_mac(out: &mut String, mac: MacAddress) -> Result<(), AllocError>
     put_ending(out, d, e, f)
 }
 
-fn transport_text(transport: Transport) -> &'static str
+/// A transport's word, as a script has it: `tcp` or `udp`.
+pub fn transport_text(transport: Transport) -> &'static str
     ensures { result.now ≡ transport_text transport }
 {
     match transport {

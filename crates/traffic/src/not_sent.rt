@@ -3,7 +3,6 @@
 ghost use Rattle.std.specs.Prelude.{◌≡◌, ◌++◌, ◌≤◌, IfOk, OnOk, length, slice_get, string_bytes};
 ghost use Rattle.traffic.specs.NotSent.{how_many_for, is_for, is_not_sent, is_record_not_sent, is_to, line_of_command, not_sent_below};
 ghost use Rattle.traffic.specs.NotSent.{reason_line};
-ghost use Rattle.control.specs.ScriptText.{transport_text};
 ghost use Rattle.traffic.specs.NotSent.{reason_lines, reason_phrase, service_line, service_lines, service_of, service_phrase};
 ghost use Rattle.traffic.specs.NotSent.{services_text};
 ghost use Rattle.traffic.specs.NotSent.{words_of_service};
@@ -13,9 +12,9 @@ use crate::moves::one_if;
 use crate::printing::{dotted, put_line};
 use crate::record_line::LineVerdict;
 use conntrack::Service;
-use control::{Action, Command, Script};
+use control::{Action, Command, Script, transport_text};
 use std::alloc::{AllocError, Global};
-use wire::{Sent, Transport, word_at};
+use wire::{Sent, word_at};
 
 /// Why a frame of a flow was not sent, by the steering rule.
 #[derive(Clone, Copy, Debug, PartialEq, Eq)]
@@ -141,16 +140,6 @@ fn count_for(service: &Service, frames: &[Sent]) -> usize
         .iter()
         .filter(|sent| is_for(service, &sent.bytes))
         .count()
-}
-
-/// A transport, as a script has it.
-fn transport_text(transport: Transport) -> &'static str
-    ensures { result.now ≡ transport_text transport }
-{
-    match transport {
-        Transport::Tcp => "tcp",
-        Transport::Udp => "udp",
-    }
 }
 
 /// What is printed of frames for a service.
