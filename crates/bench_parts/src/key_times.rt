@@ -125,6 +125,17 @@ fn make_room(shard: &mut LruShard) -> u64
     0
 }
 
+/// Puts a key that is not there, where there is room.
+fn put_new(shard: &mut LruShard, key: &KeyBytes, id: u64)
+    requires size { shard.old.size ≡ 16 }
+    requires absent { cell_of_key shard.old key.now ≡ None }
+    ensures { shard.new.size ≡ 16 }
+{
+    if shard.len() < shard.capacity() {
+        shard.insert(key, id);
+    }
+}
+
 /// An update of a key as an LRU shard makes it: a new key takes the place of the one that was used longest ago.
 fn update(shard: &mut LruShard, key: &KeyBytes, id: u64) -> u64
     requires { shard.old.size ≡ 16 }
@@ -134,9 +145,7 @@ fn update(shard: &mut LruShard, key: &KeyBytes, id: u64) -> u64
         return old;
     }
     let gone = make_room(shard);
-    if shard.len() < shard.capacity() {
-        shard.insert(key, id);
-    }
+    put_new(shard, key, id);
     gone
 }
 
@@ -172,6 +181,24 @@ fn measure_uses(rt: &HostRuntime, count: u32, chosen: bool) -> Result<(), Error>
     Ok(())
 }
 
+/// Prints what a look-up of one of these keys takes.
+fn measure_finds(
+    rt: &HostRuntime,
+    name: &str,
+    row: &str,
+    count: u32,
+    shard: &HashShard,
+    keys: &[KeyBytes],
+) -> Result<(), Error>
+    requires { shard.now.size ≡ 16 }
+{
+    let start = Instant::now(rt)?;
+    let sum = finds(shard, keys);
+    let time = start.elapsed(rt)?.as_micros() * 10_000 / u128::from(LOOKUPS);
+    println!(rt; "{name}-{row}-{count} {time} {sum}")?;
+    Ok(())
+}
+
 /// Prints the rows of a hash shard of one size.
 fn measure(rt: &HostRuntime, count: u32, chosen: bool) -> Result<(), Error>
     requires some { 0 < count }
@@ -182,15 +209,8 @@ fn measure(rt: &HostRuntime, count: u32, chosen: bool) -> Result<(), Error>
     let absent = keys(rt.alloc(), count, 1, chosen)?;
     let mut shard = HashShard::new(rt.alloc(), 16, count)?;
     fill(&mut shard, &there);
-    let start = Instant::now(rt)?;
-    let sum = finds(&shard, &there);
-    let time = start.elapsed(rt)?.as_micros() * 10_000 / u128::from(LOOKUPS);
-    println!(rt; "{name}-found-{count} {time} {sum}")?;
-    let start = Instant::now(rt)?;
-    let sum = finds(&shard, &absent);
-    let time = start.elapsed(rt)?.as_micros() * 10_000 / u128::from(LOOKUPS);
-    println!(rt; "{name}-absent-{count} {time} {sum}")?;
-    Ok(())
+    measure_finds(rt, name, "found", count, &shard, &there)?;
+    measure_finds(rt, name, "absent", count, &shard, &absent)
 }
 
 /// Prints all rows.

@@ -1,6 +1,6 @@
 //! The commands, their words and their help.
 
-ghost use Rattle.std.specs.Prelude.{◌≡◌, IfOk, codes, false};
+ghost use Rattle.std.specs.Prelude.{◌≡◌, IfOk, codes, false, length};
 ghost use Rattle.clap.specs.Words.{app_of, new_app, rule_of};
 ghost use Rattle.clap.specs.declared.builder.command.Command.TheViews.{out-Command};
 ghost use Rattle.command_line.specs.CommandLine as line;
@@ -103,7 +103,10 @@ status is 2 if the command line is wrong, and 0 if the command was done.
 The file - is the standard input, or where a file is written the standard
 output; what the command prints goes to the standard error then.";
 
-const AFTER_CHECK: &str = "\
+// What a command's help says at its end. These are functions, since a literal of this length in a function that says what the command takes would be part
+// of each of its goals.
+fn after_check<'a>() -> &'a str {
+    "\
 IMAGE may be a source, as asm --source reads it, in place of an image: a file
 whose first word, behind comments and blank lines, is `version`. Prints one line:
   accepted slots <slots> maps <maps> reader <yes or no>
@@ -117,9 +120,11 @@ With --explain more lines follow: for a refused program what was known
 at that instruction, the rule and the usual remedy; for an accepted one what is
 known before each instruction, and why it is not a reader.
 An image of version 2 may also take addresses in the values of its maps (the
-instruction ldval), and have values of up to 256 bytes.";
+instruction ldval), and have values of up to 256 bytes."
+}
 
-const AFTER_RUN: &str = "\
+fn after_run<'a>() -> &'a str {
+    "\
 Prints three lines:
   verdict <aborted, drop, pass or tx>
   instructions <how many were run>
@@ -133,39 +138,51 @@ which may be given any number of times, the controller sets a key of a map to a
 value before the run: MAP is the map's place in the image, from 0, KEY and VALUE
 are bytes in hexadecimal, as many as the map's keys and values have. With
 --journals the calls that the controller and the run made on each map are
-written to the file, with their replies, if the run came to its end.";
+written to the file, with their replies, if the run came to its end."
+}
 
-const AFTER_DISASM: &str = "\
+fn after_disasm<'a>() -> &'a str {
+    "\
 Prints `version 1`, a line for each map and a line for each instruction: what
 asm reads. The program is not judged. With --source it prints the source form:
-labels in place of distances, and each instruction's slot in a comment.";
+labels in place of distances, and each instruction's slot in a comment."
+}
 
-const AFTER_ASM: &str = "\
+fn after_asm<'a>() -> &'a str {
+    "\
 Prints nothing. An image has one text: another spelling is refused with its
 line, counted from 1. With --source the text may have comments, blank lines,
-labels, hexadecimal numbers and names of helpers.";
+labels, hexadecimal numbers and names of helpers."
+}
 
-const AFTER_AUDIT: &str = "\
+fn after_audit<'a>() -> &'a str {
+    "\
 Prints `legal` if each entry of each journal is a call that its caller may
 make, with the reply that a map on one thread gives, and none came past a full
 journal. Otherwise the first entry that is not is reported, by its shard and its
 place there, counted from 0. Only the image's maps count: its program is not
 judged. They have to be those of the program that wrote the journals: for the
 shipped program, 'xlb shipped --ring N' writes its image for the --ring N of the
-replay.";
+replay."
+}
 
-const AFTER_EXPLAIN: &str = "\
+fn after_explain<'a>() -> &'a str {
+    "\
 Prints what the fault means, what mostly leads to it, and an example. FAULT is
 its number or its name. If several faults have the name (Memory, JournalFull),
 the one with the least number is explained. A number or a name that no fault
-has is a mistake of the command line.";
+has is a mistake of the command line."
+}
 
-const AFTER_SHIPPED: &str = "\
+fn after_shipped<'a>() -> &'a str {
+    "\
 Prints nothing. The image is the program that replay runs if no other one is
 given, with its maps. Audit that program's journals with it, if the ring is the
-same.";
+same."
+}
 
-const AFTER_TABLE: &str = "\
+fn after_table<'a>() -> &'a str {
+    "\
 Prints the lookup table that the controller of a replay writes, after each
 command of the script, in its order: a line
   command <its number, from 1> frame <its frame> moved <slots> least <slots>
@@ -174,9 +191,11 @@ shares that follow, and then a line for each backend that is up
   backend <number> address <address> slots <its share> percent <its share>
 A command that is refused has the line
   command <its number, from 1> refused <fault number>
-in which case the status is 1, and a line on the standard error says why.";
+in which case the status is 1, and a line on the standard error says why."
+}
 
-const AFTER_REPLAY: &str = "\
+fn after_replay<'a>() -> &'a str {
+    "\
 Prints how many frames there were, and among them those shorter than an
 Ethernet header, those whose run was stopped by a full journal, and those of
 each verdict:
@@ -212,7 +231,8 @@ where the frame was sent.
 A capture with a record of more than 2048 bytes is refused; with --skip-long
 such records are skipped, and a line on the standard error gives their number.
 With --no-journals no rows of journals are kept: a frame costs less time and no
-memory for rows, and each shard may have 134217728 calls, whatever --journal is.";
+memory for rows, and each shard may have 134217728 calls, whatever --journal is."
+}
 
 /// A file, or another word, that has to be given.
 fn file<'a>(alloc: Global, id: &'a str, help: &'a str) -> Arg<'a>
@@ -238,7 +258,8 @@ fn option<'a>(alloc: Global, id: &'a str, help: &'a str) -> Arg<'a>
 }
 
 /// An option of three words that may be given any number of times.
-fn three_words<'a>(alloc: Global, id: &'a str, names: &'a [&'a str; 3], help: &'a str) -> Arg<'a>
+fn three_words<'a>(alloc: Global, id: &'a str, names: &'a [&'a str], help: &'a str) -> Arg<'a>
+    requires three { length names.now ≡ 3 }
     ensures rule { rule_of result ≡ line.three_words_rule id.entry.now }
     ensures local { result.global ≡ false }
 {
@@ -296,7 +317,7 @@ fn check<'a>(alloc: Global) -> Result<Command<'a>, AllocError>
 {
     let image = file(alloc, IMAGE, "The file of the image, or of a source");
     let explain = switch(alloc, EXPLAIN, "Explains the result");
-    command(alloc, "check", "Judges an image or a source", AFTER_CHECK)
+    command(alloc, "check", "Judges an image or a source", after_check())
         .arg(image)?
         .arg(explain)
 }
@@ -314,7 +335,7 @@ fn run_named<'a>(alloc: Global) -> Result<Command<'a>, AllocError>
     );
     let journals = option(alloc, JOURNALS_OUT, "The file to write the journals to");
     let updates = update(alloc, "Sets a value before the run");
-    command(alloc, "run", "Runs an image on one frame", AFTER_RUN)
+    command(alloc, "run", "Runs an image on one frame", after_run())
         .arg(image)?
         .arg(frame)?
         .arg(journals)?
@@ -342,7 +363,7 @@ fn disasm<'a>(alloc: Global) -> Result<Command<'a>, AllocError>
 {
     let image = file(alloc, IMAGE, "The image's file");
     let source = switch(alloc, SOURCE, "Prints the source form");
-    command(alloc, "disasm", "Prints an image as text", AFTER_DISASM)
+    command(alloc, "disasm", "Prints an image as text", after_disasm())
         .arg(image)?
         .arg(source)
 }
@@ -354,7 +375,7 @@ fn asm<'a>(alloc: Global) -> Result<Command<'a>, AllocError>
     let text = file(alloc, TEXT, "The text's file");
     let out = file(alloc, OUT, "The file to write the image to");
     let source = switch(alloc, SOURCE, "Reads the source form");
-    command(alloc, "asm", "Writes the image of a text", AFTER_ASM)
+    command(alloc, "asm", "Writes the image of a text", after_asm())
         .arg(text)?
         .arg(out)?
         .arg(source)
@@ -370,7 +391,7 @@ fn audit<'a>(alloc: Global) -> Result<Command<'a>, AllocError>
         alloc,
         "audit",
         "Checks whether journals are legal",
-        AFTER_AUDIT,
+        after_audit(),
     )
     .arg(image)?
     .arg(journals)
@@ -381,7 +402,7 @@ fn explain<'a>(alloc: Global) -> Result<Command<'a>, AllocError>
     ensures local { IfOk result (λ command. (out-Command command).has_globals ≡ false) }
 {
     let fault = file(alloc, FAULT, "The fault's number or name");
-    command(alloc, "explain", "Explains a fault", AFTER_EXPLAIN).arg(fault)
+    command(alloc, "explain", "Explains a fault", after_explain()).arg(fault)
 }
 
 /// A number of 32 bits that may be given.
@@ -414,7 +435,7 @@ fn shipped<'a>(alloc: Global) -> Result<Command<'a>, AllocError>
         alloc,
         "shipped",
         "Writes the image of the shipped program",
-        AFTER_SHIPPED,
+        after_shipped(),
     )
     .arg(out)?
     .arg(ring(alloc))
@@ -429,7 +450,7 @@ fn table<'a>(alloc: Global) -> Result<Command<'a>, AllocError>
         alloc,
         "table",
         "Prints the lookup table after each command of a script",
-        AFTER_TABLE,
+        after_table(),
     )
     .arg(script)?
     .arg(ring(alloc))
@@ -446,7 +467,7 @@ fn replay_named<'a>(alloc: Global) -> Result<Command<'a>, AllocError>
         alloc,
         "replay",
         "Runs the frames of a capture by some workers",
-        AFTER_REPLAY,
+        after_replay(),
     )
     .arg(capture)?
     .arg(sent)

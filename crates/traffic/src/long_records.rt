@@ -18,11 +18,11 @@ pub struct ShortenedCapture {
 }
 
 /// How many bytes a record says that it keeps.
-fn kept_in(record: &[u8]) -> u32
-    requires { 16 ≤ length record.now }
-    ensures { result ≡ le32_at 8 record.now }
+fn kept_in(bytes: &[u8]) -> u32
+    requires { 16 ≤ length bytes.now }
+    ensures { result ≡ le32_at 8 bytes.now }
 {
-    LittleEndian::read_u32(&record[8..])
+    LittleEndian::read_u32(&bytes[8..])
 }
 
 /// The length of the record at the front of the rest of a file, if the whole record is there.
@@ -36,16 +36,16 @@ fn record_len(rest: &[u8]) -> Option<usize>
     if rest.len() < len { None } else { Some(len) }
 }
 
-/// Appends a record that is not long. Gives how many records were left out by it: 1 for a long one, else 0.
-fn put_unless_long(kept: &mut Vec<u8>, record: &[u8]) -> Result<u64, AllocError>
-    requires { 16 ≤ length record.now }
-    ensures kept { OnOk result (kept.new.items ≡ kept.old.items ++ unless_long record.now) }
-    ensures counted { IfOk result (λ count. count ≡ long_count (record.now ∷ [])) }
+/// Appends a record that is not long. Returns how many records were left out by it: 1 for a long one, else 0.
+fn put_unless_long(kept: &mut Vec<u8>, bytes: &[u8]) -> Result<u64, AllocError>
+    requires { 16 ≤ length bytes.now }
+    ensures kept { OnOk result (kept.new.items ≡ kept.old.items ++ unless_long bytes.now) }
+    ensures counted { IfOk result (λ count. count ≡ long_count (bytes.now ∷ [])) }
 {
-    if kept_in(record) as usize > MAX_FRAME {
+    if kept_in(bytes) as usize > MAX_FRAME {
         return Ok(1);
     }
-    kept.extend_from_slice(record)?;
+    kept.extend_from_slice(bytes)?;
     Ok(0)
 }
 

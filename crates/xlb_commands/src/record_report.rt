@@ -178,7 +178,7 @@ impl Lines<'_> {
         &self,
         alloc: Global,
         number: usize,
-        record: &Sent,
+        captured: &Sent,
         end: RecordEnd,
         place: usize,
     ) -> Result<String, AllocError>
@@ -186,16 +186,16 @@ impl Lines<'_> {
         requires number { number < 2 ^ 64 - 1 }
         ensures { IfOk result
             (λ text. string_bytes text ≡ line_text self.now.form self.now.is_steering (backends_in self.now.script.now) number
-            record.now end (slice_get self.now.sent.now place)) }
+            captured.now end (slice_get self.now.sent.now place)) }
     {
         let address = address_in(end, self.sent, place);
         let line = RecordLine {
             number: number + 1,
-            micros: u64::from(record.seconds) * 1_000_000 + u64::from(record.micros),
+            micros: u64::from(captured.seconds) * 1_000_000 + u64::from(captured.micros),
             worker: worker_in(end),
             verdict: verdict_in(end),
             steps: steps_in(end),
-            case_of: case_in(self.is_steering, &record.bytes, end),
+            case_of: case_in(self.is_steering, &captured.bytes, end),
             backend: backend_at(self.table, self.script, address),
             address,
         };
