@@ -19,4 +19,4 @@ pub use fault::SteerFault;
 pub use keys::{Service, index_key};
 pub use records::{BackendRecord, FlowRecord, RingRecord, TunnelRecord, VipRecord};
 pub use steering::steer;
-pub use steering_maps::{SteeringMap, maps, table_size};
+pub use steering_maps::{BACKENDS, MOST_SERVICES, SteeringMap, maps, table_size};

@@ -7,8 +7,14 @@ ghost use Rattle.conntrack.specs.declared.fault.SteerFault.TheVariants.{BadSize}
 
 use crate::fault::SteerFault;
 use ebpf_decode::{MapDef, MapKind};
-use maglev::{RING_SIZES, is_ring_size};
+use maglev::{MOST_BACKENDS, RING_SIZES, is_ring_size};
 use std::alloc::Global;
+
+/// How many services the map of services takes.
+pub const MOST_SERVICES: u32 = 64;
+
+/// How many backends the map of backends has: their numbers are below it.
+pub const BACKENDS: u32 = MOST_BACKENDS;
 
 /// A map of steering.
 #[derive(Clone, Copy, Debug, PartialEq, Eq)]
@@ -61,10 +67,10 @@ fn defined_maps(size: u32) -> [MapDef; 6]
 {
     let ring = (size + 7) / 8 * 8;
     [
-        defined(MapKind::Hash, 8, 8, 64),
+        defined(MapKind::Hash, 8, 8, MOST_SERVICES),
         defined(MapKind::LruHash, 16, 8, 4096),
         defined(MapKind::Array, 4, 8, ring),
-        defined(MapKind::Array, 4, 8, 256),
+        defined(MapKind::Array, 4, 8, BACKENDS),
         defined(MapKind::Array, 4, 24, 8),
         defined(MapKind::Array, 4, 8, 8),
     ]

@@ -22,7 +22,7 @@ use crate::ring_changes::changes;
 use crate::sending::{make_all, make_in_array};
 use crate::update::Update;
 use crate::update_port::{UpdatePort, make};
-use conntrack::{BackendRecord, Service, TunnelRecord, VipRecord};
+use conntrack::{BACKENDS, BackendRecord, Service, TunnelRecord, VipRecord};
 use maglev::{Backend, Ring, is_ring_size};
 use std::alloc::Global;
 use std::marker::Model;
@@ -58,7 +58,7 @@ fn is_done(answer: i32) -> bool
 fn is_served_number(number: u32, size: u32) -> bool
     ensures { result ≡ nat_lt number 256 && nat_lt number size }
 {
-    number < 256 && number < size
+    number < BACKENDS && number < size
 }
 
 /// Whether a backend of this number or address is up.

@@ -11,4 +11,4 @@ mod ring;
 pub use backend::Backend;
 pub use fault::RingFault;
 pub use preference::Preference;
-pub use ring::{RING_SIZES, Ring, is_ring_size};
+pub use ring::{MOST_BACKENDS, RING_SIZES, Ring, is_ring_size};

@@ -16,7 +16,7 @@ use std::alloc::{AllocError, Global};
 use std::marker::Model;
 
 /// The most backends of a ring.
-const MOST_BACKENDS: usize = 256;
+pub const MOST_BACKENDS: u32 = 256;
 
 /// How many slots a ring may have: primes, so that each skip leads through all slots.
 pub const RING_SIZES: [u32; 4] = [7, 251, 4093, 65537];
@@ -48,7 +48,7 @@ pub fn is_ring_size(size: u32) -> bool
 fn are_too_many(count: usize, size: u32) -> bool
     ensures { IsTrue result ↔ AreTooMany size count }
 {
-    count > MOST_BACKENDS || count > size as usize
+    count > MOST_BACKENDS as usize || count > size as usize
 }
 
 /// The preference lists that the backends' addresses give them.

@@ -12,12 +12,10 @@ ghost use Rattle.traffic.specs.TableText.{percent_text, record_of, refused_line,
 use crate::printing::dotted;
 use crate::shares::{least_moves, moved_slots, share_of};
 use crate::written_maps::WrittenMaps;
+use conntrack::BACKENDS;
 use control::{Command, ControlFault, Controller, Script};
 use semantics::Value;
 use std::alloc::{AllocError, Global};
-
-/// How many backends the map of backends has.
-const BACKENDS: u32 = 256;
 
 /// A command that was refused.
 #[derive(Clone, Copy, Debug, PartialEq, Eq)]

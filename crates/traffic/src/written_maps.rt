@@ -5,17 +5,11 @@ ghost use Rattle.conntrack.specs.SteeringMaps.{steering_maps};
 ghost use Rattle.control.specs.ListOfUpdates.{answer_if};
 ghost use Rattle.traffic.specs.WrittenMaps.{MapsState, after_update, answer_to, front_word, is_key_of, is_key_taken, keys_with, put_at};
 
-use conntrack::SteeringMap;
+use conntrack::{BACKENDS, MOST_SERVICES, SteeringMap};
 use control::UpdatePort;
 use semantics::{Errno, JournalFull, Key, Value};
 use std::alloc::{AllocError, Global};
 use std::marker::Model;
-
-/// How many services the map of services takes.
-const MOST_SERVICES: usize = 64;
-
-/// How many backends the map of backends has.
-const BACKENDS: usize = 256;
 
 /// New maps of steering for a lookup table of a size, as a controller writes them: the table's words, the backends' records, and the services' keys. They
 /// answer as those of a replay do, except that no journal is ever full. Contracts see these parts.
@@ -69,8 +63,8 @@ impl WrittenMaps {
         ensures { IfOk result (λ maps. maps ≡ record { size = size; words = replicate size 0; backends = replicate 256 []; keys = [] }) }
     {
         let words = vec![in alloc; 0; size as usize]?;
-        let backends = vec![in alloc; Value::empty(); BACKENDS]?;
-        let keys = Vec::with_capacity(alloc, MOST_SERVICES)?;
+        let backends = vec![in alloc; Value::empty(); BACKENDS as usize]?;
+        let keys = Vec::with_capacity(alloc, MOST_SERVICES as usize)?;
         Ok(WrittenMaps {
             size,
             words,
@@ -109,7 +103,7 @@ impl WrittenMaps {
         if is_key_of(&self.keys, key) {
             return true;
         }
-        if self.keys.len() >= MOST_SERVICES {
+        if self.keys.len() >= MOST_SERVICES as usize {
             return false;
         }
         if self.keys.push(*key).is_err() {

@@ -2,14 +2,11 @@
 
 ghost use Rattle.semantics.specs.ShardPlan.{KeepsRows};
 
-use conntrack::{SteeringMap, table_size};
+use conntrack::{BACKENDS, SteeringMap, table_size};
 use journals::Journals;
 use semantics::{Call, Entry, Reply};
 use std::alloc::{AllocError, Global};
 use traffic::share_of;
-
-/// How many backends the map of backends has.
-const BACKENDS: u32 = 256;
 
 /// The number in the four bytes at a place, the low byte first; 0 where there are fewer.
 fn number_at(bytes: &[u8], place: usize) -> u32 {
