@@ -59,8 +59,8 @@ fn first_illegal(
     Ok(None)
 }
 
-/// Whether each journal, whose rows are kept, is legal: whether each entry is one step of the one-thread map, by a caller that may make the call, with the reply that
-/// the map returns, and none came past a full journal.
+/// Whether each journal, whose rows are kept, is legal: whether each entry is one step of the one-thread map, by a caller that may make the
+/// call, with the reply that the map returns, and none came past a full journal.
 ///
 /// Refused with 53 and the first shard and the least place, counted from 0, such that the beginning of this shard's journal that ends with this
 /// entry is not legal; with 52 where memory is. It takes the memory of one shard at a time.

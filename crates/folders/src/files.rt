@@ -490,7 +490,8 @@ impl<R: Files, I: Read, O: Write> FileFolder<'_, R, I, O> {
         Ok(self.front(alloc, name, usize::MAX)?.bytes)
     }
 
-    /// A file that can be read in pieces; none where it can only be read whole. A device or a pipe is not opened: what was read of it is lost when it is closed.
+    /// A file that can be read in pieces; none where it can only be read whole. A device or a pipe is not opened: what was read of it is lost when
+    /// it is closed.
     fn ordinary(&self, name: &str) -> Result<Option<R::File>, Failure> {
         if name == STANDARD_INPUT {
             return Ok(None);

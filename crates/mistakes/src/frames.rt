@@ -49,7 +49,8 @@ pub fn about_frame(alloc: Global, bytes: &[u8]) -> Result<String, AllocError>
     )
 }
 
-/// Lines for people on a frame's file that is a text: what it is, that its letters are the frame's bytes, and how bytes are made of digits. Nothing of other bytes.
+/// Lines for people on a frame's file that is a text: what it is, that its letters are the frame's bytes, and how bytes are made of digits.
+/// Nothing of other bytes.
 ///
 /// At most three lines, each with two spaces at its beginning and a line feed at its end. It can fail only for lack of memory.
 pub fn about_text_as_frame(alloc: Global, bytes: &[u8]) -> Result<String, AllocError>

@@ -160,7 +160,8 @@ type EntryRow = (&'static str, &'static [u8], usize, usize, &'static str);
 #[rattlefmt::skip]
 const ENTRIES: [EntryRow; 10] = [
     ("the second entry", b"XLBJ 1 1 1 16\n0 w0 enter ok\n0 w0 load 0 0 8 word 1\n", 3, 1,
-        "  line 3: \"0 w0 load 0 0 8 word 1\"\n  after the entries above it a map on one thread returns another reply, or this caller may not make this call\n"),
+        "  line 3: \"0 w0 load 0 0 8 word 1\"\n  \
+         after the entries above it a map on one thread returns another reply, or this caller may not make this call\n"),
     ("a line that is not there", b"XLBJ 1 1 1 16\n", 2, 1, ""),
     ("no text", b"\xff\n", 1, 1, ""),
     ("the element behind the last one", b"1 c update 06000000 0100000000000000 0 answer 0\n", 1, 1,
