@@ -27,7 +27,7 @@ use Rattle.shards.specs.Deeds.{deed_by}
 use Rattle.shards.specs.Passes.{PassView, own_at, IsElsewhereSame}
 use Rattle.shards.specs.Asked.{MayAsk, IsAnswered, IsTurnedAway as IsAskTurnedAway}
 use Rattle.shards.proofs.shared.Keys.{IsAtKey, at_key}
-use Rattle.replay.specs.SharedUpdates.{UpdatesView, IsControllersPort, shard_of_update, IsUpdated, IsTurnedAway}
+use Rattle.replay.specs.SharedUpdates.{UpdatesView, IsControllersPort, shard_of_map_key, IsUpdated, IsTurnedAway}
 
 -- the flags that an update is made with
 abbrev any : ℕ
@@ -44,7 +44,7 @@ index_size maps map definition key are known size =
     (each_at HasImageSizes maps map definition (image_sizes V2 maps are.allowed) known).index_size
 
 pub shard_known : (maps : List MapDef) (options : Options) (map : ℕ) (key : List ℕ) (definition : MapDef) → slice_get maps map ≡ Some definition →
-    shard_of_update maps options map key ≡ shard_of_key map definition.kind options.shards key
+    shard_of_map_key maps options map key ≡ shard_of_key map definition.kind options.shards key
 shard_known maps options map key definition known = rw known refl
 
 both_true : (a b : Bool) → a ≡ true → b ≡ true → (a && b) ≡ true
@@ -62,10 +62,10 @@ may_change plan number own who key value is numbered own_key fits =
 
 -- what is known of the shard of an update
 pub record IsAtUpdate (count : ℕ) (plan : ℕ → ShardPlan) (maps : List MapDef) (options : Options) (map : ℕ) (key value : List ℕ) (pass : PassView) : Type 0 where
-  pub within : shard_of_update maps options map key < count
-  pub may : MayAsk (plan (shard_of_update maps options map key)) (shard_of_update maps options map key) pass
-      (Update (shard_of_update maps options map key) key value any)
-  pub of_map : slice_get maps map ≡ Some (plan (shard_of_update maps options map key)).definition
+  pub within : shard_of_map_key maps options map key < count
+  pub may : MayAsk (plan (shard_of_map_key maps options map key)) (shard_of_map_key maps options map key) pass
+      (Update (shard_of_map_key maps options map key) key value any)
+  pub of_map : slice_get maps map ≡ Some (plan (shard_of_map_key maps options map key)).definition
   pub who : pass.who ≡ Controller
 
 pub at_update : (count : ℕ) (plan : ℕ → ShardPlan) (maps : List MapDef) (options : Options) (map : ℕ) (key value : List ℕ) (pass : PassView)
@@ -75,11 +75,11 @@ pub at_update : (count : ℕ) (plan : ℕ → ShardPlan) (maps : List MapDef) (o
 at_update count plan maps options map key value pass definition port known key_size value_size key_bytes value_bytes =
     let at : IsAtKey maps options count plan (shard_of_key map definition.kind options.shards key) definition key =
     at_key maps options count plan map definition key port.plans port.options_fit known key_size key_bytes in
-    let is : shard_of_key map definition.kind options.shards key ≡ shard_of_update maps options map key =
+    let is : shard_of_key map definition.kind options.shards key ≡ shard_of_map_key maps options map key =
     sym (shard_known maps options map key definition known) in
-    let here : IsAtKey maps options count plan (shard_of_update maps options map key) definition key =
+    let here : IsAtKey maps options count plan (shard_of_map_key maps options map key) definition key =
     subst (λ number. IsAtKey maps options count plan number definition key) is at in
-    let number : ℕ = shard_of_update maps options map key in
+    let number : ℕ = shard_of_map_key maps options map key in
     let sized : length value ≡ (plan number).definition.value_size = value_size ∙ ap (λ (one : MapDef). one.value_size) (sym here.is.defined) in
     record {
       within = here.within;
@@ -96,9 +96,9 @@ abbrev pub viewed : List MapDef → Options → PassView → UpdatesView
 viewed maps options pass = record { maps = maps; options = options; pass = pass }
 
 shard_viewed : (maps : List MapDef) (options : Options) (pass : PassView) (now : UpdatesView) (map shard : ℕ) (key : List ℕ) → viewed maps options pass ≡ now →
-    shard ≡ shard_of_update now.maps now.options map key → shard ≡ shard_of_update maps options map key
+    shard ≡ shard_of_map_key now.maps now.options map key → shard ≡ shard_of_map_key maps options map key
 shard_viewed maps options pass now map shard key view_is is =
-    is ∙ sym (ap (λ (view : UpdatesView). shard_of_update view.maps view.options map key) view_is)
+    is ∙ sym (ap (λ (view : UpdatesView). shard_of_map_key view.maps view.options map key) view_is)
 
 pub at_viewed : (count : ℕ) (plan : ℕ → ShardPlan) (maps : List MapDef) (options : Options) (pass : PassView) (now : UpdatesView) (map : ℕ)
     (key value key' value' : List ℕ) (definition : MapDef) → viewed maps options pass ≡ now → IsControllersPort count plan maps options pass →
@@ -111,10 +111,10 @@ at_viewed count plan maps options pass now map key value key' value' definition 
 
 pub may_viewed : (count : ℕ) (plan : ℕ → ShardPlan) (maps : List MapDef) (options : Options) (pass : PassView) (now : UpdatesView) (map shard : ℕ)
     (key value key' value' : List ℕ) (flags : ℕ) → viewed maps options pass ≡ now → IsAtUpdate count plan maps options map key value pass →
-    key' ≡ key → value' ≡ value → shard ≡ shard_of_update now.maps now.options map key → flags ≡ any →
+    key' ≡ key → value' ≡ value → shard ≡ shard_of_map_key now.maps now.options map key → flags ≡ any →
     MayAsk (plan shard) shard pass (Update shard key' value' flags)
 may_viewed count plan maps options pass now map shard key value key' value' flags view_is at key_is value_is is flags_are =
-    let number : ℕ = shard_of_update maps options map key in
+    let number : ℕ = shard_of_map_key maps options map key in
     let valued : MayAsk (plan number) number pass (Update number key value' any) =
     subst (λ bytes. MayAsk (plan number) number pass (Update number key bytes any)) (sym value_is) at.may in
     let keyed : MayAsk (plan number) number pass (Update number key' value' any) =
@@ -132,13 +132,13 @@ same_call shard key value key' value' flags key_is value_is flags_are =
 
 pub given : (count : ℕ) (plan : ℕ → ShardPlan) (maps : List MapDef) (options : Options) (pass pass' : PassView) (now : UpdatesView) (map shard : ℕ)
     (key value key' value' : List ℕ) (flags : ℕ) → viewed maps options pass ≡ now → IsAtUpdate count plan maps options map key value pass →
-    key' ≡ key → value' ≡ value → shard ≡ shard_of_update now.maps now.options map key → flags ≡ any → IsElsewhereSame shard pass pass' →
+    key' ≡ key → value' ≡ value → shard ≡ shard_of_map_key now.maps now.options map key → flags ≡ any → IsElsewhereSame shard pass pass' →
     (result : Result ℤ JournalFull) → IfOk result (λ code. IsAnswered (plan shard) shard pass pass' (Update shard key' value' flags) (Answer code)) →
     pass'.deeds ≡ deed_by pass.who (Update shard key' value' flags) Answer result ∷ pass.deeds →
     IfOk result (λ answer. IsUpdated plan now (record { map = map; key = key; value = value }) answer (viewed maps options pass'))
 given count plan maps options pass pass' now map shard key value key' value' flags view_is at key_is value_is is flags_are elsewhere (Err full) answered did = tt
 given count plan maps options pass pass' now map shard key value key' value' flags view_is at key_is value_is is flags_are elsewhere (Ok code) answered did =
-    let number : ℕ = shard_of_update maps options map key in
+    let number : ℕ = shard_of_map_key maps options map key in
     let here : shard ≡ number = shard_viewed maps options pass now map shard key view_is is in
     let same : Update shard key' value' flags ≡ Update shard key value any = same_call shard key value key' value' flags key_is value_is flags_are in
     let called : IsAnswered (plan shard) shard pass pass' (Update shard key value any) (Answer code) =
@@ -156,14 +156,14 @@ given count plan maps options pass pass' now map shard key value key' value' fla
 
 pub turned_away : (count : ℕ) (plan : ℕ → ShardPlan) (maps : List MapDef) (options : Options) (pass pass' : PassView) (now : UpdatesView) (map shard : ℕ)
     (key value key' value' : List ℕ) (flags : ℕ) → viewed maps options pass ≡ now → IsAtUpdate count plan maps options map key value pass →
-    key' ≡ key → value' ≡ value → shard ≡ shard_of_update now.maps now.options map key → flags ≡ any → IsElsewhereSame shard pass pass' →
+    key' ≡ key → value' ≡ value → shard ≡ shard_of_map_key now.maps now.options map key → flags ≡ any → IsElsewhereSame shard pass pass' →
     (result : Result ℤ JournalFull) → OnErr result (IsAskTurnedAway (plan shard) shard pass pass' (Update shard key' value' flags)) →
     pass'.deeds ≡ deed_by pass.who (Update shard key' value' flags) Answer result ∷ pass.deeds →
     OnErr result (IsTurnedAway plan now (record { map = map; key = key; value = value }) (viewed maps options pass'))
 turned_away count plan maps options pass pass' now map shard key value key' value' flags view_is at key_is value_is is flags_are elsewhere (Ok code) refused did =
     tt
 turned_away count plan maps options pass pass' now map shard key value key' value' flags view_is at key_is value_is is flags_are elsewhere (Err full) refused did =
-    let number : ℕ = shard_of_update maps options map key in
+    let number : ℕ = shard_of_map_key maps options map key in
     let here : shard ≡ number = shard_viewed maps options pass now map shard key view_is is in
     let same : Update shard key' value' flags ≡ Update shard key value any = same_call shard key value key' value' flags key_is value_is flags_are in
     let called : IsAskTurnedAway (plan shard) shard pass pass' (Update shard key value any) =

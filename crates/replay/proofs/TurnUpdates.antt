@@ -18,7 +18,7 @@ use Rattle.control.specs.declared.fault.ControlFault.TheVariants.{BadSize, BadLi
 use Rattle.control.specs.declared.update.Update.{Update as Change}
 use Rattle.control.specs.MapUpdates.{AreMade}
 use Rattle.control.specs.Controlling.{ControllerState, IsCarriedOut, IsLeft, updates_of}
-use Rattle.replay.specs.SharedUpdates.{shard_of_update}
+use Rattle.replay.specs.SharedUpdates.{shard_of_map_key}
 use Rattle.replay.specs.InTurn.{TurnMaps, ServesTurns, may_update_at, IsUpdatedAt, IsFullAt, IsUpdatedInTurn, IsTurnedAwayInTurn}
 use Rattle.replay.proofs.TurnLemmas.{ready_for, may_make, update_serves}
 
@@ -34,12 +34,12 @@ pub record Stands (maps : List MapDef) (options : Options) (shards : List Journa
   pub value_size : length value ≡ definition.value_size
   pub bytes : All (λ byte. byte < 256) key
   pub value_bytes : All (λ byte. byte < 256) value
-  pub number_is : number ≡ shard_of_update maps options map key
+  pub number_is : number ≡ shard_of_map_key maps options map key
 
 pub stands_viewed : (maps : List MapDef) (options : Options) (shards : List JournaledShard) (now : TurnMaps) (map number : ℕ) (key value key' value' : List ℕ)
     (definition : MapDef) → turn_maps maps options shards ≡ now → ServesTurns maps options shards → slice_get now.maps map ≡ Some definition →
     length key ≡ definition.key_size → length value ≡ definition.value_size → key' ≡ key → value' ≡ value → All (λ byte. byte < 256) key' →
-    All (λ byte. byte < 256) value' → number ≡ shard_of_update now.maps now.options map key → Stands maps options shards map number key value
+    All (λ byte. byte < 256) value' → number ≡ shard_of_map_key now.maps now.options map key → Stands maps options shards map number key value
 stands_viewed maps options shards now map number key value key' value' definition view_is serves known key_size value_size key_is value_is bytes value_bytes is =
     record {
       serves = serves;
@@ -49,7 +49,7 @@ stands_viewed maps options shards now map number key value key' value' definitio
       value_size = value_size;
       bytes = subst (λ list. All (λ byte. byte < 256) list) key_is bytes;
       value_bytes = subst (λ list. All (λ byte. byte < 256) list) value_is value_bytes;
-      number_is = is ∙ sym (ap (λ (all : TurnMaps). shard_of_update all.maps all.options map key) view_is);
+      number_is = is ∙ sym (ap (λ (all : TurnMaps). shard_of_map_key all.maps all.options map key) view_is);
     }
 
 module _ {maps : List MapDef} {options : Options} {shards : List JournaledShard} {map number : ℕ} {key value : List ℕ}
@@ -63,7 +63,7 @@ module _ {maps : List MapDef} {options : Options} {shards : List JournaledShard}
         may_make maps options shards map key value stands.definition (ready_for maps options shards stands.serves.maps_are stands.serves.options_fit are)
         stands.known stands.key_size stands.value_size stands.bytes stands.value_bytes))
 
-    defined : (one : JournaledShard) → slice_get shards (shard_of_update maps options map key) ≡ Some one →
+    defined : (one : JournaledShard) → slice_get shards (shard_of_map_key maps options map key) ≡ Some one →
         ∥ slice_get maps map ≡ Some one.plan.definition ∥₁
     defined one known =
         ∥∥₁_map stands.serves.serve
@@ -79,7 +79,7 @@ module _ {maps : List MapDef} {options : Options} {shards : List JournaledShard}
         IfOk result (λ answer. IsUpdatedInTurn now (record { map = map; key = key; value = value }) answer (turn_maps maps options shards'))
     given now shards' view_is (Err full) made = tt
     given now shards' view_is (Ok answer) made =
-        let at : IsUpdatedAt shards (shard_of_update maps options map key) key value answer shards' =
+        let at : IsUpdatedAt shards (shard_of_map_key maps options map key) key value answer shards' =
         subst (λ (n : ℕ). IsUpdatedAt shards n key value answer shards') stands.number_is made in
         subst (λ (all : TurnMaps). IsUpdatedInTurn all (record { map = map; key = key; value = value }) answer (turn_maps maps options shards')) view_is (record {
           at = at;
@@ -93,7 +93,7 @@ module _ {maps : List MapDef} {options : Options} {shards : List JournaledShard}
         OnErr result (IsTurnedAwayInTurn now (record { map = map; key = key; value = value }) (turn_maps maps options shards'))
     turned_away now shards' view_is (Ok answer) full same = tt
     turned_away now shards' view_is (Err fault) full same =
-        let at : IsFullAt shards (shard_of_update maps options map key) key value =
+        let at : IsFullAt shards (shard_of_map_key maps options map key) key value =
         subst (λ (n : ℕ). IsFullAt shards n key value) stands.number_is full in
         subst (λ (all : TurnMaps). IsTurnedAwayInTurn all (record { map = map; key = key; value = value }) (turn_maps maps options shards')) view_is (record {
           at = at;

@@ -22,7 +22,7 @@ pub record IsNextUpdate {P : Type 0} (gives : P → UpdateBytes → ℤ → P �
   pub set : AreSet gives before (take place updates) middle
 
 -- the map's answer to it is no 0
-pub record IsRefusedUpdate {P : Type 0} (gives : P → UpdateBytes → ℤ → P → Type 0) (before : P) (updates : List MapUpdate) (place : ℕ) (answer : ℤ) :
+pub record IsRefusedOnPort {P : Type 0} (gives : P → UpdateBytes → ℤ → P → Type 0) (before : P) (updates : List MapUpdate) (place : ℕ) (answer : ℤ) :
     Type 0 where
   pub update : MapUpdate
   pub middle : P
@@ -32,7 +32,7 @@ pub record IsRefusedUpdate {P : Type 0} (gives : P → UpdateBytes → ℤ → P
   pub no_success : answer ≢ success
 
 -- the journal has no room for it
-pub record IsFullForUpdate {P : Type 0} (gives : P → UpdateBytes → ℤ → P → Type 0) (refuses : P → UpdateBytes → P → Type 0) (before : P)
+pub record IsFullOnPort {P : Type 0} (gives : P → UpdateBytes → ℤ → P → Type 0) (refuses : P → UpdateBytes → P → Type 0) (before : P)
     (updates : List MapUpdate) (place : ℕ) : Type 0 where
   pub update : MapUpdate
   pub middle : P
@@ -42,8 +42,8 @@ pub record IsFullForUpdate {P : Type 0} (gives : P → UpdateBytes → ℤ → P
 
 -- why not all of them were made: the fault is that of the first that was refused or met a full journal
 abbrev pub IsWhyNotSet : {P : Type 0} → (P → UpdateBytes → ℤ → P → Type 0) → (P → UpdateBytes → P → Type 0) → P → List MapUpdate → ReplayFault → Type 0
-IsWhyNotSet gives refuses before updates (Refused place answer) = IsRefusedUpdate gives before updates place answer
-IsWhyNotSet gives refuses before updates (Full place) = IsFullForUpdate gives refuses before updates place
+IsWhyNotSet gives refuses before updates (Refused place answer) = IsRefusedOnPort gives before updates place answer
+IsWhyNotSet gives refuses before updates (Full place) = IsFullOnPort gives refuses before updates place
 IsWhyNotSet gives refuses before updates BadOptions = ⊥
 IsWhyNotSet gives refuses before updates Memory = ⊥
 IsWhyNotSet gives refuses before updates NoThread = ⊥

@@ -39,11 +39,11 @@ pub record HasUpdateOf (maps : List MapDef) (map : ℕ) (key : List ℕ) : Type 
   pub key_size : length key ≡ definition.key_size
 
 -- the number of the shard of a map's key
-abbrev pub shard_of_update : List MapDef → Options → ℕ → List ℕ → ℕ
-shard_of_update maps options map key = shard_in_map (slice_get maps map) options.shards map key
+abbrev pub shard_of_map_key : List MapDef → Options → ℕ → List ℕ → ℕ
+shard_of_map_key maps options map key = shard_in_map (slice_get maps map) options.shards map key
 
 abbrev pub shard_of : List MapDef → Options → UpdateBytes → ℕ
-shard_of maps options update = shard_of_update maps options update.map update.key
+shard_of maps options update = shard_of_map_key maps options update.map update.key
 
 -- in the shards of a port
 abbrev pub shard_for : UpdatesView → UpdateBytes → ℕ

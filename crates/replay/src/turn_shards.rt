@@ -128,7 +128,7 @@ impl Model for TurnShards {
 }
 
 impl TurnShards {
-    ghost use Rattle.replay.specs.SharedUpdates.{HasUpdateOf, shard_of_update};
+    ghost use Rattle.replay.specs.SharedUpdates.{HasUpdateOf, shard_of_map_key};
 
     /// The shards of an accepted image's maps, in which nothing has happened. Refused with 51 where none are opened with these options, and
     /// with 52 for lack of memory.
@@ -208,7 +208,7 @@ impl TurnShards {
     /// The number of the shard of a map's key.
     fn shard_of(&self, map: u32, key: &Key) -> u32
         requires { HasUpdateOf self.now.maps map key.now }
-        ensures { result ≡ shard_of_update self.now.maps self.now.options map key.now }
+        ensures { result ≡ shard_of_map_key self.now.maps self.now.options map key.now }
     {
         shard_of_map(&self.maps, self.options.shards, map, key)
     }

@@ -2,7 +2,7 @@
 
 ghost use Rattle.std.specs.Prelude.{◌≡◌, ◌<◌};
 ghost use Rattle.semantics.specs.declared.call.Caller.TheVariants.{Controller};
-ghost use Rattle.replay.specs.SharedUpdates.{HasUpdateOf, shard_of_update};
+ghost use Rattle.replay.specs.SharedUpdates.{HasUpdateOf, shard_of_map_key};
 
 use control::UpdatePort;
 use map_rules::conditions::shard_of_map;
@@ -53,7 +53,7 @@ impl<'a, B: Naming, W: Wait> SharedUpdates<'a, B, W> {
     /// The number of the shard of a map's key.
     fn shard_of(&self, map: u32, key: &Key) -> u32
         requires { HasUpdateOf self.now.maps map key.now }
-        ensures { result ≡ shard_of_update self.now.maps self.now.options map key.now }
+        ensures { result ≡ shard_of_map_key self.now.maps self.now.options map key.now }
     {
         shard_of_map(self.shards.maps(), self.shards.options().shards, map, key)
     }
