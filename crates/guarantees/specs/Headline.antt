@@ -123,7 +123,8 @@ pub record AreOfRuns (verified : Verified) (options : Options) (plan : ℕ → S
       (work worker below).after (work worker below).handled.chain
 
 -- the promise
-pub record Headline (verified : Verified) (script : List Command) (options : Options) (records : List Sent) (outcome : Outcome) : Type 0 where
+pub record Headline (verified : Verified) (script : List Command) (options : Options) (records : List Sent)
+    (outcome : Outcome) : Type 0 where
   -- whatever frames arrive and however the shared steps interleave, no run traps, and each ends within as many instructions as the image
   -- has slots
   pub safe : IsSafeImage verified.maps verified.code
@@ -143,7 +144,8 @@ pub record Headline (verified : Verified) (script : List Command) (options : Opt
   -- the controller's deeds in it are the updates before the first record and then those of the script's commands, in order over all shards, each with
   -- its answer, and
   -- behind those of a command that a full journal stopped the look at that journal
-  pub commands : IsScriptAccounted plan verified.maps options count outcome.updates.items script outcome.journals order outcome.refused.items
+  pub commands :
+      IsScriptAccounted plan verified.maps options count outcome.updates.items script outcome.journals order outcome.refused.items
   -- and the reclaimer's are its rounds, one behind the other: in each a Reclaim of each hash and LRU shard, the lowest number first
   pub rounds : AreRoundsAccounted plan count (rounds_of (length records)) outcome.journals order
   -- each worker ran its records, one after the other; in each journal its entries are those of its runs, and its deeds in the order are
@@ -166,7 +168,8 @@ pub record Headline (verified : Verified) (script : List Command) (options : Opt
   -- from the opening on; each worker's are in their order in it; they write the entries of the one order, in this order over all shards; after
   -- it the histories are the journals, and every worker is idle
   pub list :
-      IsOneList (setting_of verified options) count (λ number. entries_at outcome.journals number) moves.moves (entries_made (reverse order))
+      IsOneList (setting_of verified options) count (λ number. entries_at outcome.journals number) moves.moves
+      (entries_made (reverse order))
   -- the frames that were sent are those of these runs
   pub sent : sent_frames outcome.sent.items ≡ sent_of (frames_of records) options.workers runs (length records)
 

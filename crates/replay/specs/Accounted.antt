@@ -24,8 +24,8 @@ use Rattle.replay.specs.RunsOverShards.{IsNewPass, IsRunIn}
 
 -- a worker ran its records, in order, from a pass that had seen nothing; in each journal its entries are those of its runs, one after the
 -- other; and so are its deeds in the one order of all
-pub record IsWorkOf (IsRun : PassView → Ran → PassView → Type 0) (records : List ℕ) (worker : ℕ) (runs : List Ran) (count : ℕ) (journals : JournalsView)
-    (order : List Deed) : Type 0 where
+pub record IsWorkOf (IsRun : PassView → Ran → PassView → Type 0) (records : List ℕ) (worker : ℕ) (runs : List Ran) (count : ℕ)
+    (journals : JournalsView) (order : List Deed) : Type 0 where
   pub after : PassView
   pub handled : HasHandled (IsNewPass worker) IsRun records runs after
   pub own : (number : ℕ) → number < count → own_at after number ≡ own_entries (Worker worker) (reverse (entries_at journals number))
@@ -37,7 +37,8 @@ pub record IsOrderOf (plan : ℕ → ShardPlan) (count : ℕ) (journals : Journa
   pub journals_are : (number : ℕ) → number < count → entries_at journals number ≡ reverse (made_on number order)
   pub met : AreMet plan order
 
-pub record IsAccounted (program : Program) (script : List Command) (options : Options) (records : List Sent) (outcome : Outcome) : Type 0 where
+pub record IsAccounted (program : Program) (script : List Command) (options : Options) (records : List Sent)
+    (outcome : Outcome) : Type 0 where
   pub maps : outcome.journals.maps ≡ program.maps
   pub options_are : outcome.journals.options ≡ options
   -- the shards, and their journals

@@ -107,7 +107,8 @@ ends_of frames workers runs (suc number) =
 
 -- each worker ran its records, in order
 abbrev pub AreRunsOfShares : List (List ℕ) → ℕ → ℕ → List (List Ran) → Type 0
-AreRunsOfShares frames workers count runs = (worker : ℕ) → worker < workers → records_of (runs_at runs worker) ≡ share frames workers worker count
+AreRunsOfShares frames workers count runs =
+    (worker : ℕ) → worker < workers → records_of (runs_at runs worker) ≡ share frames workers worker count
 
 -- what became of the records from one on is said by other runs as by these
 abbrev pub AreFatesFrom : ℕ → List (List ℕ) → ℕ → List (List Ran) → List (List Ran) → Type 0

@@ -57,7 +57,8 @@ with_update maps options number made history =
 -- with those of several, one after the other
 abbrev pub with_updates : List MapDef → Options → ℕ → List AnsweredUpdate → List Entry → List Entry
 with_updates maps options number [] history = history
-with_updates maps options number (made ∷ later) history = with_updates maps options number later (with_update maps options number made history)
+with_updates maps options number (made ∷ later) history =
+    with_updates maps options number later (with_update maps options number made history)
 
 -- ---- what a command did
 
@@ -188,8 +189,8 @@ pub record IsMoved (before after : UpdatesView) (made : List AnsweredUpdate) : T
   pub grows : (number : ℕ) → BeginsWith (seen_at after.pass number) (seen_at before.pass number)
 
 -- a command that was applied, refused for this fault if for one: what it did to the controller and to the shards
-pub record HasEffect (plan : ℕ → ShardPlan) (state : ControllerState) (action : Action) (fault : Option ControlFault) (state' : ControllerState)
-    (before after : UpdatesView) : Type 0 where
+pub record HasEffect (plan : ℕ → ShardPlan) (state : ControllerState) (action : Action) (fault : Option ControlFault)
+    (state' : ControllerState) (before after : UpdatesView) : Type 0 where
   pub one : CommandDone
   pub action_is : one.action ≡ action
   pub fault_is : one.fault ≡ fault
@@ -207,8 +208,8 @@ pub record HasSet (maps : List MapDef) (options : Options) (updates : List MapUp
 -- The commands noted are those of the script, each did what it says in the state that the one before it left; the controller's own entries in the
 -- history of each shard are its first updates and behind them those of the commands to it, in order; where one met a full journal, that journal is
 -- full for it; and over all shards its deeds are the first updates and then those of the commands, in order.
-pub record IsAccount (plan : ℕ → ShardPlan) (maps : List MapDef) (options : Options) (updates : List MapUpdate) (script : List Command) (size : ℕ)
-    (noted : List Applied) (state : ControllerState) (pass : PassView) : Type 0 where
+pub record IsAccount (plan : ℕ → ShardPlan) (maps : List MapDef) (options : Options) (updates : List MapUpdate) (script : List Command)
+    (size : ℕ) (noted : List Applied) (state : ControllerState) (pass : PassView) : Type 0 where
   pub done : List CommandDone
   pub are_noted : AreNotedOf script noted done
   pub are_done : AreDone (opened_controller size) done state
@@ -242,8 +243,8 @@ HasAccount plan view =
 abbrev pub ServesScript : List MapDef → ℕ → List Command → Type 0
 ServesScript maps size script = (script ≡ []) ⊎ (maps ≡ steering_maps size)
 
-pub record IsCommander (plan : ℕ → ShardPlan) (updates : List MapUpdate) (script : List Command) (noted : List Applied) (state : ControllerState)
-    (port : UpdatesView) : Type 0 where
+pub record IsCommander (plan : ℕ → ShardPlan) (updates : List MapUpdate) (script : List Command) (noted : List Applied)
+    (state : ControllerState) (port : UpdatesView) : Type 0 where
   pub account : IsAccount plan port.maps port.options updates script state.size noted state port.pass
   pub serves : ServesScript port.maps state.size script
   pub who : port.pass.who ≡ Controller

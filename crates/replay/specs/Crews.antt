@@ -29,7 +29,8 @@ pub record IsLane {S W : Type 0} (queues : Queues) (capture : Capture) (runner :
 -- the worker of this number ran its records, in order
 abbrev pub IsHandled : {S : Type 0} → (ℕ → S → Type 0) → (ℕ → Sent → S → RunEnd → S → Type 0) → List Sent → ℕ → ℕ → Handled S → Type 0
 IsHandled IsNew IsRun records workers worker handled =
-    HasHandled (IsNew worker) (IsRunAt (IsRun worker) records) (share (frames_of records) workers worker (length records)) handled.runs.items handled.state
+    HasHandled (IsNew worker) (IsRunAt (IsRun worker) records) (share (frames_of records) workers worker (length records))
+    handled.runs.items handled.state
 
 -- each worker ran its records, in order
 abbrev pub AreHandled : {S : Type 0} → (ℕ → S → Type 0) → (ℕ → Sent → S → RunEnd → S → Type 0) → List Sent → ℕ → List (Handled S) → Type 0

@@ -66,6 +66,7 @@ pub record IsInTurn (program : Program) (script : List Command) (options : Optio
   pub ends : outcome.ends.items ≡ last.ends
   pub refused : outcome.refused.items ≡ refused_of last.noted
   pub count_is : length outcome.journals.shards ≡ length last.all.shards
-  pub journals : (number : ℕ) → number < length last.all.shards → entries_at outcome.journals number ≡ (shard_at last.all.shards number).journal
+  pub journals : (number : ℕ) → number < length last.all.shards →
+      entries_at outcome.journals number ≡ (shard_at last.all.shards number).journal
   pub legal : (number : ℕ) → number < length last.all.shards →
       IsLegalJournal (shard_at last.all.shards number).plan (entries_at outcome.journals number)

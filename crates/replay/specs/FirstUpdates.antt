@@ -16,14 +16,14 @@ AreSet {P} gives before (update ∷ later) after =
     (middle : P) × gives before (update_bytes update) success middle × AreSet gives middle later after
 
 -- the update at a place, and the port as those before it have left it
-pub record IsNextUpdate {P : Type 0} (gives : P → UpdateBytes → ℤ → P → Type 0) (before : P) (updates : List MapUpdate) (place : ℕ) (update : MapUpdate)
-    (middle : P) : Type 0 where
+pub record IsNextUpdate {P : Type 0} (gives : P → UpdateBytes → ℤ → P → Type 0) (before : P) (updates : List MapUpdate) (place : ℕ)
+    (update : MapUpdate) (middle : P) : Type 0 where
   pub known : slice_get updates place ≡ Some update
   pub set : AreSet gives before (take place updates) middle
 
 -- the map's answer to it is no 0
-pub record IsRefusedOnPort {P : Type 0} (gives : P → UpdateBytes → ℤ → P → Type 0) (before : P) (updates : List MapUpdate) (place : ℕ) (answer : ℤ) :
-    Type 0 where
+pub record IsRefusedOnPort {P : Type 0} (gives : P → UpdateBytes → ℤ → P → Type 0) (before : P) (updates : List MapUpdate) (place : ℕ)
+    (answer : ℤ) : Type 0 where
   pub update : MapUpdate
   pub middle : P
   pub next : IsNextUpdate gives before updates place update middle
@@ -41,7 +41,8 @@ pub record IsFullOnPort {P : Type 0} (gives : P → UpdateBytes → ℤ → P �
   pub full : refuses middle (update_bytes update) after
 
 -- why not all of them were made: the fault is that of the first that was refused or met a full journal
-abbrev pub IsWhyNotSet : {P : Type 0} → (P → UpdateBytes → ℤ → P → Type 0) → (P → UpdateBytes → P → Type 0) → P → List MapUpdate → ReplayFault → Type 0
+abbrev pub IsWhyNotSet : {P : Type 0} → (P → UpdateBytes → ℤ → P → Type 0) → (P → UpdateBytes → P → Type 0) → P → List MapUpdate →
+    ReplayFault → Type 0
 IsWhyNotSet gives refuses before updates (Refused place answer) = IsRefusedOnPort gives before updates place answer
 IsWhyNotSet gives refuses before updates (Full place) = IsFullOnPort gives refuses before updates place
 IsWhyNotSet gives refuses before updates BadOptions = ⊥

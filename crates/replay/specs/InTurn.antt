@@ -48,21 +48,21 @@ worker_port program worker shards =
     record { served = record { maps = program.maps; shards = program.shards }; worker = worker; shards = shards }
 
 -- the run came to its end: its worker has called the shards one after the other, and has then left those that it had entered
-pub record EndsInTurn (program : Program) (start : MachineState) (worker : ℕ) (before after : List JournaledShard) (verdict : Verdict) (steps : ℕ)
-    (frame : FrameView) : Type 0 where
+pub record EndsInTurn (program : Program) (start : MachineState) (worker : ℕ) (before after : List JournaledShard) (verdict : Verdict)
+    (steps : ℕ) (frame : FrameView) : Type 0 where
   pub last : PortView
   pub ends : Ends IsGivenBy program start (worker_port program worker before) last verdict steps frame
   pub left : after ≡ all_left last.worker last.shards
 
 -- the same of a run that a full journal stopped
-pub record StopsInTurn (program : Program) (start : MachineState) (worker : ℕ) (before after : List JournaledShard) (frame : FrameView) (stop : Stop) :
-    Type 0 where
+pub record StopsInTurn (program : Program) (start : MachineState) (worker : ℕ) (before after : List JournaledShard) (frame : FrameView)
+    (stop : Stop) : Type 0 where
   pub last : PortView
   pub stops : StopsSo IsGivenBy IsRefusedBy program start (worker_port program worker before) last frame stop
   pub left : after ≡ all_left last.worker last.shards
 
-pub record IsExitInTurn (program : Program) (captured : Sent) (worker : ℕ) (before : List JournaledShard) (end : RunEnd) (after : List JournaledShard) :
-    Type 0 where
+pub record IsExitInTurn (program : Program) (captured : Sent) (worker : ℕ) (before : List JournaledShard) (end : RunEnd)
+    (after : List JournaledShard) : Type 0 where
   pub verdict : Verdict
   pub steps : ℕ
   pub frame : FrameView
@@ -84,7 +84,8 @@ pub record IsPassedOver (captured : Sent) (before after : List JournaledShard) :
   pub short : is_short captured.bytes.items ≡ true
   pub nothing : after ≡ before
 
-pub record IsRun (program : Program) (workers : ℕ) (captured : Sent) (before : List JournaledShard) (end : RunEnd) (after : List JournaledShard) : Type 0
+pub record IsRun (program : Program) (workers : ℕ) (captured : Sent) (before : List JournaledShard) (end : RunEnd)
+    (after : List JournaledShard) : Type 0
   where
     pub long : is_short captured.bytes.items ≡ false
     pub run : IsRunInTurn program captured (worker_of_frame captured.bytes.items workers) before end after
@@ -113,7 +114,8 @@ may_update_at (Some one) key value = meets one.plan (reverse one.journal) Contro
 may_update_at None key value = false
 
 -- the shard of this number took the update, or gave another answer, as the one-thread map does; either way it has the entry
-pub record IsUpdatedAt (before : List JournaledShard) (number : ℕ) (key value : List ℕ) (answer : ℤ) (after : List JournaledShard) : Type 0 where
+pub record IsUpdatedAt (before : List JournaledShard) (number : ℕ) (key value : List ℕ) (answer : ℤ)
+    (after : List JournaledShard) : Type 0 where
   pub one : JournaledShard
   pub known : slice_get before number ≡ Some one
   pub answered : answer ≡ update_answer one.plan (state_of one) key (flags_number Any)
@@ -145,7 +147,8 @@ pub record IsTurnedAwayInTurn (before : TurnMaps) (update : UpdateBytes) (after 
 abbrev pub IsAppliedInTurn : Option ControlFault → ControllerState → TurnMaps → Action → ControllerState → TurnMaps → Type 0
 IsAppliedInTurn None state before action state' after =
     IsCarriedOut IsUpdatedInTurn state before (first_updates state.up action) (up_after state.up action) state' after
-IsAppliedInTurn (Some fault) state before action state' after = IsLeft IsUpdatedInTurn IsTurnedAwayInTurn state before action state' after fault
+IsAppliedInTurn (Some fault) state before action state' after =
+    IsLeft IsUpdatedInTurn IsTurnedAwayInTurn state before action state' after fault
 
 -- ---- a round
 
@@ -239,4 +242,5 @@ IsTurn program script records workers TheRound before after = IsRoundTurn before
 abbrev pub AreTurns : Program → List Command → List Sent → ℕ → List Turn → TurnState → TurnState → Type 0
 AreTurns program script records workers [] before after = after ≡ before
 AreTurns program script records workers (turn ∷ later) before after =
-    (middle : TurnState) × IsTurn program script records workers turn before middle × AreTurns program script records workers later middle after
+    (middle : TurnState) × IsTurn program script records workers turn before middle ×
+    AreTurns program script records workers later middle after

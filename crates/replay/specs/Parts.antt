@@ -31,7 +31,8 @@ use Rattle.replay.specs.Actors.{numbers_from}
 -- ---- what the threads hand back for their jobs
 
 -- the controller applied the commands of its jobs, each once and in order, and its pass has their entries
-pub record HasCommanded (plan : ℕ → ShardPlan) (start : CommanderView) (jobs : List Job) (noted : List Applied) (pass : PassView) : Type 0 where
+pub record HasCommanded (plan : ℕ → ShardPlan) (start : CommanderView) (jobs : List Job) (noted : List Applied)
+    (pass : PassView) : Type 0 where
   pub taken : AreCommandsTaken start.noted noted jobs
   pub account : IsControllersAccount plan start noted pass
   pub who : pass.who ≡ Controller
@@ -57,8 +58,8 @@ abbrev pub numbers_of : List Applied → List ℕ
 numbers_of noted = map (λ (one : Applied). one.command) noted
 
 -- a controller of these shards and this script that has made these updates and then applied its first N commands
-pub record IsStarted (maps : List MapDef) (options : Options) (updates : List MapUpdate) (script : List Command) (size : ℕ) (start : CommanderView)
-    (first : ℕ) : Type 0 where
+pub record IsStarted (maps : List MapDef) (options : Options) (updates : List MapUpdate) (script : List Command) (size : ℕ)
+    (start : CommanderView) (first : ℕ) : Type 0 where
   pub updates_are : start.updates ≡ updates
   pub script_is : start.script ≡ script
   pub maps_are : start.port.maps ≡ maps
@@ -68,8 +69,8 @@ pub record IsStarted (maps : List MapDef) (options : Options) (updates : List Ma
   pub within : first ≤ length script
 
 -- each command of the script was applied once, in its order, and the pass has the first updates and behind them theirs
-pub record IsScriptRun (plan : ℕ → ShardPlan) (maps : List MapDef) (options : Options) (updates : List MapUpdate) (script : List Command) (size : ℕ)
-    (noted : List Applied) (pass : PassView) : Type 0 where
+pub record IsScriptRun (plan : ℕ → ShardPlan) (maps : List MapDef) (options : Options) (updates : List MapUpdate) (script : List Command)
+    (size : ℕ) (noted : List Applied) (pass : PassView) : Type 0 where
   pub each_once : numbers_of noted ≡ numbers_from 0 (length script)
   pub state : ControllerState
   pub account : IsAccount plan maps options updates script size noted state pass
@@ -82,8 +83,8 @@ abbrev pub refused_of : List Applied → List Applied
 refused_of noted = filter (λ (one : Applied). is_some one.fault) noted
 
 -- the update's shard is one of N, and its journal is full for the update at its end
-pub record IsFullInJournal (plan : ℕ → ShardPlan) (maps : List MapDef) (options : Options) (count : ℕ) (journals : JournalsView) (update : UpdateBytes) :
-    Type 0 where
+pub record IsFullInJournal (plan : ℕ → ShardPlan) (maps : List MapDef) (options : Options) (count : ℕ) (journals : JournalsView)
+    (update : UpdateBytes) : Type 0 where
   pub within : shard_of maps options update < count
   pub full :
       IsJournalFull (plan (shard_of maps options update)) (reverse (entries_at journals (shard_of maps options update)))
@@ -94,8 +95,8 @@ pub record IsFullInJournal (plan : ℕ → ShardPlan) (maps : List MapDef) (opti
 -- are the first updates to that shard, each answered 0, and behind them those of the commands, in order; where one met a full journal, that journal is
 -- full for it at its end. In the one order of all deeds those of the controller are the first updates, then the updates of all commands, in order over
 -- all shards, each with its answer, and behind those of a command that a full journal stopped the look at that journal.
-pub record IsScriptAccounted (plan : ℕ → ShardPlan) (maps : List MapDef) (options : Options) (count : ℕ) (updates : List MapUpdate) (script : List Command)
-    (journals : JournalsView) (order : List Deed) (refused : List Applied) : Type 0 where
+pub record IsScriptAccounted (plan : ℕ → ShardPlan) (maps : List MapDef) (options : Options) (count : ℕ) (updates : List MapUpdate)
+    (script : List Command) (journals : JournalsView) (order : List Deed) (refused : List Applied) : Type 0 where
   pub size : ℕ
   pub size_is_served : IsRingSize size
   pub serves : ServesScript maps size script

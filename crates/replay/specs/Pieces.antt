@@ -61,8 +61,8 @@ pub record IsWholeOutcome (rest : Outcome) (sent : List Sent) (ends : List Recor
   pub ends_are : whole.ends.items ≡ ends
 
 -- with the frames and the ends that were handed out, it is the outcome of an exact replay of all records
-pub record IsReplayed (program : Program) (script : List Command) (options : Options) (records sent : List Sent) (ends : List RecordEnd) (rest : Outcome) :
-    Type 0 where
+pub record IsReplayed (program : Program) (script : List Command) (options : Options) (records sent : List Sent) (ends : List RecordEnd)
+    (rest : Outcome) : Type 0 where
   pub whole : Outcome
   pub is_whole : IsWholeOutcome rest sent ends whole
   pub in_turn : IsInTurn program script options records whole

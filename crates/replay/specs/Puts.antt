@@ -34,4 +34,5 @@ AreNonePut workers puts = (worker : ℕ) → worker < workers → put_at puts wo
 
 -- each worker was handed its records, and then told to end
 abbrev pub AreAllPut : List (List ℕ) → ℕ → ℕ → List (List Job) → Type 0
-AreAllPut frames workers count puts = (worker : ℕ) → worker < workers → put_at puts worker ≡ frame_jobs (share frames workers worker count) ++ End ∷ []
+AreAllPut frames workers count puts =
+    (worker : ℕ) → worker < workers → put_at puts worker ≡ frame_jobs (share frames workers worker count) ++ End ∷ []

@@ -74,7 +74,8 @@ IsRoundDone plan count deeds = AreReclaimDeeds (keyed_below plan count) deeds
 abbrev pub AreRoundsDone : (ℕ → ShardPlan) → ℕ → ℕ → List Deed → Type 0
 AreRoundsDone plan count zero deeds = deeds ≡ []
 AreRoundsDone plan count (suc rounds) deeds =
-    (first : List Deed) × (later : List Deed) × (deeds ≡ first ++ later) × IsRoundDone plan count first × AreRoundsDone plan count rounds later
+    (first : List Deed) × (later : List Deed) × (deeds ≡ first ++ later) × IsRoundDone plan count first ×
+    AreRoundsDone plan count rounds later
 
 -- N rounds: what they left in each of N shards, and all that the reclaimer did over them
 pub record AreReclaimed (plan : ℕ → ShardPlan) (count rounds : ℕ) (pass : PassView) : Type 0 where
@@ -93,7 +94,8 @@ pub record IsReclaimersPort (count : ℕ) (plan : ℕ → ShardPlan) (maps : Lis
 -- one Reclaim was asked: it was served, or the journal was full for it
 abbrev pub IsAsked : ShardPlan → ℕ → PassView → PassView → Type 0
 IsAsked plan number before after =
-    ((freed : ℕ) × IsAnswered plan number before after (Reclaim number) (Freed freed)) ⊎ IsTurnedAway plan number before after (Reclaim number)
+    ((freed : ℕ) × IsAnswered plan number before after (Reclaim number) (Freed freed)) ⊎
+    IsTurnedAway plan number before after (Reclaim number)
 
 -- one Reclaim of the shard of this number more was done
 abbrev pub HasAsked : ℕ → PassView → PassView → Type 0

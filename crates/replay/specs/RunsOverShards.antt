@@ -76,7 +76,8 @@ steps_in Stopped = None
 steps_in (Exited steps fate) = Some steps
 
 -- the run ended: by the program's own trace on the replies that stand among the worker's entries, session by session
-pub record IsExit (count : ℕ) (program : Program) (worker : ℕ) (captured : Sent) (before : PassView) (end : RunEnd) (after : PassView) : Type 0 where
+pub record IsExit (count : ℕ) (program : Program) (worker : ℕ) (captured : Sent) (before : PassView) (end : RunEnd)
+    (after : PassView) : Type 0 where
   pub verdict : Verdict
   pub steps : ℕ
   pub frame : FrameView
@@ -85,7 +86,8 @@ pub record IsExit (count : ℕ) (program : Program) (worker : ℕ) (captured : S
   pub counted : steps_in end ≡ Some steps
 
 -- the run was stopped, since a journal was full for its next call or for the Enter before it
-pub record IsStop (count : ℕ) (plan : ℕ → ShardPlan) (program : Program) (worker : ℕ) (captured : Sent) (before after : PassView) : Type 0 where
+pub record IsStop (count : ℕ) (plan : ℕ → ShardPlan) (program : Program) (worker : ℕ) (captured : Sent)
+    (before after : PassView) : Type 0 where
   pub frame : FrameView
   pub stop : Stop
   pub run : HasStopped program (start_of captured worker) plan count worker before after frame stop
@@ -96,7 +98,8 @@ IsRunOf count plan program worker captured before end after = IsExit count progr
 
 -- the same of what a worker keeps
 abbrev pub IsRunBy : {B : Type 0} → ℕ → (ℕ → ShardPlan) → Program → ℕ → Sent → Working B → RunEnd → Working B → Type 0
-IsRunBy count plan program worker captured before end after = IsRunOf count plan program worker captured (pass_in before) end (pass_in after)
+IsRunBy count plan program worker captured before end after =
+    IsRunOf count plan program worker captured (pass_in before) end (pass_in after)
 
 -- ---- compared with the journals
 

@@ -26,7 +26,8 @@ pub record AreFreshPasses (queues : Queues) (workers : ℕ) (put : PutPass) (tak
 -- the queues are for as many records and commands as there are
 abbrev pub AreForAll : {W R : Type 0} → Setting W R → Type 0
 AreForAll setting =
-    (records_of setting.queues.now ≡ length setting.capture.now.records.items) × (commands_of setting.queues.now ≡ length setting.starts.now)
+    (records_of setting.queues.now ≡ length setting.capture.now.records.items) ×
+    (commands_of setting.queues.now ≡ length setting.starts.now)
 
 -- there is a worker for each state, which may go to the worker's thread; nothing was put through the passes yet, and the queues are for all records
 -- and commands; and no more commands came first than there are
@@ -40,8 +41,10 @@ pub record IsReadyToRun {S W R : Type 0} (IsNew IsIdle : W → ℕ → S → Typ
 -- each of N workers ran its records, in order; the controller handed back what it has for the commands that did not come first, and the
 -- reclaimer what it has for its rounds
 pub record AreAllDone {S E F W R : Type 0} (IsNew : W → ℕ → S → Type 0) (IsRun : W → ℕ → Sent → S → RunEnd → S → Type 0)
-    (Commands : List Job → E → Type 0) (Rounds : List Job → F → Type 0) (setting : Setting W R) (workers : ℕ) (ended : AllEnded S E F) : Type 0 where
+    (Commands : List Job → E → Type 0) (Rounds : List Job → F → Type 0) (setting : Setting W R) (workers : ℕ)
+    (ended : AllEnded S E F) : Type 0 where
   pub count : length ended.workers.items ≡ workers
-  pub handled : AreHandled (IsNew setting.runner.now) (IsRun setting.runner.now) setting.capture.now.records.items workers ended.workers.items
+  pub handled :
+      AreHandled (IsNew setting.runner.now) (IsRun setting.runner.now) setting.capture.now.records.items workers ended.workers.items
   pub commands : OfCommandsFrom setting.first setting.starts.now (λ jobs. Commands (jobs ++ End ∷ []) ended.controller)
   pub rounds : Rounds (round_jobs (length setting.capture.now.records.items)) ended.reclaimer

@@ -61,7 +61,8 @@ pub record IsUpdated (plan : ℕ → ShardPlan) (before : UpdatesView) (update :
   pub elsewhere : IsElsewhereSame (shard_for before update) before.pass after.pass
   pub answered : IsAnswered (plan (shard_for before update)) (shard_for before update) before.pass after.pass
       (update_call (shard_for before update) update) (Answer answer)
-  pub did : after.pass.deeds ≡ Wrote (entry_of Controller (update_call (shard_for before update) update) (Answer answer)) ∷ before.pass.deeds
+  pub did :
+      after.pass.deeds ≡ Wrote (entry_of Controller (update_call (shard_for before update) update) (Answer answer)) ∷ before.pass.deeds
 
 -- the journal of the shard that its key has is full for it at the end of what the controller has then seen; and nothing was changed:
 -- the controller met the full journal last

@@ -12,7 +12,8 @@ use Rattle.control.specs.MapUpdates.{UpdateBytes, IsInArray}
 use Rattle.replay.specs.InTurn.{TurnMaps, IsUpdatedInTurn, IsTurnedAwayInTurn}
 use Rattle.replay.specs.SharedLaws.{array_answer}
 
-pub refused_keeps : (before : TurnMaps) (update : UpdateBytes) (after : TurnMaps) → IsTurnedAwayInTurn before update after → after.maps ≡ before.maps
+pub refused_keeps : (before : TurnMaps) (update : UpdateBytes) (after : TurnMaps) → IsTurnedAwayInTurn before update after →
+    after.maps ≡ before.maps
 refused_keeps before update after refused = ap (λ (all : TurnMaps). all.maps) refused.nothing
 
 pub array_takes : (before : TurnMaps) (update : UpdateBytes) (answer : ℤ) (after : TurnMaps) → IsInArray before.maps update →

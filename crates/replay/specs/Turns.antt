@@ -32,7 +32,8 @@ rounds_at number = if number % 64 == 0 then TheRound ∷ [] else []
 abbrev pub turns_to : List ℕ → ℕ → List Turn
 turns_to starts zero = []
 turns_to starts (suc number) =
-    turns_to starts number ++ (commands_between (due_before starts number) (due_to starts number) ++ TheRecord number ∷ rounds_at (suc number))
+    turns_to starts number ++
+    (commands_between (due_before starts number) (due_to starts number) ++ TheRecord number ∷ rounds_at (suc number))
 
 -- all turns: behind the last record the commands that are left, and the last round
 abbrev pub all_turns : List ℕ → ℕ → List Turn

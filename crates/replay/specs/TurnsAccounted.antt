@@ -12,5 +12,6 @@ use Rattle.replay.specs.ExactReplays.{IsInTurn}
 
 abbrev pub TurnsAreAccounted : Type 0
 TurnsAreAccounted =
-    (program : Program) (script : List Command) (options : Options) (records : List Sent) (outcome : Outcome) → AreOptions program.maps options →
+    (program : Program) (script : List Command) (options : Options) (records : List Sent) (outcome : Outcome) →
+    AreOptions program.maps options →
     IsInTurn program script options records outcome → IsAccounted program script options records outcome
