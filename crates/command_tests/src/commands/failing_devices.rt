@@ -2,6 +2,7 @@
 //! leaves no file in part.
 
 use super::first_path::IMAGE;
+use super::replays::DATAGRAM;
 use super::weak_devices::{Left, MOST, NEVER, SOUND_FOLDER, Weakness, has_few_failures, left_over};
 use super::{put, put_digits};
 use crate::asserting::{holds_of, same_bytes_of, same_status};
@@ -11,12 +12,6 @@ use std::process::Abort;
 use std::sync::Wait;
 use std::thread::Threads;
 use test_support::files::SERVICE;
-
-/// A capture of a UDP datagram without data to port 80 of 203.0.113.1.
-const CAPTURE: &str = "\
-    d4c3b2a1020004000000000000000000ffff000001000000\
-    01000000020000002a0000002a000000\
-    02000000000102000000000208004500001c0001000040111494c6336407cb0071019c40005000080000";
 
 /// The journals of a run of `IMAGE` on one frame.
 const JOURNALS: &str =
@@ -49,7 +44,7 @@ fn files_of<R: Abort>(rt: &R, alloc: Global) -> MemoryFolder {
     let folder = put(rt, alloc, folder, "text", b"version 1\nmov r0, 2\nexit\n");
     let folder = put(rt, alloc, folder, "journals", JOURNALS.as_bytes());
     let folder = put(rt, alloc, folder, "script", SERVICE.as_bytes());
-    put_digits(rt, alloc, folder, "capture", CAPTURE)
+    put_digits(rt, alloc, folder, "capture", DATAGRAM)
 }
 
 /// Which call of the folder fails, which of the output, and which of the error stream.

@@ -1,14 +1,12 @@
 //! Replays of captures with a record of more than 2048 bytes.
 
+use super::replays::{SENDS, TWO_TX};
 use super::{Wanted, compare_digits, lacks, left_by, put, with_image};
 use folders::MemoryFolder;
 use std::alloc::{AllocError, Global};
 use std::process::Abort;
 use std::sync::Wait;
 use std::thread::Threads;
-
-/// Sends every frame.
-const SENDS: &str = "version 1\nmov r0, 3\nexit\n";
 
 /// The header of a capture.
 pub(super) const HEADER: [u8; 24] = [
@@ -24,7 +22,7 @@ pub(super) const RECORD: [u8; 30] = [
 pub(super) const LONG_HEAD: [u8; 16] = [1, 0, 0, 0, 2, 0, 0, 0, 1, 8, 0, 0, 1, 8, 0, 0];
 
 /// A capture of two frames of 14 zeros, at 1 second and 2 microseconds.
-const TWO_ZEROS: &str = "\
+pub(super) const TWO_ZEROS: &str = "\
     d4c3b2a1020004000000000000000000ffff000001000000\
     01000000020000000e0000000e000000\
     0000000000000000000000000000\
@@ -54,8 +52,6 @@ type Row = (
     &'static str,
     &'static str,
 );
-
-const TWO_TX: &str = "frames 2\nshort 0\nstopped 0\naborted 0\ndrop 0\npass 0\ntx 2\n";
 
 #[rattlefmt::skip]
 const ROWS: [Row; 3] = [

@@ -2,6 +2,7 @@
 
 ghost use Rattle.std.specs.Prelude.{◌≡◌};
 
+use super::replays::{DATAGRAM, NO_BACKEND, NOT_TO_LIVE, SENDS, ZEROS_13};
 use super::{done, put, put_digits, with_image};
 use crate::asserting::{holds_of, same_bytes_of};
 use folders::{Folder, MemoryFolder};
@@ -12,17 +13,8 @@ use std::thread::Threads;
 use test_support::files::SERVICE;
 use test_support::programs::READS_ONE;
 
-/// Sends every frame, in two steps.
-const SENDS: &str = "version 1\nmov r0, 3\nexit\n";
-
 /// Gives no verdict, in two steps.
 const ABORTS: &str = "version 1\nmov r0, 0\nexit\n";
-
-/// A capture of a frame of 13 zeros, one second and two microseconds after 1970 began.
-const ZEROS_13: &str = "\
-    d4c3b2a1020004000000000000000000ffff000001000000\
-    01000000020000000d0000000d000000\
-    00000000000000000000000000";
 
 /// A capture of a frame of 14 zeros, at the last moment that a record can have.
 const LAST_MOMENT: &str = "\
@@ -44,18 +36,6 @@ const FIVE_ZEROS: &str = "\
     05000000020000000e0000000e000000\
     0000000000000000000000000000";
 
-/// A capture of a UDP datagram without data to port 80 of 203.0.113.1.
-const DATAGRAM: &str = "\
-    d4c3b2a1020004000000000000000000ffff000001000000\
-    01000000020000002a0000002a000000\
-    02000000000102000000000208004500001c0001000040111494c6336407cb0071019c40005000080000";
-
-/// A capture of the datagram with a time to live of 0.
-const NOT_TO_LIVE: &str = "\
-    d4c3b2a1020004000000000000000000ffff000001000000\
-    01000000020000002a0000002a000000\
-    02000000000102000000000208004500001c0001000000111494c6336407cb0071019c40005000080000";
-
 /// A capture of a frame of 13 zeros, the datagram, 14 zeros and the datagram again.
 const FOUR: &str = "\
     d4c3b2a1020004000000000000000000ffff000001000000\
@@ -70,9 +50,6 @@ const FOUR: &str = "\
 
 /// What a report in CSV begins with.
 const HEAD: &str = "number,moment,worker,verdict,steps,case,backend,address\n";
-
-const NO_BACKEND: &str =
-    "0 gateway 10.0.0.9 02:00:00:00:00:0a 02:00:00:00:00:0b\n0 vip 203.0.113.1 80 udp\n";
 
 /// The first backend goes down after three frames, and the second one is up from then on.
 const MOVED: &str =

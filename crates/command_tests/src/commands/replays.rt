@@ -29,7 +29,7 @@ const ZEROS_14: &str = "\
     0000000000000000000000000000";
 
 /// A capture of a frame of 13 zeros.
-const ZEROS_13: &str = "\
+pub(super) const ZEROS_13: &str = "\
     d4c3b2a1020004000000000000000000ffff000001000000\
     01000000020000000d0000000d000000\
     00000000000000000000000000";
@@ -96,7 +96,7 @@ pub(super) const IN_THE_OTHER_TUNNEL: &str = "\
     02000000000b02000000000a0800450000300000400040046ebf0a000009c00002024500001c0001000040111494c6336407cb0071019c40005000080000";
 
 /// A capture of the datagram with a time to live of 0.
-const NOT_TO_LIVE: &str = "\
+pub(super) const NOT_TO_LIVE: &str = "\
     d4c3b2a1020004000000000000000000ffff000001000000\
     01000000020000002a0000002a000000\
     02000000000102000000000208004500001c0001000000111494c6336407cb0071019c40005000080000";
@@ -131,7 +131,7 @@ const MOVED: &str = "  2 frames of TCP or UDP that fit into a tunnel
   record 2 went to another address than the frame of its flow before
 ";
 
-const TWO_TX: &str = "frames 2\nshort 0\nstopped 0\naborted 0\ndrop 0\npass 0\ntx 2\n";
+pub(super) const TWO_TX: &str = "frames 2\nshort 0\nstopped 0\naborted 0\ndrop 0\npass 0\ntx 2\n";
 
 /// Reports of replays.
 const NO_FRAME: &str = "frames 0\nshort 0\nstopped 0\naborted 0\ndrop 0\npass 0\ntx 0\n";
@@ -166,7 +166,7 @@ const FIVE: &str = "frames 5\nshort 0\nstopped 1\naborted 0\ndrop 0\npass 4\ntx 
 const UNTRACKED: &str =
     "0 gateway 10.0.0.9 02:00:00:00:00:0a 02:00:00:00:00:0b\n0 vip 203.0.113.1 80 udp notrack\n0 up 0 192.0.2.1\n";
 
-const NO_BACKEND: &str =
+pub(super) const NO_BACKEND: &str =
     "0 gateway 10.0.0.9 02:00:00:00:00:0a 02:00:00:00:00:0b\n0 vip 203.0.113.1 80 udp\n";
 
 /// A second backend, and then the first one is down.

@@ -2,6 +2,7 @@
 
 ghost use Rattle.std.specs.Prelude.{◌≡◌};
 
+use super::replays::HEAD;
 use super::{LEGAL, NOTHING, compare, done, left_by, put, put_digits, succeeded, writes_nothing};
 use crate::asserting::holds_of;
 use folders::MemoryFolder;
@@ -93,15 +94,12 @@ fn has_no_image_of_another_size(rt: HostRuntime) {
     }
 }
 
-/// A capture's head.
-const NO_FRAMES: &str = "d4c3b2a1020004000000000000000000ffff000001000000";
-
 #[test]
 fn audits_a_replay_of_the_shipped_program(rt: HostRuntime) {
     let alloc = rt.alloc();
     let name = "a replay";
     let folder = shipped(&rt, alloc, " --ring 7");
-    let folder = put_digits(&rt, alloc, folder, "capture", NO_FRAMES);
+    let folder = put_digits(&rt, alloc, folder, "capture", HEAD);
     let folder = put(&rt, alloc, folder, "script", b"0 up 0 192.0.2.1\n");
     let line = "xlb replay capture sent --script script --ring 7 --journals journals";
     let folder = done(&rt, alloc, name, folder, line);

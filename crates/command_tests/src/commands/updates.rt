@@ -2,6 +2,8 @@
 
 ghost use Rattle.std.specs.Prelude.{◌≡◌};
 
+use super::long_records::TWO_ZEROS;
+use super::replays::TWO_TX;
 use super::{
     Wanted, ZEROS, assembled, compare_begins, compare_file, done, lacks, left_by, over_text,
     put_digits, with_image,
@@ -118,24 +120,14 @@ fn a_hundred_updates_are_made(rt: HostRuntime) {
     compare_begins(&rt, alloc, "a hundred updates", folder, &line, wanted);
 }
 
-/// A capture of two frames of 14 zeros.
-const TWO_ZEROS: &str = "\
-    d4c3b2a1020004000000000000000000ffff000001000000\
-    01000000020000000e0000000e000000\
-    0000000000000000000000000000\
-    01000000020000000e0000000e000000\
-    0000000000000000000000000000";
-
-const TWO_SENT: &str = "frames 2\nshort 0\nstopped 0\naborted 0\ndrop 0\npass 0\ntx 2\n";
-
 const TWO_DROPPED: &str = "frames 2\nshort 0\nstopped 0\naborted 0\ndrop 2\npass 0\ntx 0\n";
 
 /// As of a run. Sixteen entries are the least room of a journal.
 #[rattlefmt::skip]
 const REPLAYS: [Row; 9] = [
-    ("one worker", " --update 0 07000000 0300000000000000", 0, TWO_SENT, ""),
-    ("four workers", " --workers 4 --update 0 07000000 0300000000000000", 0, TWO_SENT, ""),
-    ("exact", " --exact --update 0 07000000 0300000000000000", 0, TWO_SENT, ""),
+    ("one worker", " --update 0 07000000 0300000000000000", 0, TWO_TX, ""),
+    ("four workers", " --workers 4 --update 0 07000000 0300000000000000", 0, TWO_TX, ""),
+    ("exact", " --exact --update 0 07000000 0300000000000000", 0, TWO_TX, ""),
     ("the last one stands", " --update 0 07000000 0300000000000000 --exact --update 0 07000000 0100000000000000", 0, TWO_DROPPED, ""),
     ("no such index", " --update 0 07000000 0300000000000000 --update 1 02000000 0300000000000000", 1, "",
         "fault 93 Refused answer -7\n  update 2 of the command line\n"),
