@@ -27,7 +27,8 @@ abbrev pub brought_by : List MapDef → ℕ → Insn → State → ℕ → Optio
 brought_by maps slot insn state target = arriving_from maps slot (Some insn) (Some state) target None
 
 -- what they bring of a register, from what is known before the instruction
-pub record IsArrival (maps : List MapDef) (slot : ℕ) (insn : Insn) (known : Option State) (target : ℕ) (register : Register) (arrival : Arrival) : Type 0 where
+pub record IsArrival (maps : List MapDef) (slot : ℕ) (insn : Insn) (known : Option State) (target : ℕ) (register : Register)
+    (arrival : Arrival) : Type 0 where
   pub from : arrival.from ≡ slot
   pub insn_is : arrival.insn ≡ insn
   pub state : State
@@ -38,7 +39,8 @@ pub record IsArrival (maps : List MapDef) (slot : ℕ) (insn : Insn) (known : Op
   pub after : arrival.after ≡ kind_of brought register
 
 -- the same of an instruction of the program, in its entry state
-pub record Brings (version : Version) (maps : List MapDef) (code : List Insn) (target : ℕ) (register : Register) (arrival : Arrival) : Type 0 where
+pub record Brings (version : Version) (maps : List MapDef) (code : List Insn) (target : ℕ) (register : Register)
+    (arrival : Arrival) : Type 0 where
   pub here : instruction_at code arrival.from ≡ Some arrival.insn
   pub arrives : IsArrival maps arrival.from arrival.insn (known_at (states_of version maps code) arrival.from) target register arrival
 
@@ -69,7 +71,8 @@ is_call insn = false
 -- no edge from a slot before the target brings a kind that is sought
 abbrev pub NoneBrings : Version → List MapDef → List Insn → ℕ → Register → Option Kind → Type 0
 NoneBrings version maps code target register unlike =
-    (from : ℕ) → from < target → IfSome (brought_from version maps code from target) (λ brought. is_sought version unlike (kind_of brought register) ≡ false)
+    (from : ℕ) → from < target →
+    IfSome (brought_from version maps code from target) (λ brought. is_sought version unlike (kind_of brought register) ≡ false)
 
 -- ---- where a register becomes unset
 
@@ -86,7 +89,8 @@ pub data StaysUnset (version : Version) (maps : List MapDef) (code : List Insn) 
       StaysUnset version maps code register mid to → StaysUnset version maps code register arrival.from to
 
 -- two edges that meet at the slot bring what disagrees
-pub record IsDisagreement (version : Version) (maps : List MapDef) (code : List Insn) (register : Register) (slot : ℕ) (cause : Cause) : Type 0 where
+pub record IsDisagreement (version : Version) (maps : List MapDef) (code : List Insn) (register : Register) (slot : ℕ)
+    (cause : Cause) : Type 0 where
   pub one : Arrival
   pub other : Arrival
   pub one_brings : Brings version maps code slot register one
@@ -100,7 +104,8 @@ abbrev pub cleared_by : Arrival → Cause
 cleared_by arrival = if is_call arrival.insn then ClearedByCall arrival.from else LeftUnset arrival.from
 
 -- an instruction leaves the register unset, which was set before it
-pub record IsClearing (version : Version) (maps : List MapDef) (code : List Insn) (register : Register) (slot : ℕ) (cause : Cause) : Type 0 where
+pub record IsClearing (version : Version) (maps : List MapDef) (code : List Insn) (register : Register) (slot : ℕ)
+    (cause : Cause) : Type 0 where
   pub arrival : Arrival
   pub brings : Brings version maps code slot register arrival
   pub cleared : arrival.after ≡ Unset
@@ -113,13 +118,16 @@ along arrival = if is_unset arrival.before then Further arrival.from else Found 
 
 -- what a look at the edges finds that lead to a slot: the cause, or an edge from before it along which the register stays unset
 pub data LooksBack (version : Version) (maps : List MapDef) (code : List Insn) (register : Register) (slot : ℕ) (back : Back) : Type 0 where
-  looks_at_paths : (cause : Cause) → IsDisagreement version maps code register slot cause → back ≡ Found cause → LooksBack version maps code register slot back
-  looks_at_clearing : (cause : Cause) → IsClearing version maps code register slot cause → back ≡ Found cause → LooksBack version maps code register slot back
-  looks_further : (arrival : Arrival) → Brings version maps code slot register arrival → arrival.after ≡ Unset → arrival.before ≡ Unset → arrival.from < slot →
-      back ≡ Further arrival.from → LooksBack version maps code register slot back
+  looks_at_paths : (cause : Cause) → IsDisagreement version maps code register slot cause → back ≡ Found cause →
+      LooksBack version maps code register slot back
+  looks_at_clearing : (cause : Cause) → IsClearing version maps code register slot cause → back ≡ Found cause →
+      LooksBack version maps code register slot back
+  looks_further : (arrival : Arrival) → Brings version maps code slot register arrival → arrival.after ≡ Unset → arrival.before ≡ Unset →
+      arrival.from < slot → back ≡ Further arrival.from → LooksBack version maps code register slot back
 
 -- why the register is unset at the slot, by a path along which it stays so: from slot 0, where it is unset, or from where it became so
-pub data IsOrigin (version : Version) (maps : List MapDef) (code : List Insn) (register : Register) (slot : ℕ) (cause : Cause) : Type 0 where
+pub data IsOrigin (version : Version) (maps : List MapDef) (code : List Insn) (register : Register) (slot : ℕ)
+    (cause : Cause) : Type 0 where
   never_written : IsUnsetAt version maps code register 0 → StaysUnset version maps code register 0 slot → cause ≡ NeverWritten →
       IsOrigin version maps code register slot cause
   paths_disagree : (at : ℕ) → IsDisagreement version maps code register at cause → StaysUnset version maps code register at slot →

@@ -25,16 +25,18 @@ kind_in (Some definition) = definition.kind
 kind_in None = Array
 
 -- the map of services is no array
-no_array : (size map : ℕ) (definition : MapDef) → (map == 0) ≡ true → slice_get (steering_maps size) map ≡ Some definition → definition.kind ≡ Array → ⊥
+no_array : (size map : ℕ) (definition : MapDef) → (map == 0) ≡ true → slice_get (steering_maps size) map ≡ Some definition →
+    definition.kind ≡ Array → ⊥
 no_array size zero definition first known array = hash_is_array (ap kind_in known ∙ array)
 no_array size (suc map) definition first known array = not_first map first
 
-taken : (size map : ℕ) (definition : MapDef) (is_taken first : Bool) → (map == 0) ≡ first → slice_get (steering_maps size) map ≡ Some definition →
-    definition.kind ≡ Array → answer_if (not first || is_taken) ≡ pos 0
+taken : (size map : ℕ) (definition : MapDef) (is_taken first : Bool) → (map == 0) ≡ first →
+    slice_get (steering_maps size) map ≡ Some definition → definition.kind ≡ Array → answer_if (not first || is_taken) ≡ pos 0
 taken size map definition is_taken true is known array = absurd (no_array size map definition is known array)
 taken size map definition is_taken false is known array = refl
 
 pub arrays_take : (before after : MapsState) (update : UpdateBytes) (answer : ℤ) → IsInArray (steering_maps before.size) update →
     IsAnswered before update answer after → answer ≡ pos 0
 arrays_take before after update answer stands is =
-    is.answer_is ∙ taken before.size update.map stands.definition (is_key_taken before.keys update.key) (update.map == 0) refl stands.known stands.array
+    is.answer_is ∙ taken before.size update.map stands.definition (is_key_taken before.keys update.key) (update.map == 0) refl
+    stands.known stands.array

@@ -84,7 +84,8 @@ words_of_service address port transport = codes "for " ++ (address ++ (codes " p
 abbrev pub service_phrase : Service → List ℕ
 service_phrase service =
     words_of_service
-    (dotted (slice_index service.address.0 0) (slice_index service.address.0 1) (slice_index service.address.0 2) (slice_index service.address.0 3))
+    (dotted (slice_index service.address.0 0) (slice_index service.address.0 1)
+    (slice_index service.address.0 2) (slice_index service.address.0 3))
     service.port (transport_text service.transport)
 
 abbrev pub service_line : List Sent → Service → List ℕ

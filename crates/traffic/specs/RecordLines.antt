@@ -101,7 +101,8 @@ front_of_pieces Json number moment worker verdict = json_front number moment wor
 
 abbrev pub front_text : ReportForm → ℕ → ℕ → Option ℕ → LineVerdict → List ℕ
 front_text form number micros worker verdict =
-    front_of_pieces form (decimal number) (word_text form (moment_text micros)) (number_text form worker) (word_text form (verdict_word verdict))
+    front_of_pieces form (decimal number) (word_text form (moment_text micros)) (number_text form worker)
+    (word_text form (verdict_word verdict))
 
 -- in how many steps, by which case, and where it was sent
 abbrev pub csv_back : List ℕ → List ℕ → List ℕ → List ℕ → List ℕ

@@ -69,7 +69,8 @@ done_lines place frame before maps =
 -- and leaves what the controller says. What is printed is so, and it is noted where it was refused.
 pub data IsShown (place : ℕ) (state : ControllerState) (maps : MapsState) (command : Command) (state' : ControllerState)
     (maps' : MapsState) (printed : List ℕ) (noted : List Refused) : Type 0 where
-  carried_out : refusal_of state command.action ≡ None → IsCarriedOut IsAnswered state maps (first_updates state.up command.action) (up_after state.up command.action) state' maps'
+  carried_out : refusal_of state command.action ≡ None
+      → IsCarriedOut IsAnswered state maps (first_updates state.up command.action) (up_after state.up command.action) state' maps'
       → printed ≡ done_lines place command.frame maps.words maps' → noted ≡ []
       → IsShown place state maps command state' maps' printed noted
   refused : (fault : ControlFault) → IsLeft IsAnswered IsNeverRefused state maps command.action state' maps' fault

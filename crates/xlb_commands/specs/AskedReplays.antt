@@ -17,14 +17,14 @@ use Rattle.xlb_commands.specs.Replays.{IsCaptureOf, IsMade, IsReplayReport, imag
 -- it was made, and this is its report
 abbrev pub IsAnswered : FileBytes → FileBytes → Asked → Report → Type 0
 IsAnswered before after asked report =
-    IsReplayReport before after asked.files.now (image_of asked.verified.now) asked.verified.now.states asked.script.now asked.options asked.recording
-    asked.ring asked.exact asked.skip_long asked.updates.now report
+    IsReplayReport before after asked.files.now (image_of asked.verified.now) asked.verified.now.states asked.script.now asked.options
+    asked.recording asked.ring asked.exact asked.skip_long asked.updates.now report
 
 -- it was not made, or not written down, and this is why
 abbrev pub IsDenied : FileBytes → FileBytes → Type 0 → Asked → Fault → Type 0
 IsDenied before after failed asked fault =
-    IsUnreplayed before after failed asked.files.now (image_of asked.verified.now) asked.script.now asked.options asked.recording asked.exact
-    asked.skip_long asked.updates.now fault
+    IsUnreplayed before after failed asked.files.now (image_of asked.verified.now) asked.script.now asked.options asked.recording
+    asked.exact asked.skip_long asked.updates.now fault
 
 -- no file changed but those that it is to write
 abbrev pub LeavesOthers : FileBytes → FileBytes → Asked → Type 0
@@ -34,8 +34,8 @@ LeavesOthers before after asked =
 -- it was made of these records, with this outcome
 abbrev pub IsOutcome : Asked → List Sent → Outcome → Type 0
 IsOutcome asked records outcome =
-    IsMade asked.exact (program_of asked.verified.now asked.options.shards) asked.updates.now asked.script.now (recorded asked.recording asked.options)
-    records outcome
+    IsMade asked.exact (program_of asked.verified.now asked.options.shards) asked.updates.now asked.script.now
+    (recorded asked.recording asked.options) records outcome
 
 -- it was given up, and this is why
 abbrev pub IsWhyNone : Asked → ReplayFault → Type 0
@@ -50,5 +50,5 @@ pub record IsMadeInTurn (before : FileBytes) (asked : Asked) : Type 0 where
   pub records : List Sent
   pub capture : IsCaptureOf before false asked.files.now.capture.now records
   pub outcome : Outcome
-  pub made : IsMade true (program_of asked.verified.now asked.options.shards) asked.updates.now asked.script.now (recorded asked.recording asked.options)
-      records outcome
+  pub made : IsMade true (program_of asked.verified.now asked.options.shards) asked.updates.now asked.script.now
+      (recorded asked.recording asked.options) records outcome

@@ -14,7 +14,8 @@ IsReplayInput files name = (name ≡ files.capture.now) ⊎ ((text_of files.imag
 abbrev pub IsOverInReplay : ReplayFiles → List ℕ → List ℕ → Type 0
 IsOverInReplay files written other = ((written ≡ files.sent.now) × IsReplayInput files other)
     ⊎ (((text_of files.journals ≡ Some written) × (IsReplayInput files other ⊎ (other ≡ files.sent.now)))
-    ⊎ ((text_of files.report ≡ Some written) × (IsReplayInput files other ⊎ ((other ≡ files.sent.now) ⊎ (text_of files.journals ≡ Some other)))))
+    ⊎ ((text_of files.report ≡ Some written)
+    × (IsReplayInput files other ⊎ ((other ≡ files.sent.now) ⊎ (text_of files.journals ≡ Some other)))))
 
 -- the command writes the file of the first name, and reads that of the second, or writes it before
 abbrev pub IsOver : Settings → List ℕ → List ℕ → Type 0

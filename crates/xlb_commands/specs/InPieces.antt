@@ -49,7 +49,8 @@ pub record HaveRun (program : Program) (script : List Command) (options : Option
   pub added : AreAdded made made' sent
 
 -- the replay is at this place of some capture
-pub record IsGoing (program : Program) (script : List Command) (options : Options) (updates : List MapUpdate) (replay : PieceReplay) : Type 0 where
+pub record IsGoing (program : Program) (script : List Command) (options : Options) (updates : List MapUpdate)
+    (replay : PieceReplay) : Type 0 where
   pub records : List Sent
   pub sent : List Sent
   pub ends : List RecordEnd
@@ -58,7 +59,8 @@ pub record IsGoing (program : Program) (script : List Command) (options : Option
 -- all that a replay promises holds for the outcome of an exact replay of these records, which sent these frames; and the bytes of the journals and the
 -- report are that outcome's
 pub record IsMadeOf (files : ReplayFiles) (program : Contents) (states : List (Option State)) (script : List Command) (options : Options)
-    (recording : Recording) (ring : ℕ) (updates : List MapUpdate) (records sent : List Sent) (report : Report) (journals : List ℕ) : Type 0 where
+    (recording : Recording) (ring : ℕ) (updates : List MapUpdate) (records sent : List Sent) (report : Report)
+    (journals : List ℕ) : Type 0 where
   pub whole : Outcome
   pub sent_are : whole.sent.items ≡ sent
   pub made : IsMade true (program_of_replay program options) updates script (recorded recording options) records whole
@@ -77,8 +79,9 @@ pub record HasGoneThrough (files : FileBytes) (name : List ℕ) (program : Progr
   pub have_run : HaveRun program script options before after made made' records
 
 -- besides, the replay came to its end, and the report and the bytes of the journals are its
-pub record IsLeft (before made made' : FileBytes) (files : ReplayFiles) (program : Contents) (states : List (Option State)) (script : List Command)
-    (options : Options) (recording : Recording) (ring : ℕ) (updates : List MapUpdate) (report : Report) (journals : List ℕ) : Type 0 where
+pub record IsLeft (before made made' : FileBytes) (files : ReplayFiles) (program : Contents) (states : List (Option State))
+    (script : List Command) (options : Options) (recording : Recording) (ring : ℕ) (updates : List MapUpdate) (report : Report)
+    (journals : List ℕ) : Type 0 where
   pub records : List Sent
   pub sent : List Sent
   pub capture : IsCaptureOf before false files.capture.now records

@@ -111,7 +111,8 @@ backend_at backends (Some address) = only_number (holder_among address backends)
 abbrev pub line_text : ReportForm → Bool → List (ℕ × ℕ) → ℕ → Sent → RecordEnd → Option Sent → List ℕ
 line_text form is_steering backends number captured end sent =
     front_text form (number + 1) (captured.seconds * 1000000 + captured.micros) (worker_in end) (verdict_in end)
-    ++ back_text form (steps_in end) (case_in is_steering captured.bytes.items end) (backend_at backends (address_in end sent)) (address_in end sent)
+    ++ back_text form (steps_in end) (case_in is_steering captured.bytes.items end) (backend_at backends (address_in end sent))
+    (address_in end sent)
 
 -- what became of the record of this number
 abbrev pub end_of : List RecordEnd → ℕ → RecordEnd

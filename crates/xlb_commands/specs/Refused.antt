@@ -119,8 +119,10 @@ pub data IsTextRefusal (files : FileBytes) (failed : Type 0) (name : List ℕ) (
 -- the file was not read, or its bytes are too many or too few; memory is refused only for a right frame
 pub data IsFrameRefusal (files : FileBytes) (failed : Type 0) (name : List ℕ) (fault : Fault) : Type 0 where
   no_frame_bytes : IsUnserved failed fault → IsFrameRefusal files failed name fault
-  too_long : (bytes : List ℕ) → files name bytes → 2048 < length bytes → fault ≡ faults.Frame frames.FrameTooLong → IsFrameRefusal files failed name fault
-  too_short : (bytes : List ℕ) → files name bytes → length bytes < 14 → fault ≡ faults.Frame frames.ShortFrame → IsFrameRefusal files failed name fault
+  too_long : (bytes : List ℕ) → files name bytes → 2048 < length bytes → fault ≡ faults.Frame frames.FrameTooLong
+      → IsFrameRefusal files failed name fault
+  too_short : (bytes : List ℕ) → files name bytes → length bytes < 14 → fault ≡ faults.Frame frames.ShortFrame
+      → IsFrameRefusal files failed name fault
   no_frame_memory : (bytes : List ℕ) → files name bytes → 14 ≤ length bytes → length bytes ≤ 2048 → fault ≡ faults.Frame frames.Memory
       → IsFrameRefusal files failed name fault
 
@@ -144,15 +146,16 @@ pub data IsUnwritten (failed : Type 0) (fault : Fault) : Type 0 where
 -- xlb asm: the text was not read, or spells no image, and no file changed; or it spells one, whose file was not written
 pub data IsAsmRefusal (files after : FileBytes) (failed : Type 0) (name : List ℕ) (fault : Fault) : Type 0 where
   no_text_bytes : AreKept files after → IsUnserved failed fault → IsAsmRefusal files after failed name fault
-  no_spelling : (bytes : List ℕ) (why : AsmFault) → AreKept files after → files name bytes → IsSpellingRefusal bytes why → fault ≡ faults.Text why
-      → IsAsmRefusal files after failed name fault
+  no_spelling : (bytes : List ℕ) (why : AsmFault) → AreKept files after → files name bytes → IsSpellingRefusal bytes why
+      → fault ≡ faults.Text why → IsAsmRefusal files after failed name fault
   no_image_file : (bytes : List ℕ) (image : Contents) → files name bytes → IsAssemblyText bytes image → IsUnwritten failed fault
       → IsAsmRefusal files after failed name fault
 
 -- xlb asm --source: the same of the source form
 pub data IsSourceRefusal (files after : FileBytes) (failed : Type 0) (name : List ℕ) (fault : Fault) : Type 0 where
   no_source_bytes : AreKept files after → IsUnserved failed fault → IsSourceRefusal files after failed name fault
-  no_source : (bytes : List ℕ) → AreKept files after → files name bytes → IsNoSource bytes fault → IsSourceRefusal files after failed name fault
+  no_source : (bytes : List ℕ) → AreKept files after → files name bytes → IsNoSource bytes fault
+      → IsSourceRefusal files after failed name fault
   no_source_image_file : (bytes : List ℕ) (image : Contents) → files name bytes → IsSource bytes image → IsUnwritten failed fault
       → IsSourceRefusal files after failed name fault
 
@@ -178,14 +181,16 @@ pub data IsNotJudged (files : FileBytes) (failed : Type 0) (name : List ℕ) (fa
   no_judged_bytes : IsUnserved failed fault → IsNotJudged files failed name fault
   no_judged_image : (bytes : List ℕ) → files name bytes → begins_as_source (take kept_of_image bytes) ≡ false → IsNoImage bytes fault
       → IsNotJudged files failed name fault
-  no_judged_source : (bytes : List ℕ) → BeginsAs files name true → files name bytes → IsNoSource bytes fault → IsNotJudged files failed name fault
+  no_judged_source : (bytes : List ℕ) → BeginsAs files name true → files name bytes → IsNoSource bytes fault
+      → IsNotJudged files failed name fault
 
 -- xlb check: nothing to judge; or an image that breaks a rule: its first reject; or one that may run, and memory was refused for the line
 pub data IsCheckRefusal (files : FileBytes) (failed : Type 0) (name : List ℕ) (fault : Fault) : Type 0 where
   not_judged : IsNotJudged files failed name fault → IsCheckRefusal files failed name fault
   not_accepted : (image : Contents) (why : Reject) → IsJudged files name image → IsFirstReject image.version image.maps image.code why
       → fault ≡ faults.Program why → IsCheckRefusal files failed name fault
-  no_line : (image : Contents) → IsJudged files name image → IsSafeImage image.maps image.code → fault ≡ faults.Memory → IsCheckRefusal files failed name fault
+  no_line : (image : Contents) → IsJudged files name image → IsSafeImage image.maps image.code → fault ≡ faults.Memory
+      → IsCheckRefusal files failed name fault
 
 -- xlb check --explain: nothing to judge; or an image for which memory was refused for the text, or which breaks a rule: its first reject
 pub data IsExplainRefusal (files : FileBytes) (failed : Type 0) (name : List ℕ) (fault : Fault) : Type 0 where
@@ -207,7 +212,8 @@ pub record AreJournalsOf (files : FileBytes) (name journals : List ℕ) (told : 
 -- xlb audit: no image; journals that were not read, that the file does not spell, or that are not legal; or memory was refused for the line
 pub data IsAuditRefusal (files : FileBytes) (failed : Type 0) (name journals : List ℕ) (fault : Fault) : Type 0 where
   no_audited_image : IsImageRefusal files failed name fault → IsAuditRefusal files failed name journals fault
-  no_journal_bytes : (image : Contents) → IsImageFile files name image → IsUnserved failed fault → IsAuditRefusal files failed name journals fault
+  no_journal_bytes : (image : Contents) → IsImageFile files name image → IsUnserved failed fault
+      → IsAuditRefusal files failed name journals fault
   no_journals : (image : Contents) (bytes : List ℕ) (why : FileFault) → IsImageFile files name image → files journals bytes
       → RefusesJournals image.maps bytes why → fault ≡ faults.Journals why → IsAuditRefusal files failed name journals fault
   not_legal : (told : JournalsView) (why : AuditFault) → AreJournalsOf files name journals told → ExplainsJournals told why
@@ -248,8 +254,9 @@ pub record AreRunInputs (files : FileBytes) (run : RunFiles) (updates : List Map
 pub data IsRunFault (maps : List MapDef) (updates : List MapUpdate) (fault : Fault) : Type 0 where
   not_served : IsFalse (are_served_options maps run_options) → fault ≡ faults.Options opens.BadOptions → IsRunFault maps updates fault
   no_map_memory : IsTrue (are_served_options maps run_options) → fault ≡ faults.Options opens.Memory → IsRunFault maps updates fault
-  update_refused : (place : ℕ) (answer : ℤ) → IsTrue (are_served_options maps run_options) → IsRefusedUpdate maps run_options updates place answer
-      → fault ≡ faults.Script (scripts.Refused answer) → IsRunFault maps updates fault
+  update_refused : (place : ℕ) (answer : ℤ) → IsTrue (are_served_options maps run_options)
+      → IsRefusedUpdate maps run_options updates place answer → fault ≡ faults.Script (scripts.Refused answer)
+      → IsRunFault maps updates fault
   update_full : (place : ℕ) → IsTrue (are_served_options maps run_options) → IsFullForUpdate maps run_options updates place
       → fault ≡ faults.Script scripts.JournalFull → IsRunFault maps updates fault
 
@@ -269,18 +276,22 @@ pub record IsEndedRun (program : Contents) (bytes : List ℕ) (now worker : ℕ)
 
 -- xlb run: no program that may run; no frame; a worker that there is not; no run; one that was stopped; one that came to its end, and memory was refused
 -- for its journals or its lines; until then no file changed; or its journals were not written
-pub data IsRunRefusal (files after : FileBytes) (failed : Type 0) (run : RunFiles) (now worker : ℕ) (updates : List MapUpdate) (fault : Fault) : Type 0 where
-  no_run_program : AreKept files after → IsProgramRefusal files failed run.image.now fault → IsRunRefusal files after failed run now worker updates fault
+pub data IsRunRefusal (files after : FileBytes) (failed : Type 0) (run : RunFiles) (now worker : ℕ) (updates : List MapUpdate)
+    (fault : Fault) : Type 0 where
+  no_run_program : AreKept files after → IsProgramRefusal files failed run.image.now fault
+      → IsRunRefusal files after failed run now worker updates fault
   no_run_frame : AreKept files after → IsFittingProgram files run.image.now updates → IsFrameRefusal files failed run.frame.now fault
       → IsRunRefusal files after failed run now worker updates fault
   no_worker : (program : Contents) (bytes : List ℕ) → AreKept files after → AreRunInputs files run updates program bytes → 8 ≤ worker
       → fault ≡ faults.Options opens.BadOptions → IsRunRefusal files after failed run now worker updates fault
   not_run : (program : Contents) (bytes : List ℕ) → AreKept files after → AreRunInputs files run updates program bytes → worker < 8
       → IsRunFault program.maps updates fault → IsRunRefusal files after failed run now worker updates fault
-  stopped : (program : Contents) (bytes : List ℕ) (stop : Stop) → AreKept files after → AreRunInputs files run updates program bytes → worker < 8
-      → IsStoppedRun program bytes now worker updates stop → fault ≡ faults.Run stop → IsRunRefusal files after failed run now worker updates fault
+  stopped : (program : Contents) (bytes : List ℕ) (stop : Stop) → AreKept files after → AreRunInputs files run updates program bytes
+      → worker < 8 → IsStoppedRun program bytes now worker updates stop → fault ≡ faults.Run stop
+      → IsRunRefusal files after failed run now worker updates fault
   not_told : (program : Contents) (bytes : List ℕ) → AreKept files after → AreRunInputs files run updates program bytes → worker < 8
-      → IsEndedRun program bytes now worker updates → LacksRoom (text_of run.journals) fault → IsRunRefusal files after failed run now worker updates fault
+      → IsEndedRun program bytes now worker updates → LacksRoom (text_of run.journals) fault
+      → IsRunRefusal files after failed run now worker updates fault
   not_filed : (program : Contents) (bytes : List ℕ) → AreRunInputs files run updates program bytes → worker < 8
       → IsEndedRun program bytes now worker updates → AreUnwritten (text_of run.journals) failed fault
       → IsRunRefusal files after failed run now worker updates fault
@@ -345,12 +356,13 @@ pub data IsNoCaptureIn (skip_long : Bool) (bytes : List ℕ) (fault : Fault) : T
 -- the file was not read, or its bytes are no capture
 pub data IsCaptureRefusal (files : FileBytes) (failed : Type 0) (skip_long : Bool) (name : List ℕ) (fault : Fault) : Type 0 where
   no_capture_bytes : IsUnserved failed fault → IsCaptureRefusal files failed skip_long name fault
-  no_capture : (bytes : List ℕ) → files name bytes → IsNoCaptureIn skip_long bytes fault → IsCaptureRefusal files failed skip_long name fault
+  no_capture : (bytes : List ℕ) → files name bytes → IsNoCaptureIn skip_long bytes fault
+      → IsCaptureRefusal files failed skip_long name fault
 
 -- why the replay was given up: for its options exactly where no shards are opened with them, or the script has commands and the maps are not those of
 -- steering; else memory was refused, an update was refused or met a full journal, or a thread could not be started (an exact replay has none)
-pub record IsGivenUp (exact : Bool) (maps : List MapDef) (updates : List MapUpdate) (script : List Command) (options : Options) (recording : Recording)
-    (why : ReplayFault) : Type 0 where
+pub record IsGivenUp (exact : Bool) (maps : List MapDef) (updates : List MapUpdate) (script : List Command) (options : Options)
+    (recording : Recording) (why : ReplayFault) : Type 0 where
   pub options_are_bad : (why ≡ replays.BadOptions) ↔ AreBadOptions maps options script
   pub no_thread : exact ≡ true → ¬ (why ≡ replays.NoThread)
   pub by_pass : exact ≡ false → OfUpdate (IsWhyByPass maps (recorded recording options) updates) why
@@ -358,11 +370,12 @@ pub record IsGivenUp (exact : Bool) (maps : List MapDef) (updates : List MapUpda
 
 -- The files of a replay were not written: that of the sent frames, and no other file changed; or that of the journals, and the sent frames are in theirs;
 -- or that of the report, and the sent frames and the journals are in theirs.
-pub data AreUnfiled (before after : FileBytes) (failed : Type 0) (names : ReplayFiles) (sent : List ℕ) (journals : JournalsView) (fault : Fault) :
-    Type 0 where
-  no_sent_file : AreOthersKept before after names.sent.now → IsUnserved failed fault → AreUnfiled before after failed names sent journals fault
-  no_journals_file : (text_of names.journals ≢ Some names.sent.now → after names.sent.now sent) → AreUnwritten (text_of names.journals) failed fault
+pub data AreUnfiled (before after : FileBytes) (failed : Type 0) (names : ReplayFiles) (sent : List ℕ) (journals : JournalsView)
+    (fault : Fault) : Type 0 where
+  no_sent_file : AreOthersKept before after names.sent.now → IsUnserved failed fault
       → AreUnfiled before after failed names sent journals fault
+  no_journals_file : (text_of names.journals ≢ Some names.sent.now → after names.sent.now sent)
+      → AreUnwritten (text_of names.journals) failed fault → AreUnfiled before after failed names sent journals fault
   no_report_file : (text_of names.journals ≢ Some names.sent.now → text_of names.report ≢ Some names.sent.now → after names.sent.now sent)
       → (text_of names.report ≢ text_of names.journals → AreWritten after (text_of names.journals) journals)
       → AreUnwritten (text_of names.report) failed fault → AreUnfiled before after failed names sent journals fault
@@ -375,8 +388,8 @@ pub data IsBrokenOff (failed : Type 0) (fault : Fault) : Type 0 where
 
 -- Of a program that may run and whose maps take the updates, and a script: no capture; a replay that was given up; an exact one that was broken off; one that
 -- was made, and memory was refused for its sent frames, its journals, its report or what is printed; until then no file changed; or its files were not written.
-pub data IsUnreplayed (files after : FileBytes) (failed : Type 0) (names : ReplayFiles) (program : Contents) (script : List Command) (options : Options)
-    (recording : Recording) (exact skip_long : Bool) (updates : List MapUpdate) (fault : Fault) : Type 0 where
+pub data IsUnreplayed (files after : FileBytes) (failed : Type 0) (names : ReplayFiles) (program : Contents) (script : List Command)
+    (options : Options) (recording : Recording) (exact skip_long : Bool) (updates : List MapUpdate) (fault : Fault) : Type 0 where
   no_replay_capture : AreKept files after → IsCaptureRefusal files failed skip_long names.capture.now fault
       → IsUnreplayed files after failed names program script options recording exact skip_long updates fault
   given_up : (records : List Sent) (why : ReplayFault) → AreKept files after → IsCaptureOf files skip_long names.capture.now records
@@ -387,19 +400,20 @@ pub data IsUnreplayed (files after : FileBytes) (failed : Type 0) (names : Repla
       → IsUnreplayed files after failed names program script options recording exact skip_long updates fault
   not_reported : (records : List Sent) (outcome : Outcome) → AreKept files after → IsCaptureOf files skip_long names.capture.now records
       → IsMade exact (program_of_replay program options) updates script (recorded recording options) records outcome
-      → LacksRoom (text_of names.journals) fault → IsUnreplayed files after failed names program script options recording exact skip_long updates fault
+      → LacksRoom (text_of names.journals) fault
+      → IsUnreplayed files after failed names program script options recording exact skip_long updates fault
   not_written_down : (records : List Sent) (outcome : Outcome) → IsCaptureOf files skip_long names.capture.now records
       → IsMade exact (program_of_replay program options) updates script (recorded recording options) records outcome
       → AreUnfiled files after failed names (capture_bytes outcome.sent.items) outcome.journals fault
       → IsUnreplayed files after failed names program script options recording exact skip_long updates fault
 
 -- xlb replay: no program that may run; no script; or both, and no replay that was made and written down
-pub data IsReplayRefusal (files after : FileBytes) (failed : Type 0) (names : ReplayFiles) (options : Options) (recording : Recording) (ring : ℕ)
-    (exact skip_long : Bool) (updates : List MapUpdate) (fault : Fault) : Type 0 where
+pub data IsReplayRefusal (files after : FileBytes) (failed : Type 0) (names : ReplayFiles) (options : Options) (recording : Recording)
+    (ring : ℕ) (exact skip_long : Bool) (updates : List MapUpdate) (fault : Fault) : Type 0 where
   no_replay_program : AreKept files after → IsReplayProgramRefusal files failed (text_of names.image) ring fault
       → IsReplayRefusal files after failed names options recording ring exact skip_long updates fault
-  no_replay_script : (program : Contents) → AreKept files after → IsReplayProgram files (text_of names.image) ring program → AreFitting program.maps updates
-      → IsScriptRefusal files failed (text_of names.script) fault
+  no_replay_script : (program : Contents) → AreKept files after → IsReplayProgram files (text_of names.image) ring program
+      → AreFitting program.maps updates → IsScriptRefusal files failed (text_of names.script) fault
       → IsReplayRefusal files after failed names options recording ring exact skip_long updates fault
   not_replayed : (program : Contents) (script : List Command) → IsReplayProgram files (text_of names.image) ring program
       → AreFitting program.maps updates → IsScriptOf files (text_of names.script) script
@@ -412,7 +426,8 @@ pub data IsReplayRefusal (files after : FileBytes) (failed : Type 0) (names : Re
 abbrev pub IsRefusedWith : FileBytes → FileBytes → Type 0 → Settings → Fault → Type 0
 IsRefusedWith before after failed (Check image false) fault = IsCheckRefusal before failed image.now fault
 IsRefusedWith before after failed (Check image true) fault = IsExplainRefusal before failed image.now fault
-IsRefusedWith before after failed (Run files now worker updates) fault = IsRunRefusal before after failed files now worker updates.items fault
+IsRefusedWith before after failed (Run files now worker updates) fault =
+    IsRunRefusal before after failed files now worker updates.items fault
 IsRefusedWith before after failed (Disasm image source) fault = IsTextRefusal before failed image.now fault
 IsRefusedWith before after failed (Audit image journals) fault = IsAuditRefusal before failed image.now journals.now fault
 IsRefusedWith before after failed (Explain about) fault = fault ≡ faults.Memory
@@ -421,7 +436,8 @@ IsRefusedWith before after failed (Asm text out true) fault = IsSourceRefusal be
 IsRefusedWith before after failed (Shipped out ring) fault = IsShippedFileRefusal before after failed ring fault
 IsRefusedWith before after failed (Table script ring) fault = IsTableRefusal before failed script.now ring fault
 IsRefusedWith before after failed (Replay files options ring exact summary skip_long without updates) fault =
-    IsReplayRefusal before after failed files options (recording_of without (text_of files.journals)) ring exact skip_long updates.items fault
+    IsReplayRefusal before after failed files options (recording_of without (text_of files.journals)) ring exact skip_long
+    updates.items fault
 
 -- the fault that is printed: the command was refused with it; or it was done, and what it prints could not be printed
 pub data IsToldFault (before after : FileBytes) (failed unprinted : Type 0) (settings : Settings) (fault : Fault) : Type 0 where
@@ -439,7 +455,8 @@ notes_told (Some notes) = string_bytes notes
 -- To a stream that held `before` one text was written: the fault's line, and below it the notes' lines, each of which begins with two blanks. Where
 -- memory was refused for that text, it is the line of fault 8.
 pub data PrintsRefusal (fault : Fault) (notes : List ℕ) (before after : Option (List ℕ)) : Type 0 where
-  in_full : (text : List ℕ) → IsRefusalText (fault_line fault) notes text → after ≡ append_known before text → PrintsRefusal fault notes before after
+  in_full : (text : List ℕ) → IsRefusalText (fault_line fault) notes text → after ≡ append_known before text
+      → PrintsRefusal fault notes before after
   lacks_text : after ≡ append_known before (codes "fault 8 Memory\n") → PrintsRefusal fault notes before after
 
 -- To a stream that held `before` one text was written: which update the image's maps do not take, and why. Where memory was refused for that text, it is

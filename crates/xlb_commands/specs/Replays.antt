@@ -104,7 +104,8 @@ frames_lines frames short stopped =
 abbrev pub verdicts_lines : ℕ → ℕ → ℕ → ℕ → List ℕ
 verdicts_lines aborted drop pass tx =
     codes "aborted " ++
-    (decimal aborted ++ (codes "\ndrop " ++ (decimal drop ++ (codes "\npass " ++ (decimal pass ++ (codes "\ntx " ++ (decimal tx ++ codes "\n")))))))
+    (decimal aborted ++ (codes "\ndrop " ++ (decimal drop ++ (codes "\npass " ++
+    (decimal pass ++ (codes "\ntx " ++ (decimal tx ++ codes "\n")))))))
 
 abbrev pub counts_text : Counts → List ℕ
 counts_text c = frames_lines (frames_in c) c.short c.stopped ++ verdicts_lines c.aborted c.drop c.pass c.tx
@@ -151,7 +152,8 @@ FollowsRule None ring script options records outcome = IsByRule ring script opti
 -- the record of a frame in a capture file: its moment, its length twice, its bytes
 abbrev pub frame_record : SentFrame → List ℕ
 frame_record frame =
-    (little_bytes 4 frame.seconds ++ little_bytes 4 frame.micros ++ little_bytes 4 (length frame.bytes) ++ little_bytes 4 (length frame.bytes))
+    (little_bytes 4 frame.seconds ++ little_bytes 4 frame.micros
+    ++ little_bytes 4 (length frame.bytes) ++ little_bytes 4 (length frame.bytes))
     ++ frame.bytes
 
 abbrev pub frame_records : List SentFrame → List ℕ
@@ -170,14 +172,15 @@ SendsAlike image states script options records outcome = IsReader image.code sta
 
 -- the replay made these updates before the commands of the script, and accounts for every record, every command and every entry of the journals; an exact
 -- one was made in turn, with the updates before the first frame
-pub record IsMade (exact : Bool) (program : Program) (updates : List MapUpdate) (script : List Command) (options : Options) (records : List Sent)
-    (outcome : Outcome) : Type 0 where
+pub record IsMade (exact : Bool) (program : Program) (updates : List MapUpdate) (script : List Command) (options : Options)
+    (records : List Sent) (outcome : Outcome) : Type 0 where
   pub updates_are : outcome.updates.items ≡ updates
   pub accounted : IsAccounted program script options records outcome
   pub in_turn : exact ≡ true → IsInTurn program script options records outcome
 
 -- the headline, of what the verifier made of the image
-pub record KeepsHeadline (image : Contents) (script : List Command) (options : Options) (records : List Sent) (outcome : Outcome) : Type 0 where
+pub record KeepsHeadline (image : Contents) (script : List Command) (options : Options) (records : List Sent)
+    (outcome : Outcome) : Type 0 where
   pub verified : Verified
   pub image_is : image_of verified ≡ image
   pub kept : Headline verified script options records outcome
@@ -186,9 +189,9 @@ pub record KeepsHeadline (image : Contents) (script : List Command) (options : O
 -- updates the shipped program follows the steering rule, and one that only reads sends the same for every number of workers; the sent frames, the journals
 -- and the report are written to their files; and what is printed are the counts, and the commands that were refused. Where no rows of journals are kept, the
 -- journals are known to proofs alone.
-pub record IsReplayedWith (before after : FileBytes) (files : ReplayFiles) (program : Contents) (states : List (Option State)) (script : List Command)
-    (options : Options) (recording : Recording) (ring : ℕ) (exact skip_long : Bool) (updates : List MapUpdate) (printed : List ℕ)
-    (refused : List Applied) : Type 0 where
+pub record IsReplayedWith (before after : FileBytes) (files : ReplayFiles) (program : Contents) (states : List (Option State))
+    (script : List Command) (options : Options) (recording : Recording) (ring : ℕ) (exact skip_long : Bool) (updates : List MapUpdate)
+    (printed : List ℕ) (refused : List Applied) : Type 0 where
   pub records : List Sent
   pub capture : IsCaptureOf before skip_long files.capture.now records
   pub outcome : Outcome
@@ -199,16 +202,18 @@ pub record IsReplayedWith (before after : FileBytes) (files : ReplayFiles) (prog
   pub refused_are : outcome.refused.items ≡ refused
   -- the journals are written after the sent frames, and the report after both; two of them have one name in no command that is done (Clashes)
   pub sent :
-      text_of files.journals ≢ Some files.sent.now → text_of files.report ≢ Some files.sent.now → after files.sent.now (capture_bytes outcome.sent.items)
+      text_of files.journals ≢ Some files.sent.now → text_of files.report ≢ Some files.sent.now →
+      after files.sent.now (capture_bytes outcome.sent.items)
   pub journals : text_of files.report ≢ text_of files.journals → AreWritten after (text_of files.journals) outcome.journals
   pub report : IsReportFile after (text_of files.report) files.is_steering script records outcome
   pub lines : printed ≡ counts_text outcome.counts ++ refusals_text refused
 
 -- the report is that of such a replay, and says whether a command was refused
-abbrev pub IsReplayReport : FileBytes → FileBytes → ReplayFiles → Contents → List (Option State) → List Command → Options → Recording → ℕ → Bool → Bool
-    → List MapUpdate → Report → Type 0
+abbrev pub IsReplayReport : FileBytes → FileBytes → ReplayFiles → Contents → List (Option State) → List Command → Options → Recording
+    → ℕ → Bool → Bool → List MapUpdate → Report → Type 0
 IsReplayReport before after files program states script options recording ring exact skip_long updates report = (refused : List Applied)
-    × IsReplayedWith before after files program states script options recording ring exact skip_long updates (string_bytes report.text) refused
+    × IsReplayedWith before after files program states script options recording ring exact skip_long updates
+    (string_bytes report.text) refused
     × ((refused ≡ []) ↔ (report.is_refused ≡ false))
 
 -- the program may run, the script is read from its file, and the replay was made with both

@@ -136,7 +136,8 @@ IsRunAnswer before after files now worker updates (Printed text notes) = IsRun b
 IsRunAnswer before after files now worker updates (Mistaken place misfit) = IsMisfitRun before after files updates place misfit
 
 -- the same of a replay
-pub record IsMisfitReplay (before after : FileBytes) (files : ReplayFiles) (ring : ℕ) (updates : List MapUpdate) (place : ℕ) (misfit : Misfit) : Type 0 where
+pub record IsMisfitReplay (before after : FileBytes) (files : ReplayFiles) (ring : ℕ) (updates : List MapUpdate) (place : ℕ)
+    (misfit : Misfit) : Type 0 where
   pub program : Contents
   pub program_is : IsProgramOf before (text_of files.image) ring program
   pub safe : IsSafeImage program.maps program.code
@@ -144,7 +145,8 @@ pub record IsMisfitReplay (before after : FileBytes) (files : ReplayFiles) (ring
   pub kept : AreKept before after
 
 -- what a replay comes to that is not refused
-abbrev pub IsReplayAnswer : FileBytes → FileBytes → ReplayFiles → Options → Recording → ℕ → Bool → Bool → List MapUpdate → ReplayAnswer → Type 0
+abbrev pub IsReplayAnswer : FileBytes → FileBytes → ReplayFiles → Options → Recording → ℕ → Bool → Bool → List MapUpdate
+    → ReplayAnswer → Type 0
 IsReplayAnswer before after files options recording ring exact skip_long updates (replayed.Made report) = (refused : List Applied)
     × IsReplayed before after files options recording ring exact skip_long updates (string_bytes report.text) refused
     × ((refused ≡ []) ↔ (report.is_refused ≡ false))
@@ -208,13 +210,15 @@ IsDone before after (Asm text out false) printed = IsAssembled before after text
 IsDone before after (Asm text out true) printed = IsSourceAssembled before after text.now out.now × (printed ≡ [])
 IsDone before after (Shipped out ring) printed = IsShippedFile after out.now ring × (printed ≡ [])
 IsDone before after (Replay files options ring exact summary skip_long no_journals updates) printed =
-    IsReplayedWhole before after files options (recording_of no_journals (text_of files.journals)) ring exact skip_long updates.items printed
+    IsReplayedWhole before after files options (recording_of no_journals (text_of files.journals)) ring exact skip_long
+    updates.items printed
 IsDone before after (Table script ring) printed = IsTableShown before script.now ring printed false
 
 -- the command is done except a part that was refused, as the report says: commands of a script
 abbrev pub IsDoneInPart : FileBytes → FileBytes → Settings → List ℕ → Type 0
 IsDoneInPart before after (Replay files options ring exact summary skip_long no_journals updates) printed =
-    IsReplayedInPart before after files options (recording_of no_journals (text_of files.journals)) ring exact skip_long updates.items printed
+    IsReplayedInPart before after files options (recording_of no_journals (text_of files.journals)) ring exact skip_long
+    updates.items printed
 IsDoneInPart before after (Table script ring) printed = IsTableShown before script.now ring printed true
 IsDoneInPart before after other printed = ⊥
 
@@ -268,6 +272,7 @@ IsMistake before after other place misfit = ⊥
 
 -- what a command comes to that is not refused: it was done, whole or in part, or its words are mistaken
 abbrev pub IsAnswer : FileBytes → FileBytes → Settings → CommandAnswer → Type 0
-IsAnswer before after settings (answers.Reported report) = (report.is_refused ≡ false → IsDone before after settings (string_bytes report.text))
+IsAnswer before after settings (answers.Reported report) =
+    (report.is_refused ≡ false → IsDone before after settings (string_bytes report.text))
     × (report.is_refused ≡ true → IsDoneInPart before after settings (string_bytes report.text))
 IsAnswer before after settings (answers.Mistaken place misfit) = IsMistake before after settings place misfit
