@@ -1,4 +1,4 @@
--- Two runs on one frame that wrote the same are one trace: each call's reply stands next among the own entries of its shard.
+-- Two runs on one frame that wrote the same are one trace: each call's reply is the next of the own entries of its shard.
 use Rattle.std.proofs.Common.{◌≡◌, ◌≢◌, ⊎_elim, ℕ, zero, suc, ◌<◌, ◌==◌, Bool, true, cond, List, [], ◌∷◌, ◌++◌, map, reverse, refl, sym, ◌∙◌, ap, subst, arith}
 use Rattle.std.specs.Prelude.{filter}
 use Rattle.std.proofs.lemmas.Bool.{cases_eq, ne_eqb}

@@ -42,7 +42,7 @@ start byte = initial_state (input_frame (frame_of byte)) 0 0
 abbrev stand_at : ℕ → List Exchange → RunStand
 stand_at byte exchanges = (trace_of 17 (program_of row_setting) (start byte) (replies_in exchanges)).stand
 
--- the state with which a run stands
+-- the machine's state in that of a run
 abbrev state_of : RunStand → MachineState
 state_of (HasExited verdict last) = last
 state_of (Waits state) = state

@@ -18,7 +18,7 @@ use Rattle.machine.specs.Running.{program_of}
 use Rattle.guarantees.specs.Moves.{Answers}
 use Rattle.guarantees.specs.Runs.{IsOutside, AreLegal, Start, Ran, WasStopped, IsTheMeaning, IsTheBeginning}
 
--- a run over shards in which its worker was not inside is the meaning of its program on the replies that stand in the journals
+-- a run over shards in which its worker was not inside is the meaning of its program on the replies that are in the journals
 abbrev pub RunsAreTheirMeaning : Type 0
 RunsAreTheirMeaning =
     (verified : Verified) (options : Options) (start : Start) (before after : List JournaledShard) (verdict : Verdict) (steps : ℕ)

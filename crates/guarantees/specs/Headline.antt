@@ -47,7 +47,7 @@ use Rattle.guarantees.specs.ReaderReplays.{IsCaptured}
 abbrev pub moment_of : Sent → ℕ → Moment
 moment_of captured worker = record { now_ns = time_of captured; worker = worker }
 
--- a run that ended: its program's trace on the replies that stand among its worker's entries, and steps of the system from idle to idle
+-- a run that ended: its program's trace on the replies that are among its worker's entries, and steps of the system from idle to idle
 pub record IsRunOfImage (verified : Verified) (options : Options) (count worker : ℕ) (captured : Sent) (before : PassView) (end : RunEnd)
     (after : PassView) : Type 0 where
   pub verdict : Verdict

@@ -27,7 +27,7 @@ is_refusal asked = false
 
 -- The deeds of all callers in one order, the oldest first. Shard by shard they are its journal, which is legal, and each look at a full
 -- journal met one; caller by caller they are what its own moves did, which lead a worker from idle to idle. Of callers that are no worker
--- of the options a look at a full journal is no event, and is passed over.
+-- of the options a look at a full journal is no event, and is left out.
 pub record IsOrderOfMoves (setting : Setting) (plan : ℕ → ShardPlan) (count : ℕ) (journal : ℕ → List Entry)
     (moves : ℕ → List Move) (deeds : List Deed) : Type 0 where
   pub options : AreOptions setting.maps setting.options

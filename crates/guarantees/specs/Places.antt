@@ -23,7 +23,7 @@ is_leave call = false
 abbrev pub NoLeaveOf : ℕ → List Entry → Type 0
 NoLeaveOf worker entries = AllByRecursion (λ (entry : Entry). IsFalse (is_worker worker entry.who && is_leave entry.call)) entries
 
--- the worker's Enter stands at a place which no Leave of its own follows
+-- the worker's Enter is at a place that no Leave of its own follows
 pub record IsInsideByPlace (worker : ℕ) (history : List Entry) : Type 0 where
   pub newer : List Entry
   pub enter : Entry
@@ -43,7 +43,7 @@ pub record HasFound (worker cell : ℕ) (entry : Entry) : Type 0 where
   pub answered : entry.reply ≡ Cell found
   pub id_is : found.id ≡ cell
 
--- after such an Enter stands such a Lookup
+-- such an Enter is followed by such a Lookup
 pub record HoldsByPlace (worker cell : ℕ) (history : List Entry) : Type 0 where
   pub inside : IsInsideByPlace worker history
   pub newer : List Entry

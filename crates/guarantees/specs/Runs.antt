@@ -93,14 +93,14 @@ AreWrittenBut call worker exchanges before after =
     ⊎ ((shard_of_call call ≡ number) × (entries_at worker number exchanges ≡ []) × (slice_get after number ≡ Some
     (with_entries shard (enter_by worker shard.plan.number ∷ leave_by worker shard.plan.number ∷ []))))
 
--- after what the run had asked of the call's shard, which stood so before it, the journal had no room for the worker's Enter, or for the
--- call
+-- after what the run had asked of the call's shard, which was this one before the run, the journal had no room for the worker's Enter, or
+-- for the call
 abbrev pub WasFull : Call → ℕ → List Exchange → JournaledShard → Type 0
 WasFull call worker exchanges shard =
     let here : JournaledShard = with_entries shard (begun worker shard.plan.number (entries_at worker (shard_of_call call) exchanges)) in
     IsFalse (can_enter worker here) ⊎ IsJournalFull here.plan (reverse (entered worker here).journal) call
 
--- the run is the meaning of its program on replies of their calls' form, each to a call on one of the shards; they stand in the journals,
+-- the run is the meaning of its program on replies of their calls' form, each to a call on one of the shards; they are in the journals,
 -- which are legal; and it left every shard
 pub record IsTheMeaning (program : Program) (start : Start) (before after : List JournaledShard) (verdict : Verdict) (steps : ℕ)
     (frame : FrameView) : Type 0 where

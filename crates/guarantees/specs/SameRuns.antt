@@ -13,14 +13,14 @@ use Rattle.semantics.specs.System.{IsInputFrame, input_frame}
 abbrev pub at_worker : ℕ → MachineState → MachineState
 at_worker worker state = record state { worker = worker }
 
--- how a run stands, whichever worker it is on
+-- the state of a run, whichever worker it is on
 abbrev pub stand_of_any : RunStand → RunStand
 stand_of_any (HasExited verdict last) = HasExited verdict (at_worker 0 last)
 stand_of_any (Waits state) = Waits (at_worker 0 state)
 stand_of_any (HasTrapped cause) = HasTrapped cause
 stand_of_any GoesOn = GoesOn
 
--- its calls, and how it stands
+-- its calls, and its state
 abbrev pub trace_of_any : RunTrace → RunTrace
 trace_of_any trace = record { calls = trace.calls; stand = stand_of_any trace.stand }
 

@@ -86,7 +86,7 @@ MovesLeadToOne =
 
 -- ---- a run of the system is its program's trace
 
--- on replies of the calls' form, which stand among the worker's own entries, session by session, as `run_frame` says it
+-- on replies of the calls' form, which are among the worker's own entries, session by session, as `run_frame` says it
 pub record IsOwnTrace (setting : Setting) (worker told now : ℕ) (frame : List ℕ) (count : ℕ) (before after : PassView) (verdict : Verdict)
     (last : MachineState) : Type 0 where
   pub exchanges : List Exchange

@@ -73,7 +73,7 @@ pub fn accepted_images_are_safe(verified: &Verified)
 }
 
 /// A run over shards that other threads call meanwhile is a list of its worker's steps in the system of all workers, from idle to idle.
-/// Where `run` ensures a trace that ends, on replies of their calls' form that stand in the port's sessions: the worker begins its run on
+/// Where `run` ensures a trace that ends, on replies of their calls' form that are in the port's sessions: the worker begins its run on
 /// the frame; each step leads from where the one before it left the worker; the last instruction ends the run with this verdict and
 /// state; then the worker leaves every shard that it entered. What these steps write on each shard is what the worker's own entries there
 /// have more, and what they do over all shards, in order, is what the pass has done more. The shards are left in rising order.

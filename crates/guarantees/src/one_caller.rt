@@ -21,7 +21,7 @@ pub fn runs_are_their_meaning()
 }
 
 /// The same of a run that stopped because a shard's journal was full: its calls are those that the trace makes up to the refused one, and
-/// they stand in the journals. The refused call stands in none; its shard's journal was full for it, or for the Enter before it, and may
+/// they are in the journals. The refused call is in none; its shard's journal was full for it, or for the Enter before it, and may
 /// have an Enter and a Leave with no call between. The frame is that of the state in which the run waits for the reply.
 pub fn stopped_runs_are_beginnings()
     ensures { StoppedRunsAreBeginnings }

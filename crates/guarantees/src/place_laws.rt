@@ -7,7 +7,7 @@ pub fn inside_is_by_place()
     ensures { InsideIsByPlace }
 {}
 
-/// In a legal history a worker holds a cell exactly where after such an Enter stands a Lookup of its own that was answered with the cell.
+/// In a legal history a worker holds a cell exactly where such an Enter is followed by a Lookup of its own that returned the cell.
 pub fn held_is_by_place()
     ensures { HeldIsByPlace }
 {}

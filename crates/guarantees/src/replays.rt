@@ -1,4 +1,4 @@
-//! The replay of which the headline speaks, and the law on programs that only read, made.
+//! Makes the replays that the headline and the law on programs that only read are about.
 
 ghost use Rattle.std.specs.Prelude.{◌≡◌, ◌<◌, ◌≤◌, ◌↔◌, [], length, IfOk, IfErr, OnOk, IsErrOf, IsFalse};
 ghost use Rattle.std.specs.List.{AllByRecursion};

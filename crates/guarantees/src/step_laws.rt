@@ -4,8 +4,8 @@ ghost use Rattle.guarantees.specs.Moves.{StepsAreMoves};
 ghost use Rattle.guarantees.specs.RunRows.{RunRows};
 ghost use Rattle.guarantees.specs.StepLaws.{StepsAreListed, MovesLeadToOne, RunsAreTraces, RunsHaveOneOutcome};
 
-/// Each step is an event that can happen, and leads to what the step says, in every state of the system in which its worker stands so and
-/// the shard answers so.
+/// Each step is an event that can happen, and leads to what the step says, in every state of the system in which its worker is where the
+/// step begins and the shard gives the step's reply.
 pub fn steps_are_moves()
     ensures { StepsAreMoves }
 {}
@@ -19,7 +19,7 @@ pub fn steps_are_listed()
 {}
 
 /// A run of the system is the trace of its program on its frame, at its time and with the worker's number that it was given, on replies of
-/// the calls' form that stand session by session among its worker's own entries: what `run_frame` ensures of a run's calls and replies.
+/// the calls' form that are, session by session, among its worker's own entries: what `run_frame` ensures of a run's calls and replies.
 pub fn runs_are_traces()
     ensures { RunsAreTraces }
 {}

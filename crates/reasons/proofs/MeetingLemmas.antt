@@ -309,7 +309,7 @@ never_fits version maps code register kind target set unset past inside each =
     subst (λ known. IfSome known (Fits version register kind)) is (arrived_fits version maps code register kind target target set past inside (omega arith) each)
     in false≢true (sym (set_by_core version (kind_of unset.state register) kind fits.shared set) ∙ ap is_unset unset.unset)
 
--- something arrives at a slot of which something is known
+-- something arrives at a slot that has something known
 pub some_arrive : (version : Version) (maps : List MapDef) (code : List Insn) (register : Register) (target : ℕ) →
     IsUnsetAt version maps code register target → 0 < target → target < total_slots code → NoneBrings version maps code target register None → ⊥
 some_arrive version maps code register target unset past inside none =

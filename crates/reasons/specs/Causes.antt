@@ -116,7 +116,7 @@ wrong_kind role blamed base = addressed blamed
 abbrev pub need : ℕ → ℕ → ℕ → Need
 need base stands bytes = record { base = base; stands = stands; bytes = bytes }
 
--- an access from a place on, of which this many bytes are known from the base; where none are, no comparison shows any
+-- an access from a place on, where this many bytes from the base are known; where none are, no comparison shows any
 abbrev pub beyond : ℕ → ℕ → ℤ → ℕ → ℕ → Cause
 beyond base stands (pos from) count known =
     if known == 0 then NoTestShows (need base stands (from + count)) else ComparedForFewer (need base stands (from + count)) known

@@ -116,7 +116,7 @@ fn put_word_item(
     }
 }
 
-/// What is known of the words of the stack of which anything is known.
+/// What is known of each word of the stack, except those with nothing known.
 fn put_word_items(alloc: Global, out: &mut String, words: &[StackWord]) -> Result<(), AllocError>
     requires { length words.now ≤ 64 }
     ensures { OnOk result (string_bytes out.new ≡ string_bytes out.old ++ indexed_text word_item 0 words.now) }

@@ -121,7 +121,7 @@ fn is_unset(kind: Kind) -> bool
     matches!(kind, Kind::Unset)
 }
 
-/// Whether two kinds leave nothing known, of which one at least is known.
+/// Whether two kinds, at least one of them known, leave nothing known.
 fn disagree(version: Version, one: Kind, other: Kind) -> bool
     ensures { result ≡ disagree version one other }
 {

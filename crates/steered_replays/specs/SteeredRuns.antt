@@ -46,7 +46,7 @@ abbrev pub WaitsByRule : Setting → FrameView → List Exchange → Call → Ty
 WaitsByRule setting frame exchanges next =
     plan_outcome (steering setting frame) (replies_in exchanges) ≡ record { calls = calls_in exchanges ++ next ∷ []; ending = Waiting }
 
--- a run on a record ended: what it asked and was answered, which stands among its worker's entries session by session, is what the rule
+-- a run on a record ended: what it asked and was answered, which is among its worker's entries session by session, is what the rule
 -- asks; and what became of the record's frame is what the rule's verdict says of it
 pub record IsSteeredExit (setting : Setting) (count worker : ℕ) (captured : Sent) (before : PassView) (end : RunEnd) (after : PassView) :
     Type 0 where

@@ -119,8 +119,7 @@ pub record GetsPastGuards (frame : List ℕ) (tunnel : TunnelRecord) (replies : 
   pub tunnel_is : tunnel ≡ tunnel_of (bytes_of_number 8 source ++ (bytes_of_number 8 macs ++ bytes_of_number 8 state))
   pub is_ready : tunnel.is_ready ≡ true
 
--- In the legal history of a shard of flows these two exchanges of the worker stand, while the backend of this number is noted under the
--- key.
+-- The legal history of a shard of flows has these two exchanges of the worker, while the backend of this number is noted under the key.
 pub record StandsNoted (plan : ShardPlan) (history : List Entry) (worker : ℕ) (key : List ℕ) (number : ℕ) (lookup load : Exchange) : Type 0
   where
     pub kind_is : plan.definition.kind ≡ LruHash
@@ -133,8 +132,8 @@ pub record StandsNoted (plan : ShardPlan) (history : List Entry) (worker : ℕ) 
     pub noted : IsNoted plan key number cell earlier
     pub untouched : AllLeaveNote plan key cell between (entry_of worker lookup ∷ earlier)
 
--- In the legal history of a shard of backends these two exchanges of the worker stand, and when the second is made the record of this
--- number says that the backend is up.
+-- The legal history of a shard of backends has these two exchanges of the worker, and when the second is made the record of this number
+-- says that the backend is up.
 pub record StandsUp (plan : ShardPlan) (history : List Entry) (worker number : ℕ) (backend : BackendRecord)
     (lookup load : Exchange) : Type 0
   where
@@ -152,7 +151,7 @@ pub record StandsUp (plan : ShardPlan) (history : List Entry) (worker number : �
     pub is_up : backend.is_up ≡ true
 
 -- A run of a flow that is noted: it gets past the guards, and its next four exchanges, its Lookup of the flow and the Load of the
--- note, the Lookup of a backend and the Load of its record, stand in the shards' histories.
+-- note, the Lookup of a backend and the Load of its record, are in the shards' histories.
 pub record RunOfNoted (frame : FrameView) (tunnel : TunnelRecord) (number : ℕ) (backend : BackendRecord) (worker : ℕ)
     (exchanges : List Exchange) : Type 0 where
   pub guards : List Exchange

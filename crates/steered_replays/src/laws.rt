@@ -29,7 +29,7 @@ pub fn counts_are_exact()
     ensures lookups { LookupsOfArraysFind }
 {}
 
-/// A run of the shipped program over a worker's pass makes the calls of the steering rule's plan, on the replies that stand among the
+/// A run of the shipped program over a worker's pass makes the calls of the steering rule's plan, on the replies that are among the
 /// worker's own entries, and ends with the plan's verdict and frame, which are a result of the rule. A run that a full journal stopped made
 /// a beginning of these calls.
 pub fn runs_are_steered()
@@ -77,7 +77,7 @@ pub fn shipped_replays_are_steered(verified: &Verified, size: u32)
 
 /// A flow stays with the backend that was noted for it. In a legal history of the flows' shard, as long as after the Update that noted a
 /// backend there is no Update, Delete or eviction of the flow's key and no store into its cell, a Lookup of the key finds the cell, and the
-/// cell holds the backend's number. So a run of the flow whose Lookup and Load stand there, and which gets past the guards of a tracked
+/// cell holds the backend's number. So a run of the flow whose Lookup and Load are there, and which gets past the guards of a tracked
 /// service, chooses that backend where the backend's record, when the run reads it, says that it is up.
 pub fn noted_flows_stick()
     ensures found { NotesAreFound }

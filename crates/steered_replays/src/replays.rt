@@ -1,4 +1,4 @@
-//! The replay of which the laws on the shipped program speak, made.
+//! Makes the replay that the laws on the shipped program are about.
 
 ghost use Rattle.std.specs.Prelude.{◌≡◌, ◌<◌, ◌≤◌, ◌↔◌, [], length, IfOk, OnOk, IfErr, IsErrOf};
 ghost use Rattle.std.specs.List.{AllByRecursion};
@@ -43,7 +43,7 @@ pub(crate) fn all_are_of_capture(capture: &Capture)
 }
 
 /// `replay` of the shipped program for a lookup table of `size` slots, with what holds of this program besides. Each run of a worker follows
-/// the steering rule, on the replies that stand among the worker's entries; and where no run was stopped, the counts in the maps are those
+/// the steering rule, on the replies that are among the worker's entries; and where no run was stopped, the counts in the maps are those
 /// of the outcome. It shows that what `replays_are_steered` and `totals_are_exact` ask for is what `replay` gives. Refused as `replay` is.
 pub fn shipped_replay<R: Threads + Wait + Sync, G: Gate + Sync>(
     rt: &R,

@@ -37,7 +37,7 @@ step table after older sent moved count same counted last moves = record {
 pub few : (count i : ℕ) (moved : Bool) → count ≤ i → count + one_if moved ≤ i + 1
 few count i moved within = omega (arith, within, one_at_most moved)
 
--- so many older frames as the place of the next one
+-- as many older frames as the place of the next one
 pub as_many : (frames : List Sent) (i : ℕ) → i < length frames → i ≡ length (reverse (take i frames))
 as_many frames i below = sym (length-reverse (take i frames) ∙ length-take-le i frames (omega (arith, below)))
 

@@ -16,7 +16,7 @@ merged (Some Several) number = Several
 abbrev pub holder_after : ℕ → ℕ → ℕ → Option Holder → Option Holder
 holder_after number named address older = if named == address then Some (merged older number) else older
 
--- who has an address by backends as (number, address), of which the newest is the first
+-- who has an address by backends as (number, address), the newest first
 abbrev pub holder_among : ℕ → List (ℕ × ℕ) → Option Holder
 holder_among address [] = None
 holder_among address (backend ∷ older) = holder_after backend.0 backend.1 address (holder_among address older)

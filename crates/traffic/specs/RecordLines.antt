@@ -126,7 +126,7 @@ abbrev pub record_line : ReportForm → RecordLine → List ℕ
 record_line form line =
     front_text form line.number line.micros line.worker line.verdict ++ back_text form line.steps line.case_of.now line.backend line.address
 
--- what stands before the first line
+-- what comes before the first line
 abbrev pub head_of : ReportForm → List ℕ
 head_of Csv = codes "number,moment,worker,verdict,steps,case,backend,address\n"
 head_of Json = []

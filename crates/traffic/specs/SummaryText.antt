@@ -41,7 +41,7 @@ frames_word count = if count == 1 then codes "frame" else codes "frames"
 abbrev pub count_line : ℕ → List ℕ → List ℕ → List ℕ
 count_line count word phrase = decimal count ++ (codes " " ++ (word ++ (codes " " ++ (phrase ++ codes "\n"))))
 
--- the line of frames of which this is said; nothing where there are none
+-- the line with this text and the number of such frames; nothing where there are none
 abbrev pub line_about : ℕ → List ℕ → List ℕ
 line_about count phrase = if count == 0 then [] else count_line count (frames_word count) phrase
 

@@ -66,7 +66,7 @@ fn count_line(alloc: Global, count: u64, word: &str, phrase: &str) -> Result<Str
     format!(in alloc; "{count} {word} {phrase}\n")
 }
 
-/// Appends the line of frames of which this is said, if there are any.
+/// Appends the line with this text and the number of such frames, if there are any.
 pub(crate) fn put_line(
     alloc: Global,
     text: &mut String,
@@ -93,7 +93,7 @@ fn put_kind(
     put_line(alloc, text, kind.count_in(frames) as u64, phrase_of(kind))
 }
 
-/// Appends a line for each of the kinds of which there is a frame.
+/// Appends a line for each of the kinds that has a frame.
 fn put_kinds(
     alloc: Global,
     text: &mut String,

@@ -70,7 +70,7 @@ fn moment_text(alloc: Global, micros: u64) -> Result<String, AllocError>
     format!(in alloc; "{seconds}.{digits}")
 }
 
-/// What stands for what is not known.
+/// What is written for what is not known.
 fn missing(form: ReportForm) -> &'static str
     ensures { result.now ≡ missing form }
 {
@@ -230,7 +230,7 @@ fn json_back(
 }
 
 impl ReportForm {
-    /// What stands before the first line.
+    /// What comes before the first line.
     pub fn head(self) -> &'static str
         ensures { result.now ≡ head_of self }
     {

@@ -1,4 +1,4 @@
--- What a later call did or refused, said of the files as they stood before earlier calls that changed none.
+-- What a later call did or refused, said of the files as they were before earlier calls that changed none.
 use Rattle.std.proofs.Common.{ℕ, Bool, List, Option, Some, None}
 use Rattle.abstract_state.specs.declared.state.State.{State}
 use Rattle.ebpf_decode.specs.ImageContents.{Contents}

@@ -161,12 +161,12 @@ pub data IsSourceRefusal (files after : FileBytes) (failed : Type 0) (name : Lis
 
 -- ---- programs that are judged
 
--- how many of the first bytes of a file are kept, where an image is read: two slots of 8 bytes more than the longest image has, which is its head of 8 bytes,
--- 16 maps of 16 bytes and 4096 slots
+-- how many of the first bytes of a file are kept, where an image is read: two slots of 8 bytes more than the longest image has, which is
+-- its head of 8 bytes, 16 maps of 16 bytes and 4096 slots: `8 + 16 * 16 + 8 * 4096 + 2 * 8`
 abbrev pub kept_of_image : ℕ
 kept_of_image = 33048
 
--- the longest image and one slot: 8 bytes less
+-- the longest image and one slot, 8 bytes less: `8 + 16 * 16 + 8 * 4096 + 8`
 abbrev pub beyond_images : ℕ
 beyond_images = 33040
 
@@ -452,8 +452,8 @@ abbrev pub notes_told : {Z : Type 0} → Option (String Z) → List ℕ
 notes_told None = []
 notes_told (Some notes) = string_bytes notes
 
--- To a stream that held `before` one text was written: the fault's line, and below it the notes' lines, each of which begins with two blanks. Where
--- memory was refused for that text, it is the line of fault 8.
+-- To a stream that held `before` one text was written: the fault's line, and below it the notes' lines, which begin with two blanks each.
+-- Where memory was refused for that text, it is the line of fault 8.
 pub data PrintsRefusal (fault : Fault) (notes : List ℕ) (before after : Option (List ℕ)) : Type 0 where
   in_full : (text : List ℕ) → IsRefusalText (fault_line fault) notes text → after ≡ append_known before text
       → PrintsRefusal fault notes before after

@@ -104,7 +104,7 @@ abbrev pub start_of_run : List ℕ → ℕ → ℕ → MachineState
 start_of_run bytes worker now = initial_state (record { bytes = bytes; headroom = 256 }) worker now
 
 -- The image may run, the file of the frame is one, and there is such a worker. What is printed is what the program's run came to on the
--- frame, at this time and as this worker, over maps in which nothing had happened but these updates: its own trace on replies that stand in
+-- frame, at this time and as this worker, over maps in which nothing had happened but these updates: its own trace on replies that are in
 -- journals, which are legal and have nothing but the updates and this run's calls. Where a file is named for them, it has these journals.
 pub record IsRun (before after : FileBytes) (files : RunFiles) (now worker : ℕ) (updates : List MapUpdate) (printed : List ℕ) : Type 0 where
   pub program : Contents
