@@ -5,16 +5,16 @@ use Rattle.std.proofs.lemmas.Bool.{eqb-true, eqb-false}
 use Rattle.std.proofs.lemmas.Grind.{flat_map-append}
 use Rattle.std.proofs.lemmas.List.{append-nil}
 use Rattle.text_lines.specs.Lines.{Lacks}
-use Rattle.mistakes.specs.Notes.{IsSaid, note_line, notes_text, AreNotes}
+use Rattle.mistakes.specs.Notes.{IsSaid, note_line, notes_text, AreFewNotes}
 
-pub nothing : AreNotes 0 []
+pub nothing : AreFewNotes 0 []
 nothing = record { lines = []; few = omega arith; each = tt; text_is = refl }
 
 all_more : (P : List ℕ → Type 0) (lines : List (List ℕ)) (words : List ℕ) → AllByRecursion P lines → P words → AllByRecursion P (lines ++ words ∷ [])
 all_more P [] words all last = (last, tt)
 all_more P (line ∷ lines) words all last = (all.0, all_more P lines words all.1 last)
 
-pub more : (most : ℕ) (text words : List ℕ) → AreNotes most text → IsSaid words → AreNotes (most + 1) (text ++ note_line words)
+pub more : (most : ℕ) (text words : List ℕ) → AreFewNotes most text → IsSaid words → AreFewNotes (most + 1) (text ++ note_line words)
 more most text words notes said = record {
   lines = notes.lines ++ words ∷ [];
   few = (let long : length (notes.lines ++ words ∷ []) ≡ length notes.lines + length (words ∷ []) = length-append notes.lines (words ∷ []) in
@@ -26,11 +26,11 @@ more most text words notes said = record {
 }
 
 -- the same bytes, as they are put together
-pub put_together : (most : ℕ) (text words : List ℕ) → AreNotes most text → IsSaid words →
-    AreNotes (most + 1) (text ++ 32 ∷ 32 ∷ [] ++ words ++ 10 ∷ [])
-put_together most text words notes said = subst (AreNotes (most + 1)) (simp append_assoc refl) (more most text words notes said)
+pub put_together : (most : ℕ) (text words : List ℕ) → AreFewNotes most text → IsSaid words →
+    AreFewNotes (most + 1) (text ++ 32 ∷ 32 ∷ [] ++ words ++ 10 ∷ [])
+put_together most text words notes said = subst (AreFewNotes (most + 1)) (simp append_assoc refl) (more most text words notes said)
 
-pub no_more : (most : ℕ) (text : List ℕ) → AreNotes most text → AreNotes (most + 1) text
+pub no_more : (most : ℕ) (text : List ℕ) → AreFewNotes most text → AreFewNotes (most + 1) text
 no_more most text notes = record {
   lines = notes.lines;
   few = (let few : length notes.lines ≤ most = notes.few in omega (arith, few));

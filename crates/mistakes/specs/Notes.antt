@@ -15,7 +15,7 @@ abbrev pub notes_text : List (List ℕ) → List ℕ
 notes_text lines = flat_map note_line lines
 
 -- at most N such lines
-pub record AreNotes (most : ℕ) (text : List ℕ) : Type 0 where
+pub record AreFewNotes (most : ℕ) (text : List ℕ) : Type 0 where
   pub lines : List (List ℕ)
   pub few : length lines ≤ most
   pub each : AllByRecursion IsSaid lines

@@ -1,7 +1,7 @@
 //! Of a file that is no capture as this program reads it: what it is, and the command that makes one of it.
 
 ghost use Rattle.std.specs.Prelude.{string_bytes, IfOk};
-ghost use Rattle.mistakes.specs.Notes.{AreNotes};
+ghost use Rattle.mistakes.specs.Notes.{AreFewNotes};
 
 use crate::kinds::{FileKind, kind_of, name_of};
 use crate::notes::notes_of;
@@ -57,7 +57,7 @@ fn link_name(link: u32) -> &'static str {
 
 /// Of a capture's header: the version, or the link type.
 fn about_header(alloc: Global, bytes: &[u8]) -> Result<String, AllocError>
-    ensures { IfOk result (λ text. AreNotes 3 (string_bytes text)) }
+    ensures { IfOk result (λ text. AreFewNotes 3 (string_bytes text)) }
 {
     let major = number_at(bytes, 4);
     let minor = number_at(bytes, 6);
@@ -82,7 +82,7 @@ fn about_header(alloc: Global, bytes: &[u8]) -> Result<String, AllocError>
 
 /// Of a file that begins as no other kind does.
 fn about_unknown(alloc: Global, bytes: &[u8]) -> Result<String, AllocError>
-    ensures { IfOk result (λ text. AreNotes 3 (string_bytes text)) }
+    ensures { IfOk result (λ text. AreFewNotes 3 (string_bytes text)) }
 {
     let found = first_bytes(alloc, bytes)?;
     let begun = format!(in alloc; "the file begins with the bytes {found}")?;
@@ -94,7 +94,7 @@ fn about_unknown(alloc: Global, bytes: &[u8]) -> Result<String, AllocError>
 ///
 /// At most three lines, each with two spaces at its beginning and a line feed at its end. It can fail only for lack of memory.
 pub fn about_capture(alloc: Global, bytes: &[u8]) -> Result<String, AllocError>
-    ensures { IfOk result (λ text. AreNotes 3 (string_bytes text)) }
+    ensures { IfOk result (λ text. AreFewNotes 3 (string_bytes text)) }
 {
     let kind = kind_of(alloc, bytes);
     if kind == FileKind::Capture {

@@ -1,7 +1,7 @@
 //! Of a file that is no frame: what it is.
 
 ghost use Rattle.std.specs.Prelude.{string_bytes, IfOk};
-ghost use Rattle.mistakes.specs.Notes.{AreNotes};
+ghost use Rattle.mistakes.specs.Notes.{AreFewNotes};
 
 use crate::kinds::{FileKind, kind_of, name_of};
 use crate::notes::notes_of;
@@ -27,7 +27,7 @@ fn remedy_of(kind: FileKind) -> &'static str {
 ///
 /// At most three lines, each with two spaces at its beginning and a line feed at its end. It can fail only for lack of memory.
 pub fn about_frame(alloc: Global, bytes: &[u8]) -> Result<String, AllocError>
-    ensures { IfOk result (λ text. AreNotes 3 (string_bytes text)) }
+    ensures { IfOk result (λ text. AreFewNotes 3 (string_bytes text)) }
 {
     let all = bytes.len();
     let long = if all > MAX_FRAME {
@@ -54,7 +54,7 @@ pub fn about_frame(alloc: Global, bytes: &[u8]) -> Result<String, AllocError>
 ///
 /// At most three lines, each with two spaces at its beginning and a line feed at its end. It can fail only for lack of memory.
 pub fn about_text_as_frame(alloc: Global, bytes: &[u8]) -> Result<String, AllocError>
-    ensures { IfOk result (λ text. AreNotes 3 (string_bytes text)) }
+    ensures { IfOk result (λ text. AreFewNotes 3 (string_bytes text)) }
 {
     let kind = kind_of(alloc, bytes);
     if !kind.is_text() {

@@ -1,7 +1,7 @@
 //! Of a file of journals: its line that is wrong, or the line of an entry that is not legal.
 
 ghost use Rattle.std.specs.Prelude.{string_bytes, IfOk};
-ghost use Rattle.mistakes.specs.Notes.{AreNotes};
+ghost use Rattle.mistakes.specs.Notes.{AreFewNotes};
 
 use crate::kinds::{FileKind, kind_of, name_of};
 use crate::notes::notes_of;
@@ -57,7 +57,7 @@ fn mistake_in(line: &str) -> Option<LineMistake<'_>> {
 
 /// The lines on a mistake.
 fn about_mistake(alloc: Global, line: usize, mistake: LineMistake<'_>) -> Result<String, AllocError>
-    ensures { IfOk result (λ text. AreNotes 3 (string_bytes text)) }
+    ensures { IfOk result (λ text. AreFewNotes 3 (string_bytes text)) }
 {
     let column = mistake.before.saturating_add(1);
     let piece = quoted(alloc, mistake.piece.as_bytes())?;
@@ -74,7 +74,7 @@ fn shown_line(alloc: Global, line: usize, text: &str) -> Result<String, AllocErr
 
 /// The lines on a line that is no header and no entry.
 fn about_line(alloc: Global, text: &str, line: usize) -> Result<String, AllocError>
-    ensures { IfOk result (λ text. AreNotes 3 (string_bytes text)) }
+    ensures { IfOk result (λ text. AreFewNotes 3 (string_bytes text)) }
 {
     let Some((_, found, is_ended)) = line_at(text, line) else {
         return notes_of(alloc, "", "", "");
@@ -111,7 +111,7 @@ fn about_line(alloc: Global, text: &str, line: usize) -> Result<String, AllocErr
 
 /// The lines on bytes that are no text.
 fn about_bytes(alloc: Global, line: usize) -> Result<String, AllocError>
-    ensures { IfOk result (λ text. AreNotes 3 (string_bytes text)) }
+    ensures { IfOk result (λ text. AreFewNotes 3 (string_bytes text)) }
 {
     let wrong = format!(in alloc; "line {line} has a byte that is not UTF-8")?;
     notes_of(alloc, wrong.as_str(), "expected plain ASCII text", "")
@@ -122,7 +122,7 @@ fn about_bytes(alloc: Global, line: usize) -> Result<String, AllocError>
 ///
 /// At most three lines, each with two spaces at its beginning and a line feed at its end. It can fail only for lack of memory.
 pub fn about_journals(alloc: Global, bytes: &[u8], line: usize) -> Result<String, AllocError>
-    ensures { IfOk result (λ text. AreNotes 3 (string_bytes text)) }
+    ensures { IfOk result (λ text. AreFewNotes 3 (string_bytes text)) }
 {
     let kind = kind_of(alloc, bytes);
     if kind != FileKind::Journals && kind != FileKind::Unknown && kind != FileKind::Text {
@@ -191,7 +191,7 @@ fn about_other_map(
     number: usize,
     map: &MapDef,
 ) -> Result<String, AllocError>
-    ensures { IfOk result (λ text. AreNotes 3 (string_bytes text)) }
+    ensures { IfOk result (λ text. AreFewNotes 3 (string_bytes text)) }
 {
     let entries = map.max_entries;
     let why = format!(in alloc;
@@ -216,7 +216,7 @@ pub fn about_entry(
     number: usize,
     maps: &[MapDef],
 ) -> Result<String, AllocError>
-    ensures { IfOk result (λ text. AreNotes 3 (string_bytes text)) }
+    ensures { IfOk result (λ text. AreFewNotes 3 (string_bytes text)) }
 {
     let found = match text_or_line(bytes) {
         Ok(text) => line_at(text, line),

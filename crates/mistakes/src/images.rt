@@ -1,7 +1,7 @@
 //! Of a file that is no image: what it is, and which field of its head or of a map is wrong.
 
 ghost use Rattle.std.specs.Prelude.{string_bytes, IfOk};
-ghost use Rattle.mistakes.specs.Notes.{AreNotes};
+ghost use Rattle.mistakes.specs.Notes.{AreFewNotes};
 
 use crate::kinds::{FileKind, kind_of, name_of};
 use crate::notes::notes_of;
@@ -60,7 +60,7 @@ fn about_head(alloc: Global, bytes: &[u8]) -> Result<String, AllocError> {
 
 /// Of a file that begins as no other kind does.
 fn about_unknown(alloc: Global, bytes: &[u8]) -> Result<String, AllocError>
-    ensures { IfOk result (λ text. AreNotes 3 (string_bytes text)) }
+    ensures { IfOk result (λ text. AreFewNotes 3 (string_bytes text)) }
 {
     let found = first_bytes(alloc, bytes)?;
     let begun = format!(in alloc; "the file begins with the bytes {found}")?;
@@ -81,7 +81,7 @@ fn about_unknown(alloc: Global, bytes: &[u8]) -> Result<String, AllocError>
 ///
 /// At most three lines, each with two spaces at its beginning and a line feed at its end. It can fail only for lack of memory.
 pub fn about_image(alloc: Global, bytes: &[u8]) -> Result<String, AllocError>
-    ensures { IfOk result (λ text. AreNotes 3 (string_bytes text)) }
+    ensures { IfOk result (λ text. AreFewNotes 3 (string_bytes text)) }
 {
     let kind = kind_of(alloc, bytes);
     if kind == FileKind::Image {
@@ -151,7 +151,7 @@ pub(crate) fn wrong_number(
 ///
 /// At most three lines, each with two spaces at its beginning and a line feed at its end. It can fail only for lack of memory.
 pub fn about_map(alloc: Global, bytes: &[u8], map: u32) -> Result<String, AllocError>
-    ensures { IfOk result (λ text. AreNotes 3 (string_bytes text)) }
+    ensures { IfOk result (λ text. AreFewNotes 3 (string_bytes text)) }
 {
     let place = HEAD_LEN.saturating_add((map as usize).saturating_mul(MAP_LEN));
     let (wrong, allowed) = wrong_number(

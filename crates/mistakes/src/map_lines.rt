@@ -1,7 +1,7 @@
 //! Of a map's line that no image has: which of its numbers is wrong.
 
 ghost use Rattle.std.specs.Prelude.{string_bytes, IfOk};
-ghost use Rattle.mistakes.specs.Notes.{AreNotes};
+ghost use Rattle.mistakes.specs.Notes.{AreFewNotes};
 
 use crate::images::wrong_number;
 use crate::notes::notes_of;
@@ -58,7 +58,7 @@ fn kind_number(name: &str) -> u32 {
 ///
 /// At most three lines, each with two spaces at its beginning and a line feed at its end. It can fail only for lack of memory.
 pub fn about_map_line(alloc: Global, text: &str, map: u32) -> Result<String, AllocError>
-    ensures { IfOk result (λ text. AreNotes 3 (string_bytes text)) }
+    ensures { IfOk result (λ text. AreFewNotes 3 (string_bytes text)) }
 {
     let Some((line, words)) = map_at(text, map) else {
         return notes_of(alloc, "", "", "");

@@ -1,7 +1,7 @@
 //! Lines for people, put together.
 
 ghost use Rattle.std.specs.Prelude.{◌+◌, ℕ, string_bytes, IfOk, OnOk};
-ghost use Rattle.mistakes.specs.Notes.{IsSaid, AreNotes};
+ghost use Rattle.mistakes.specs.Notes.{IsSaid, AreFewNotes};
 
 use std::alloc::{AllocError, Global};
 use text_lines::cut;
@@ -19,7 +19,7 @@ fn one_line(words: &str) -> &str
 
 /// One line more.
 fn put(notes: &mut String, words: &str) -> Result<(), AllocError>
-    ensures { (most : ℕ) → AreNotes most (string_bytes notes.old) → OnOk result (AreNotes (most + 1) (string_bytes notes.new)) }
+    ensures { (most : ℕ) → AreFewNotes most (string_bytes notes.old) → OnOk result (AreFewNotes (most + 1) (string_bytes notes.new)) }
 {
     notes.push_str("  ")?;
     notes.push_str(one_line(words))?;
@@ -29,7 +29,7 @@ fn put(notes: &mut String, words: &str) -> Result<(), AllocError>
 
 /// One line more, if there is anything to say.
 fn put_said(notes: &mut String, words: &str) -> Result<(), AllocError>
-    ensures { (most : ℕ) → AreNotes most (string_bytes notes.old) → OnOk result (AreNotes (most + 1) (string_bytes notes.new)) }
+    ensures { (most : ℕ) → AreFewNotes most (string_bytes notes.old) → OnOk result (AreFewNotes (most + 1) (string_bytes notes.new)) }
 {
     if words.is_empty() {
         return Ok(());
@@ -44,7 +44,7 @@ pub(crate) fn notes_of(
     second: &str,
     third: &str,
 ) -> Result<String, AllocError>
-    ensures { IfOk result (λ text. AreNotes 3 (string_bytes text)) }
+    ensures { IfOk result (λ text. AreFewNotes 3 (string_bytes text)) }
 {
     let mut notes = String::new(alloc);
     put_said(&mut notes, first)?;

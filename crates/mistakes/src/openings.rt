@@ -1,7 +1,7 @@
 //! Of options that open no maps: which of them, and what it may be.
 
 ghost use Rattle.std.specs.Prelude.{string_bytes, IfOk};
-ghost use Rattle.mistakes.specs.Notes.{AreNotes};
+ghost use Rattle.mistakes.specs.Notes.{AreFewNotes};
 
 use crate::notes::notes_of;
 use ebpf_decode::MapDef;
@@ -16,7 +16,7 @@ fn about_number(
     number: u32,
     expected: &str,
 ) -> Result<String, AllocError>
-    ensures { IfOk result (λ text. AreNotes 3 (string_bytes text)) }
+    ensures { IfOk result (λ text. AreFewNotes 3 (string_bytes text)) }
 {
     let wrong = format!(in alloc; "--{option} {number}")?;
     notes_of(alloc, wrong.as_str(), expected, "")
@@ -34,7 +34,7 @@ fn uneven(maps: &[MapDef], shards: u32) -> Option<(usize, u32)> {
 
 /// The lines on maps that such a number of shards does not divide; or else on a script whose commands have no maps.
 fn about_maps(alloc: Global, shards: u32, maps: &[MapDef]) -> Result<String, AllocError>
-    ensures { IfOk result (λ text. AreNotes 3 (string_bytes text)) }
+    ensures { IfOk result (λ text. AreFewNotes 3 (string_bytes text)) }
 {
     let Some((map, entries)) = uneven(maps, shards) else {
         return notes_of(
@@ -58,7 +58,7 @@ fn about_maps(alloc: Global, shards: u32, maps: &[MapDef]) -> Result<String, All
 ///
 /// At most three lines, each with two spaces at its beginning and a line feed at its end. It can fail only for lack of memory.
 pub fn about_options(alloc: Global, options: Options, maps: &[MapDef]) -> Result<String, AllocError>
-    ensures { IfOk result (λ text. AreNotes 3 (string_bytes text)) }
+    ensures { IfOk result (λ text. AreFewNotes 3 (string_bytes text)) }
 {
     let Options {
         workers,
@@ -81,7 +81,7 @@ pub fn about_options(alloc: Global, options: Options, maps: &[MapDef]) -> Result
 ///
 /// At most three lines, each with two spaces at its beginning and a line feed at its end. It can fail only for lack of memory.
 pub fn about_worker(alloc: Global, worker: u32) -> Result<String, AllocError>
-    ensures { IfOk result (λ text. AreNotes 3 (string_bytes text)) }
+    ensures { IfOk result (λ text. AreFewNotes 3 (string_bytes text)) }
 {
     about_number(alloc, "worker", worker, "expected 0 to 7")
 }
@@ -100,7 +100,7 @@ fn next_size(ring: u32) -> Option<u32> {
 ///
 /// At most three lines, each with two spaces at its beginning and a line feed at its end. It can fail only for lack of memory.
 pub fn about_ring(alloc: Global, ring: u32) -> Result<String, AllocError>
-    ensures { IfOk result (λ text. AreNotes 3 (string_bytes text)) }
+    ensures { IfOk result (λ text. AreFewNotes 3 (string_bytes text)) }
 {
     let wrong = format!(in alloc; "--ring {ring}")?;
     let next = match next_size(ring) {

@@ -1,7 +1,7 @@
 //! Of a line that is no command of a script: which word is wrong, and what was expected.
 
 ghost use Rattle.std.specs.Prelude.{string_bytes, IfOk};
-ghost use Rattle.mistakes.specs.Notes.{AreNotes};
+ghost use Rattle.mistakes.specs.Notes.{AreFewNotes};
 
 use crate::kinds::{FileKind, kind_of, name_of};
 use crate::notes::notes_of;
@@ -50,7 +50,7 @@ fn about_mistake(
     text: &str,
     mistake: LineMistake<'_>,
 ) -> Result<String, AllocError>
-    ensures { IfOk result (λ text. AreNotes 3 (string_bytes text)) }
+    ensures { IfOk result (λ text. AreFewNotes 3 (string_bytes text)) }
 {
     let column = mistake.before.saturating_add(1);
     let what = mistake.what;
@@ -71,7 +71,7 @@ fn about_mistake(
 
 /// The lines on a line of a text.
 fn about_line(alloc: Global, text: &str, line: usize) -> Result<String, AllocError>
-    ensures { IfOk result (λ text. AreNotes 3 (string_bytes text)) }
+    ensures { IfOk result (λ text. AreFewNotes 3 (string_bytes text)) }
 {
     let Some((before, found, is_ended)) = line_at(text, line) else {
         return notes_of(alloc, "", "", "");
@@ -93,7 +93,7 @@ fn about_line(alloc: Global, text: &str, line: usize) -> Result<String, AllocErr
 
 /// The lines on a file that is of another kind.
 fn about_kind(alloc: Global, kind: FileKind) -> Result<String, AllocError>
-    ensures { IfOk result (λ text. AreNotes 3 (string_bytes text)) }
+    ensures { IfOk result (λ text. AreFewNotes 3 (string_bytes text)) }
 {
     notes_of(
         alloc,
@@ -117,7 +117,7 @@ pub(crate) const BYTE_ORDER_MARK: &[u8] = b"\xef\xbb\xbf";
 
 /// The lines on a file, called so on the command line, that begins with them.
 pub(crate) fn about_byte_order_mark(alloc: Global, file: &str) -> Result<String, AllocError>
-    ensures { IfOk result (λ text. AreNotes 3 (string_bytes text)) }
+    ensures { IfOk result (λ text. AreFewNotes 3 (string_bytes text)) }
 {
     let expected = format!(in alloc;
         "expected plain ASCII text: tail -c +4 {file} > NEW takes the mark away"
@@ -132,7 +132,7 @@ pub(crate) fn about_byte_order_mark(alloc: Global, file: &str) -> Result<String,
 
 /// The lines on bytes that are no text.
 fn about_bytes(alloc: Global, bytes: &[u8], line: usize) -> Result<String, AllocError>
-    ensures { IfOk result (λ text. AreNotes 3 (string_bytes text)) }
+    ensures { IfOk result (λ text. AreFewNotes 3 (string_bytes text)) }
 {
     if bytes.starts_with(b"\xff\xfe") || bytes.starts_with(b"\xfe\xff") {
         return notes_of(
@@ -151,7 +151,7 @@ fn about_bytes(alloc: Global, bytes: &[u8], line: usize) -> Result<String, Alloc
 ///
 /// At most three lines, each with two spaces at its beginning and a line feed at its end. It can fail only for lack of memory.
 pub fn about_script(alloc: Global, bytes: &[u8], line: usize) -> Result<String, AllocError>
-    ensures { IfOk result (λ text. AreNotes 3 (string_bytes text)) }
+    ensures { IfOk result (λ text. AreFewNotes 3 (string_bytes text)) }
 {
     let kind = kind_of(alloc, bytes);
     if is_other(kind) {
