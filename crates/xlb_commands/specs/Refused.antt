@@ -202,7 +202,7 @@ pub data IsExplainRefusal (files : FileBytes) (failed : Type 0) (name : List ℕ
 -- ---- journals
 
 -- the second file has these journals of the maps of the first file's image
-pub record AreJournalsOf (files : FileBytes) (name journals : List ℕ) (told : JournalsView) : Type 0 where
+pub record AreJournalsOfImage (files : FileBytes) (name journals : List ℕ) (told : JournalsView) : Type 0 where
   pub image : Contents
   pub file : IsImageFile files name image
   pub bytes : List ℕ
@@ -216,9 +216,9 @@ pub data IsAuditRefusal (files : FileBytes) (failed : Type 0) (name journals : L
       → IsAuditRefusal files failed name journals fault
   no_journals : (image : Contents) (bytes : List ℕ) (why : FileFault) → IsImageFile files name image → files journals bytes
       → RefusesJournals image.maps bytes why → fault ≡ faults.Journals why → IsAuditRefusal files failed name journals fault
-  not_legal : (told : JournalsView) (why : AuditFault) → AreJournalsOf files name journals told → ExplainsJournals told why
+  not_legal : (told : JournalsView) (why : AuditFault) → AreJournalsOfImage files name journals told → ExplainsJournals told why
       → fault ≡ faults.Audit why → IsAuditRefusal files failed name journals fault
-  no_verdict : (told : JournalsView) → AreJournalsOf files name journals told → AreLegal told → fault ≡ faults.Memory
+  no_verdict : (told : JournalsView) → AreJournalsOfImage files name journals told → AreLegal told → fault ≡ faults.Memory
       → IsAuditRefusal files failed name journals fault
 
 -- Memory was refused for what a run or a replay is to write or to print. Where a file is named for the journals, it may have been refused for their bytes,
