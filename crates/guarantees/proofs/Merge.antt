@@ -24,7 +24,7 @@ use Rattle.semantics.proofs.shared.SystemSteps.{history_there, history_elsewhere
 use Rattle.shards.specs.declared.deeds.Deed.{Deed}
 use Rattle.shards.specs.declared.deeds.Deed.TheVariants.{Wrote, MetFull}
 use Rattle.shards.specs.Deeds.{shard_of_deed, entries_made, made_on}
-use Rattle.guarantees.specs.Steps.{Asked, Nothing, Writes, Refused, Move, AreSteps, entries_asked, deeds_asked, deeds_in}
+use Rattle.guarantees.specs.Steps.{AskedOfShard, Nothing, Writes, Refused, Move, AreSteps, entries_asked, deeds_asked, deeds_in}
 use Rattle.guarantees.specs.Moves.{Answers, IsAskedSo, after_asked, is_event_of}
 use Rattle.guarantees.specs.Merging.{IsOrderOfMoves, IsWrittenNext, AreWrittenInOrder, events_of, OneOrderIsOneList}
 use Rattle.guarantees.proofs.Callers.{worker_below}
@@ -209,7 +209,7 @@ after_look count earlier system after who call histories same number below =
 
 -- ---- a worker's deed
 
-asked_shards : (system : SystemState) (asked : Asked) → length (after_asked system asked).histories ≡ length system.histories
+asked_shards : (system : SystemState) (asked : AskedOfShard) → length (after_asked system asked).histories ≡ length system.histories
 asked_shards system Nothing = refl
 asked_shards system (Writes entry) =
     length-set system.histories (shard_of_call entry.call) (entry ∷ history_of system (shard_of_call entry.call))
@@ -220,8 +220,8 @@ MergesFrom setting count deeds earlier later =
     (system : SystemState) (rest : ℕ → List Move) → Stands setting count deeds earlier later system rest →
     Merged setting count deeds (entries_made later) system rest
 
-by_worker : (setting : Setting) (count worker : ℕ) (deeds earlier later : List Deed) (deed : Deed) (asked : Asked) (system : SystemState)
-    (rest : ℕ → List Move) → setting.options.workers ≤ 8 → worker < setting.options.workers →
+by_worker : (setting : Setting) (count worker : ℕ) (deeds earlier later : List Deed) (deed : Deed) (asked : AskedOfShard)
+    (system : SystemState) (rest : ℕ → List Move) → setting.options.workers ≤ 8 → worker < setting.options.workers →
     Stands setting count deeds earlier (deed ∷ later) system rest → deeds_asked worker asked ≡ deed ∷ [] → is_deed_by worker deed ≡ true →
     ((other : ℕ) → other ≢ worker → is_deed_by other deed ≡ false) → IsAskedSo setting system asked →
     ((after : SystemState) → after.histories ≡ (after_asked system asked).histories → HaveHistories count (earlier ++ deed ∷ []) after) →

@@ -11,7 +11,7 @@ use Rattle.shards.specs.declared.deeds.Deed.{Deed}
 use Rattle.shards.specs.declared.deeds.Deed.TheVariants.{Wrote, MetFull}
 use Rattle.shards.specs.Deeds.{entries_made}
 use Rattle.semantics.specs.declared.call.Entry.{Entry}
-use Rattle.guarantees.specs.Steps.{Asked, Nothing, Writes, Refused, Move, AreSteps, entries_asked, deeds_asked, deeds_in}
+use Rattle.guarantees.specs.Steps.{AskedOfShard, Nothing, Writes, Refused, Move, AreSteps, entries_asked, deeds_asked, deeds_in}
 use Rattle.guarantees.specs.Moves.{IsMove, IsAskedSo, after_asked, is_event_of}
 use Rattle.guarantees.specs.Merging.{events_of, IsWrittenNext, AreWrittenInOrder}
 use Rattle.guarantees.proofs.MoveLemmas.{steps_are_moves}
@@ -58,13 +58,13 @@ then_written setting before after (event ∷ done) later entries more happen wri
 )
 
 -- what is asked of a shard is what is written
-asked_written : (before after : SystemState) (asked : Asked) → after.histories ≡ (after_asked before asked).histories →
+asked_written : (before after : SystemState) (asked : AskedOfShard) → after.histories ≡ (after_asked before asked).histories →
     IsWrittenNext before (entries_asked asked) after
 asked_written before after Nothing same = same
 asked_written before after (Writes entry) same = same
 asked_written before after (Refused call) same = same
 
-pub entries_are : (worker : ℕ) (asked : Asked) (later : List Deed) (entries : List Entry) → entries_made later ≡ entries →
+pub entries_are : (worker : ℕ) (asked : AskedOfShard) (later : List Deed) (entries : List Entry) → entries_made later ≡ entries →
     entries_made (deeds_asked worker asked ++ later) ≡ entries_asked asked ++ entries
 entries_are worker Nothing later entries rest = rest
 entries_are worker (Writes entry) later entries rest = ap (λ (list : List Entry). entry ∷ list) rest
@@ -102,24 +102,25 @@ own_go worker other (event ∷ events) apart own =
 
 -- ---- what is asked of a shard changes no worker
 
-pub asked_workers : (system : SystemState) (asked : Asked) → (after_asked system asked).workers ≡ system.workers
+pub asked_workers : (system : SystemState) (asked : AskedOfShard) → (after_asked system asked).workers ≡ system.workers
 asked_workers system Nothing = refl
 asked_workers system (Writes entry) = refl
 asked_workers system (Refused call) = refl
 
-asked_histories : (system : SystemState) (worker : ℕ) (now : WorkerState) (asked : Asked) →
+asked_histories : (system : SystemState) (worker : ℕ) (now : WorkerState) (asked : AskedOfShard) →
     (after_asked (with_worker system worker now) asked).histories ≡ (after_asked system asked).histories
 asked_histories system worker now Nothing = refl
 asked_histories system worker now (Writes entry) = refl
 asked_histories system worker now (Refused call) = refl
 
-asked_with : (setting : Setting) (system : SystemState) (worker : ℕ) (now : WorkerState) (asked : Asked) → IsAskedSo setting system asked →
-    IsAskedSo setting (with_worker system worker now) asked
+asked_with : (setting : Setting) (system : SystemState) (worker : ℕ) (now : WorkerState) (asked : AskedOfShard) →
+    IsAskedSo setting system asked → IsAskedSo setting (with_worker system worker now) asked
 asked_with setting system worker now Nothing is = tt
 asked_with setting system worker now (Writes entry) is = record { plan = is.plan; known = is.known; room = is.room; replied = is.replied }
 asked_with setting system worker now (Refused call) is = record { plan = is.plan; known = is.known; full = is.full }
 
-same_asked : (worker : ℕ) (one other : Asked) (deed : Deed) → deeds_asked worker one ≡ deed ∷ [] → deeds_asked worker other ≡ deed ∷ [] → one ≡ other
+same_asked : (worker : ℕ) (one other : AskedOfShard) (deed : Deed) → deeds_asked worker one ≡ deed ∷ [] →
+    deeds_asked worker other ≡ deed ∷ [] → one ≡ other
 same_asked worker Nothing other deed is also = absurd cc
 same_asked worker (Writes entry) Nothing deed is also = absurd cc
 same_asked worker (Writes entry) (Writes another) deed is also =
@@ -135,7 +136,8 @@ same_asked worker (Refused call) (Refused another) deed is also =
 
 -- ---- up to a worker's next deed
 
-pub record Advance (setting : Setting) (count worker : ℕ) (before : SystemState) (moves : List Move) (asked : Asked) (later : List Deed) : Type 0
+pub record Advance (setting : Setting) (count worker : ℕ) (before : SystemState) (moves : List Move) (asked : AskedOfShard)
+    (later : List Deed) : Type 0
   where
     pub done : List Move
     pub rest : List Move
@@ -151,13 +153,14 @@ pub record Advance (setting : Setting) (count worker : ℕ) (before : SystemStat
     pub deeds : deeds_in worker rest ≡ later
 
 -- an event that asks nothing, and then the rest
-over_one : (setting : Setting) (count worker : ℕ) (before : SystemState) (move : Move) (moves : List Move) (asked : Asked) (later : List Deed)
-    (next : WorkerState) → move.asked ≡ Nothing → worker < length before.workers → IsMove setting worker (worker_state before worker) move next →
+over_one : (setting : Setting) (count worker : ℕ) (before : SystemState) (move : Move) (moves : List Move) (asked : AskedOfShard)
+    (later : List Deed) (next : WorkerState) → move.asked ≡ Nothing → worker < length before.workers →
+    IsMove setting worker (worker_state before worker) move next →
     Advance setting count worker (with_worker before worker next) moves asked later → Advance setting count worker before (move ∷ moves) asked later
 over_one setting count worker before move moves asked later next none few means rest =
-    let quiet : IsAskedSo setting before move.asked = subst (λ (one : Asked). IsAskedSo setting before one) (sym none) tt in
+    let quiet : IsAskedSo setting before move.asked = subst (λ (one : AskedOfShard). IsAskedSo setting before one) (sym none) tt in
     let leads : after_event setting before move.event ≡ with_worker before worker next =
-    means.leads before refl quiet ∙ ap (λ (one : Asked). with_worker (after_asked before one) worker next) none in
+    means.leads before refl quiet ∙ ap (λ (one : AskedOfShard). with_worker (after_asked before one) worker next) none in
     record {
       done = move ∷ rest.done;
       rest = rest.rest;
@@ -183,15 +186,16 @@ over_one setting count worker before move moves asked later next none few means 
     }
 
 -- the event that does the deed
-the_deed : (setting : Setting) (count worker : ℕ) (before : SystemState) (move : Move) (moves : List Move) (asked : Asked) (later : List Deed)
-    (next : WorkerState) → move.asked ≡ asked → worker < length before.workers → IsMove setting worker (worker_state before worker) move next →
+the_deed : (setting : Setting) (count worker : ℕ) (before : SystemState) (move : Move) (moves : List Move) (asked : AskedOfShard)
+    (later : List Deed) (next : WorkerState) → move.asked ≡ asked → worker < length before.workers →
+    IsMove setting worker (worker_state before worker) move next →
     IsAskedSo setting before asked → AreSteps setting count worker next moves Idle → deeds_in worker moves ≡ later →
     Advance setting count worker before (move ∷ moves) asked later
 the_deed setting count worker before move moves asked later next same few means asks steps deeds =
-    let so : IsAskedSo setting before move.asked = subst (λ (one : Asked). IsAskedSo setting before one) (sym same) asks in
+    let so : IsAskedSo setting before move.asked = subst (λ (one : AskedOfShard). IsAskedSo setting before one) (sym same) asks in
     let workers : (after_asked before asked).workers ≡ before.workers = asked_workers before asked in
     let leads : after_event setting before move.event ≡ with_worker (after_asked before asked) worker next =
-    means.leads before refl so ∙ ap (λ (one : Asked). with_worker (after_asked before one) worker next) same in
+    means.leads before refl so ∙ ap (λ (one : AskedOfShard). with_worker (after_asked before one) worker next) same in
     let room : worker < length (after_asked before asked).workers = subst (λ list. worker < length list) (sym workers) few in
     record {
       done = move ∷ [];
@@ -215,28 +219,29 @@ the_deed setting count worker before move moves asked later next same few means 
       deeds = deeds;
     }
 
-abbrev AdvancesFrom : Setting → ℕ → ℕ → Asked → Deed → List Deed → List Move → SystemState → Type 0
+abbrev AdvancesFrom : Setting → ℕ → ℕ → AskedOfShard → Deed → List Deed → List Move → SystemState → Type 0
 AdvancesFrom setting count worker asked deed later moves before =
     worker < length before.workers → deeds_asked worker asked ≡ deed ∷ [] → IsAskedSo setting before asked →
     deeds_in worker moves ≡ deed ∷ later → AreSteps setting count worker (worker_state before worker) moves Idle →
     Advance setting count worker before moves asked later
 
-advance_by : (setting : Setting) (count worker : ℕ) (asked : Asked) (deed : Deed) (later : List Deed) (move : Move) (moves : List Move)
-    (before : SystemState) → ((onward : SystemState) → AdvancesFrom setting count worker asked deed later moves onward) →
+advance_by : (setting : Setting) (count worker : ℕ) (asked : AskedOfShard) (deed : Deed) (later : List Deed) (move : Move)
+    (moves : List Move) (before : SystemState) →
+    ((onward : SystemState) → AdvancesFrom setting count worker asked deed later moves onward) →
     worker < length before.workers → deeds_asked worker asked ≡ deed ∷ [] → IsAskedSo setting before asked →
     deeds_in worker (move ∷ moves) ≡ deed ∷ later → (steps : AreSteps setting count worker (worker_state before worker) (move ∷ moves) Idle) →
-    (own : Asked) → move.asked ≡ own → Advance setting count worker before (move ∷ moves) asked later
+    (own : AskedOfShard) → move.asked ≡ own → Advance setting count worker before (move ∷ moves) asked later
 advance_by setting count worker asked deed later move moves before onward few one asks made steps Nothing is =
     over_one setting count worker before move moves asked later steps.0 is few
     (steps_are_moves setting count worker (worker_state before worker) move steps.0 steps.1)
     (onward (with_worker before worker steps.0)
     (subst (λ (n : ℕ). worker < n) (sym (length-set before.workers worker steps.0)) few) one
     (asked_with setting before worker steps.0 asked asks)
-    (ap (λ (own : Asked). deeds_asked worker own ++ deeds_in worker moves) (sym is) ∙ made)
+    (ap (λ (own : AskedOfShard). deeds_asked worker own ++ deeds_in worker moves) (sym is) ∙ made)
     (subst (λ here. AreSteps setting count worker here moves Idle) (sym (state_there before worker steps.0 few)) steps.2))
 advance_by setting count worker asked deed later move moves before onward few one asks made steps (Writes entry) is =
     let all : Wrote entry ∷ deeds_in worker moves ≡ deed ∷ later =
-    ap (λ (own : Asked). deeds_asked worker own ++ deeds_in worker moves) (sym is) ∙ made in
+    ap (λ (own : AskedOfShard). deeds_asked worker own ++ deeds_in worker moves) (sym is) ∙ made in
     let same : Wrote entry ≡ deed = cc in
     let rest : deeds_in worker moves ≡ later = cc in
     the_deed setting count worker before move moves asked later steps.0
@@ -244,15 +249,15 @@ advance_by setting count worker asked deed later move moves before onward few on
     (steps_are_moves setting count worker (worker_state before worker) move steps.0 steps.1) asks steps.2 rest
 advance_by setting count worker asked deed later move moves before onward few one asks made steps (Refused call) is =
     let all : MetFull (Worker worker) call ∷ deeds_in worker moves ≡ deed ∷ later =
-    ap (λ (own : Asked). deeds_asked worker own ++ deeds_in worker moves) (sym is) ∙ made in
+    ap (λ (own : AskedOfShard). deeds_asked worker own ++ deeds_in worker moves) (sym is) ∙ made in
     let same : MetFull (Worker worker) call ≡ deed = cc in
     let rest : deeds_in worker moves ≡ later = cc in
     the_deed setting count worker before move moves asked later steps.0
     (is ∙ same_asked worker (Refused call) asked deed (ap (λ (one : Deed). one ∷ []) same) one) few
     (steps_are_moves setting count worker (worker_state before worker) move steps.0 steps.1) asks steps.2 rest
 
-pub advance : (setting : Setting) (count worker : ℕ) (asked : Asked) (deed : Deed) (later : List Deed) (moves : List Move) (before : SystemState) →
-    AdvancesFrom setting count worker asked deed later moves before
+pub advance : (setting : Setting) (count worker : ℕ) (asked : AskedOfShard) (deed : Deed) (later : List Deed) (moves : List Move)
+    (before : SystemState) → AdvancesFrom setting count worker asked deed later moves before
 advance setting count worker asked deed later [] before few one asks made steps = absurd cc
 advance setting count worker asked deed later (move ∷ moves) before few one asks made steps =
     advance_by setting count worker asked deed later move moves before
@@ -278,17 +283,17 @@ RunsOutFrom setting count worker moves before =
 out_by : (setting : Setting) (count worker : ℕ) (move : Move) (moves : List Move) (before : SystemState) →
     ((onward : SystemState) → RunsOutFrom setting count worker moves onward) → worker < length before.workers →
     deeds_in worker (move ∷ moves) ≡ [] → (steps : AreSteps setting count worker (worker_state before worker) (move ∷ moves) Idle) →
-    (own : Asked) → move.asked ≡ own → RunsOut setting worker before (move ∷ moves)
+    (own : AskedOfShard) → move.asked ≡ own → RunsOut setting worker before (move ∷ moves)
 out_by setting count worker move moves before onward few none steps Nothing is =
     let means : IsMove setting worker (worker_state before worker) move steps.0 =
     steps_are_moves setting count worker (worker_state before worker) move steps.0 steps.1 in
-    let quiet : IsAskedSo setting before move.asked = subst (λ (one : Asked). IsAskedSo setting before one) (sym is) tt in
+    let quiet : IsAskedSo setting before move.asked = subst (λ (one : AskedOfShard). IsAskedSo setting before one) (sym is) tt in
     let leads : after_event setting before move.event ≡ with_worker before worker steps.0 =
-    means.leads before refl quiet ∙ ap (λ (one : Asked). with_worker (after_asked before one) worker steps.0) is in
+    means.leads before refl quiet ∙ ap (λ (one : AskedOfShard). with_worker (after_asked before one) worker steps.0) is in
     let rest : RunsOut setting worker (with_worker before worker steps.0) moves =
     onward (with_worker before worker steps.0)
     (subst (λ (n : ℕ). worker < n) (sym (length-set before.workers worker steps.0)) few)
-    (ap (λ (own : Asked). deeds_asked worker own ++ deeds_in worker moves) (sym is) ∙ none)
+    (ap (λ (own : AskedOfShard). deeds_asked worker own ++ deeds_in worker moves) (sym is) ∙ none)
     (subst (λ here. AreSteps setting count worker here moves Idle) (sym (state_there before worker steps.0 few)) steps.2) in
     record {
       own = (means.own, rest.own);
@@ -307,11 +312,12 @@ out_by setting count worker move moves before onward few none steps Nothing is =
       idle = rest.idle;
     }
 out_by setting count worker move moves before onward few none steps (Writes entry) is =
-    let some : Wrote entry ∷ deeds_in worker moves ≡ [] = ap (λ (own : Asked). deeds_asked worker own ++ deeds_in worker moves) (sym is) ∙ none in
+    let some : Wrote entry ∷ deeds_in worker moves ≡ [] =
+    ap (λ (own : AskedOfShard). deeds_asked worker own ++ deeds_in worker moves) (sym is) ∙ none in
     absurd cc
 out_by setting count worker move moves before onward few none steps (Refused call) is =
     let some : MetFull (Worker worker) call ∷ deeds_in worker moves ≡ [] =
-    ap (λ (own : Asked). deeds_asked worker own ++ deeds_in worker moves) (sym is) ∙ none in
+    ap (λ (own : AskedOfShard). deeds_asked worker own ++ deeds_in worker moves) (sym is) ∙ none in
     absurd cc
 
 pub runs_out : (setting : Setting) (count worker : ℕ) (moves : List Move) (before : SystemState) → RunsOutFrom setting count worker moves before

@@ -19,7 +19,7 @@ use Rattle.shards.specs.Deeds.{shard_of_deed, is_of_shard, entries_made, AreMet,
 use Rattle.shard_port.specs.PassDeeds.{rising}
 use Rattle.shard_port.specs.PassSessions.{session_at}
 use Rattle.guarantees.specs.Steps.{begins, does, InRun, running, AreStepsOfRun, beginning, leavings, entries_on}
-use Rattle.guarantees.specs.Steps.{Asked, Nothing, Writes, Refused, Move, IsStep, RunBegins, RunGoesOn, RunEnds, CallIsServed, ShardIsEntered, CallIsRefused, EnterIsRefused, ShardIsLeft, AreSteps, entries_asked, entries_in, deeds_asked, deeds_in}
+use Rattle.guarantees.specs.Steps.{AskedOfShard, Nothing, Writes, Refused, Move, IsStep, RunBegins, RunGoesOn, RunEnds, CallIsServed, ShardIsEntered, CallIsRefused, EnterIsRefused, ShardIsLeft, AreSteps, entries_asked, entries_in, deeds_asked, deeds_in}
 use Rattle.guarantees.specs.Merging.{is_refusal, NoneRefused, moves_of, IsOneList, OneWorkerIsOneList}
 use Rattle.guarantees.specs.Merging.{IsSetBefore, set_and_done, RunAloneIsOneList}
 use Rattle.guarantees.proofs.DeedLemmas.{is_deed_by}
@@ -88,7 +88,7 @@ all_stay count worker (deed ∷ deeds) own =
 
 -- ---- nothing of another's
 
-written_by : (worker other : ℕ) (asked : Asked) (later : List Deed) → IsFalse (is_refusal asked) → other ≢ worker →
+written_by : (worker other : ℕ) (asked : AskedOfShard) (later : List Deed) → IsFalse (is_refusal asked) → other ≢ worker →
     AllByRecursion (λ (deed : Deed). is_deed_by worker deed ≡ true) (deeds_asked worker asked) →
     ((entry : Entry) → is_deed_by worker (Wrote entry) ≡ true → is_deed_by other (Wrote entry) ≡ false) →
     filter (is_deed_by other) later ≡ [] → filter (is_deed_by other) (deeds_asked worker asked ++ later) ≡ []
@@ -109,7 +109,7 @@ abbrev IsWritten : Deed → Type 0
 IsWritten (Wrote entry) = Unit {0}
 IsWritten (MetFull who call) = ⊥
 
-asked_writes : (worker : ℕ) (asked : Asked) → IsFalse (is_refusal asked) → AllByRecursion IsWritten (deeds_asked worker asked)
+asked_writes : (worker : ℕ) (asked : AskedOfShard) → IsFalse (is_refusal asked) → AllByRecursion IsWritten (deeds_asked worker asked)
 asked_writes worker Nothing none = tt
 asked_writes worker (Writes entry) none = (tt, tt)
 asked_writes worker (Refused call) none = absurd cc

@@ -18,10 +18,10 @@ use Rattle.semantics.specs.System.{worker_state, history_of, with_entry, after_e
 use Rattle.shards.specs.declared.deeds.Deed.{Deed}
 use Rattle.shards.specs.declared.deeds.OrderPart.TheVariants.{ByCaller}
 use Rattle.shards.specs.Deeds.{deeds_of, is_of_shard, entries_made, made_on, AreMet, AreWithin as DeedsAreWithin}
-use Rattle.guarantees.specs.Steps.{Asked, Refused, Move, AreSteps, entries_in, entries_on, deeds_in, begins}
+use Rattle.guarantees.specs.Steps.{AskedOfShard, Refused, Move, AreSteps, entries_in, entries_on, deeds_in, begins}
 use Rattle.guarantees.specs.Moves.{is_event_of}
 
-abbrev pub is_refusal : Asked → Bool
+abbrev pub is_refusal : AskedOfShard → Bool
 is_refusal (Refused call) = true
 is_refusal asked = false
 

@@ -9,7 +9,7 @@ use Rattle.semantics.specs.SequentialShard.{reply_of, shard_after}
 use Rattle.semantics.specs.History.{shard_of_call, journal_is_full}
 use Rattle.semantics.specs.System.{Setting, SystemState, SystemEvent, BeginsRun, DoesInstruction, CallsShard, LeavesShard, WorkerState}
 use Rattle.semantics.specs.System.{worker_state, history_of, with_worker, with_entry, CanHappen, after_event}
-use Rattle.guarantees.specs.Steps.{Asked, Nothing, Writes, Refused, Move, IsStep}
+use Rattle.guarantees.specs.Steps.{AskedOfShard, Nothing, Writes, Refused, Move, IsStep}
 
 -- the shard is one of the setting's, its journal has room, and the reply is the one-thread map's after the shard's history
 pub record Answers (setting : Setting) (system : SystemState) (entry : Entry) : Type 0 where
@@ -25,12 +25,12 @@ pub record TurnsAway (setting : Setting) (system : SystemState) (call : Call) : 
   pub known : plan_at setting.maps setting.options (shard_of_call call) ≡ Some plan
   pub full : IsTrue (journal_is_full plan (history_of system plan.number) call)
 
-abbrev pub IsAskedSo : Setting → SystemState → Asked → Type 0
+abbrev pub IsAskedSo : Setting → SystemState → AskedOfShard → Type 0
 IsAskedSo setting system Nothing = Unit {0}
 IsAskedSo setting system (Writes entry) = Answers setting system entry
 IsAskedSo setting system (Refused call) = TurnsAway setting system call
 
-abbrev pub after_asked : SystemState → Asked → SystemState
+abbrev pub after_asked : SystemState → AskedOfShard → SystemState
 after_asked system (Writes entry) = with_entry system (shard_of_call entry.call) entry
 after_asked system asked = system
 

@@ -20,17 +20,17 @@ use Rattle.shard_port.specs.Asking.{enter_by, leave_by, asked_entry}
 
 -- ---- what a worker's event asks of a shard
 
-pub data Asked : Type 0 where
+pub data AskedOfShard : Type 0 where
   -- no shard
-  Nothing : Asked
+  Nothing : AskedOfShard
   -- the shard of this entry, which is written
-  Writes : (entry : Entry) → Asked
+  Writes : (entry : Entry) → AskedOfShard
   -- the shard of this call, whose journal is full
-  Refused : (call : Call) → Asked
+  Refused : (call : Call) → AskedOfShard
 
 pub record Move : Type 0 where
   pub event : SystemEvent
-  pub asked : Asked
+  pub asked : AskedOfShard
 
 -- a run begins on a frame, at a time, with a worker's number
 abbrev pub begins : ℕ → List ℕ → ℕ → ℕ → Move
@@ -41,7 +41,7 @@ abbrev pub does : ℕ → Move
 does worker = record { event = DoesInstruction worker; asked = Nothing }
 
 -- a run asks a shard
-abbrev pub asks : ℕ → Asked → Move
+abbrev pub asks : ℕ → AskedOfShard → Move
 asks worker asked = record { event = CallsShard worker; asked = asked }
 
 -- a worker whose run is over leaves a shard
@@ -120,7 +120,7 @@ leavings worker shards = map (leave worker) shards
 -- ---- what they write
 
 -- the entries that the moves write, in order
-abbrev pub entries_asked : Asked → List Entry
+abbrev pub entries_asked : AskedOfShard → List Entry
 entries_asked (Writes entry) = entry ∷ []
 entries_asked asked = []
 
@@ -133,7 +133,7 @@ abbrev pub entries_on : ℕ → List Move → List Entry
 entries_on number moves = filter (is_of_shard number) (entries_in moves)
 
 -- what a worker's moves do on shards, in order: the entries that they write, and the calls that meet a full journal
-abbrev pub deeds_asked : ℕ → Asked → List Deed
+abbrev pub deeds_asked : ℕ → AskedOfShard → List Deed
 deeds_asked worker Nothing = []
 deeds_asked worker (Writes entry) = Wrote entry ∷ []
 deeds_asked worker (Refused call) = MetFull (Worker worker) call ∷ []
