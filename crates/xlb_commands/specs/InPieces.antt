@@ -22,7 +22,8 @@ use Rattle.command_line.specs.Reading.{text_of}
 use Rattle.command_line.specs.declared.commands.ReplayFiles.{ReplayFiles}
 use Rattle.xlb_commands.specs.declared.report.Report.{Report}
 use Rattle.xlb_commands.specs.Files.{FileBytes}
-use Rattle.xlb_commands.specs.Replays.{FollowsRule, IsCaptureOf, IsMade, KeepsHeadline, SendsAlike, counts_text, program_of_replay, refusals_text}
+use Rattle.xlb_commands.specs.Replays.{FollowsRule, IsCaptureOf, IsMade, KeepsHeadline, SendsAlike}
+use Rattle.xlb_commands.specs.Replays.{counts_text, program_of_replay, refusals_text}
 
 -- no reader counts too far: each record takes 16 bytes at least
 abbrev pub HasRoom : ℕ → ReaderView → Type 0
