@@ -39,7 +39,7 @@ ghost use Rattle.xlb_commands.specs.Replays.{HasBytes, IsCaptureOf, IsMade, imag
 
 use crate::fault::{Fault, Refusal};
 use crate::files::{journal_bytes, unserved, write_journals_to};
-use crate::notes::{Notes, Skipped, first_stopped};
+use crate::notes::{Altered, Notes, first_stopped};
 use crate::progress::{Progress, Rounds};
 use crate::replays::{Asked, bytes_of_frames, given_up, readers_send_alike};
 use crate::report::{Report, replayed};
@@ -480,7 +480,7 @@ fn ended(alloc: Global, asked: Asked<'_>, replay: PieceReplay) -> Result<Outcome
 fn left_in_pieces(
     alloc: Global,
     asked: Asked<'_>,
-    skipped: Skipped,
+    altered: Altered,
     going: Going,
 ) -> Result<LeftInPieces, Refusal>
     requires goes_on { GoesOn asked.script.now going.replay }
@@ -514,7 +514,7 @@ fn left_in_pieces(
     let stopped = going.stopped;
     let outcome = ended(alloc, asked, going.replay)?;
     let journals = journal_bytes(alloc, asked.files.journals, &outcome.journals)?;
-    let notes = Notes::of(asked, skipped)
+    let notes = Notes::of(asked, altered)
         .lines(alloc, asked.script, &outcome, stopped)
         .ok();
     let report = replayed(alloc, frames, outcome.counts, &outcome.refused, notes)?;
@@ -553,11 +553,11 @@ fn left_by_pieces<D: Folder, G: Gate>(
     if !go_through(alloc, folder, asked, &mut going, gate)? {
         return Ok(None);
     }
-    let skipped = Skipped {
+    let altered = Altered {
         cut: seen.cut,
         long: 0,
     };
-    let left = left_in_pieces(alloc, asked, skipped, going)?;
+    let left = left_in_pieces(alloc, asked, altered, going)?;
     Ok(Some(left))
 }
 

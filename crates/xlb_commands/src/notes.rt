@@ -19,7 +19,7 @@ const LAST: u64 = 1;
 
 /// The records of a capture that a replay does not have as they were on the wire.
 #[derive(Clone, Copy, Debug, Default)]
-pub(crate) struct Skipped {
+pub(crate) struct Altered {
     /// How many records have fewer bytes than the frames that were captured.
     pub cut: u64,
     /// How many records are skipped because they keep more than 2048 bytes.
@@ -29,7 +29,7 @@ pub(crate) struct Skipped {
 /// What is printed below the report of a replay.
 #[derive(Clone, Copy)]
 pub(crate) struct Notes<'a> {
-    pub skipped: Skipped,
+    pub altered: Altered,
     /// The slots of the shipped program's lookup table.
     pub ring: u32,
     /// The image's file, if one is named.
@@ -44,9 +44,9 @@ pub(crate) struct Notes<'a> {
 
 impl<'a> Notes<'a> {
     /// The notes of what is asked for.
-    pub(crate) fn of(asked: Asked<'a>, skipped: Skipped) -> Notes<'a> {
+    pub(crate) fn of(asked: Asked<'a>, altered: Altered) -> Notes<'a> {
         Notes {
-            skipped,
+            altered,
             ring: asked.ring,
             image: asked.files.image,
             is_steering: asked.files.is_steering,
@@ -135,7 +135,7 @@ impl Notes<'_> {
 
     /// Records that were skipped.
     fn put_long(&self, alloc: Global, text: &mut String) -> Result<(), AllocError> {
-        let long = self.skipped.long;
+        let long = self.altered.long;
         if long == 0 {
             return Ok(());
         }
@@ -145,7 +145,7 @@ impl Notes<'_> {
 
     /// Records that were cut when they were captured.
     fn put_cut(&self, alloc: Global, text: &mut String) -> Result<(), AllocError> {
-        let cut = self.skipped.cut;
+        let cut = self.altered.cut;
         if cut == 0 {
             return Ok(());
         }

@@ -39,7 +39,7 @@ use crate::commands::judged_of;
 use crate::fault::{Fault, Refusal};
 use crate::files::{bytes_of, journal_bytes, write_journals_to, write_text_to, write_to};
 use crate::in_pieces::replay_in_pieces;
-use crate::notes::{Notes, Skipped};
+use crate::notes::{Altered, Notes};
 use crate::one_run::maps_of;
 use crate::progress::{Progress, Rounds};
 use crate::record_report::report_for;
@@ -182,52 +182,52 @@ fn in_whole_file(alloc: Global, bytes: &[u8], skipped: u64, refusal: Refusal) ->
     }
 }
 
-/// The records of a capture's bytes that keep at most 2048 bytes, and in `skipped` how many keep more.
-fn short_records_of(alloc: Global, bytes: &[u8], skipped: &mut Skipped) -> Result<Capture, Refusal>
+/// The records of a capture's bytes that keep at most 2048 bytes, and in `altered` how many keep more.
+fn short_records_of(alloc: Global, bytes: &[u8], altered: &mut Altered) -> Result<Capture, Refusal>
     ensures records { IfOk result (λ capture. IsCaptureIn true bytes.now capture.records.items) }
     ensures refused { IfErr result (λ refusal. IsNoCaptureIn true bytes.now refusal.fault) }
 {
     let shortened = without_long_records(alloc, bytes)?;
     match records_of(alloc, &shortened.bytes) {
         Ok(capture) => {
-            skipped.cut = records::cut_records(&shortened.bytes, capture.records.len());
-            skipped.long = shortened.skipped;
+            altered.cut = records::cut_records(&shortened.bytes, capture.records.len());
+            altered.long = shortened.skipped;
             Ok(capture)
         }
         Err(refusal) => Err(in_whole_file(alloc, bytes, shortened.skipped, refusal)),
     }
 }
 
-/// The records of a capture's bytes, and in `skipped` how many of these were cut when they were captured. `skip_long`: without those of
+/// The records of a capture's bytes, and in `altered` how many of these were cut when they were captured. `skip_long`: without those of
 /// more than 2048 bytes, which are counted, in place of refusing the capture.
 fn records_in(
     alloc: Global,
     bytes: &[u8],
     skip_long: bool,
-    skipped: &mut Skipped,
+    altered: &mut Altered,
 ) -> Result<Capture, Refusal>
     ensures records { IfOk result (λ capture. IsCaptureIn skip_long bytes.now capture.records.items) }
     ensures refused { IfErr result (λ refusal. IsNoCaptureIn skip_long bytes.now refusal.fault) }
 {
     if skip_long {
-        return short_records_of(alloc, bytes, skipped);
+        return short_records_of(alloc, bytes, altered);
     }
     match records_of(alloc, bytes) {
         Ok(capture) => {
-            skipped.cut = records::cut_records(bytes, capture.records.len());
+            altered.cut = records::cut_records(bytes, capture.records.len());
             Ok(capture)
         }
         Err(refusal) => Err(refusal),
     }
 }
 
-/// The capture of a file, and in `skipped` which of its records are not as their frames were.
+/// The capture of a file, and in `altered` which of its records are not as their frames were.
 fn capture_of<D: Folder>(
     alloc: Global,
     folder: &mut D,
     name: &str,
     skip_long: bool,
-    skipped: &mut Skipped,
+    altered: &mut Altered,
 ) -> Result<Capture, Refusal>
     requires { D.failure_count folder.old < 2 ^ 64 - 1 }
     ensures capture { IfOk result (λ capture. IsCaptureOf (D.holds folder.old) skip_long name.now capture.records.items) }
@@ -237,7 +237,7 @@ fn capture_of<D: Folder>(
         (HasFailed (D.failure_count folder.old) (D.failure_count folder.new)) skip_long name.now refusal.fault) }
 {
     let bytes = bytes_of(alloc, folder, name)?;
-    let capture = records_in(alloc, &bytes, skip_long, skipped)?;
+    let capture = records_in(alloc, &bytes, skip_long, altered)?;
     Ok(capture)
 }
 
@@ -578,8 +578,8 @@ fn replay_whole<R: Threads + Wait + Sync, D: Folder, P: Progress + Sync>(
         (HasFailed (D.failure_count folder.old) (D.failure_count folder.new)) asked.entry refusal.fault) }
 {
     let files = asked.files;
-    let mut skipped = Skipped::default();
-    let capture = capture_of(alloc, folder, files.capture, asked.skip_long, &mut skipped)?;
+    let mut altered = Altered::default();
+    let capture = capture_of(alloc, folder, files.capture, asked.skip_long, &mut altered)?;
     let frames = capture.records.len() as u64;
     let rounds = Rounds::of(
         progress,
@@ -592,7 +592,7 @@ fn replay_whole<R: Threads + Wait + Sync, D: Folder, P: Progress + Sync>(
         Ok(outcome) => outcome,
         Err(fault) => return Err(given_up(alloc, asked.options, asked.verified, fault)),
     };
-    let notes = Notes::of(asked, skipped)
+    let notes = Notes::of(asked, altered)
         .text(alloc, &capture, asked.script, &outcome)
         .ok();
     let left = left_of(alloc, files, asked.script, &capture, &outcome, notes)?;
