@@ -111,3 +111,33 @@ fn offsets_of_an_interval(rt: HostRuntime) -> Result<(), Fail> {
     }
     Ok(())
 }
+
+const AND_1: Insn = alu!(AluOp::And, R5, SourceOperand::Imm(1));
+
+const AND_248: Insn = alu!(AluOp::And, R5, SourceOperand::Imm(248));
+
+const SUB_BYTE: Insn = alu!(AluOp::Sub, R6, SourceOperand::Reg(R5));
+
+// A byte of the packet is added to an address in a value of 248 bytes: if it may lead past the end, the addition itself is refused.
+#[rattlefmt::skip]
+static ADDITIONS: [(&str, &[Insn], Result<bool, Reject>); 5] = [
+    ("past the end", &[address!(0, 0), START, END, PLACE, ADD_14, PASS, JGT_4, BYTE, ADD_BYTE, STORE_1, READ, EXIT],
+        Err(Reject::ValueBounds { slot: 9 })),
+    ("to the end, where no byte is stored", &[address!(0, 0), START, END, PLACE, ADD_14, PASS, JGT_5, BYTE, AND_248, ADD_BYTE, STORE_1, READ, EXIT],
+        Err(Reject::ValueBounds { slot: 11 })),
+    ("from 1, past the end", &[address!(0, 1), START, END, PLACE, ADD_14, PASS, JGT_5, BYTE, AND_248, ADD_BYTE, STORE_1, READ, EXIT],
+        Err(Reject::ValueBounds { slot: 10 })),
+    ("to the last two bytes", &[address!(0, 246), START, END, PLACE, ADD_14, PASS, JGT_5, BYTE, AND_1, ADD_BYTE, STORE_1, READ, EXIT],
+        Ok(false)),
+    ("a byte is not taken from an address", &[address!(0, 248), START, END, PLACE, ADD_14, PASS, JGT_5, BYTE, AND_248, SUB_BYTE, STORE_1, READ, EXIT],
+        Err(Reject::WrongKind { slot: 10, register: 5 })),
+];
+
+#[test]
+fn additions_to_addresses(rt: HostRuntime) -> Result<(), Fail> {
+    let maps = [map_of(MapKind::Array, 248)];
+    for &(name, code, wanted) in &ADDITIONS {
+        is_judged(&rt, rt.alloc(), name, Version::V2, &maps, code, wanted)?;
+    }
+    Ok(())
+}

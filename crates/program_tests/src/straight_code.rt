@@ -8,7 +8,7 @@ use ebpf_decode::{Insn, MapDef, MapKind, Version};
 use isa::Register::{R0, R1, R2, R3, R4, R5, R6, R10};
 use isa::{AluOp, AtomicOp, Extension, Register, Size, SourceOperand, Test, Width};
 use std::process::Abort;
-use test_support::{add, alu, jump, load, mov, number, put, store};
+use test_support::{add, alu, jump, lddw, load, mov, number, put, store};
 
 static MAPS: [MapDef; 1] = [MapDef {
     kind: MapKind::Array,
@@ -170,7 +170,7 @@ fn edges_of_tests(rt: HostRuntime) {
 }
 
 #[rattlefmt::skip]
-static BROKEN: [(&str, &[Insn], BrokenRule); 26] = [
+static BROKEN: [(&str, &[Insn], BrokenRule); 27] = [
     ("exit without a verdict", &[Insn::Exit], BrokenRule::UnsetRegister(R0)),
     ("a pointer as the verdict", &[mov!(R0, R1), Insn::Exit], BrokenRule::PointerLeak),
     ("R10 is read-only, before anything else", &[mov!(R10, R5)], BrokenRule::ReadOnlyFp),
@@ -201,12 +201,50 @@ static BROKEN: [(&str, &[Insn], BrokenRule); 26] = [
     ("no map 1", &[Insn::Ldmap { dst: R1, map: 1 }], BrokenRule::UnknownMap),
     ("two pointers added", &[alu!(AluOp::Add, R1, SourceOperand::Reg(R10))], BrokenRule::WrongKind(R1)),
     ("a stack pointer past the frame pointer", &[mov!(R2, R10), add!(R2, 1)], BrokenRule::StackBounds),
+    ("the least number taken from a stack pointer", &[mov!(R2, R10), lddw!(R3, 0x8000_0000_0000_0000), alu!(AluOp::Sub, R2, SourceOperand::Reg(R3))],
+        BrokenRule::StackBounds),
 ];
 
 #[test]
 fn first_broken_rules(rt: HostRuntime) {
     for &(name, code, wanted) in &BROKEN {
         knows(&rt, name, code, false, R0, Err(wanted));
+    }
+}
+
+// Arithmetic and tests that are refused for the kinds of their operands, and the register that is named: the source if another kind of
+// source would do, else the destination.
+#[rattlefmt::skip]
+static WRONG_KINDS: [(&str, &[Insn], Register); 20] = [
+    ("an unknown number added to a stack pointer", &[load!(Size::U32, R3, R1, 16), mov!(R2, R10), alu!(AluOp::Add, R2, SourceOperand::Reg(R3))], R3),
+    ("taken from a packet pointer", &[load!(Size::U32, R3, R1, 16), START, alu!(AluOp::Sub, R2, SourceOperand::Reg(R3))], R3),
+    ("added to an address in a value, in version 1",
+        &[mov!(R6, R1), KEY, KEY_AT, KEY_DOWN, MAP, LOOKUP, JEQ, load!(Size::U32, R3, R6, 16), alu!(AluOp::Add, R0, SourceOperand::Reg(R3))], R3),
+    ("two stack pointers added", &[mov!(R2, R10), alu!(AluOp::Add, R2, SourceOperand::Reg(R10))], R10),
+    ("two packet pointers subtracted", &[START, mov!(R3, R2), alu!(AluOp::Sub, R2, SourceOperand::Reg(R3))], R3),
+    ("a pointer added to a number", &[number!(R0, 2), alu!(AluOp::Add, R0, SourceOperand::Reg(R1))], R1),
+    ("the low half of a pointer", &[Insn::Alu { width: Width::Bits32, op: AluOp::Mov, dst: R2, source: SourceOperand::Reg(R1) }], R1),
+    ("the low byte of a pointer", &[Insn::Movsx { extension: Extension::I8, dst: R2, src: R1 }], R1),
+    ("the context moved", &[add!(R1, 4)], R1),
+    ("the packet's end moved", &[END, add!(R3, -1)], R3),
+    ("a pointer multiplied", &[mov!(R2, R10), alu!(AluOp::Mul, R2, SourceOperand::Imm(2))], R2),
+    ("a stack pointer moved on 32 bits", &[mov!(R2, R10), Insn::Alu { width: Width::Bits32, op: AluOp::Add, dst: R2, source: SourceOperand::Imm(-4) }], R2),
+    ("a pointer negated", &[Insn::Neg { width: Width::Bits64, dst: R1 }], R1),
+    ("a number compared with a pointer", &[number!(R0, 2), jump!(Test::Eq, R0, SourceOperand::Reg(R1))], R1),
+    ("a packet pointer compared with a number", &[START, number!(R5, 1), jump!(Test::Gt, R2, SourceOperand::Reg(R5))], R5),
+    ("the packet's end compared with a number", &[END, number!(R5, 1), jump!(Test::Le, R3, SourceOperand::Reg(R5))], R5),
+    ("a packet pointer compared with an immediate", &[START, jump!(Test::Gt, R2, SourceOperand::Imm(1))], R2),
+    ("a packet pointer compared for equality", &[START, END, jump!(Test::Eq, R2, SourceOperand::Reg(R3))], R2),
+    ("a packet pointer compared on 32 bits",
+        &[START, END, Insn::JumpIf { width: Width::Bits32, test: Test::Gt, dst: R2, source: SourceOperand::Reg(R3), distance: 0 }], R2),
+    ("a null test against a register", &[KEY, KEY_AT, KEY_DOWN, MAP, LOOKUP, number!(R6, 0), jump!(Test::Eq, R0, SourceOperand::Reg(R6))], R0),
+];
+
+#[test]
+fn registers_of_a_wrong_kind(rt: HostRuntime) {
+    for &(name, code, register) in &WRONG_KINDS {
+        let wanted = Err(BrokenRule::WrongKind(register));
+        knows(&rt, name, code, false, R0, wanted);
     }
 }
 
