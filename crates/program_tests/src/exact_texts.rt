@@ -394,6 +394,33 @@ fn version_2(rt: HostRuntime) -> Result<(), Fail> {
     Ok(())
 }
 
+// The line of a map of each kind with the line after it, and bpf(2)'s number of the map's type.
+#[rattlefmt::skip]
+const KINDS: [(&str, u8); 3] = [
+    ("map hash 4 8 1\nexit",  1),
+    ("map array 4 8 1\nexit", 2),
+    ("map lru 4 8 1\nexit",   9),
+];
+
+/// An image of one map of this type, of keys of four bytes and one value of eight, and an exit.
+#[rattlefmt::skip]
+fn one_map_image(number: u8) -> [u8; 32] {
+    [
+        0x58, 0x4c, 0x42, 0x50, 1, 1, 0, 0,
+        number, 0, 0, 0, 4, 0, 0, 0, 8, 0, 0, 0, 1, 0, 0, 0,
+        0x95, 0, 0, 0, 0, 0, 0, 0,
+    ]
+}
+
+#[test]
+fn one_map_of_each_kind(rt: HostRuntime) -> Result<(), Fail> {
+    for (spelling, number) in KINDS {
+        let bytes = one_map_image(number);
+        is_spelled(&rt, rt.alloc(), spelling, 1, spelling, &bytes)?;
+    }
+    Ok(())
+}
+
 // Texts with maps of each kind, read and printed again.
 #[rattlefmt::skip]
 const MAPS: [&str; 5] = [
@@ -512,6 +539,18 @@ fn count_of_long(alloc: Global, count: u32) -> Result<Result<usize, AsmFault>, A
     Ok(count_of(alloc, &given))
 }
 
+/// A text of this many lines and an `exit` is the text of its image.
+fn long_comes_back(rt: &impl Abort, alloc: Global, count: u32) -> Result<(), Fail> {
+    let given = long_text(alloc, count)?;
+    let bytes = bytes_of(alloc, &given)?;
+    is_text_of(rt, alloc, "the longest text", &bytes, &given)
+}
+
+#[test]
+fn longest_text(rt: HostRuntime) -> Result<(), Fail> {
+    long_comes_back(&rt, rt.alloc(), 4095)
+}
+
 #[test]
 fn longest_program(rt: HostRuntime) -> Result<(), Fail> {
     let longest = count_of_long(rt.alloc(), 4095)?;
@@ -535,12 +574,4 @@ fn fault_texts(rt: HostRuntime) -> Result<(), Fail> {
         prints(&rt, rt.alloc(), &fault, want)?;
     }
     Ok(())
-}
-
-#[test]
-fn refused_memory_is_23(rt: HostRuntime) {
-    match count_of(rt.alloc(), FIRST_RUN) {
-        Ok(count) => same(&rt, "instructions", &count, &17),
-        Err(fault) => same(&rt, "no memory", &fault, &AsmFault::Memory),
-    }
 }

@@ -1,4 +1,4 @@
-//! Images and their bytes: every kind of slot both ways, and every fault of bytes.
+//! Images and their bytes: every kind of slot and of map both ways, and every fault of bytes.
 
 use crate::asserting::{holds, prints, same, same_at, same_fact};
 use crate::programs::image_of;
@@ -377,6 +377,38 @@ fn maps(rt: HostRuntime) -> Result<(), Fail> {
     Ok(())
 }
 
+// What is bpf(2)'s name of a type, its number, and the kind of map that it is.
+#[rattlefmt::skip]
+static KINDS: [(&str, u8, MapKind); 3] = [
+    ("BPF_MAP_TYPE_HASH",     1, MapKind::Hash),
+    ("BPF_MAP_TYPE_ARRAY",    2, MapKind::Array),
+    ("BPF_MAP_TYPE_LRU_HASH", 9, MapKind::LruHash),
+];
+
+/// An image of one map of this type and an exit is decoded to a map of this kind, and encoded again.
+fn has_kind(
+    rt: &impl Abort,
+    alloc: Global,
+    name: &str,
+    number: u8,
+    kind: MapKind,
+) -> Result<(), Fail> {
+    let map = [number, 0, 0, 0, 4, 0, 0, 0, 8, 0, 0, 0, 1, 0, 0, 0];
+    let bytes = bytes_of(alloc, &ONE_MAP, &map, &[0x95, 0, 0, 0, 0, 0, 0, 0])?;
+    let image = decode(alloc, &bytes)?;
+    let want = [MapDef { kind, ..ONE_ENTRY }];
+    same_fact(rt, name, "the map", &image.maps(), &want.as_slice());
+    is_encoded(rt, alloc, name, &image, &bytes)
+}
+
+#[test]
+fn kinds_of_maps(rt: HostRuntime) -> Result<(), Fail> {
+    for &(name, number, kind) in &KINDS {
+        has_kind(&rt, rt.alloc(), name, number, kind)?;
+    }
+    Ok(())
+}
+
 // A wide slot and the slot after it, in an image of this version.
 #[rattlefmt::skip]
 static ADDRESSES: [(&str, u8, [u8; 8], [u8; 8], u8); 12] = [
@@ -585,13 +617,6 @@ fn texts(rt: HostRuntime) -> Result<(), Fail> {
         prints(&rt, rt.alloc(), &fault, want)?;
     }
     Ok(())
-}
-
-// Run with each request of memory refused in turn, decode answers 20 or the image.
-#[test]
-fn refused_memory_is_20(rt: HostRuntime) {
-    let number = number_of(rt.alloc(), &FIRST_RUN_IMAGE);
-    holds(&rt, "an image or 20", number == 0 || number == 20);
 }
 
 #[test]
