@@ -11,7 +11,7 @@ use std::thread::Threads;
 type Row = (&'static str, &'static str, &'static str);
 
 #[rattlefmt::skip]
-const ROWS: [Row; 19] = [
+const ROWS: [Row; 20] = [
     ("no bytes", "", "fault 10 BadHead\n  the file is empty\n  expected an image, which begins with 58 4c 42 50 (XLBP)\n"),
     ("a cut head", "584c4250010000", "fault 10 BadHead\n  the file ends after 7 bytes, within its head of 8 bytes\n"),
     ("another magic", "584c425101000000b7000000020000009500000000000000",
@@ -29,6 +29,7 @@ const ROWS: [Row; 19] = [
     ("a legacy load",               "584c4250010000002000000000000000",                                       "fault 16 NotInProfile slot 0\n"),
     ("register 11",                 "584c425001000000b70b000000000000",                                       "fault 17 BadRegister slot 0\n"),
     ("an unused field",             "584c425001000000bf01000005000000",                                       "fault 18 FieldNotZero slot 0\n"),
+    ("the first of two bad slots",  "584c425001000000bf010000050000003700020001000000",                       "fault 18 FieldNotZero slot 0\n"),
     ("half a wide instruction",     "584c4250010000001801000000000000",                                       "fault 19 WideCut slot 0\n"),
     ("exit alone",                  "584c4250010000009500000000000000",                                       "fault 35 UnsetRegister slot 0 register 0\n"),
     ("one slot of the first image", "584c425001010000020000000400000008000000010000006112000000000000",       "fault 33 FallsOff slot 0\n"),

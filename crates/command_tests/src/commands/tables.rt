@@ -50,13 +50,22 @@ const WHY_REFUSED: &str =
   line 3 of the script, 0 down 3: no such backend is up, or there is no such number: numbers are below 256 and below the ring's size
 ";
 
+/// The table of the backend with the largest number.
+const OF_255: &str =
+    "command 1 frame 0 moved 4093 least 4093\nbackend 255 address 192.0.2.1 slots 4093 percent 100.00\n";
+
+const WHY_NOT_256: &str =
+    "  line 1 of the script, 0 up 256 192.0.2.1: no such backend is up, or there is no such number: numbers are below 256 and below the ring's size\n";
+
 /// What a row shows; the script; the words behind it; what is to come.
 #[rattlefmt::skip]
-const ROWS: [(&str, &str, &str, Wanted<'static>); 4] = [
+const ROWS: [(&str, &str, &str, Wanted<'static>); 6] = [
     ("seven slots",        SCRIPT,  " --ring 7", Wanted { status: 0, out: OF_7,       err: "" }),
     ("as a replay has it", SCRIPT,  "",          Wanted { status: 0, out: OF_251,     err: "" }),
     ("refused commands",   REFUSED, " --ring 7", Wanted { status: 1, out: OF_REFUSED, err: WHY_REFUSED }),
     ("no command",         "",      "",          Wanted { status: 0, out: "",         err: "" }),
+    ("the largest number", "0 up 255 192.0.2.1\n", " --ring 4093", Wanted { status: 0, out: OF_255,                   err: "" }),
+    ("a number of 256",    "0 up 256 192.0.2.1\n", " --ring 4093", Wanted { status: 1, out: "command 1 refused 91\n", err: WHY_NOT_256 }),
 ];
 
 /// Holds a row's tables against what is wanted.
