@@ -1,8 +1,7 @@
 //! Programs run, each from its text.
 
 use super::first_path::IMAGE;
-use super::{Wanted, ZEROS, compare, over_text, put, put_digits, refused, serve_line};
-use crate::asserting::same_bytes_of;
+use super::{Wanted, ZEROS, compare, over_text, put, put_digits, refused};
 use folders::MemoryFolder;
 use std::alloc::{AllocError, Global};
 use std::process::Abort;
@@ -166,34 +165,45 @@ fn refuses_4097_instructions(rt: HostRuntime) {
     );
 }
 
-/// What a row shows, how many bytes a frame has, and what is printed.
-const SIZES: [(&str, usize, &str); 2] = [
-    ("2048 bytes", 2048, ""),
-    (
-        "2049 bytes",
-        2049,
-        "fault 6 FrameTooLong\n  the file has more than 2048 bytes\n  expected the bytes of one Ethernet frame, 14 to 2048 of them\n",
-    ),
-];
-
-/// Holds what is printed of a run over this many bytes against what is to be printed.
+/// Holds what a run of the first image over this many zeros comes to against what is wanted.
 fn compare_size<R: Abort + Threads + Wait + Sync>(
     rt: &R,
     alloc: Global,
     name: &str,
     size: usize,
-    err: &str,
+    wanted: Wanted<'_>,
 ) {
     let folder = put_digits(rt, alloc, MemoryFolder::new(alloc), "image", IMAGE);
     let frame: Vec<u8> = vec![in alloc; 0; size].expect(rt, "a frame");
     let folder = put(rt, alloc, folder, "frame", &frame);
-    let found = serve_line(rt, alloc, folder, "xlb run image frame");
-    same_bytes_of(rt, name, "error", found.err.bytes(), err.as_bytes());
+    compare(rt, alloc, name, folder, "xlb run image frame", wanted);
+}
+
+/// What a run of the first image over this many zeros prints.
+fn ran_over(alloc: Global, size: u32) -> Result<String, AllocError> {
+    let mut text = String::from_str(alloc, "verdict aborted\ninstructions 17\nframe ")?;
+    for _ in 0..size {
+        text.push_str("00")?;
+    }
+    text.push_str("\n")?;
+    Ok(text)
 }
 
 #[test]
 fn takes_2048_bytes(rt: HostRuntime) {
-    for row in &SIZES {
-        compare_size(&rt, rt.alloc(), row.0, row.1, row.2);
-    }
+    let out = ran_over(rt.alloc(), 2048).expect(&rt, "a text");
+    let wanted = Wanted {
+        status: 0,
+        out: out.as_str(),
+        err: "",
+    };
+    compare_size(&rt, rt.alloc(), "2048 bytes", 2048, wanted);
+}
+
+#[test]
+fn refuses_2049_bytes(rt: HostRuntime) {
+    let wanted = refused(
+        "fault 6 FrameTooLong\n  the file has more than 2048 bytes\n  expected the bytes of one Ethernet frame, 14 to 2048 of them\n",
+    );
+    compare_size(&rt, rt.alloc(), "2049 bytes", 2049, wanted);
 }
