@@ -247,11 +247,12 @@ fn many_runs_and_a_leave(alloc: Global, count: u32) -> Result<String, AllocError
 fn audits_the_entry_after_3000(rt: HostRuntime) {
     let alloc = rt.alloc();
     let text = many_runs_and_a_leave(alloc, 1000).expect(&rt, "a file");
-    let err = format!(in alloc; "fault 53 Illegal shard 0 place 3000\n  line 3002: \"0 w0 leave ok\"\n  {WHY}\n").expect(
+    let line = "line 3002: \"0 w0 leave ok\"";
+    let err = format!(in alloc; "fault 53 Illegal shard 0 place 3000\n  {line}\n  {WHY}\n").expect(
         &rt, "lines",
     );
-    let name = "one more entry";
-    compare_audit(&rt, alloc, name, "hash 4 8 1", text.as_bytes(), refused(&err));
+    let wanted = refused(&err);
+    compare_audit(&rt, alloc, line, "hash 4 8 1", text.as_bytes(), wanted);
 }
 
 /// What a row shows, a file's bytes, and what is printed.
