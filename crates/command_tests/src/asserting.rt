@@ -13,7 +13,7 @@ pub fn holds_of(rt: &impl Abort, name: &str, fact: &str, is_so: bool)
 
 /// Ends the test where bytes, which are one of several facts of a row, are not the wanted ones.
 pub fn same_bytes_of(rt: &impl Abort, name: &str, fact: &str, found: &[u8], wanted: &[u8]) {
-    assert!(rt; found == wanted, "{name}: {fact}");
+    assert_eq!(rt; found, wanted, "{name}: {fact}");
 }
 
 /// Ends the test where a text is not the wanted one.
