@@ -289,6 +289,12 @@ fn the_65th_service_is_refused(rt: HostRuntime) -> Result<(), ControlFault> {
     Ok(())
 }
 
+#[test]
+fn a_long_script_is_read_exactly(rt: HostRuntime) -> Result<(), ControlFault> {
+    let text = services(rt.alloc())?;
+    is_read_exactly(&rt, rt.alloc(), "66 services", &text)
+}
+
 const CHANGED: [Slot; 3] = [
     Slot {
         place: 0,
@@ -326,6 +332,18 @@ fn slots_that_change_hands(rt: HostRuntime) -> Result<(), RingFault> {
     let second = Ring::turns(rt.alloc(), &[(0, 3, 4), (2, 3, 1)], 7)?;
     are_changed(&rt, rt.alloc(), "without one", &first, &second, &CHANGED)?;
     are_changed(&rt, rt.alloc(), "the same ring", &first, &first, &[])
+}
+
+/// Of two backends on 65,537 slots the second one has 32,768, which go back to the first.
+#[test]
+fn slots_of_a_large_ring_change_hands(rt: HostRuntime) -> Result<(), RingFault> {
+    let first = Ring::turns(rt.alloc(), &[(0, 3, 4), (1, 0, 2)], 65537)?;
+    let second = Ring::turns(rt.alloc(), &[(0, 3, 4)], 65537)?;
+    let slots = ring_updates(rt.alloc(), &first, &second)?;
+    same(&rt, "slots that change", &slots.len(), &32_768);
+    let are_of_the_first = slots.iter().all(|slot| slot.owner == Some(0));
+    holds(&rt, "they are the first one's", are_of_the_first);
+    Ok(())
 }
 
 const NO_SIZES: [u32; 5] = [0, 1, 8, 252, 65536];

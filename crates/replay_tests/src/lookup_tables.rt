@@ -1,4 +1,4 @@
-//! Worked rings, each refusal, and the shares and the time of large rings.
+//! Worked rings, each refusal, and the shares of large rings, with the time that they take in print.
 
 ghost use Rattle.std.specs.Prelude.{◌<◌, ℕ, All, IsTrue};
 
@@ -224,7 +224,7 @@ fn timed(rt: &HostRuntime, backends: &[Backend]) -> Result<(Ring, u128), Fail> {
 }
 
 #[test]
-fn shares_and_time_of_large_rings(rt: HostRuntime) -> Result<(), Fail> {
+fn shares_of_large_rings(rt: HostRuntime) -> Result<(), Fail> {
     for (count, least, most) in SHARES {
         let backends = hundreds(rt.alloc(), count)?;
         let (ring, time) = timed(&rt, &backends)?;

@@ -85,7 +85,14 @@ pub(crate) fn two_retired_cells(rt: &impl Abort, alloc: Global) -> Result<(), Al
 
 #[test]
 fn many_large_cells(rt: HostRuntime) -> Result<(), AllocError> {
-    let cells = Cells::new(rt.alloc(), 256, 262_144, 1_310_720)?;
+    let mut cells = Cells::new(rt.alloc(), 256, 262_144, 1_310_720)?;
     same(&rt, "none waits", &cells.waiting(), &0);
+    same(&rt, "the first cell", &cells.take(&[7; 256]), &0);
+    same(
+        &rt,
+        "its last bytes",
+        &cells.load(0, 248, 8),
+        &0x0707_0707_0707_0707,
+    );
     Ok(())
 }

@@ -252,13 +252,15 @@ fn by_two_threads<B: Naming + Send + Sync, R: Threads + Abort + Wait + Sync>(
         &[one, two],
         &[300, 300],
     );
+    let journals = shards.close(rt, Vec::with_capacity(alloc, 0)?);
+    same(rt, "their entries", &length_of(&journals, 1), &600);
     Ok(())
 }
 
 /// The journal has room for the calls of both, and for no entry that is made twice.
 #[test]
 fn two_threads_on_one_shard(rt: HostRuntime) -> Result<(), Fail> {
-    let opened = opened(rt.alloc(), 602)?;
+    let opened = opened(rt.alloc(), 600)?;
     by_two_threads::<Brand, HostRuntime>(&rt, rt.alloc(), opened)
 }
 

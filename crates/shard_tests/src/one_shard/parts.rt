@@ -136,7 +136,7 @@ fn key_in_its_part(
     Ok(())
 }
 
-/// A key belongs to the part that is the remainder of its FNV-1a, and to no other.
+/// A key belongs to the part that is the remainder of its FNV-1a, and not to the next one.
 #[test]
 fn keys_by_parts(rt: HostRuntime) -> Result<(), AllocError> {
     for kind in [MapKind::Hash, MapKind::LruHash] {
