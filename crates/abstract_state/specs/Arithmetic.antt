@@ -94,7 +94,8 @@ is_movable other = false
 -- a pointer as the first operand
 abbrev pub combined_pointer : List MapDef → Version → ℕ → Width → AluOp → Kind → Kind → Register → Register → Checked Kind
 combined_pointer maps version slot width op pointer other dst source =
-    if moves_pointers width op then (if is_movable pointer then pointer_sum maps version slot op pointer other dst source else Err (WrongKind dst))
+    if moves_pointers width op
+    then (if is_movable pointer then pointer_sum maps version slot op pointer other dst source else Err (WrongKind dst))
     else Err (WrongKind dst)
 
 -- an operation that reads its destination

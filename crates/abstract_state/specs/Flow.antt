@@ -116,7 +116,8 @@ store_register_flow maps state size dst src offset =
 
 abbrev pub atomic_flow : List MapDef → State → Width → AtomicOp → Register → Register → ℤ → Checked State
 atomic_flow maps state width op dst src offset =
-    fetch_writable (fetched_register op src) >>= (λ _. reads_atomic state op dst src >>= (λ _. atomic_of maps state width op dst src offset))
+    fetch_writable (fetched_register op src) >>=
+    (λ _. reads_atomic state op dst src >>= (λ _. atomic_of maps state width op dst src offset))
 
 -- the number of a wide instruction
 abbrev pub number_flow : State → Register → ℕ → Checked State
@@ -190,7 +191,8 @@ flow_of maps state slot (Lddw dst value) = falls (number_flow state dst value)
 flow_of maps state slot (Ldmap dst map) = falls (map_flow maps state dst map)
 flow_of maps state slot (Ldval dst map offset) = falls (address_flow maps state slot dst map offset)
 flow_of maps state slot (Ldx size dst src offset) = falls (load_flow state dst src (load_of maps state size dst src offset))
-flow_of maps state slot (Ldxs extension dst src offset) = falls (load_flow state dst src (signed_load_of maps state extension dst src offset))
+flow_of maps state slot (Ldxs extension dst src offset) =
+    falls (load_flow state dst src (signed_load_of maps state extension dst src offset))
 flow_of maps state slot (St size dst offset immediate) = falls (store_flow maps state size dst offset immediate)
 flow_of maps state slot (Stx size dst src offset) = falls (store_register_flow maps state size dst src offset)
 flow_of maps state slot (AtomicUpdate width op dst src offset) = falls (atomic_flow maps state width op dst src offset)

@@ -1,5 +1,5 @@
--- Where an access may go: inside what is known to be there, and, on the stack and in values, at a multiple of its size. (A load or a store of a
--- value at an offset that is not one known number needs no alignment.)
+-- Where an access may go: inside what is known to be there, and, on the stack and in values, at a multiple of its size. (A load or a
+-- store of a value at an offset that is not one known number needs no alignment.)
 use Rattle.std.specs.Prelude.{ℕ, ◌+◌, ◌%◌, ◌==◌, nat_le, ℤ, pos, negsuc, ◌+ℤ◌, List, Ok, Err, slice_get, if◌then◌else◌}
 use Rattle.ebpf_decode.specs.declared.map.MapDef.{MapDef}
 use Rattle.abstract_state.specs.declared.kind.Offsets.{Offsets}

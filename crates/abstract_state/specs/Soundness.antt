@@ -88,7 +88,8 @@ pub record IsShaped (state : State) : Type 0 where
 abbrev pub FlowIsSound : Type 0
 FlowIsSound =
     (program : Program) (held : Held) (state : State) (machine : MachineState) (insn : Insn) (flow : Flow) →
-    IsShaped state → Abstracts program.maps held state machine → AllByRecursion HasImageSizes program.maps → FieldsFit insn → JumpsForward insn →
+    IsShaped state → Abstracts program.maps held state machine → AllByRecursion HasImageSizes program.maps → FieldsFit insn →
+    JumpsForward insn →
     flow_of program.maps state machine.slot insn ≡ Ok flow →
     Follows program held flow machine insn (instruction_step program insn machine)
 
@@ -109,7 +110,8 @@ HoldingMoreIsSound =
 -- a run begins in a state that the opening state is sound for
 abbrev pub OpeningIsSound : Type 0
 OpeningIsSound =
-    (version : Version) (maps : List MapDef) (held : Held) (bytes : List ℕ) (worker now : ℕ) → IsInputFrame bytes → worker < 8 → now < 2 ^ 64 →
+    (version : Version) (maps : List MapDef) (held : Held) (bytes : List ℕ) (worker now : ℕ) →
+    IsInputFrame bytes → worker < 8 → now < 2 ^ 64 →
     Abstracts maps held (opening_state version) (initial_state (input_frame bytes) worker now)
 
 -- the state in which a run begins has its shape, and so has each that flows out of an instruction or is known where paths meet

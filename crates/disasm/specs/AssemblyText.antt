@@ -109,7 +109,8 @@ operands_of (insns.Movsx32 extension dst src) = Two (operands.Register dst) (ope
 operands_of (insns.End order swap_width dst) = One (operands.Register dst)
 operands_of (insns.Ja distance) = One (operands.Distance distance)
 operands_of (insns.Ja32 distance) = One (operands.Distance distance)
-operands_of (insns.JumpIf width test dst source distance) = Three (operands.Register dst) (source_operand source) (operands.Distance distance)
+operands_of (insns.JumpIf width test dst source distance) =
+    Three (operands.Register dst) (source_operand source) (operands.Distance distance)
 operands_of (insns.Ldx size dst src offset) = Two (operands.Register dst) (operands.Place src offset)
 operands_of (insns.Ldxs extension dst src offset) = Two (operands.Register dst) (operands.Place src offset)
 operands_of (insns.St size dst offset immediate) = Two (operands.Place dst offset) (operands.Number immediate)

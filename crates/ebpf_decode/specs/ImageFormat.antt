@@ -104,12 +104,14 @@ code_fault code = if length code == 0 then Some Empty else (if nat_lt 4096 (tota
 -- the first instruction that images of this version may not have
 abbrev pub version_fault : Version → ℕ → List Insn → Option DecodeFault
 version_fault version slot [] = None
-version_fault version slot (insn ∷ code) = if is_in_version version insn then version_fault version (slot + slot_count insn) code else Some (NotInProfile slot)
+version_fault version slot (insn ∷ code) =
+    if is_in_version version insn then version_fault version (slot + slot_count insn) code else Some (NotInProfile slot)
 
 -- the fault that the encoding of these maps and instructions has
 unfoldable pub first_part_fault : Version → List MapDef → List Insn → Option DecodeFault
 first_part_fault version maps code =
-    if nat_lt 16 (length maps) then Some BadHead else option_or (first_bad_map version 0 maps) (option_or (code_fault code) (version_fault version 0 code))
+    if nat_lt 16 (length maps) then Some BadHead
+    else option_or (first_bad_map version 0 maps) (option_or (code_fault code) (version_fault version 0 code))
 
 -- the number that a fault is printed with
 abbrev pub fault_number : DecodeFault → ℕ

@@ -31,7 +31,8 @@ abbrev pub is_allowed_map : Version → MapDef → Bool
 is_allowed_map version m = is_key_size m.kind m.key_size && is_value_size version m.value_size && is_entry_count m.max_entries
 
 abbrev pub map_bytes : MapDef → List ℕ
-map_bytes m = to_le_bytes w32 (map_type m.kind) ++ to_le_bytes w32 m.key_size ++ to_le_bytes w32 m.value_size ++ to_le_bytes w32 m.max_entries
+map_bytes m =
+    to_le_bytes w32 (map_type m.kind) ++ to_le_bytes w32 m.key_size ++ to_le_bytes w32 m.value_size ++ to_le_bytes w32 m.max_entries
 
 -- ---- reading
 

@@ -6,7 +6,8 @@ use Rattle.std.specs.Ordering.{int_eq}
 use Rattle.ebpf_decode.specs.declared.slot.CodeSlot.{CodeSlot}
 
 abbrev pub slot_bytes : CodeSlot → List ℕ
-slot_bytes s = s.opcode ∷ (s.dst + 16 * s.src) ∷ [] ++ to_le_bytes w16 (cast_unsigned w16 s.offset) ++ to_le_bytes w32 (cast_unsigned w32 s.immediate)
+slot_bytes s =
+    s.opcode ∷ (s.dst + 16 * s.src) ∷ [] ++ to_le_bytes w16 (cast_unsigned w16 s.offset) ++ to_le_bytes w32 (cast_unsigned w32 s.immediate)
 
 -- the first slot of the bytes
 abbrev pub slot_at : List ℕ → CodeSlot
@@ -15,7 +16,8 @@ slot_at bytes = record {
   dst = slice_index bytes 1 % 16;
   src = slice_index bytes 1 / 16;
   offset = cast_signed w16 (from_le_bytes w16 (slice_index bytes 2 ∷ slice_index bytes 3 ∷ []));
-  immediate = cast_signed w32 (from_le_bytes w32 (slice_index bytes 4 ∷ slice_index bytes 5 ∷ slice_index bytes 6 ∷ slice_index bytes 7 ∷ []));
+  immediate = cast_signed w32 (from_le_bytes w32 (slice_index bytes 4 ∷ slice_index bytes 5 ∷ slice_index bytes 6 ∷
+      slice_index bytes 7 ∷ []));
 }
 
 -- this many slots from the front of the bytes

@@ -9,7 +9,8 @@ use Rattle.image_shape.specs.Structure.{HasShape, IsFirstFault}
 -- an edge goes to an instruction at a larger slot
 abbrev pub EdgesGoUp : Type 0
 EdgesGoUp =
-    (code : List Insn) (slot : ℕ) (insn : Insn) (target : ℕ) → HasShape code → instruction_at code slot ≡ Some insn → IsEdge slot insn target →
+    (code : List Insn) (slot : ℕ) (insn : Insn) (target : ℕ) → HasShape code → instruction_at code slot ≡ Some insn →
+    IsEdge slot insn target →
     (slot < target) × IsTrue (is_begin code target)
 
 -- a program with structure has no first fault

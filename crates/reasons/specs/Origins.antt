@@ -1,4 +1,5 @@
--- Why a register is unset where it is read: nothing was written to it, an instruction left it so, or the paths that meet somewhere disagree.
+-- Why a register is unset where it is read: nothing was written to it, an instruction left it so, or the paths that meet somewhere
+-- disagree.
 use Rattle.std.specs.Prelude.{◌≡◌, ◌<◌, ℕ, Bool, true, false, not, List, length, Option, Some, None, IfSome, IsTrue, if◌then◌else◌}
 use Rattle.isa.specs.declared.operation.Register.{Register}
 use Rattle.ebpf_decode.specs.declared.insn.Insn.{Insn}

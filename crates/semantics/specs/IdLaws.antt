@@ -9,7 +9,8 @@ use Rattle.semantics.specs.SequentialShard.{SequentialShard, opening_cells, cell
 
 -- the call creates a cell: an Update of an absent key that is answered 0
 abbrev pub creates : ShardPlan → SequentialShard → Call → Bool
-creates plan shard (Update number key value flags) = is_zero (update_answer plan shard key flags) && not (is_some (cell_of_key plan shard key))
+creates plan shard (Update number key value flags) =
+    is_zero (update_answer plan shard key flags) && not (is_some (cell_of_key plan shard key))
 creates plan shard call = false
 
 -- how many of the entries did

@@ -22,5 +22,6 @@ padded-take n count bytes kept make =
     let fits : count ≤ length bytes = rw kept.whole kept.fits in
     let counted : length (take count bytes) ≡ count = length-take-le count bytes fits in
     let whole : take count bytes ++ replicate (n - length (take count bytes)) 0 ≡ bytes =
-    ap (λ k. take count bytes ++ replicate (n - k) 0) counted ∙ ap (λ zs. take count bytes ++ zs) (sym kept.zeros) ∙ take-append-drop count bytes in
+    ap (λ k. take count bytes ++ replicate (n - k) 0) counted ∙ ap (λ zs. take count bytes ++ zs) (sym kept.zeros) ∙
+    take-append-drop count bytes in
     ap (λ xs. make xs (length (take count bytes))) whole ∙ ap (λ k. make bytes k) counted

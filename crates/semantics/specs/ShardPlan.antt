@@ -26,7 +26,8 @@ plan_for_map options number None = None
 abbrev pub plan_at : List MapDef → Options → ℕ → Option ShardPlan
 plan_at maps options number = plan_for_map options number (slice_get maps (number / options.shards))
 
--- a shard keeps the rows of a journal with room for at most this many entries; of a longer one it keeps none, and its entries are known to proofs alone
+-- a shard keeps the rows of a journal with room for at most this many entries; of a longer one it keeps none, and its entries are
+-- known to proofs alone
 abbrev pub keeps_rows : ℕ → Bool
 keeps_rows reserve = nat_le reserve 1048576
 

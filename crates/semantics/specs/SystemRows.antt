@@ -76,7 +76,8 @@ instructions count = replicate count (DoesInstruction 0)
 
 abbrev pub first_path : List Insn
 first_path =
-    Ldx U32 R2 R1 (pos 0) ∷ Ldx U32 R3 R1 (pos 4) ∷ Alu Bits64 Mov R4 (Reg R2) ∷ Alu Bits64 Add R4 (Imm (pos 14)) ∷ Alu Bits64 Mov R0 (Imm (pos 2)) ∷
+    Ldx U32 R2 R1 (pos 0) ∷ Ldx U32 R3 R1 (pos 4) ∷ Alu Bits64 Mov R4 (Reg R2) ∷ Alu Bits64 Add R4 (Imm (pos 14)) ∷
+    Alu Bits64 Mov R0 (Imm (pos 2)) ∷
     JumpIf Bits64 Gt R4 (Reg R3) (pos 11) ∷ Ldx U8 R6 R2 (pos 13) ∷ St U32 R10 (negsuc 3) (pos 0) ∷ Alu Bits64 Mov R2 (Reg R10) ∷
     Alu Bits64 Add R2 (Imm (negsuc 3)) ∷
     Ldmap R1 (pos 0) ∷ CallHelper (pos 1) ∷ JumpIf Bits64 Eq R0 (Imm (pos 0)) (pos 3) ∷ Ldx U64 R7 R0 (pos 0) ∷ Alu Bits64 Add R6 (Reg R7) ∷
@@ -84,7 +85,8 @@ first_path =
 
 abbrev pub RunOverAnArray : Type 0
 RunOverAnArray = Happens (setting_over Array first_path)
-    (BeginsRun 0 (frame_of 3) 0 0 ∷ instructions 11 ++ CallsShard 0 ∷ CallsShard 0 ∷ DoesInstruction 0 ∷ CallsShard 0 ∷ instructions 3 ++ LeavesShard 0 0 ∷ [])
+    (BeginsRun 0 (frame_of 3) 0 0 ∷ instructions 11 ++ CallsShard 0 ∷ CallsShard 0 ∷ DoesInstruction 0 ∷ CallsShard 0 ∷
+    instructions 3 ++ LeavesShard 0 0 ∷ [])
     (by_worker (Enter 0) Entered ∷ by_worker (Lookup 0 (key_of 0)) (Cell (cell_at 0)) ∷ by_worker (Load (cell_at 0) 0 8) (Word 0) ∷
     by_worker (Leave 0) Left ∷ [])
 
@@ -94,8 +96,10 @@ abbrev pub counting : List Insn
 counting =
     St U32 R10 (negsuc 3) (pos 7) ∷ St U64 R10 (negsuc 15) (pos 2) ∷ Alu Bits64 Mov R2 (Reg R10) ∷ Alu Bits64 Add R2 (Imm (negsuc 3)) ∷
     Alu Bits64 Mov R3 (Reg R10) ∷
-    Alu Bits64 Add R3 (Imm (negsuc 15)) ∷ Alu Bits64 Mov R4 (Imm (pos 0)) ∷ Ldmap R1 (pos 0) ∷ CallHelper (pos 2) ∷ Alu Bits64 Mov R2 (Reg R10) ∷
-    Alu Bits64 Add R2 (Imm (negsuc 3)) ∷ Ldmap R1 (pos 0) ∷ CallHelper (pos 1) ∷ JumpIf Bits64 Eq R0 (Imm (pos 0)) (pos 3) ∷ Alu Bits64 Mov R1 (Imm (pos 1)) ∷
+    Alu Bits64 Add R3 (Imm (negsuc 15)) ∷ Alu Bits64 Mov R4 (Imm (pos 0)) ∷ Ldmap R1 (pos 0) ∷ CallHelper (pos 2) ∷
+    Alu Bits64 Mov R2 (Reg R10) ∷
+    Alu Bits64 Add R2 (Imm (negsuc 3)) ∷ Ldmap R1 (pos 0) ∷ CallHelper (pos 1) ∷ JumpIf Bits64 Eq R0 (Imm (pos 0)) (pos 3) ∷
+    Alu Bits64 Mov R1 (Imm (pos 1)) ∷
     AtomicUpdate Bits64 FetchAdd R0 R1 (pos 0) ∷ Ldx U64 R0 R0 (pos 0) ∷ Exit ∷ []
 
 abbrev pub RunOverAHashMap : Type 0
@@ -103,14 +107,16 @@ RunOverAHashMap = Happens (setting_over Hash counting)
     (BeginsRun 0 (frame_of 0) 0 0 ∷ instructions 8 ++ CallsShard 0 ∷ CallsShard 0 ∷ instructions 3 ++ CallsShard 0 ∷
     instructions 2 ++ CallsShard 0 ∷ CallsShard 0 ∷
     DoesInstruction 0 ∷ LeavesShard 0 0 ∷ [])
-    (by_worker (Enter 0) Entered ∷ by_worker (Update 0 (key_of 7) (value_of 2) 0) (Answer (pos 0)) ∷ by_worker (Lookup 0 (key_of 7)) (Cell (cell_at 0)) ∷
+    (by_worker (Enter 0) Entered ∷ by_worker (Update 0 (key_of 7) (value_of 2) 0) (Answer (pos 0)) ∷
+    by_worker (Lookup 0 (key_of 7)) (Cell (cell_at 0)) ∷
     by_worker (Atomic (cell_at 0) 0 8 1 1 0) (Word 2) ∷ by_worker (Load (cell_at 0) 0 8) (Word 3) ∷ by_worker (Leave 0) Left ∷ [])
 
 -- ---- a key goes while a run holds its cell: the run still reads its bytes, and the cell is freed only after it
 
 abbrev pub looking_up : List Insn
 looking_up =
-    St U32 R10 (negsuc 3) (pos 1) ∷ Alu Bits64 Mov R2 (Reg R10) ∷ Alu Bits64 Add R2 (Imm (negsuc 3)) ∷ Ldmap R1 (pos 0) ∷ CallHelper (pos 1) ∷
+    St U32 R10 (negsuc 3) (pos 1) ∷ Alu Bits64 Mov R2 (Reg R10) ∷ Alu Bits64 Add R2 (Imm (negsuc 3)) ∷ Ldmap R1 (pos 0) ∷
+    CallHelper (pos 1) ∷
     JumpIf Bits64 Eq R0 (Imm (pos 0)) (pos 1) ∷ Ldx U64 R6 R0 (pos 0) ∷ Alu Bits64 Mov R0 (Imm (pos 2)) ∷ Exit ∷ []
 
 abbrev pub HeldCellOutlivesItsKey : Type 0
@@ -118,7 +124,8 @@ HeldCellOutlivesItsKey = Happens (setting_over Hash looking_up)
     (Controls (Update 0 (key_of 1) (value_of 5) 0) ∷ BeginsRun 0 (frame_of 0) 0 0 ∷ instructions 4 ++ CallsShard 0 ∷ CallsShard 0 ∷
     Controls (Delete 0 (key_of 1)) ∷ Reclaims 0 ∷
     Controls (Update 0 (key_of 2) (value_of 9) 0) ∷ DoesInstruction 0 ∷ CallsShard 0 ∷ instructions 2 ++ LeavesShard 0 0 ∷ Reclaims 0 ∷ [])
-    (by_controller (Update 0 (key_of 1) (value_of 5) 0) (Answer (pos 0)) ∷ by_worker (Enter 0) Entered ∷ by_worker (Lookup 0 (key_of 1)) (Cell (cell_at 0)) ∷
+    (by_controller (Update 0 (key_of 1) (value_of 5) 0) (Answer (pos 0)) ∷ by_worker (Enter 0) Entered ∷
+    by_worker (Lookup 0 (key_of 1)) (Cell (cell_at 0)) ∷
     by_controller (Delete 0 (key_of 1)) (Answer (pos 0)) ∷ by_reclaimer (Reclaim 0) (Freed 0) ∷
     by_controller (Update 0 (key_of 2) (value_of 9) 0) (Answer (pos 0)) ∷
     by_worker (Load (cell_at 0) 0 8) (Word 5) ∷ by_worker (Leave 0) Left ∷ by_reclaimer (Reclaim 0) (Freed 1) ∷ [])
@@ -129,7 +136,8 @@ abbrev pub FullJournalHasRoomForLeave : Type 0
 FullJournalHasRoomForLeave = Happens (setting_over Hash looking_up)
     (BeginsRun 0 (frame_of 0) 0 0 ∷ instructions 4 ++ CallsShard 0 ∷
     replicate 14 (Controls (Update 0 (key_of 1) (value_of 5) 0)) ++ CallsShard 0 ∷ LeavesShard 0 0 ∷ [])
-    (by_worker (Enter 0) Entered ∷ replicate 14 (by_controller (Update 0 (key_of 1) (value_of 5) 0) (Answer (pos 0))) ++ by_worker (Leave 0) Left ∷ [])
+    (by_worker (Enter 0) Entered ∷ replicate 14 (by_controller (Update 0 (key_of 1) (value_of 5) 0) (Answer (pos 0))) ++
+    by_worker (Leave 0) Left ∷ [])
 
 -- ---- an unsafe program
 

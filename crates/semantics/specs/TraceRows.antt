@@ -38,7 +38,10 @@ run_with first third = record (initial_state (input_frame (frame_of 0)) 0 0) {
 abbrev pub Asks : Insn → ℕ → ℕ → Call → Reply → ℕ → ℕ → Verdict → Type 0
 Asks insn first third call reply first_after third_after verdict =
     trace_of 2 (program_over (insn ∷ Exit ∷ [])) (run_with (Number first) (Number third)) (reply ∷ []) ≡
-    record { calls = call ∷ []; stand = HasExited verdict (record (run_with (Number first_after) (Number third_after)) { slot = 1; steps = 2 }) }
+    record {
+      calls = call ∷ [];
+      stand = HasExited verdict (record (run_with (Number first_after) (Number third_after)) { slot = 1; steps = 2 });
+    }
 
 -- ---- stores: the low bytes of a register, or of the immediate
 
@@ -117,9 +120,11 @@ pub record HelpersAsk : Type 0 where
   pub delete_calls : (trace_from_start 6 deleting (Answer (negsuc 1) ∷ [])).calls ≡ Delete 0 (key_of 7) ∷ []
   pub delete_absent : verdict_left (trace_from_start 6 deleting (Answer (negsuc 1) ∷ [])).stand ≡ Some Aborted
   pub delete_done : verdict_left (trace_from_start 6 deleting (Answer (pos 0) ∷ [])).stand ≡ Some Aborted
-  pub head_moved : frame_left (trace_from_start 4 (moving_head (negsuc 19)) []).stand ≡ Some (record { bytes = replicate 20 0 ++ frame_of 0; headroom = 236 })
+  pub head_moved : frame_left (trace_from_start 4 (moving_head (negsuc 19)) []).stand ≡
+      Some (record { bytes = replicate 20 0 ++ frame_of 0; headroom = 236 })
   pub head_verdict : verdict_left (trace_from_start 4 (moving_head (negsuc 19)) []).stand ≡ Some Tx
-  pub head_stays : frame_left (trace_from_start 4 (moving_head (negsuc 256)) []).stand ≡ Some (record { bytes = frame_of 0; headroom = 256 })
+  pub head_stays : frame_left (trace_from_start 4 (moving_head (negsuc 256)) []).stand ≡
+      Some (record { bytes = frame_of 0; headroom = 256 })
 
 -- ---- an address in a map's first value: its first shard is asked for key 0
 
@@ -128,7 +133,9 @@ over_two_arrays code = record { code = code; maps = one_map Array ++ one_map Arr
 
 -- of the second of two maps with two shards each, byte 4
 abbrev pub addressing : RunTrace
-addressing = trace_of 2 (over_two_arrays (Ldval R2 (pos 1) 4 ∷ Exit ∷ [])) (run_with (Number 2) (Number 0)) (Cell (record { shard = 2; id = 0 }) ∷ [])
+addressing =
+    trace_of 2 (over_two_arrays (Ldval R2 (pos 1) 4 ∷ Exit ∷ [])) (run_with (Number 2) (Number 0))
+    (Cell (record { shard = 2; id = 0 }) ∷ [])
 
 pub record AddressesAsk : Type 0 where
   pub asked : addressing.calls ≡ Lookup 2 (0 ∷ 0 ∷ 0 ∷ 0 ∷ []) ∷ []

@@ -15,7 +15,8 @@ label_or last s = if has_label s then label_of s else last
 -- the last label up to that line; none, where nothing is above
 unfoldable pub label_above : List ℕ → ℕ → List (List ℕ) → List ℕ
 label_above last slot [] = last
-label_above last slot (s ∷ more) = if nat_lt slot (slots_of s) then label_or last s else label_above (label_or last s) (slot - slots_of s) more
+label_above last slot (s ∷ more) =
+    if nat_lt slot (slots_of s) then label_or last s else label_above (label_or last s) (slot - slots_of s) more
 
 abbrev pub label_text : List ℕ → List ℕ
 label_text label = if length label == 0 then [] else codes ", after label \"" ++ (label ++ codes "\"")
@@ -23,4 +24,5 @@ label_text label = if length label == 0 then [] else codes ", after label \"" ++
 -- the line for people below the fault of a slot
 abbrev pub slot_note : List ℕ → ℕ → List ℕ
 slot_note source slot =
-    codes "  line " ++ (decimal (line_of_slot 0 slot (statements_of source)) ++ (label_text (label_above [] slot (statements_of source)) ++ codes "\n"))
+    codes "  line " ++ (decimal (line_of_slot 0 slot (statements_of source)) ++
+    (label_text (label_above [] slot (statements_of source)) ++ codes "\n"))

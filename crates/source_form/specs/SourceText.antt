@@ -146,7 +146,8 @@ signed_meaning front digits end = if is_sign front then number_told front end (n
 
 -- what is before the x and after it
 abbrev pub hex_meaning : List ℕ → List ℕ → Result (List ℕ) Problem
-hex_meaning front back = if finishes front (codes "0") then signed_meaning (all_but_last front) (digits_of back) (bracket_of back) else Err NoNumber
+hex_meaning front back =
+    if finishes front (codes "0") then signed_meaning (all_but_last front) (digits_of back) (bracket_of back) else Err NoNumber
 
 -- a number in hexadecimal is that number; what has no x is as it is
 abbrev pub number_meaning : List ℕ → Result (List ℕ) Problem
@@ -244,7 +245,8 @@ then_told (Err problem) next = Err problem
 -- the operands behind what is there so far, with a comma and a space between two
 unfoldable pub operands_meaning : List (List ℕ) → ℕ → Form → List ℕ → List (List ℕ) → Result (List ℕ) Problem
 operands_meaning statements place form so_far [] = Ok so_far
-operands_meaning statements place form so_far (last ∷ []) = then_told (last_meaning statements place form last) (λ text. Ok (so_far ++ text))
+operands_meaning statements place form so_far (last ∷ []) =
+    then_told (last_meaning statements place form last) (λ text. Ok (so_far ++ text))
 operands_meaning statements place form so_far (operand ∷ next ∷ more) =
     then_told (early_meaning form operand) (λ text. operands_meaning statements place form ((so_far ++ text) ++ codes ", ") (next ∷ more))
 
@@ -272,7 +274,8 @@ abbrev pub label_meaning : List (List ℕ) → ℕ → List ℕ → Result (List
 label_meaning statements place name = if is_name name then label_told place (label_place statements name) else Err NoLabelName
 
 abbrev pub words_meaning : List (List ℕ) → ℕ → List ℕ → Result (List ℕ) Problem
-words_meaning statements place s = if is_heading (first_word s) then Ok s else instruction_meaning statements place (first_word s) (after_first_word s)
+words_meaning statements place s =
+    if is_heading (first_word s) then Ok s else instruction_meaning statements place (first_word s) (after_first_word s)
 
 -- a line of the exact text, with its line feed
 abbrev pub text_meaning : List (List ℕ) → ℕ → List ℕ → Result (List ℕ) Problem

@@ -31,14 +31,16 @@ FirstRejectIsOne =
 -- a rule that is broken before the first jump is told, whatever memory there is
 abbrev pub RuleBeforeJumpsIsTold : Type 0
 RuleBeforeJumpsIsTold =
-    (version : Version) (maps : List MapDef) (code : List Insn) (slot : ℕ) (why : BrokenRule) (reject : Reject) → IsFirstBroken version maps code slot why →
+    (version : Version) (maps : List MapDef) (code : List Insn) (slot : ℕ) (why : BrokenRule) (reject : Reject) →
+    IsFirstBroken version maps code slot why →
     ((before : ℕ) (insn : Insn) → before < slot → instruction_at code before ≡ Some insn → jump_distance insn ≡ None) →
     IsFirstReject version maps code reject → reject ≡ reject_of_refusal slot why
 
 -- at each slot at which an instruction begins something is known: so what is said of the instructions with an entry state is said of all
 abbrev pub EachInstructionHasState : Type 0
 EachInstructionHasState =
-    (version : Version) (maps : List MapDef) (code : List Insn) (states : List (Option State)) (slot : ℕ) (insn : Insn) → Accepts version maps code states →
+    (version : Version) (maps : List MapDef) (code : List Insn) (states : List (Option State)) (slot : ℕ) (insn : Insn) →
+    Accepts version maps code states →
     instruction_at code slot ≡ Some insn → IsSome (known_at states slot)
 
 -- a program of an image, of any version and over maps of any kind, that some entry states let through is safe

@@ -92,12 +92,14 @@ Refuses bytes fault = IsFirstFault bytes fault × IsNoCaptureFile bytes
 -- the header as it is written: zone 0, accuracy 0, snap length 65535
 abbrev pub header_bytes : List ℕ
 header_bytes =
-    little_bytes 4 0xa1b2c3d4 ++ little_bytes 2 2 ++ little_bytes 2 4 ++ little_bytes 4 0 ++ little_bytes 4 0 ++ little_bytes 4 65535 ++ little_bytes 4 1
+    little_bytes 4 0xa1b2c3d4 ++ little_bytes 2 2 ++ little_bytes 2 4 ++ little_bytes 4 0 ++ little_bytes 4 0 ++ little_bytes 4 65535 ++
+    little_bytes 4 1
 
 -- the head of a record: its moment, and both lengths
 abbrev pub head_bytes : Sent → List ℕ
 head_bytes sent =
-    little_bytes 4 sent.seconds ++ little_bytes 4 sent.micros ++ little_bytes 4 (length sent.bytes.items) ++ little_bytes 4 (length sent.bytes.items)
+    little_bytes 4 sent.seconds ++ little_bytes 4 sent.micros ++ little_bytes 4 (length sent.bytes.items) ++
+    little_bytes 4 (length sent.bytes.items)
 
 abbrev pub record_bytes : Sent → List ℕ
 record_bytes sent = head_bytes sent ++ sent.bytes.items

@@ -15,4 +15,5 @@ be_bytes word = word / 256 ∷ word % 256 ∷ []
 
 abbrev pub flow_key_bytes : FlowKey → List ℕ
 flow_key_bytes key =
-    key.source.0 ++ key.destination.0 ++ be_bytes key.source_port ++ be_bytes key.destination_port ++ protocol_number key.transport ∷ 0 ∷ 0 ∷ 0 ∷ []
+    key.source.0 ++ key.destination.0 ++ be_bytes key.source_port ++ be_bytes key.destination_port ++
+    protocol_number key.transport ∷ 0 ∷ 0 ∷ 0 ∷ []
