@@ -11,9 +11,7 @@ use std::io::{ErrorKind, Read, Write};
 use std::os::unix::fs::MetadataExt;
 use std::rt::Files;
 use std::{fs, io};
-
-/// The most bytes that are read of an ordinary file.
-const MOST_OF_FILE: u64 = 1 << 40;
+use wire::MOST_GIVEN;
 
 /// The most bytes that are read of a device, a pipe or the standard input: one with more bytes may have no end.
 const MOST_OF_STREAM: u64 = 1 << 30;
@@ -139,7 +137,7 @@ fn read_piece<S: Read>(reader: &mut S, buffer: &mut [u8], given: u64) -> Result<
     ensures limit { IfOk result (λ count. given + count ≤ 2 ^ 40) }
 {
     match reader.read(buffer) {
-        Ok(count) if count as u64 <= MOST_OF_FILE - given => Ok(count),
+        Ok(count) if count as u64 <= MOST_GIVEN - given => Ok(count),
         Ok(_) => Err(Failure {
             step: Step::Reading,
             error: io::Error::new(ErrorKind::FileTooLarge, TOO_LONG),
@@ -161,7 +159,7 @@ fn front_of_file<S: Read>(
     ensures { IfOk result (IsShortFront most) }
 {
     let mut bytes = Vec::new(alloc);
-    read_on(file, &mut bytes, most, MOST_OF_FILE)?;
+    read_on(file, &mut bytes, most, MOST_GIVEN)?;
     let count = bytes.len() as u64;
     let length = if bytes.len() == most {
         count.max(size)

@@ -6,9 +6,7 @@ ghost use Rattle.std.specs.BTreeMap.{get_by_text};
 use crate::folder::{Folder, FolderFault, Front};
 use std::alloc::{AllocError, Global};
 use std::collections::BTreeMap;
-
-/// The most bytes of a file that is read in pieces.
-const MOST_IN_PIECES: u64 = 1 << 40;
+use wire::MOST_GIVEN;
 
 /// A file that is made in pieces.
 #[derive(Drop)]
@@ -103,7 +101,7 @@ impl Folder for MemoryFolder {
             self.failures += 1;
             return Err(FolderFault::Device);
         };
-        if bytes.len() as u64 > MOST_IN_PIECES {
+        if bytes.len() as u64 > MOST_GIVEN {
             self.failures += 1;
             return Err(FolderFault::Device);
         }

@@ -10,12 +10,12 @@ ghost use Rattle.journal.specs.Ranges.{IsShortRange};
 use crate::append::{AtomicChange, CellRange};
 use crate::counted::Counted;
 use crate::written::Written;
-use semantics::{Caller, Entry};
+use semantics::{Caller, Entry, MOST_ENTRIES};
 use std::alloc::{AllocError, Global};
 use std::marker::Model;
 
 /// The most entries of a journal that keeps its rows: so places among their bytes and words fit into 32 bits.
-pub const MOST_ROWS: u32 = 1_048_576;
+pub const MOST_ROWS: u32 = MOST_ENTRIES;
 
 /// How a journal has its entries.
 #[derive(Drop)]

@@ -6,7 +6,7 @@ ghost use Rattle.mistakes.specs.Notes.{AreFewNotes};
 use crate::notes::notes_of;
 use ebpf_decode::MapDef;
 use maglev::RING_SIZES;
-use semantics::Options;
+use semantics::{LEAST_ENTRIES, MOST_ENTRIES, MOST_WORKERS, Options};
 use std::alloc::{AllocError, Global};
 
 /// The lines on the number of an option.
@@ -65,13 +65,13 @@ pub fn about_options(alloc: Global, options: Options, maps: &[MapDef]) -> Result
         shards,
         journal,
     } = options;
-    if workers < 1 || workers > 8 {
+    if workers < 1 || workers > MOST_WORKERS {
         return about_number(alloc, "workers", workers, "expected 1 to 8");
     }
     if shards != 1 && shards != 2 && shards != 4 && shards != 8 {
         return about_number(alloc, "shards", shards, "expected 1, 2, 4 or 8");
     }
-    if journal < 16 || journal > 1_048_576 {
+    if journal < LEAST_ENTRIES || journal > MOST_ENTRIES {
         return about_number(alloc, "journal", journal, "expected 16 to 1048576");
     }
     about_maps(alloc, shards, maps)

@@ -15,7 +15,7 @@ use crate::job::Job;
 use crate::passes::{PutPass, Queues, TakePass};
 use crate::rule::{Opens, Purpose, Purposed, PutsJob, Queue, QueuePass, Roles, TakesJob};
 use map_rules::OpenFault;
-use semantics::Caller;
+use semantics::{Caller, MOST_WORKERS};
 use std::alloc::{AllocError, Global};
 use std::marker::Brand;
 use std::sync::Wait;
@@ -78,7 +78,7 @@ impl Queues {
         ensures take { IfOk result (λ opened. AreTakePasses opened.0 opened.2.items) }
         ensures bad_options { IsErrOf result BadOptions ↔ ¬ ((1 ≤ workers) × (workers ≤ 8)) }
     {
-        if workers < 1 || workers > 8 {
+        if workers < 1 || workers > MOST_WORKERS as usize {
             return Err(OpenFault::BadOptions);
         }
         let mut queues = Vec::new(alloc);

@@ -16,6 +16,6 @@ pub use bytes::{Key, Value};
 pub use call::{Call, Caller, CellRef, Entry, HeldChange, Reply, SectionChange};
 pub use full::JournalFull;
 pub use linux::{ContextField, Errno, Helper, UpdateFlags};
-pub use options::{Options, Recording};
+pub use options::{LEAST_ENTRIES, MOST_ENTRIES, MOST_WORKERS, Options, Recording};
 pub use plan::{PresentKey, RetiredCell, ShardPlan};
 pub use verdict::Verdict;

@@ -6,6 +6,15 @@ ghost use Rattle.semantics.specs.ShardPlan.{AreOptions, AreServedOptions, record
 
 use ebpf_decode::MapDef;
 
+/// The most workers.
+pub const MOST_WORKERS: u32 = 8;
+
+/// The least room of a journal, in entries.
+pub const LEAST_ENTRIES: u32 = 16;
+
+/// The most room of a journal whose rows are kept, in entries.
+pub const MOST_ENTRIES: u32 = 1_048_576;
+
 /// The room of a journal without rows: 2^27 entries.
 const UNRECORDED: u32 = 134_217_728;
 
@@ -37,9 +46,9 @@ impl Options {
         ensures shards { result ≡ true → (0 < self.now.shards) × (self.now.shards ≤ 8) }
     {
         1 <= self.workers
-            && self.workers <= 8
-            && 16 <= self.journal
-            && self.journal <= 1_048_576
+            && self.workers <= MOST_WORKERS
+            && LEAST_ENTRIES <= self.journal
+            && self.journal <= MOST_ENTRIES
             && is_shard_count(self.shards)
             && are_equal_parts(maps, self.shards)
     }

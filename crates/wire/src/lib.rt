@@ -32,5 +32,5 @@ pub use hash::fnv1a64;
 pub use ipv4::Ipv4Packet;
 pub use memory::{MemorySink, MemorySource};
 pub use records::{Capture, Sent};
-pub use stream::{StreamSink, StreamSource};
+pub use stream::{MOST_GIVEN, StreamSink, StreamSource};
 pub use transfer::{ReadFault, read_all, write_all};

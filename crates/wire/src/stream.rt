@@ -6,8 +6,8 @@ ghost use Rattle.std.specs.Io.KnownBytes.{ReadConsumes, WriteAppends};
 use crate::device::{Failed, Sink, Source};
 use std::io::{Read, Write};
 
-/// The most bytes that a source returns.
-const MOST_GIVEN: u64 = 1 << 40;
+/// The most bytes that a source or a file gives.
+pub const MOST_GIVEN: u64 = 1 << 40;
 
 /// The failures of a new device.
 const NO_FAILURES: u64 = 0;
