@@ -25,7 +25,7 @@ use Rattle.abstract_state.specs.States.{◌>>=◌, kind_of, with_kind}
 use Rattle.abstract_state.specs.Arithmetic.{source_kind}
 use Rattle.abstract_state.specs.Refinement.{allowed_test, fact_of, number_cut, refined, refine_state}
 use Rattle.abstract_state.specs.Flow.{reads_both, flow_of}
-use Rattle.abstract_state.specs.Abstraction.{Held, KindCovers, setting_of, Abstracts}
+use Rattle.abstract_state.specs.Abstraction.{Held, KindCovers, kind_scope_of, Abstracts}
 use Rattle.abstract_state.specs.Soundness.{JumpsOn, SplitsOn, JumpsForward, Follows}
 use Rattle.abstract_state.proofs.shared.Writing.{register_written}
 use Rattle.abstract_state.proofs.shared.Inverting.{ok_value, ok_then}
@@ -36,14 +36,14 @@ use Rattle.abstract_state.proofs.Edges.{IsTold, edge_of}
 
 -- another kind that represents what a register has
 pub known_as : (maps : List MapDef) (held : Held) (state : State) (machine : MachineState) (a : Abstracts maps held state machine) (dst : Register) (kind : Kind) →
-    KindCovers (setting_of maps held a.ids machine) kind (register_value machine dst) → Abstracts maps held (with_kind state dst kind) machine
+    KindCovers (kind_scope_of maps held a.ids machine) kind (register_value machine dst) → Abstracts maps held (with_kind state dst kind) machine
 known_as maps held state machine a dst kind now = record {
   ids = a.ids;
   registers = λ register. subst
-      (λ values. KindCovers (setting_of maps held a.ids machine) (slice_index_or (slice_set state.registers (register_number dst) kind) (register_number register) Unset)
+      (λ values. KindCovers (kind_scope_of maps held a.ids machine) (slice_index_or (slice_set state.registers (register_number dst) kind) (register_number register) Unset)
       (slice_index_or values (register_number register) Uninitialized))
       (set-get_or machine.registers (register_number dst) Uninitialized)
-      (register_written (setting_of maps held a.ids machine) state.registers machine.registers dst kind (register_value machine dst)
+      (register_written (kind_scope_of maps held a.ids machine) state.registers machine.registers dst kind (register_value machine dst)
       a.is_machine.eleven_kinds a.is_machine.eleven a.registers now register);
   stack = a.stack;
   start = a.start;
@@ -60,7 +60,7 @@ known_as maps held state machine a dst kind now = record {
 }
 
 refined_sound : (maps : List MapDef) (held : Held) (state : State) (machine : MachineState) (a : Abstracts maps held state machine) (dst : Register)
-    (cut : Option Kind) (fact : Fact) → IsTold (setting_of maps held a.ids machine) cut fact (register_value machine dst) →
+    (cut : Option Kind) (fact : Fact) → IsTold (kind_scope_of maps held a.ids machine) cut fact (register_value machine dst) →
     Abstracts maps held (refined cut fact state dst) machine
 refined_sound maps held state machine a dst (Some kind) fact told = known_as maps held state machine a dst kind told
 refined_sound maps held state machine a dst None fact told = told_sound maps held fact state machine a told

@@ -41,7 +41,7 @@ use Rattle.abstract_state.specs.Words.{are_bytes_set}
 use Rattle.abstract_state.specs.Calls.{known_helper, map_argument, stack_argument, number_argument, context_argument, is_inside_stack, when_all, key_arguments, update_arguments, head_arguments, returned, any_number, call_of}
 use Rattle.abstract_state.specs.Flow.{reads_arguments, falls, flow_of}
 use Rattle.abstract_state.specs.Soundness.{IsKeyOf, GoesOn, FallsOn, Follows, HoldsAfter}
-use Rattle.abstract_state.specs.Abstraction.{Held, Setting, KindCovers, IsNumberIn, IsKnownMap, IsStackPlace, WordCovers, places_of, setting_of, Abstracts}
+use Rattle.abstract_state.specs.Abstraction.{Held, KindScope, KindCovers, IsNumberIn, IsKnownMap, IsStackPlace, WordCovers, places_of, kind_scope_of, Abstracts}
 use Rattle.abstract_state.proofs.JoinWords.{spilled_covers}
 use Rattle.abstract_state.proofs.shared.Writing.{number_below}
 use Rattle.abstract_state.proofs.shared.Checking.{ok_same, ok_then, ok_if, falls_made}
@@ -100,7 +100,7 @@ bytes_found : (maps : List MapDef) (held : Held) (state : State) (machine : Mach
     kind_of state register ≡ Stack place → place + count ≤ 512 → are_bytes_set state place count ≡ true → BytesFound machine (register_value machine register) count
 bytes_found maps held state machine a register place count is inside set =
     let p : IsStackPlace place (register_value machine register) =
-    subst (λ kind. KindCovers (setting_of maps held a.ids machine) kind (register_value machine register)) is (a.registers register)
+    subst (λ kind. KindCovers (kind_scope_of maps held a.ids machine) kind (register_value machine register)) is (a.registers register)
     in let r : Reads (take count (drop place machine.stack)) count = set_bytes maps held state machine a place count inside set
     in record {
       bytes = r.bytes;
@@ -120,8 +120,8 @@ record KeyFound (program : Program) (machine : MachineState) (map : ℕ) : Type 
 key_found : (program : Program) (held : Held) (state : State) (machine : MachineState) → Abstracts program.maps held state machine → (map : ℕ) →
     KnowsKey program.maps state map → KeyFound program machine map
 key_found program held state machine a map k =
-    let c : IsKnownMap (setting_of program.maps held a.ids machine) map (register_value machine R1) =
-    subst (λ kind. KindCovers (setting_of program.maps held a.ids machine) kind (register_value machine R1)) k.is_map (a.registers R1)
+    let c : IsKnownMap (kind_scope_of program.maps held a.ids machine) map (register_value machine R1) =
+    subst (λ kind. KindCovers (kind_scope_of program.maps held a.ids machine) kind (register_value machine R1)) k.is_map (a.registers R1)
     in let same : key_size_of (slice_get program.maps map) ≡ c.definition.key_size = ap key_size_of c.known
     in record {
       definition = c.definition;
@@ -233,7 +233,7 @@ knows_update maps state map e =
 number_read : (v : RegisterValue) (n : ℕ) → v ≡ Number n → meaning.number_argument v ≡ Ok n
 number_read v n is = ap meaning.number_argument is
 
-number_there : (s : Setting) (kind : Kind) (i : Interval) (v : RegisterValue) → kind ≡ Scalar i → KindCovers s kind v → IsNumberIn i v
+number_there : (s : KindScope) (kind : Kind) (i : Interval) (v : RegisterValue) → kind ≡ Scalar i → KindCovers s kind v → IsNumberIn i v
 number_there s kind i v is c = subst (λ kind. KindCovers s kind v) is c
 
 update_follows : (program : Program) (held : Held) (state : State) (machine : MachineState) → Abstracts program.maps held state machine →
@@ -244,7 +244,7 @@ update_follows program held state machine a map k =
     in let value : BytesFound machine (register_value machine R3) f.definition.value_size =
     bytes_found program.maps held state machine a R3 k.value f.definition.value_size k.is_value (subst (λ n. k.value + n ≤ 512) size k.inside)
     (subst (λ n. are_bytes_set state k.value n ≡ true) size k.set)
-    in let flags = number_there (setting_of program.maps held a.ids machine) (kind_of state R4) k.flags (register_value machine R4) k.are_flags (a.registers R4)
+    in let flags = number_there (kind_scope_of program.maps held a.ids machine) (kind_of state R4) k.flags (register_value machine R4) k.are_flags (a.registers R4)
     in let number = number_read (register_value machine R4) flags.number flags.is
     in rw (f.named, f.known, f.key.read, value.read, number) (
       record {
@@ -270,7 +270,7 @@ update_sound program held state machine number flow a e =
 -- ---- the packet's start is moved
 
 -- what is known beside the packet is known of the packet as it then is
-beside : (t : Setting) (generation size : ℕ) (kind : Kind) (v : RegisterValue) → KindCovers (record t { generation = generation; size = size }) kind v →
+beside : (t : KindScope) (generation size : ℕ) (kind : Kind) (v : RegisterValue) → KindCovers (record t { generation = generation; size = size }) kind v →
     KindCovers t (told_moved kind) v
 beside t generation size Unset v c = tt
 beside t generation size (Scalar i) v c = c
@@ -283,7 +283,7 @@ beside t generation size (ValueOrNull map id) v (inl c) = inl (record { found = 
 beside t generation size (ValueOrNull map id) v (inr c) = inr (record { cell = c.cell; found = c.found; at = c.at; least = c.least; most = c.most; is = c.is; held = c.held; earlier = c.earlier })
 beside t generation size (Value map id off) v c = record { cell = c.cell; found = c.found; at = c.at; least = c.least; most = c.most; is = c.is; held = c.held; earlier = c.earlier }
 
-word_beside : (t : Setting) (generation size : ℕ) (word : StackWord) (places : List StackByte) → WordCovers (record t { generation = generation; size = size }) word places →
+word_beside : (t : KindScope) (generation size : ℕ) (word : StackWord) (places : List StackByte) → WordCovers (record t { generation = generation; size = size }) word places →
     WordCovers t (told_word HeadMoved word) places
 word_beside t generation size (Spilled kind) places c =
     spilled_covers t (told_moved kind) places (record { value = c.value; covered = beside t generation size kind c.value c.covered; stored = c.stored })
@@ -310,12 +310,12 @@ moved_sound maps held state machine delta a = record {
       let l : register_number register < 11 = number_below register
       in let e : length state.registers ≡ 11 = a.is_machine.eleven_kinds
       in rw (get_or-map (told_kind HeadMoved) state.registers (register_number register) Unset Unset (omega arith))
-      (beside (setting_of maps held a.ids (head_moved machine delta)) machine.generation (length machine.frame.bytes) (kind_of state register)
+      (beside (kind_scope_of maps held a.ids (head_moved machine delta)) machine.generation (length machine.frame.bytes) (kind_of state register)
       (register_value machine register) (a.registers register));
   stack = λ word l.
       let e : length state.stack ≡ 64 = a.is_machine.word_count
       in rw (get_or-map (told_word HeadMoved) state.stack word (Spilled Unset) (Spilled Unset) (omega arith))
-      (word_beside (setting_of maps held a.ids (head_moved machine delta)) machine.generation (length machine.frame.bytes) (word_of state word)
+      (word_beside (kind_scope_of maps held a.ids (head_moved machine delta)) machine.generation (length machine.frame.bytes) (word_of state word)
       (places_of word machine.stack) (a.stack word l));
   start = λ h. absurd (omega arith);
   bases = a.bases;
@@ -367,9 +367,9 @@ head_follows : (program : Program) (held : Held) (state : State) (machine : Mach
 head_follows program held state machine a done e =
     let first = ok_then (context_argument (kind_of state R1) R1) (λ _. number_argument (kind_of state R2) R2) done e
     in let context : register_value machine R1 ≡ ContextPointer =
-    subst (λ kind. KindCovers (setting_of program.maps held a.ids machine) kind (register_value machine R1)) (context_kind (kind_of state R1) R1 first.0 first.1.0) (a.registers R1)
+    subst (λ kind. KindCovers (kind_scope_of program.maps held a.ids machine) kind (register_value machine R1)) (context_kind (kind_of state R1) R1 first.0 first.1.0) (a.registers R1)
     in let is_number = scalar_kind (kind_of state R2) R2 done first.1.1
-    in let n = number_there (setting_of program.maps held a.ids machine) (kind_of state R2) is_number.0 (register_value machine R2) is_number.1 (a.registers R2)
+    in let n = number_there (kind_scope_of program.maps held a.ids machine) (kind_of state R2) is_number.0 (register_value machine R2) is_number.1 (a.registers R2)
     in let e1 : meaning.context_argument (register_value machine R1) ≡ Ok 0 = ap meaning.context_argument context
     in let e2 = number_read (register_value machine R2) n.number n.is
     in rw (e1, e2) (adjusted_sound program held state machine (signed_value 32 (low_half n.number)) a)

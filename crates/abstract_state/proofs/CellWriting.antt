@@ -38,7 +38,7 @@ use Rattle.abstract_state.specs.Words.{narrow_storable}
 use Rattle.abstract_state.specs.Access.{with_fetched_kind, expects, atomic_on, atomic_of}
 use Rattle.abstract_state.specs.Flow.{fetch_writable, reads_atomic, atomic_flow, flow_of}
 use Rattle.abstract_state.specs.Soundness.{GoesOn, FallsOn, Follows, HoldsAfter}
-use Rattle.abstract_state.specs.Abstraction.{Held, KindCovers, IsNumberIn, setting_of, Abstracts}
+use Rattle.abstract_state.specs.Abstraction.{Held, KindCovers, IsNumberIn, kind_scope_of, Abstracts}
 use Rattle.abstract_state.proofs.shared.Writing.{held_more}
 use Rattle.abstract_state.proofs.shared.Following.{moved_on}
 use Rattle.abstract_state.proofs.shared.Checking.{ok_same, ok_then, falls_made, written_ok, put}
@@ -142,7 +142,7 @@ read_number v n is = rw is refl
 compared : (program : Program) (held : Held) (state : State) (machine : MachineState) (a : Abstracts program.maps held state machine) (op : AtomicOp) (done : Unit {0}) →
     expects op (kind_of state R0) ≡ Ok done → Compared machine op
 compared program held state machine a CompareExchange done e =
-    let n = narrow_is_number (setting_of program.maps held a.ids machine) (kind_of state R0) (register_value machine R0) tt (is_number (kind_of state R0) done e) (a.registers R0)
+    let n = narrow_is_number (kind_scope_of program.maps held a.ids machine) (kind_of state R0) (register_value machine R0) tt (is_number (kind_of state R0) done e) (a.registers R0)
     in record {
       expected = n.0;
       is = read_number (register_value machine R0) n.0 n.1;
@@ -216,7 +216,7 @@ cell_changed program held state machine a insn width op src map shard cell at of
 
 atomic_by_kind : (program : Program) (held : Held) (state : State) (machine : MachineState) (a : Abstracts program.maps held state machine) (insn : Insn) (width : Width) (op : AtomicOp)
     (dst src : Register) (offset : ℤ) (done : Unit {0}) → fetch_writable (fetched_register op src) ≡ Ok done → (known : Kind) (v : RegisterValue) →
-    KindCovers (setting_of program.maps held a.ids machine) known v → (s : State) → atomic_on program.maps state width op known offset dst src ≡ Ok s →
+    KindCovers (kind_scope_of program.maps held a.ids machine) known v → (s : State) → atomic_on program.maps state width op known offset dst src ≡ Ok s →
     FallsOn program held s machine (machine.slot + slot_count insn) (atomic_step program insn machine width op v src offset)
 atomic_by_kind program held state machine a insn width op dst src offset done may (Value map id off) v c s e =
     let first = ok_then (atomic_access program.maps map off offset (size_bytes (width_size width))) (λ from. narrow_storable (kind_of state src) >>= (λ _.
@@ -227,7 +227,7 @@ atomic_by_kind program held state machine a insn width op dst src offset done ma
     ok_same (Ok (with_fetched_kind state (fetched_register op src) width)) (with_fetched_kind state (fetched_register op src) width) s refl third.1.1
     in let found : IsAligned (pos c.at +ℤ offset) (size_bytes (width_size width)) (value_size_of (slice_get program.maps map)) first.0 =
     atomic_found program.maps map off offset (size_bytes (width_size width)) first.0 c.at c.least c.most first.1.0
-    in let n = narrow_is_number (setting_of program.maps held a.ids machine) (kind_of state src) (register_value machine src) second.0 second.1.0 (a.registers src)
+    in let n = narrow_is_number (kind_scope_of program.maps held a.ids machine) (kind_of state src) (register_value machine src) second.0 second.1.0 (a.registers src)
     in subst (λ s. FallsOn program held s machine (machine.slot + slot_count insn) (atomic_step program insn machine width op v src offset)) same
     (subst (λ v. FallsOn program held (with_fetched_kind state (fetched_register op src) width) machine (machine.slot + slot_count insn)
     (atomic_step program insn machine width op v src offset)) (sym c.is)

@@ -19,7 +19,7 @@ use Rattle.abstract_state.specs.declared.kind.StackWord.{StackWord}
 use Rattle.abstract_state.specs.declared.kind.StackWord.TheVariants.{Spilled, Bytes}
 use Rattle.abstract_state.specs.States.{all_bytes}
 use Rattle.abstract_state.specs.Join.{zip_with, spilled, bytes_of_kind, bytes_of_word, join_kind, join_word}
-use Rattle.abstract_state.specs.Abstraction.{Setting, IsNumberIn, IsByte, IsSpilled, AreWritten, WordCovers}
+use Rattle.abstract_state.specs.Abstraction.{KindScope, IsNumberIn, IsByte, IsSpilled, AreWritten, WordCovers}
 use Rattle.abstract_state.proofs.shared.Opening.{nothing_set}
 use Rattle.abstract_state.proofs.JoinKinds.{join_left, join_right}
 
@@ -62,7 +62,7 @@ number_written i v places c stored k h =
     stored_of_ok (as_written (bytes_of_number 8 c.number)) places (sym (ap (λ x. stored_places x U64) c.is) ∙ stored)
     in rw (sym e) (number_bytes 8 c.number k (set_within k h))
 
-kind_written : (s : Setting) (kind : Kind) (places : List StackByte) → IsSpilled s kind places → AreWritten (bytes_of_kind kind) places
+kind_written : (s : KindScope) (kind : Kind) (places : List StackByte) → IsSpilled s kind places → AreWritten (bytes_of_kind kind) places
 kind_written s Unset places c = nothing_set places
 kind_written s (Scalar i) places c = number_written i c.value places c.covered c.stored
 kind_written s Ctx places c = nothing_set places
@@ -74,7 +74,7 @@ kind_written s (ValueOrNull map id) places c = nothing_set places
 kind_written s (Value map id off) places c = nothing_set places
 
 -- the bytes of a word that are set were written
-pub word_written : (s : Setting) (word : StackWord) (places : List StackByte) → WordCovers s word places → AreWritten (bytes_of_word word) places
+pub word_written : (s : KindScope) (word : StackWord) (places : List StackByte) → WordCovers s word places → AreWritten (bytes_of_word word) places
 word_written s (Spilled kind) places c = kind_written s kind places c
 word_written s (Bytes set) places c = c
 
@@ -87,7 +87,7 @@ both_written_right a b places c k h = c k (set_in_both a b k h).1
 -- ---- words
 
 -- a spilled register of a kind that may not be read says nothing
-pub spilled_covers : (s : Setting) (kind : Kind) (places : List StackByte) → IsSpilled s kind places → WordCovers s (spilled kind) places
+pub spilled_covers : (s : KindScope) (kind : Kind) (places : List StackByte) → IsSpilled s kind places → WordCovers s (spilled kind) places
 spilled_covers s Unset places c = nothing_set places
 spilled_covers s (Scalar i) places c = c
 spilled_covers s Ctx places c = c
@@ -98,14 +98,14 @@ spilled_covers s (Map map) places c = c
 spilled_covers s (ValueOrNull map id) places c = c
 spilled_covers s (Value map id off) places c = c
 
-pub word_left : (s : Setting) (version : Version) (a b : StackWord) (places : List StackByte) → WordCovers s a places → WordCovers s (join_word version a b) places
+pub word_left : (s : KindScope) (version : Version) (a b : StackWord) (places : List StackByte) → WordCovers s a places → WordCovers s (join_word version a b) places
 word_left s version (Spilled kind) (Spilled other) places c =
     spilled_covers s (join_kind version kind other) places (record { value = c.value; covered = join_left s version kind other c.value c.covered; stored = c.stored })
 word_left s version (Spilled kind) (Bytes set) places c = both_written_left (bytes_of_kind kind) set places (kind_written s kind places c)
 word_left s version (Bytes set) (Spilled other) places c = both_written_left set (bytes_of_kind other) places c
 word_left s version (Bytes set) (Bytes other) places c = both_written_left set other places c
 
-pub word_right : (s : Setting) (version : Version) (a b : StackWord) (places : List StackByte) → WordCovers s b places → WordCovers s (join_word version a b) places
+pub word_right : (s : KindScope) (version : Version) (a b : StackWord) (places : List StackByte) → WordCovers s b places → WordCovers s (join_word version a b) places
 word_right s version (Spilled kind) (Spilled other) places c =
     spilled_covers s (join_kind version kind other) places (record { value = c.value; covered = join_right s version kind other c.value c.covered; stored = c.stored })
 word_right s version (Spilled kind) (Bytes set) places c = both_written_right (bytes_of_kind kind) set places c

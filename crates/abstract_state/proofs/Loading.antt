@@ -34,7 +34,7 @@ use Rattle.abstract_state.specs.Words.{loaded_number, word_loaded}
 use Rattle.abstract_state.specs.Access.{field_kind, context_kind, context_loaded, loaded_kind, load_of}
 use Rattle.abstract_state.specs.Flow.{writable, reads, load_flow, flow_of}
 use Rattle.abstract_state.specs.Soundness.{GoesOn, FallsOn, Follows, HoldsAfter}
-use Rattle.abstract_state.specs.Abstraction.{Held, Setting, KindCovers, IsNumberIn, setting_of, Abstracts}
+use Rattle.abstract_state.specs.Abstraction.{Held, KindScope, KindCovers, IsNumberIn, kind_scope_of, Abstracts}
 use Rattle.abstract_state.proofs.shared.Checking.{ok_same, ok_then, falls_made, written_ok, next_setting, covers_next, put, write_follows}
 use Rattle.abstract_state.proofs.shared.Accesses.{IsAligned, IsWithin, range_found, stack_found, value_found, cell_reached}
 use Rattle.abstract_state.proofs.shared.LoadedNumbers.{Loads, size_fits, in_full, number_loads, word_loads, stack_value_is, packet_number}
@@ -43,13 +43,13 @@ use Rattle.abstract_state.proofs.shared.LoadedNumbers.{Loads, size_fits, in_full
 
 pub loads_follow : (program : Program) (held : Held) (state : State) (machine : MachineState) (a : Abstracts program.maps held state machine)
     (insn : Insn) (dst : Register) (done : Unit {0}) → writable dst ≡ Ok done → (outcome : Outcome RegisterValue) (kind : Kind) →
-    Loads (setting_of program.maps held a.ids machine) kind outcome →
+    Loads (kind_scope_of program.maps held a.ids machine) kind outcome →
     FallsOn program held (with_kind state dst kind) machine (machine.slot + slot_count insn) (write_step insn machine dst outcome)
 loads_follow program held state machine a insn dst done w outcome kind l =
     write_follows program held state machine a insn dst done w outcome kind l.value l.is
     (covers_next program.maps held held a.ids machine (slot_count insn) (λ map shard cell h. h) kind l.value l.covered)
 
-loads_as : (s : Setting) (k kind : Kind) (outcome : Outcome RegisterValue) (v : RegisterValue) → k ≡ kind → outcome ≡ Ok v → KindCovers s k v → Loads s kind outcome
+loads_as : (s : KindScope) (k kind : Kind) (outcome : Outcome RegisterValue) (v : RegisterValue) → k ≡ kind → outcome ≡ Ok v → KindCovers s k v → Loads s kind outcome
 loads_as s k kind outcome v same is covered = record { value = v; is = is; covered = subst (λ k. KindCovers s k v) same covered }
 
 -- ---- the context
@@ -62,7 +62,7 @@ pub field_loads : (maps : List MapDef) (held : Held) (state : State) (machine : 
 field_loads maps held state machine a count some (negsuc below) kind e = cc
 field_loads maps held state machine a count some (pos place) kind e = by_tests (place == 0) (place == 4) (place == 12) (place == 16) e
   where
-    s : Setting
+    s : KindScope
     s = next_setting maps held a.ids machine count
 
     start : a.ids.base 0 + 0 ≡ 0
@@ -138,7 +138,7 @@ cell_follows program held state machine a insn dst done w map shard cell place f
 
 load_by_kind : (program : Program) (held : Held) (state : State) (machine : MachineState) (a : Abstracts program.maps held state machine)
     (insn : Insn) → 0 < slot_count insn → (size : Size) (dst : Register) (done : Unit {0}) → writable dst ≡ Ok done → (src : Register) (offset : ℤ) (known : Kind) (v : RegisterValue) →
-    KindCovers (setting_of program.maps held a.ids machine) known v → (kind : Kind) → loaded_kind program.maps state size known offset src ≡ Ok kind →
+    KindCovers (kind_scope_of program.maps held a.ids machine) known v → (kind : Kind) → loaded_kind program.maps state size known offset src ≡ Ok kind →
     FallsOn program held (with_kind state dst kind) machine (machine.slot + slot_count insn) (load_step program insn machine dst v offset size)
 load_by_kind program held state machine a insn some size dst done w src offset Ctx v c kind e =
     let l : Loads (next_setting program.maps held a.ids machine (slot_count insn)) kind (context_field machine size offset) =
@@ -148,7 +148,7 @@ load_by_kind program held state machine a insn some size dst done w src offset C
 load_by_kind program held state machine a insn some size dst done w src offset (Stack place) v c kind e =
     let parts = ok_then (stack_access place offset (size_bytes size)) (λ from. word_loaded state size from (word_of state (from / 8))) kind e
     in let found : IsAligned (pos place +ℤ offset) (size_bytes size) 512 parts.0 = stack_found place offset (size_bytes size) parts.0 parts.1.0
-    in let l : Loads (setting_of program.maps held a.ids machine) kind (spilled_or_number (take (size_bytes size) (drop parts.0 machine.stack))) =
+    in let l : Loads (kind_scope_of program.maps held a.ids machine) kind (spilled_or_number (take (size_bytes size) (drop parts.0 machine.stack))) =
     word_loads program.maps held state machine a size parts.0 kind found.inside found.multiple parts.1.1
     in let same : stack_value machine.stack (c.at +ℤ offset) (size_bytes size) ≡ spilled_or_number (take (size_bytes size) (drop parts.0 machine.stack)) =
     stack_value_is machine.stack c.at offset place parts.0 (size_bytes size) c.counted a.is_machine.stack_size found
@@ -162,7 +162,7 @@ load_by_kind program held state machine a insn some size dst done w src offset (
     in let same : kind ≡ loaded_number size = ok_same (Ok (loaded_number size)) kind (loaded_number size) parts.1.1 refl
     in subst (λ v. FallsOn program held (with_kind state dst kind) machine (machine.slot + slot_count insn) (load_step program insn machine dst v offset size)) (sym c.is)
     (loads_follow program held state machine a insn dst done w (packet_value machine machine.generation (pos (a.ids.base id + off) +ℤ offset) (size_bytes size)) kind
-    (number_loads (setting_of program.maps held a.ids machine) size (packet_value machine machine.generation (pos (a.ids.base id + off) +ℤ offset) (size_bytes size)) kind n same))
+    (number_loads (kind_scope_of program.maps held a.ids machine) size (packet_value machine machine.generation (pos (a.ids.base id + off) +ℤ offset) (size_bytes size)) kind n same))
 load_by_kind program held state machine a insn some size dst done w src offset (Value map id off) v c kind e =
     let parts = ok_then (value_access program.maps map off offset (size_bytes size)) (λ from. Ok (loaded_number size)) kind e
     in let there = value_found program.maps map off offset (size_bytes size) parts.0 c.at c.least c.most parts.1.0

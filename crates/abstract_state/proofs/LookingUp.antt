@@ -35,7 +35,7 @@ use Rattle.abstract_state.specs.Words.{are_bytes_set}
 use Rattle.abstract_state.specs.Calls.{map_argument, stack_argument, is_inside_stack, when_all, key_arguments, returned, call_of}
 use Rattle.abstract_state.specs.Flow.{reads_arguments, falls}
 use Rattle.abstract_state.specs.Soundness.{GoesOn, FallsOn, Follows, HoldsAfter}
-use Rattle.abstract_state.specs.Abstraction.{Ids, Held, Setting, KindCovers, IsKnownMap, IsStackPlace, places_of, setting_of, Abstracts}
+use Rattle.abstract_state.specs.Abstraction.{Ids, Held, KindScope, KindCovers, IsKnownMap, IsStackPlace, places_of, kind_scope_of, Abstracts}
 use Rattle.abstract_state.proofs.shared.Writing.{Extends, covers_later, word_later}
 use Rattle.abstract_state.proofs.shared.Checking.{ok_same, ok_then, ok_if, falls_made, next_setting}
 use Rattle.abstract_state.proofs.shared.ByteNumbers.{Reads}
@@ -44,14 +44,14 @@ use Rattle.abstract_state.proofs.shared.Accesses.{stack_reached}
 
 -- ---- what a call leaves
 
-last_kept : (s : Setting) (kinds : List Kind) (values : List RegisterValue) (k : ℕ) →
+last_kept : (s : KindScope) (kinds : List Kind) (values : List RegisterValue) (k : ℕ) →
     KindCovers s (slice_index_or kinds (6 + k) Unset) (slice_index_or values (6 + k) Uninitialized) →
     KindCovers s (slice_index_or (drop 6 kinds) k Unset) (slice_index_or (drop 6 values) k Uninitialized)
 last_kept s kinds values k before =
     subst (λ kind. KindCovers s kind (slice_index_or (drop 6 values) k Uninitialized)) (sym (get_or-drop 6 kinds k Unset))
     (subst (λ v. KindCovers s (slice_index_or kinds (6 + k) Unset) v) (sym (get_or-drop 6 values k Uninitialized)) before)
 
-returned_registers : (s : Setting) (state : State) (machine : MachineState) (kind : Kind) (v : RegisterValue) →
+returned_registers : (s : KindScope) (state : State) (machine : MachineState) (kind : Kind) (v : RegisterValue) →
     ((register : Register) → KindCovers s (kind_of state register) (register_value machine register)) → KindCovers s kind v →
     (register : Register) → KindCovers s (kind_of (returned kind state) register) (register_value (meaning.returned machine v) register)
 returned_registers s state machine kind v before now R0 = now
@@ -73,7 +73,7 @@ pub returned_sound : (maps : List MapDef) (held held' : Held) (state : State) (m
     ((id : ℕ) → ids.base id ≤ 131070 * id) → (kind : Kind) (v : RegisterValue) → KindCovers (next_setting maps held' ids machine 1) kind v →
     Abstracts maps held' (returned kind state) (meaning.returned machine v)
 returned_sound maps held held' state machine ids a more same_base same_found bases kind v now =
-    let extends : Extends (setting_of maps held a.ids machine) (next_setting maps held' ids machine 1) =
+    let extends : Extends (kind_scope_of maps held a.ids machine) (next_setting maps held' ids machine 1) =
     record { maps = refl; held = more; base = same_base; found = same_found; slot = omega arith; generation = refl; size = refl }
     in let eleven : length machine.registers ≡ 11 = a.is_machine.eleven
     in let eleven_kinds : length state.registers ≡ 11 = a.is_machine.eleven_kinds
@@ -82,8 +82,8 @@ returned_sound maps held held' state machine ids a more same_base same_found bas
     in record {
       ids = ids;
       registers = returned_registers (next_setting maps held' ids machine 1) state machine kind v
-          (λ register. covers_later (setting_of maps held a.ids machine) (next_setting maps held' ids machine 1) extends (kind_of state register) (register_value machine register) (a.registers register)) now;
-      stack = λ word h. word_later (setting_of maps held a.ids machine) (next_setting maps held' ids machine 1) extends
+          (λ register. covers_later (kind_scope_of maps held a.ids machine) (next_setting maps held' ids machine 1) extends (kind_of state register) (register_value machine register) (a.registers register)) now;
+      stack = λ word h. word_later (kind_scope_of maps held a.ids machine) (next_setting maps held' ids machine 1) extends
           (word_of state word) (places_of word machine.stack) (a.stack word h);
       start = a.start;
       bases = bases;
@@ -223,10 +223,10 @@ given program held state machine a map definition known key (Freed count) is hel
 pub lookup_follows : (program : Program) (held : Held) (state : State) (machine : MachineState) → Abstracts program.maps held state machine →
     (map : ℕ) → KnowsKey program.maps state map → FallsOn program held (returned (ValueOrNull map machine.slot) state) machine (machine.slot + 1) (lookup_step program machine)
 lookup_follows program held state machine a map k =
-    let c : IsKnownMap (setting_of program.maps held a.ids machine) map (register_value machine R1) =
-    subst (λ kind. KindCovers (setting_of program.maps held a.ids machine) kind (register_value machine R1)) k.is_map (a.registers R1)
+    let c : IsKnownMap (kind_scope_of program.maps held a.ids machine) map (register_value machine R1) =
+    subst (λ kind. KindCovers (kind_scope_of program.maps held a.ids machine) kind (register_value machine R1)) k.is_map (a.registers R1)
     in let p : IsStackPlace k.key (register_value machine R2) =
-    subst (λ kind. KindCovers (setting_of program.maps held a.ids machine) kind (register_value machine R2)) k.is_key (a.registers R2)
+    subst (λ kind. KindCovers (kind_scope_of program.maps held a.ids machine) kind (register_value machine R2)) k.is_key (a.registers R2)
     in let same : key_size_of (slice_get program.maps map) ≡ c.definition.key_size = ap key_size_of c.known
     in let inside : k.key + c.definition.key_size ≤ 512 = subst (λ n. k.key + n ≤ 512) same k.inside
     in let r : Reads (take c.definition.key_size (drop k.key machine.stack)) c.definition.key_size =

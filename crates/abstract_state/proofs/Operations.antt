@@ -22,18 +22,18 @@ use Rattle.abstract_state.specs.declared.broken_rule.BrokenRule.TheVariants.{Wro
 use Rattle.abstract_state.specs.States.{Checked}
 use Rattle.abstract_state.specs.Arithmetic.{number_kind, moved_kind, combined_kind, alu_kind}
 use Rattle.abstract_state.specs.Flow.{is_set}
-use Rattle.abstract_state.specs.Abstraction.{Setting, KindCovers, IsNumberIn}
+use Rattle.abstract_state.specs.Abstraction.{KindScope, KindCovers, IsNumberIn}
 use Rattle.abstract_state.proofs.shared.Inverting.{err_not_ok, ok_value}
 use Rattle.abstract_state.proofs.shared.Following.{Gives, gives}
 use Rattle.abstract_state.proofs.Pointers.{SmallValues, pointer_combined}
 
 -- where an instruction is: the setting at it, and the slot where the run goes on
-pub record Stands (s : Setting) (slot : ℕ) : Type 0 where
+pub record Stands (s : KindScope) (slot : ℕ) : Type 0 where
   pub later : s.slot < slot
   pub bases : (id : ℕ) → s.ids.base id ≤ 131070 * id
 
 -- a value that is made of values with the ids as they are
-made : (s : Setting) (slot : ℕ) (new kind : Kind) (outcome : Outcome RegisterValue) (value : RegisterValue) → Stands s slot →
+made : (s : KindScope) (slot : ℕ) (new kind : Kind) (outcome : Outcome RegisterValue) (value : RegisterValue) → Stands s slot →
     ◌≡◌ {A = Checked Kind} (Ok new) (Ok kind) → outcome ≡ Ok value → KindCovers s new value → Gives s slot kind outcome
 made s slot new kind outcome value st e is covered =
     subst (λ k. Gives s slot k outcome) (ok_value new kind e)
@@ -42,7 +42,7 @@ made s slot new kind outcome value st e is covered =
 -- ---- numbers
 
 -- a change of a number
-pub number_changed : (s : Setting) (slot : ℕ) (i : Interval) (v : RegisterValue) (change : Interval → Interval) (meaning : ℕ → ℕ) → Stands s slot →
+pub number_changed : (s : KindScope) (slot : ℕ) (i : Interval) (v : RegisterValue) (change : Interval → Interval) (meaning : ℕ → ℕ) → Stands s slot →
     ((n : ℕ) → n < 2 ^ 64 → Covers i n → Covers (change i) (meaning n)) → ((n : ℕ) → n < 2 ^ 64 → meaning n < 2 ^ 64) →
     IsNumberIn i v → Gives s slot (Scalar (change i)) (changed_number v meaning)
 number_changed s slot i v change meaning st sound fits c =
@@ -52,7 +52,7 @@ number_changed s slot i v change meaning st sound fits c =
     (record { number = meaning c.number; is = refl; within = sound c.number c.word c.within; word = fits c.number c.word })
 
 -- two numbers
-numbers_by : (s : Setting) (slot : ℕ) (width : Width) (op : AluOp) (i j : Interval) (u v : RegisterValue) → Stands s slot →
+numbers_by : (s : KindScope) (slot : ℕ) (width : Width) (op : AluOp) (i j : Interval) (u v : RegisterValue) → Stands s slot →
     IsNumberIn i u → IsNumberIn j v → Gives s slot (Scalar (transfer_of width op i j)) (combined_value width op u v)
 numbers_by s slot width op i j u v st c d =
     subst (λ x. Gives s slot (Scalar (transfer_of width op i j)) (combined_value width op x v)) (sym c.is)
@@ -60,7 +60,7 @@ numbers_by s slot width op i j u v st c d =
     (λ n h covers. transfer_covers width op i j c.number n c.word h c.within covers)
     (λ n h. alu_value-fits width op c.number n c.word h) d)
 
-numbers_combined : (s : Setting) (slot : ℕ) (width : Width) (op : AluOp) (i : Interval) (other : Kind) (u v : RegisterValue) (source : Register) (kind : Kind) →
+numbers_combined : (s : KindScope) (slot : ℕ) (width : Width) (op : AluOp) (i : Interval) (other : Kind) (u v : RegisterValue) (source : Register) (kind : Kind) →
     Stands s slot → IsNumberIn i u → KindCovers s other v → number_kind other source (transfer_of width op i) ≡ Ok kind →
     Gives s slot kind (combined_value width op u v)
 numbers_combined s slot width op i (Scalar j) u v source kind st c d e =
@@ -81,7 +81,7 @@ numbers_combined s slot width op i (Value map id off) u v source kind st c d e =
 copied : (u c : RegisterValue) → u ≡ c → moved_value Bits64 c ≡ Ok c → moved_value Bits64 u ≡ Ok u
 copied u c e h = subst (λ x. moved_value Bits64 x ≡ Ok x) (sym e) h
 
-number_moved : (s : Setting) (slot : ℕ) (width : Width) (i : Interval) (v : RegisterValue) (kind : Kind) → Stands s slot → IsNumberIn i v →
+number_moved : (s : KindScope) (slot : ℕ) (width : Width) (i : Interval) (v : RegisterValue) (kind : Kind) → Stands s slot → IsNumberIn i v →
     ◌≡◌ {A = Checked Kind} (Ok (Scalar (transfer_of width Mov i i))) (Ok kind) → Gives s slot kind (moved_value width v)
 number_moved s slot width i v kind st c e =
     made s slot (Scalar (transfer_of width Mov i i)) kind (moved_value width v) (Number (alu_value width Mov 0 c.number)) st e
@@ -93,18 +93,18 @@ number_moved s slot width i v kind st c e =
       word = alu_value-fits width Mov c.number c.number c.word c.word;
     })
 
-looked_up_moved : (s : Setting) (map id : ℕ) (v : RegisterValue) → KindCovers s (ValueOrNull map id) v → moved_value Bits64 v ≡ Ok v
+looked_up_moved : (s : KindScope) (map id : ℕ) (v : RegisterValue) → KindCovers s (ValueOrNull map id) v → moved_value Bits64 v ≡ Ok v
 looked_up_moved s map id v (inl c) = copied v (Number 0) c.is refl
 looked_up_moved s map id v (inr c) = copied v (CellPointer map c.cell.shard c.cell.id (pos c.at)) c.is refl
 
 -- what is set and no number is copied by a move of 64 bits alone
-pointer_moved : (s : Setting) (slot : ℕ) (width : Width) (old kind : Kind) (v : RegisterValue) (source : Register) → Stands s slot → KindCovers s old v →
+pointer_moved : (s : KindScope) (slot : ℕ) (width : Width) (old kind : Kind) (v : RegisterValue) (source : Register) → Stands s slot → KindCovers s old v →
     moved_value Bits64 v ≡ Ok v → (moved_kind Bits64 old source ≡ Ok old) → (moved_kind Bits32 old source ≡ Err (WrongKind source)) →
     moved_kind width old source ≡ Ok kind → Gives s slot kind (moved_value width v)
 pointer_moved s slot Bits64 old kind v source st c same stays not e = made s slot old kind (moved_value Bits64 v) v st (sym stays ∙ e) same c
 pointer_moved s slot Bits32 old kind v source st c same stays not e = absurd (err_not_ok (WrongKind source) kind (sym not ∙ e))
 
-moved : (s : Setting) (slot : ℕ) (width : Width) (second kind : Kind) (v : RegisterValue) (source : Register) → Stands s slot →
+moved : (s : KindScope) (slot : ℕ) (width : Width) (second kind : Kind) (v : RegisterValue) (source : Register) → Stands s slot →
     is_set second source ≡ Ok tt → KindCovers s second v → moved_kind width second source ≡ Ok kind → Gives s slot kind (moved_value width v)
 moved s slot width Unset kind v source st set c e = absurd (err_not_ok (UnsetRegister source) tt set)
 moved s slot width (Scalar i) kind v source st set c e = number_moved s slot width i v kind st c e
@@ -126,7 +126,7 @@ moved s slot width (Value map id off) kind v source st set c e =
 
 -- ---- the table
 
-combined : (s : Setting) (version : Version) (slot : ℕ) → SmallValues s → (width : Width) (op : AluOp) (first second kind : Kind) (u v : RegisterValue) (dst source : Register) → Stands s slot →
+combined : (s : KindScope) (version : Version) (slot : ℕ) → SmallValues s → (width : Width) (op : AluOp) (first second kind : Kind) (u v : RegisterValue) (dst source : Register) → Stands s slot →
     KindCovers s first u → KindCovers s second v → combined_kind s.maps version s.slot width op first second dst source ≡ Ok kind →
     Gives s slot kind (combined_value width op u v)
 combined s version slot small width op Unset second kind u v dst source st c d e = pointer_combined s version slot small width op Unset second u v dst source kind c d st.later st.bases e
@@ -140,7 +140,7 @@ combined s version slot small width op (ValueOrNull map id) second kind u v dst 
 combined s version slot small width op (Value map id off) second kind u v dst source st c d e = pointer_combined s version slot small width op (Value map id off) second u v dst source kind c d st.later st.bases e
 
 -- any operation on operands that are set
-pub operation_gives : (s : Setting) (version : Version) (slot : ℕ) → SmallValues s → (width : Width) (op : AluOp) (first second kind : Kind) (u v : RegisterValue) (dst source : Register) → Stands s slot →
+pub operation_gives : (s : KindScope) (version : Version) (slot : ℕ) → SmallValues s → (width : Width) (op : AluOp) (first second kind : Kind) (u v : RegisterValue) (dst source : Register) → Stands s slot →
     is_set second source ≡ Ok tt → KindCovers s first u → KindCovers s second v → alu_kind s.maps version s.slot width op first second dst source ≡ Ok kind →
     Gives s slot kind (alu_outcome width op u v)
 operation_gives s version slot small width Mov first second kind u v dst source st set c d e = moved s slot width second kind v source st set d e

@@ -26,7 +26,7 @@ use Rattle.abstract_state.specs.declared.broken_rule.BrokenRule.TheVariants.{Wro
 use Rattle.abstract_state.specs.States.{Checked, ◌>>=◌, stack_size, value_size_of}
 use Rattle.abstract_state.specs.Places.{place_within, offsets_within}
 use Rattle.abstract_state.specs.Arithmetic.{delta_of, moves_pointers, moved_pointer, moved_value, moved_far, pointer_sum, is_movable, combined_pointer}
-use Rattle.abstract_state.specs.Abstraction.{Ids, Setting, KindCovers, IsNumberIn, IsStackPlace, IsPacketPlace, IsLiveCell}
+use Rattle.abstract_state.specs.Abstraction.{Ids, KindScope, KindCovers, IsNumberIn, IsStackPlace, IsPacketPlace, IsLiveCell}
 use Rattle.abstract_state.proofs.shared.Between.{IsBetween, between}
 use Rattle.abstract_state.proofs.shared.Inverting.{err_not_ok, ok_value, ok_then, ok_if, place_is}
 use Rattle.abstract_state.proofs.shared.Following.{Gives, gives}
@@ -45,7 +45,7 @@ small_delta n h = let l : n < 2 ^ 63 = omega arith in rw (lt-ltb n (2 ^ 63) l) r
 
 -- ---- by a single number
 
-stack_moved : (s : Setting) (place to : ℕ) (at d : ℤ) → stack_place at ≡ pos place → pos place +ℤ d ≡ pos to → stack_place (at +ℤ d) ≡ pos to
+stack_moved : (s : KindScope) (place to : ℕ) (at d : ℤ) → stack_place at ≡ pos place → pos place +ℤ d ≡ pos to → stack_place (at +ℤ d) ≡ pos to
 stack_moved s place to at d counted is = sym (+ℤ_assoc (pos 512) at d) ∙ (ap (λ z. z +ℤ d) counted ∙ is)
 
 past_base : (base off to : ℕ) (d : ℤ) → pos off +ℤ d ≡ pos to → pos (base + off) +ℤ d ≡ pos (base + to)
@@ -58,13 +58,13 @@ moved_by : (width : Width) (op : AluOp) (n : ℕ) (u v : RegisterValue) (make : 
 moved_by width op n u v make moves is e = e ∙ ap (λ o. at_distance o make) (ap (pointer_distance width op) is ∙ delta_is width op n moves)
 
 -- a number that moves a pointer, and what represents the result
-pub record Moves (s : Setting) (slot : ℕ) (width : Width) (op : AluOp) (i : Interval) (v : RegisterValue) : Type 0 where
+pub record Moves (s : KindScope) (slot : ℕ) (width : Width) (op : AluOp) (i : Interval) (v : RegisterValue) : Type 0 where
   pub moves : moves_pointers width op ≡ true
   pub number : IsNumberIn i v
   pub later : s.slot < slot
   pub bases : (id : ℕ) → s.ids.base id ≤ 131070 * id
 
-stack_gives : (s : Setting) (slot : ℕ) (width : Width) (op : AluOp) (i : Interval) (u v : RegisterValue) (place : ℕ) (dst : Register) (kind : Kind) →
+stack_gives : (s : KindScope) (slot : ℕ) (width : Width) (op : AluOp) (i : Interval) (u v : RegisterValue) (place : ℕ) (dst : Register) (kind : Kind) →
     IsStackPlace place u → Moves s slot width op i v → is_single i ≡ true →
     moved_pointer s.maps (Stack place) (delta_of op i.low) dst ≡ Ok kind → Gives s slot kind (combined_value width op u v)
 stack_gives s slot width op i u v place dst kind c m single e =
@@ -78,7 +78,7 @@ stack_gives s slot width op i u v place dst kind c m single e =
     gives s slot (Stack p.value) (combined_value width op u v) (StackPointer (c.at +ℤ delta_of op i.low)) (omega arith) m.bases made
     (record { at = c.at +ℤ delta_of op i.low; is = refl; counted = stack_moved s place p.value c.at (delta_of op i.low) c.counted to.is }))
 
-packet_gives : (s : Setting) (slot : ℕ) (width : Width) (op : AluOp) (i : Interval) (u v : RegisterValue) (id off range : ℕ) (dst : Register) (kind : Kind) →
+packet_gives : (s : KindScope) (slot : ℕ) (width : Width) (op : AluOp) (i : Interval) (u v : RegisterValue) (id off range : ℕ) (dst : Register) (kind : Kind) →
     IsPacketPlace s id off range u → Moves s slot width op i v → is_single i ≡ true →
     moved_pointer s.maps (Packet id off range) (delta_of op i.low) dst ≡ Ok kind → Gives s slot kind (combined_value width op u v)
 packet_gives s slot width op i u v id off range dst kind c m single e =
@@ -99,12 +99,12 @@ packet_gives s slot width op i u v id off range dst kind c m single e =
     }))
 
 -- both ends of what was moved
-record AreMoved (s : Setting) (map : ℕ) (low high : ℤ) (to : Offsets) : Type 0 where
+record AreMoved (s : KindScope) (map : ℕ) (low high : ℤ) (to : Offsets) : Type 0 where
   low_is : low ≡ pos to.low
   high_is : high ≡ pos to.high
   within : to.high ≤ value_size_of (slice_get s.maps map)
 
-ends_moved : (s : Setting) (map : ℕ) (low high : ℤ) (to : Offsets) → offsets_within s.maps map low high ≡ Ok to → AreMoved s map low high to
+ends_moved : (s : KindScope) (map : ℕ) (low high : ℤ) (to : Offsets) → offsets_within s.maps map low high ≡ Ok to → AreMoved s map low high to
 ends_moved s map low high to e =
     let first = ok_then (place_within low (value_size_of (slice_get s.maps map)) ValueBounds) (λ from.
     place_within high (value_size_of (slice_get s.maps map)) ValueBounds >>= (λ last. Ok (record { low = from; high = last }))) to e
@@ -118,7 +118,7 @@ ends_moved s map low high to e =
       within = subst (λ (one : Offsets). one.high ≤ value_size_of (slice_get s.maps map)) same b.within;
     }
 
-value_gives : (s : Setting) (slot : ℕ) (width : Width) (op : AluOp) (i : Interval) (u v : RegisterValue) (map id : ℕ) (off : Offsets) (dst : Register) (kind : Kind) →
+value_gives : (s : KindScope) (slot : ℕ) (width : Width) (op : AluOp) (i : Interval) (u v : RegisterValue) (map id : ℕ) (off : Offsets) (dst : Register) (kind : Kind) →
     IsLiveCell s map id off u → Moves s slot width op i v → is_single i ≡ true →
     moved_pointer s.maps (Value map id off) (delta_of op i.low) dst ≡ Ok kind → Gives s slot kind (combined_value width op u v)
 value_gives s slot width op i u v map id off dst kind c m single e =
@@ -152,11 +152,11 @@ stays_near maps version Add slot place i source kind e = err_not_ok (WrongKind s
 stays_near maps version op slot place i source kind e = err_not_ok (WrongKind source) kind e
 
 -- no value has more bytes than an image can say
-abbrev pub SmallValues : Setting → Type 0
+abbrev pub SmallValues : KindScope → Type 0
 SmallValues s = (map : ℕ) → value_size_of (slice_get s.maps map) ≤ 256
 
 -- in version 2 an address in a value moves by each end of the interval
-value_far : (s : Setting) (version : Version) (slot : ℕ) → SmallValues s → (i : Interval) (u v : RegisterValue) (map id : ℕ) (off : Offsets) (source : Register) (kind : Kind) →
+value_far : (s : KindScope) (version : Version) (slot : ℕ) → SmallValues s → (i : Interval) (u v : RegisterValue) (map id : ℕ) (off : Offsets) (source : Register) (kind : Kind) →
     IsLiveCell s map id off u → Moves s slot Bits64 Add i v → moved_value s.maps version map id off i source ≡ Ok kind →
     Gives s slot kind (combined_value Bits64 Add u v)
 value_far s V1 slot small i u v map id off source kind c m e = absurd (err_not_ok (WrongKind source) kind e)
@@ -191,7 +191,7 @@ value_far s V2 slot small i u v map id off source kind c m e =
       earlier = c.earlier;
     }))
 
-value_far_by : (s : Setting) (version : Version) (slot : ℕ) → SmallValues s → (width : Width) (op : AluOp) (i : Interval) (u v : RegisterValue) (map id : ℕ) (off : Offsets)
+value_far_by : (s : KindScope) (version : Version) (slot : ℕ) → SmallValues s → (width : Width) (op : AluOp) (i : Interval) (u v : RegisterValue) (map id : ℕ) (off : Offsets)
     (source : Register) (kind : Kind) → IsLiveCell s map id off u → Moves s slot width op i v → moved_far s.maps version s.slot op (Value map id off) i source ≡ Ok kind →
     Gives s slot kind (combined_value width op u v)
 value_far_by s version slot small Bits64 Add i u v map id off source kind c m e = value_far s version slot small i u v map id off source kind c m e
@@ -212,7 +212,7 @@ other_base id slot place base h = rw (ne_eqb id slot (λ e. absurd (omega arith)
 own_base : (slot place base : ℕ) → (if slot == slot then place else base) ≡ place
 own_base slot place base = rw (eq-eqb slot slot refl) refl
 
-packet_far : (s : Setting) (version : Version) (slot : ℕ) (i : Interval) (u v : RegisterValue) (id off range : ℕ) (source : Register) (kind : Kind) →
+packet_far : (s : KindScope) (version : Version) (slot : ℕ) (i : Interval) (u v : RegisterValue) (id off range : ℕ) (source : Register) (kind : Kind) →
     IsPacketPlace s id off range u → Moves s slot Bits64 Add i v → moved_far s.maps version s.slot Add (Packet id off range) i source ≡ Ok kind →
     Gives s slot kind (combined_value Bits64 Add u v)
 packet_far s version slot i u v id off range source kind c m e =
@@ -247,7 +247,7 @@ packet_far s version slot i u v id off range source kind c m e =
       };
     })
 
-packet_far_by : (s : Setting) (version : Version) (slot : ℕ) (width : Width) (op : AluOp) (i : Interval) (u v : RegisterValue) (id off range : ℕ) (source : Register) (kind : Kind) →
+packet_far_by : (s : KindScope) (version : Version) (slot : ℕ) (width : Width) (op : AluOp) (i : Interval) (u v : RegisterValue) (id off range : ℕ) (source : Register) (kind : Kind) →
     IsPacketPlace s id off range u → Moves s slot width op i v → moved_far s.maps version s.slot op (Packet id off range) i source ≡ Ok kind →
     Gives s slot kind (combined_value width op u v)
 packet_far_by s version slot Bits64 Add i u v id off range source kind c m e = packet_far s version slot i u v id off range source kind c m e
@@ -261,7 +261,7 @@ by_single true a b x P e f g = f refl e
 by_single false a b x P e f g = g e
 
 -- a pointer plus or minus a number
-pointer_by : (s : Setting) (version : Version) (slot : ℕ) → SmallValues s → (width : Width) (op : AluOp) (i : Interval) (pointer : Kind) (u v : RegisterValue) (dst source : Register) (kind : Kind) →
+pointer_by : (s : KindScope) (version : Version) (slot : ℕ) → SmallValues s → (width : Width) (op : AluOp) (i : Interval) (pointer : Kind) (u v : RegisterValue) (dst source : Register) (kind : Kind) →
     KindCovers s pointer u → Moves s slot width op i v → is_movable pointer ≡ true →
     (if is_single i then moved_pointer s.maps pointer (delta_of op i.low) dst else moved_far s.maps version s.slot op pointer i source) ≡ Ok kind →
     Gives s slot kind (combined_value width op u v)
@@ -287,7 +287,7 @@ pointer_by s version slot small width op i PacketEnd u v dst source kind c m mov
 pointer_by s version slot small width op i (Map map) u v dst source kind c m movable e = absurd (false≢true movable)
 pointer_by s version slot small width op i (ValueOrNull map id) u v dst source kind c m movable e = absurd (false≢true movable)
 
-pointer_sum_by : (s : Setting) (version : Version) (slot : ℕ) → SmallValues s → (width : Width) (op : AluOp) (pointer other : Kind) (u v : RegisterValue) (dst source : Register) (kind : Kind) →
+pointer_sum_by : (s : KindScope) (version : Version) (slot : ℕ) → SmallValues s → (width : Width) (op : AluOp) (pointer other : Kind) (u v : RegisterValue) (dst source : Register) (kind : Kind) →
     KindCovers s pointer u → KindCovers s other v → moves_pointers width op ≡ true → is_movable pointer ≡ true → s.slot < slot →
     ((id : ℕ) → s.ids.base id ≤ 131070 * id) → pointer_sum s.maps version s.slot op pointer other dst source ≡ Ok kind →
     Gives s slot kind (combined_value width op u v)
@@ -303,7 +303,7 @@ pointer_sum_by s version slot small width op pointer (ValueOrNull map id) u v ds
 pointer_sum_by s version slot small width op pointer (Value map id off) u v dst source kind c d moves movable later bases e = absurd (err_not_ok (WrongKind source) kind e)
 
 -- a pointer as the first operand
-pub pointer_combined : (s : Setting) (version : Version) (slot : ℕ) → SmallValues s → (width : Width) (op : AluOp) (pointer other : Kind) (u v : RegisterValue) (dst source : Register) (kind : Kind) →
+pub pointer_combined : (s : KindScope) (version : Version) (slot : ℕ) → SmallValues s → (width : Width) (op : AluOp) (pointer other : Kind) (u v : RegisterValue) (dst source : Register) (kind : Kind) →
     KindCovers s pointer u → KindCovers s other v → s.slot < slot → ((id : ℕ) → s.ids.base id ≤ 131070 * id) →
     combined_pointer s.maps version s.slot width op pointer other dst source ≡ Ok kind → Gives s slot kind (combined_value width op u v)
 pointer_combined s version slot small width op pointer other u v dst source kind c d later bases e =

@@ -41,7 +41,7 @@ use Rattle.abstract_state.specs.declared.state.State.{State}
 use Rattle.abstract_state.specs.States.{◌>>=◌, kind_of, with_kind, value_size_of}
 use Rattle.abstract_state.specs.Arithmetic.{source_kind, blamed, alu_kind, after_alu_of}
 use Rattle.abstract_state.specs.Flow.{writable, is_set, reads, reads_operands, alu_flow, number_of, operand_of, unary_flow, number_flow, known_map, map_flow, exit_kind, falls, flow_of}
-use Rattle.abstract_state.specs.Abstraction.{Held, Setting, KindCovers, IsNumberIn, setting_of, Abstracts}
+use Rattle.abstract_state.specs.Abstraction.{Held, KindScope, KindCovers, IsNumberIn, kind_scope_of, Abstracts}
 use Rattle.abstract_state.specs.Soundness.{EndsRun, JumpsOn, JumpsForward, Follows}
 use Rattle.abstract_state.proofs.shared.Inverting.{err_not_ok, ok_value, ok_then}
 use Rattle.abstract_state.proofs.shared.Following.{gives, wrote, falls_follow, moved_on, SourceFits, source_covers}
@@ -49,7 +49,7 @@ use Rattle.abstract_state.proofs.Operations.{Stands, number_changed, operation_g
 
 -- what is known of the program's run before an instruction, and the slot after it
 stands : (program : Program) (held : Held) (state : State) (machine : MachineState) (a : Abstracts program.maps held state machine) (insn : Insn) →
-    0 < slot_count insn → Stands (setting_of program.maps held a.ids machine) (machine.slot + slot_count insn)
+    0 < slot_count insn → Stands (kind_scope_of program.maps held a.ids machine) (machine.slot + slot_count insn)
 stands program held state machine a insn h = record { later = omega arith; bases = a.bases }
 
 -- ---- two operands
@@ -85,7 +85,7 @@ alu_follows program held state machine width op dst source flow a sizes fits e =
     (ok_value (with_kind state dst made.value) after made.next)
     (wrote program held state machine (Alu width op dst source) dst made.value
     (alu_outcome width op (register_value machine dst) (source_value machine source)) a may.is
-    (operation_gives (setting_of program.maps held a.ids machine) state.version (machine.slot + slot_count (Alu width op dst source))
+    (operation_gives (kind_scope_of program.maps held a.ids machine) state.version (machine.slot + slot_count (Alu width op dst source))
     (small_values program.maps sizes) width op
     (kind_of state dst) (source_kind state source) made.value (register_value machine dst) (source_value machine source) dst (blamed dst source)
     (stands program held state machine a (Alu width op dst source) (omega arith)) (source_set state op dst source read.is)
@@ -93,7 +93,7 @@ alu_follows program held state machine width op dst source flow a sizes fits e =
 
 -- ---- one operand
 
-number_is : (s : Setting) (kind : Kind) (register : Register) (i : Interval) (v : RegisterValue) → number_of kind register ≡ Ok i → KindCovers s kind v → IsNumberIn i v
+number_is : (s : KindScope) (kind : Kind) (register : Register) (i : Interval) (v : RegisterValue) → number_of kind register ≡ Ok i → KindCovers s kind v → IsNumberIn i v
 number_is s (Scalar j) register i v e c = subst (λ x. IsNumberIn x v) (ok_value j i e) c
 number_is s Unset register i v e c = absurd (err_not_ok (WrongKind register) i e)
 number_is s Ctx register i v e c = absurd (err_not_ok (WrongKind register) i e)
@@ -119,9 +119,9 @@ unary_follows program held state machine insn dst operand change meaning flow a 
     in subst (λ x. Follows program held (Falls x) machine insn (write_step insn machine dst (changed_number (register_value machine operand) meaning)))
     (ok_value (with_kind state dst (Scalar (change read.value))) after read.next)
     (wrote program held state machine insn dst (Scalar (change read.value)) (changed_number (register_value machine operand) meaning) a may.is
-    (number_changed (setting_of program.maps held a.ids machine) (machine.slot + slot_count insn) read.value (register_value machine operand) change meaning
+    (number_changed (kind_scope_of program.maps held a.ids machine) (machine.slot + slot_count insn) read.value (register_value machine operand) change meaning
     (stands program held state machine a insn positive) (λ n h. sound read.value n) (λ n h. fits n)
-    (number_is (setting_of program.maps held a.ids machine) (kind_of state operand) operand read.value (register_value machine operand) set.next
+    (number_is (kind_scope_of program.maps held a.ids machine) (kind_of state operand) operand read.value (register_value machine operand) set.next
     (a.registers operand)))))
 
 pub neg_follows : (program : Program) (held : Held) (state : State) (machine : MachineState) (width : Width) (dst : Register) (flow : Flow) →
@@ -174,7 +174,7 @@ lddw_follows program held state machine dst value flow a fits e =
     in subst (λ x. Follows program held (Falls x) machine (Lddw dst value) (instruction_step program (Lddw dst value) machine))
     (ok_value (with_kind state dst (Scalar (constant_of value))) after may.next)
     (wrote program held state machine (Lddw dst value) dst (Scalar (constant_of value)) (Ok (Number value)) a may.is
-    (gives (setting_of program.maps held a.ids machine) (machine.slot + slot_count (Lddw dst value)) (Scalar (constant_of value)) (Ok (Number value))
+    (gives (kind_scope_of program.maps held a.ids machine) (machine.slot + slot_count (Lddw dst value)) (Scalar (constant_of value)) (Ok (Number value))
     (Number value) (omega arith) a.bases refl
     (record { number = value; is = refl; within = constant_covers value value refl; word = fits }))))
 
@@ -210,13 +210,13 @@ ldmap_follows program held state machine dst map flow a e =
     in subst (λ x. Follows program held (Falls x) machine (Ldmap dst map) (instruction_step program (Ldmap dst map) machine))
     (ap (with_kind state dst) (sym has.kind_is) ∙ ok_value (with_kind state dst known.value) after known.next)
     (wrote program held state machine (Ldmap dst map) dst (Map has.place) (map_pointer program map) a may.is
-    (gives (setting_of program.maps held a.ids machine) (machine.slot + slot_count (Ldmap dst map)) (Map has.place) (map_pointer program map)
+    (gives (kind_scope_of program.maps held a.ids machine) (machine.slot + slot_count (Ldmap dst map)) (Map has.place) (map_pointer program map)
     (MapPointer has.place) (omega arith) a.bases has.pointer
     (record { is = refl; definition = has.definition; known = has.known }))))
 
 -- ---- the end, and jumps
 
-exits : (s : Setting) (machine : MachineState) (kind : Kind) (v : RegisterValue) (flow : Flow) (program : Program) (held : Held) →
+exits : (s : KindScope) (machine : MachineState) (kind : Kind) (v : RegisterValue) (flow : Flow) (program : Program) (held : Held) →
     KindCovers s kind v → exit_kind kind ≡ Ok flow → Follows program held flow machine Exit (exit_step machine v)
 exits s machine (Scalar i) v flow program held c e =
     subst (λ f. Follows program held f machine Exit (exit_step machine v)) (ok_value Ends flow e)
@@ -235,7 +235,7 @@ pub exit_follows : (program : Program) (held : Held) (state : State) (machine : 
     Follows program held flow machine Exit (instruction_step program Exit machine)
 exit_follows program held state machine flow a e =
     let read = ok_then (reads state R0) (λ _. exit_kind (kind_of state R0)) flow e
-    in exits (setting_of program.maps held a.ids machine) machine (kind_of state R0) (register_value machine R0) flow program held (a.registers R0) read.next
+    in exits (kind_scope_of program.maps held a.ids machine) machine (kind_of state R0) (register_value machine R0) flow program held (a.registers R0) read.next
 
 -- a jump forward
 pub jumps_to : (program : Program) (held : Held) (state : State) (machine : MachineState) (distance : ℤ) (n : ℕ) → distance ≡ pos n →

@@ -29,7 +29,7 @@ use Rattle.abstract_state.specs.Words.{loaded_number, narrow_loaded, spilled_loa
 use Rattle.abstract_state.specs.Access.{loaded_kind, signed_loaded, signed_load_of}
 use Rattle.abstract_state.specs.Flow.{writable, reads, load_flow, flow_of}
 use Rattle.abstract_state.specs.Soundness.{FallsOn, Follows}
-use Rattle.abstract_state.specs.Abstraction.{Held, Setting, KindCovers, IsNumberIn, setting_of, Abstracts}
+use Rattle.abstract_state.specs.Abstraction.{Held, KindScope, KindCovers, IsNumberIn, kind_scope_of, Abstracts}
 use Rattle.abstract_state.proofs.shared.Checking.{ok_same, ok_then, falls_made}
 use Rattle.abstract_state.proofs.shared.Accesses.{IsAligned, range_found, stack_found, value_found}
 use Rattle.abstract_state.proofs.shared.LoadedNumbers.{Loads, LoadsThere, in_full, word_number, stack_value_is, packet_number}
@@ -43,7 +43,7 @@ narrow I32 kind = refl
 signed_in_full : (extension : Extension) (n : ℕ) → IsNumberIn (full_of 64) (Number (extended extension n))
 signed_in_full extension n = in_full U64 (extended extension n) (movsx64-lt extension n)
 
-signed_loads : (s : Setting) (extension : Extension) (outcome : Outcome RegisterValue) (n : ℕ) → outcome ≡ Ok (Number n) →
+signed_loads : (s : KindScope) (extension : Extension) (outcome : Outcome RegisterValue) (n : ℕ) → outcome ≡ Ok (Number n) →
     Loads s (Scalar (full_of 64)) (then_outcome outcome (λ v. changed_number v (extended extension)))
 signed_loads s extension outcome n is = record {
   value = Number (extended extension n);
@@ -53,7 +53,7 @@ signed_loads s extension outcome n is = record {
 
 signed_by_kind : (program : Program) (held : Held) (state : State) (machine : MachineState) (a : Abstracts program.maps held state machine)
     (insn : Insn) (extension : Extension) (dst : Register) (done : Unit {0}) → writable dst ≡ Ok done → (src : Register) (offset : ℤ) (known : Kind) (v : RegisterValue) →
-    KindCovers (setting_of program.maps held a.ids machine) known v → (loaded : Kind) →
+    KindCovers (kind_scope_of program.maps held a.ids machine) known v → (loaded : Kind) →
     loaded_kind program.maps state (extension_size extension) known offset src ≡ Ok loaded → (known ≡ Ctx → ⊥) →
     FallsOn program held (with_kind state dst (Scalar (full_of 64))) machine (machine.slot + slot_count insn) (load_signed_step program insn machine dst v offset extension)
 signed_by_kind program held state machine a insn extension dst done w src offset Ctx v c loaded e other = absurd (other refl)
@@ -67,7 +67,7 @@ signed_by_kind program held state machine a insn extension dst done w src offset
     in subst (λ v. FallsOn program held (with_kind state dst (Scalar (full_of 64))) machine (machine.slot + slot_count insn) (load_signed_step program insn machine dst v offset extension)) (sym c.is)
     (loads_follow program held state machine a insn dst done w
     (then_outcome (stack_value machine.stack (c.at +ℤ offset) (size_bytes (extension_size extension))) (λ v. changed_number v (extended extension))) (Scalar (full_of 64))
-    (signed_loads (setting_of program.maps held a.ids machine) extension (stack_value machine.stack (c.at +ℤ offset) (size_bytes (extension_size extension))) there.number.number (same ∙ there.number.is)))
+    (signed_loads (kind_scope_of program.maps held a.ids machine) extension (stack_value machine.stack (c.at +ℤ offset) (size_bytes (extension_size extension))) there.number.number (same ∙ there.number.is)))
 signed_by_kind program held state machine a insn extension dst done w src offset (Packet id off range) v c loaded e other =
     let parts = ok_then (packet_access off range offset (size_bytes (extension_size extension))) (λ from. Ok (loaded_number (extension_size extension))) loaded e
     in let found = range_found (pos off +ℤ offset) (size_bytes (extension_size extension)) range _ parts.0 parts.1.0
@@ -75,7 +75,7 @@ signed_by_kind program held state machine a insn extension dst done w src offset
     in subst (λ v. FallsOn program held (with_kind state dst (Scalar (full_of 64))) machine (machine.slot + slot_count insn) (load_signed_step program insn machine dst v offset extension)) (sym c.is)
     (loads_follow program held state machine a insn dst done w
     (then_outcome (packet_value machine machine.generation (pos (a.ids.base id + off) +ℤ offset) (size_bytes (extension_size extension))) (λ v. changed_number v (extended extension))) (Scalar (full_of 64))
-    (signed_loads (setting_of program.maps held a.ids machine) extension (packet_value machine machine.generation (pos (a.ids.base id + off) +ℤ offset) (size_bytes (extension_size extension))) n.number n.is))
+    (signed_loads (kind_scope_of program.maps held a.ids machine) extension (packet_value machine machine.generation (pos (a.ids.base id + off) +ℤ offset) (size_bytes (extension_size extension))) n.number n.is))
 signed_by_kind program held state machine a insn extension dst done w src offset (Value map id off) v c loaded e other =
     let parts = ok_then (value_access program.maps map off offset (size_bytes (extension_size extension))) (λ from. Ok (loaded_number (extension_size extension))) loaded e
     in let there = value_found program.maps map off offset (size_bytes (extension_size extension)) parts.0 c.at c.least c.most parts.1.0

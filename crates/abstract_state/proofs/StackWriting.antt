@@ -16,7 +16,7 @@ use Rattle.abstract_state.specs.declared.state.State.{State}
 use Rattle.abstract_state.specs.States.{kind_of, word_of, with_word}
 use Rattle.abstract_state.specs.Join.{bytes_of_word}
 use Rattle.abstract_state.specs.Words.{with_set}
-use Rattle.abstract_state.specs.Abstraction.{Held, Setting, IsByte, AreWritten, WordCovers, places_of, setting_of, Abstracts}
+use Rattle.abstract_state.specs.Abstraction.{Held, KindScope, IsByte, AreWritten, WordCovers, places_of, kind_scope_of, Abstracts}
 use Rattle.abstract_state.proofs.shared.Writing.{Extends, covers_later, word_later}
 use Rattle.abstract_state.proofs.shared.Checking.{next_setting}
 use Rattle.abstract_state.proofs.shared.ByteNumbers.{as_written_length, written_place}
@@ -59,7 +59,7 @@ stored_word stack places from long inside start eight =
     ∙ inside-spliced stack places from (length places) Unwritten refl room k (omega arith))
 
 -- bytes of a word that are stored: the others stay as they are known
-pub stored_part : (s : Setting) (word : StackWord) (stack : List StackByte) (from count : ℕ) (bytes : List ℕ) → length stack ≡ 512 → from + count ≤ 512 → from % 8 + count ≤ 8 →
+pub stored_part : (s : KindScope) (word : StackWord) (stack : List StackByte) (from count : ℕ) (bytes : List ℕ) → length stack ≡ 512 → from + count ≤ 512 → from % 8 + count ≤ 8 →
     length bytes ≡ count → AllByRecursion (λ byte. byte < 256) bytes → length (bytes_of_word word) ≡ 8 → WordCovers s word (places_of (from / 8) stack) →
     AreWritten (with_set (bytes_of_word word) (from % 8) count) (places_of (from / 8) (stack_with stack from (as_written bytes)))
 stored_part s word stack from count bytes long inside part size small eight c k t =
@@ -107,13 +107,13 @@ pub stack_stored_sound : (maps : List MapDef) (held : Held) (state : State) (mac
     (record machine { stack = stack_with machine.stack from places; slot = machine.slot + slots; steps = machine.steps + 1 })
 stack_stored_sound maps held state machine a from slots places word inside part low now =
     let long : length machine.stack ≡ 512 = a.is_machine.stack_size
-    in let extends : Extends (setting_of maps held a.ids machine) (next_setting maps held a.ids machine slots) =
+    in let extends : Extends (kind_scope_of maps held a.ids machine) (next_setting maps held a.ids machine slots) =
     record { maps = refl; held = λ map shard cell h. h; base = λ id h. refl; found = λ id h. refl; slot = omega arith; generation = refl; size = refl }
     in let long : length machine.stack ≡ 512 = a.is_machine.stack_size
     in let words : length state.stack ≡ 64 = a.is_machine.word_count
     in record {
       ids = a.ids;
-      registers = λ register. covers_later (setting_of maps held a.ids machine) (next_setting maps held a.ids machine slots) extends
+      registers = λ register. covers_later (kind_scope_of maps held a.ids machine) (next_setting maps held a.ids machine slots) extends
           (kind_of state register) (register_value machine register) (a.registers register);
       stack = λ other h. ⊎_elim
           (λ same. rw (get_or-set_at state.stack (from / 8) other word (Spilled Unset) same (omega arith), same) now)
@@ -121,7 +121,7 @@ stack_stored_sound maps held state machine a from slots places word inside part 
             get_or-set_other state.stack (from / 8) other word (Spilled Unset) differs,
             other_places machine.stack places from other long h inside part differs,
           )
-          (word_later (setting_of maps held a.ids machine) (next_setting maps held a.ids machine slots) extends
+          (word_later (kind_scope_of maps held a.ids machine) (next_setting maps held a.ids machine slots) extends
           (word_of state other) (places_of other machine.stack) (a.stack other h)))
           (cases_eq other (from / 8));
       start = a.start;

@@ -25,7 +25,7 @@ use Rattle.abstract_state.specs.Join.{bytes_of_word}
 use Rattle.abstract_state.specs.Words.{narrow_storable, with_set}
 use Rattle.abstract_state.specs.Access.{stack_stored}
 use Rattle.abstract_state.specs.Soundness.{FallsOn}
-use Rattle.abstract_state.specs.Abstraction.{Held, Setting, KindCovers, IsSpilled, WordCovers, places_of, setting_of, Abstracts}
+use Rattle.abstract_state.specs.Abstraction.{Held, KindScope, KindCovers, IsSpilled, WordCovers, places_of, kind_scope_of, Abstracts}
 use Rattle.abstract_state.proofs.shared.Writing.{Extends, covers_later, word_later}
 use Rattle.abstract_state.proofs.shared.Checking.{next_setting, covers_next}
 use Rattle.abstract_state.proofs.shared.ByteNumbers.{bytes_length, bytes_small, as_written_length}
@@ -42,7 +42,7 @@ AreEight state = (word : ℕ) → word < 64 → length (bytes_of_word (word_of s
 -- ---- what is stored
 
 -- a number that may be stored in part
-pub narrow_is_number : (s : Setting) (kind : Kind) (value : RegisterValue) (done : Unit {0}) → narrow_storable kind ≡ Ok done → KindCovers s kind value → (n : ℕ) × (value ≡ Number n)
+pub narrow_is_number : (s : KindScope) (kind : Kind) (value : RegisterValue) (done : Unit {0}) → narrow_storable kind ≡ Ok done → KindCovers s kind value → (n : ℕ) × (value ≡ Number n)
 narrow_is_number s (Scalar i) value done e c = (c.number, c.is)
 narrow_is_number s Unset value done e c = cc
 narrow_is_number s Ctx value done e c = cc
@@ -69,7 +69,7 @@ number_whole value n e = record {
 pointer_whole : (value pointer : RegisterValue) → value ≡ pointer → stored_places pointer U64 ≡ Ok (spilled_parts pointer) → StoredWhole value
 pointer_whole value pointer e f = record { places = spilled_parts pointer; are = ap (λ v. stored_places v U64) e ∙ f; eight = refl }
 
-whole : (s : Setting) (kind : Kind) (value : RegisterValue) → (kind ≡ Unset → ⊥) → KindCovers s kind value → StoredWhole value
+whole : (s : KindScope) (kind : Kind) (value : RegisterValue) → (kind ≡ Unset → ⊥) → KindCovers s kind value → StoredWhole value
 whole s Unset value set c = absurd (set refl)
 whole s (Scalar i) value set c = number_whole value c.number c.is
 whole s Ctx value set c = pointer_whole value ContextPointer c refl
@@ -85,10 +85,10 @@ whole s (Value map id off) value set c = pointer_whole value (CellPointer map c.
 
 pub whole_stored : (program : Program) (held : Held) (state : State) (machine : MachineState) (a : Abstracts program.maps held state machine) (insn : Insn)
     (at offset : ℤ) (place from : ℕ) → stack_place at ≡ pos place → IsAligned (pos place +ℤ offset) 8 512 from → (kind : Kind) (value : RegisterValue) →
-    (kind ≡ Unset → ⊥) → KindCovers (setting_of program.maps held a.ids machine) kind value →
+    (kind ≡ Unset → ⊥) → KindCovers (kind_scope_of program.maps held a.ids machine) kind value →
     FallsOn program held (stack_stored state U64 from kind) machine (machine.slot + slot_count insn) (store_step program insn machine (StackPointer at) offset U64 value)
 whole_stored program held state machine a insn at offset place from counted found kind value set c =
-    let w : StoredWhole value = whole (setting_of program.maps held a.ids machine) kind value set c
+    let w : StoredWhole value = whole (kind_scope_of program.maps held a.ids machine) kind value set c
     in let range : stack_range machine.stack (stack_place (at +ℤ offset)) 8 ≡ Ok from =
     stack_reached machine.stack (stack_place (at +ℤ offset)) from 8 a.is_machine.stack_size (stack_moved at offset place counted ∙ found.at) found.inside
     in let inside : from + 8 ≤ 512 = found.inside
@@ -119,10 +119,10 @@ part_stored program held state machine a eight insn size at offset place from n 
     in let part : from % 8 + size_bytes size ≤ 8 = inside_word size from found.multiple
     in let count : length (bytes_of_number (size_bytes size) n) ≡ size_bytes size = bytes_length (size_bytes size) n
     in let places : length (as_written (bytes_of_number (size_bytes size) n)) ≡ size_bytes size = as_written_length (bytes_of_number (size_bytes size) n) ∙ count
-    in let extends : Extends (setting_of program.maps held a.ids machine) (next_setting program.maps held a.ids machine (slot_count insn)) =
+    in let extends : Extends (kind_scope_of program.maps held a.ids machine) (next_setting program.maps held a.ids machine (slot_count insn)) =
     record { maps = refl; held = λ map shard cell h. h; base = λ id h. refl; found = λ id h. refl; slot = omega arith; generation = refl; size = refl }
     in let before : WordCovers (next_setting program.maps held a.ids machine (slot_count insn)) (word_of state (from / 8)) (places_of (from / 8) machine.stack) =
-    word_later (setting_of program.maps held a.ids machine) (next_setting program.maps held a.ids machine (slot_count insn)) extends
+    word_later (kind_scope_of program.maps held a.ids machine) (next_setting program.maps held a.ids machine (slot_count insn)) extends
     (word_of state (from / 8)) (places_of (from / 8) machine.stack) (a.stack (from / 8) low)
     in rw range (record {
       at = refl;
@@ -160,13 +160,13 @@ packet_stored program held state machine a insn size id off range from n offset 
         length (overwritten_at at bytes machine.frame.bytes) ≡ length machine.frame.bytes → All (λ byte. byte < 256) bytes →
         Abstracts maps held state (record machine { frame = with_bytes_at at bytes machine.frame; slot = machine.slot + slots; steps = machine.steps + 1 })
     frame_written maps held state machine a slots at bytes same small =
-        let extends : Extends (setting_of maps held a.ids machine) (setting_of maps held a.ids (record machine { frame = with_bytes_at at bytes machine.frame; slot = machine.slot + slots })) =
+        let extends : Extends (kind_scope_of maps held a.ids machine) (kind_scope_of maps held a.ids (record machine { frame = with_bytes_at at bytes machine.frame; slot = machine.slot + slots })) =
         record { maps = refl; held = λ map shard cell h. h; base = λ id h. refl; found = λ id h. refl; slot = omega arith; generation = refl; size = same }
         in record {
           ids = a.ids;
-          registers = λ register. covers_later (setting_of maps held a.ids machine) (setting_of maps held a.ids (record machine { frame = with_bytes_at at bytes machine.frame; slot = machine.slot + slots })) extends
+          registers = λ register. covers_later (kind_scope_of maps held a.ids machine) (kind_scope_of maps held a.ids (record machine { frame = with_bytes_at at bytes machine.frame; slot = machine.slot + slots })) extends
               (kind_of state register) (register_value machine register) (a.registers register);
-          stack = λ word h. word_later (setting_of maps held a.ids machine) (setting_of maps held a.ids (record machine { frame = with_bytes_at at bytes machine.frame; slot = machine.slot + slots })) extends
+          stack = λ word h. word_later (kind_scope_of maps held a.ids machine) (kind_scope_of maps held a.ids (record machine { frame = with_bytes_at at bytes machine.frame; slot = machine.slot + slots })) extends
               (word_of state word) (places_of word machine.stack) (a.stack word h);
           start = λ h. rw same (a.start h);
           bases = a.bases;

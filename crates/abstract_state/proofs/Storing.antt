@@ -27,7 +27,7 @@ use Rattle.abstract_state.specs.Words.{narrow_storable, with_set}
 use Rattle.abstract_state.specs.Access.{stack_stored, stored, store_of}
 use Rattle.abstract_state.specs.Flow.{is_set, reads, reads_both, store_flow, store_register_flow, flow_of}
 use Rattle.abstract_state.specs.Soundness.{FallsOn, Follows}
-use Rattle.abstract_state.specs.Abstraction.{Held, KindCovers, IsStackPlace, setting_of, Abstracts}
+use Rattle.abstract_state.specs.Abstraction.{Held, KindCovers, IsStackPlace, kind_scope_of, Abstracts}
 use Rattle.abstract_state.proofs.shared.Checking.{ok_same, ok_then, falls_made}
 use Rattle.abstract_state.proofs.shared.FlowSteps.{immediate_fits}
 use Rattle.abstract_state.proofs.shared.Accesses.{IsAligned, range_found, stack_found, value_found}
@@ -37,7 +37,7 @@ use Rattle.abstract_state.proofs.StoredPlaces.{AreEight, narrow_is_number, whole
 -- ---- stores to the stack, by their size
 
 stack_part : (program : Program) (held : Held) (state : State) (machine : MachineState) (a : Abstracts program.maps held state machine) → AreEight state → (insn : Insn) (size : Size) →
-    (offset : ℤ) (place : ℕ) (v : RegisterValue) → IsStackPlace place v → (kind : Kind) (value : RegisterValue) → KindCovers (setting_of program.maps held a.ids machine) kind value →
+    (offset : ℤ) (place : ℕ) (v : RegisterValue) → IsStackPlace place v → (kind : Kind) (value : RegisterValue) → KindCovers (kind_scope_of program.maps held a.ids machine) kind value →
     (s : State) → (stack_access place offset (size_bytes size) >>= (λ from. narrow_storable kind >>= (λ _.
     Ok (with_word state (from / 8) (Bytes (with_set (bytes_of_word (word_of state (from / 8))) (from % 8) (size_bytes size))))))) ≡ Ok s →
     FallsOn program held s machine (machine.slot + slot_count insn) (store_step program insn machine v offset size value)
@@ -49,7 +49,7 @@ stack_part program held state machine a eight insn size offset place v c kind va
     in let same : with_word state (first.0 / 8) (Bytes (with_set (bytes_of_word (word_of state (first.0 / 8))) (first.0 % 8) (size_bytes size))) ≡ s =
     ok_same (Ok (with_word state (first.0 / 8) (Bytes (with_set (bytes_of_word (word_of state (first.0 / 8))) (first.0 % 8) (size_bytes size)))))
     (with_word state (first.0 / 8) (Bytes (with_set (bytes_of_word (word_of state (first.0 / 8))) (first.0 % 8) (size_bytes size)))) s refl second.1.1
-    in let n = narrow_is_number (setting_of program.maps held a.ids machine) kind value second.0 second.1.0 cv
+    in let n = narrow_is_number (kind_scope_of program.maps held a.ids machine) kind value second.0 second.1.0 cv
     in let found : IsAligned (pos place +ℤ offset) (size_bytes size) 512 first.0 = stack_found place offset (size_bytes size) first.0 first.1.0
     in subst (λ s. FallsOn program held s machine (machine.slot + slot_count insn) (store_step program insn machine v offset size value)) same
     (subst (λ v. FallsOn program held (with_word state (first.0 / 8) (Bytes (with_set (bytes_of_word (word_of state (first.0 / 8))) (first.0 % 8) (size_bytes size)))) machine
@@ -59,7 +59,7 @@ stack_part program held state machine a eight insn size offset place v c kind va
     (part_stored program held state machine a eight insn size c.at offset place first.0 n.0 c.counted found)))
 
 stack_whole : (program : Program) (held : Held) (state : State) (machine : MachineState) (a : Abstracts program.maps held state machine) → (insn : Insn) →
-    (offset : ℤ) (place : ℕ) (v : RegisterValue) → IsStackPlace place v → (kind : Kind) (value : RegisterValue) → (kind ≡ Unset → ⊥) → KindCovers (setting_of program.maps held a.ids machine) kind value →
+    (offset : ℤ) (place : ℕ) (v : RegisterValue) → IsStackPlace place v → (kind : Kind) (value : RegisterValue) → (kind ≡ Unset → ⊥) → KindCovers (kind_scope_of program.maps held a.ids machine) kind value →
     (s : State) → (stack_access place offset 8 >>= (λ from. Ok (stack_stored state U64 from kind))) ≡ Ok s →
     FallsOn program held s machine (machine.slot + slot_count insn) (store_step program insn machine v offset U64 value)
 stack_whole program held state machine a insn offset place v c kind value set cv s e =
@@ -73,8 +73,8 @@ stack_whole program held state machine a insn offset place v c kind value set cv
 -- ---- stores by what the destination is known to have
 
 store_by_kind : (program : Program) (held : Held) (state : State) (machine : MachineState) (a : Abstracts program.maps held state machine) → AreEight state → (insn : Insn) (size : Size) →
-    (offset : ℤ) (dst : Register) (known : Kind) (v : RegisterValue) → KindCovers (setting_of program.maps held a.ids machine) known v →
-    (kind : Kind) (value : RegisterValue) → (kind ≡ Unset → ⊥) → KindCovers (setting_of program.maps held a.ids machine) kind value →
+    (offset : ℤ) (dst : Register) (known : Kind) (v : RegisterValue) → KindCovers (kind_scope_of program.maps held a.ids machine) known v →
+    (kind : Kind) (value : RegisterValue) → (kind ≡ Unset → ⊥) → KindCovers (kind_scope_of program.maps held a.ids machine) kind value →
     (s : State) → stored program.maps state size known offset dst kind ≡ Ok s →
     FallsOn program held s machine (machine.slot + slot_count insn) (store_step program insn machine v offset size value)
 store_by_kind program held state machine a eight insn U64 offset dst (Stack place) v c kind value set cv s e = stack_whole program held state machine a insn offset place v c kind value set cv s e
@@ -85,7 +85,7 @@ store_by_kind program held state machine a eight insn size offset dst (Packet id
     let first = ok_then (packet_access off range offset (size_bytes size)) (λ from. narrow_storable kind >>= (λ _. Ok state)) s e
     in let second = ok_then (narrow_storable kind) (λ _. Ok state) s first.1.1
     in let same : state ≡ s = ok_same (Ok state) state s refl second.1.1
-    in let n = narrow_is_number (setting_of program.maps held a.ids machine) kind value second.0 second.1.0 cv
+    in let n = narrow_is_number (kind_scope_of program.maps held a.ids machine) kind value second.0 second.1.0 cv
     in let found = range_found (pos off +ℤ offset) (size_bytes size) range _ first.0 first.1.0
     in subst (λ s. FallsOn program held s machine (machine.slot + slot_count insn) (store_step program insn machine v offset size value)) same
     (subst (λ v. FallsOn program held state machine (machine.slot + slot_count insn) (store_step program insn machine v offset size value)) (sym c.is)
@@ -102,7 +102,7 @@ store_by_kind program held state machine a eight insn size offset dst (Value map
     let first = ok_then (value_access program.maps map off offset (size_bytes size)) (λ from. narrow_storable kind >>= (λ _. Ok state)) s e
     in let second = ok_then (narrow_storable kind) (λ _. Ok state) s first.1.1
     in let same : state ≡ s = ok_same (Ok state) state s refl second.1.1
-    in let n = narrow_is_number (setting_of program.maps held a.ids machine) kind value second.0 second.1.0 cv
+    in let n = narrow_is_number (kind_scope_of program.maps held a.ids machine) kind value second.0 second.1.0 cv
     in let there = value_found program.maps map off offset (size_bytes size) first.0 c.at c.least c.most first.1.0
     in subst (λ s. FallsOn program held s machine (machine.slot + slot_count insn) (store_step program insn machine v offset size value)) same
     (subst (λ v. FallsOn program held state machine (machine.slot + slot_count insn) (store_step program insn machine v offset size value)) (sym c.is)

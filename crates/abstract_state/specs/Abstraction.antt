@@ -32,7 +32,7 @@ pub record Ids : Type 0 where
   pub found : ℕ → Option CellRef
 
 -- what a kind may speak of: the maps, what is held, the ids, the slot of the next instruction, and the packet as it now is
-pub record Setting : Type 0 where
+pub record KindScope : Type 0 where
   pub maps : List MapDef
   pub held : Held
   pub ids : Ids
@@ -56,49 +56,49 @@ pub record IsStackPlace (place : ℕ) (value : RegisterValue) : Type 0 where
   pub counted : stack_place at ≡ pos place
 
 -- a place past the base of an id of an earlier slot; the range from there lies in the packet
-pub record IsPacketPlace (setting : Setting) (id off range : ℕ) (value : RegisterValue) : Type 0 where
-  pub is : value ≡ PacketPointer setting.generation (pos (setting.ids.base id + off))
-  pub reached : 0 < range → setting.ids.base id + range ≤ setting.size
-  pub earlier : id < setting.slot
+pub record IsPacketPlace (scope : KindScope) (id off range : ℕ) (value : RegisterValue) : Type 0 where
+  pub is : value ≡ PacketPointer scope.generation (pos (scope.ids.base id + off))
+  pub reached : 0 < range → scope.ids.base id + range ≤ scope.size
+  pub earlier : id < scope.slot
   -- an offset past a base has 16 bits
   pub near : off ≤ 65535
 
-pub record IsKnownMap (setting : Setting) (map : ℕ) (value : RegisterValue) : Type 0 where
+pub record IsKnownMap (scope : KindScope) (map : ℕ) (value : RegisterValue) : Type 0 where
   pub is : value ≡ MapPointer map
   pub definition : MapDef
-  pub known : slice_get setting.maps map ≡ Some definition
+  pub known : slice_get scope.maps map ≡ Some definition
 
 -- a byte of a cell that the lookup of an earlier slot found, and that is held: at one of the offsets
-pub record IsLiveCell (setting : Setting) (map id : ℕ) (off : Offsets) (value : RegisterValue) : Type 0 where
+pub record IsLiveCell (scope : KindScope) (map id : ℕ) (off : Offsets) (value : RegisterValue) : Type 0 where
   pub cell : CellRef
-  pub found : setting.ids.found id ≡ Some cell
+  pub found : scope.ids.found id ≡ Some cell
   pub at : ℕ
   pub least : off.low ≤ at
   pub most : at ≤ off.high
   pub is : value ≡ CellPointer map cell.shard cell.id (pos at)
-  pub held : IsTrue (setting.held map cell.shard cell.id)
-  pub earlier : id < setting.slot
+  pub held : IsTrue (scope.held map cell.shard cell.id)
+  pub earlier : id < scope.slot
 
 -- what a lookup of an earlier slot found: 0, or a cell that is held
-pub record IsNoCell (setting : Setting) (id : ℕ) (value : RegisterValue) : Type 0 where
-  pub found : setting.ids.found id ≡ None
+pub record IsNoCell (scope : KindScope) (id : ℕ) (value : RegisterValue) : Type 0 where
+  pub found : scope.ids.found id ≡ None
   pub is : value ≡ Number 0
-  pub earlier : id < setting.slot
+  pub earlier : id < scope.slot
 
-abbrev pub IsLookedUp : Setting → ℕ → ℕ → RegisterValue → Type 0
-IsLookedUp setting map id value = IsNoCell setting id value ⊎ IsLiveCell setting map id (at_offset 0) value
+abbrev pub IsLookedUp : KindScope → ℕ → ℕ → RegisterValue → Type 0
+IsLookedUp scope map id value = IsNoCell scope id value ⊎ IsLiveCell scope map id (at_offset 0) value
 
 -- the value is one that the kind represents
-abbrev pub KindCovers : Setting → Kind → RegisterValue → Type 0
-KindCovers setting Unset value = Unit {0}
-KindCovers setting (Scalar i) value = IsNumberIn i value
-KindCovers setting Ctx value = value ≡ ContextPointer
-KindCovers setting (Stack place) value = IsStackPlace place value
-KindCovers setting (Packet id off range) value = IsPacketPlace setting id off range value
-KindCovers setting PacketEnd value = value ≡ meaning.PacketEnd setting.generation
-KindCovers setting (Map map) value = IsKnownMap setting map value
-KindCovers setting (ValueOrNull map id) value = IsLookedUp setting map id value
-KindCovers setting (Value map id off) value = IsLiveCell setting map id off value
+abbrev pub KindCovers : KindScope → Kind → RegisterValue → Type 0
+KindCovers scope Unset value = Unit {0}
+KindCovers scope (Scalar i) value = IsNumberIn i value
+KindCovers scope Ctx value = value ≡ ContextPointer
+KindCovers scope (Stack place) value = IsStackPlace place value
+KindCovers scope (Packet id off range) value = IsPacketPlace scope id off range value
+KindCovers scope PacketEnd value = value ≡ meaning.PacketEnd scope.generation
+KindCovers scope (Map map) value = IsKnownMap scope map value
+KindCovers scope (ValueOrNull map id) value = IsLookedUp scope map id value
+KindCovers scope (Value map id off) value = IsLiveCell scope map id off value
 
 -- ---- the stack
 
@@ -109,18 +109,18 @@ pub record IsByte (place : StackByte) : Type 0 where
   pub small : byte < 256
 
 -- eight places hold what a store of a value of this kind leaves
-pub record IsSpilled (setting : Setting) (kind : Kind) (places : List StackByte) : Type 0 where
+pub record IsSpilled (scope : KindScope) (kind : Kind) (places : List StackByte) : Type 0 where
   pub value : RegisterValue
-  pub covered : KindCovers setting kind value
+  pub covered : KindCovers scope kind value
   pub stored : stored_places value U64 ≡ Ok places
 
 -- the bytes that are set were written
 abbrev pub AreWritten : List Bool → List StackByte → Type 0
 AreWritten set places = (k : ℕ) → slice_index_or set k false ≡ true → IsByte (slice_index_or places k Unwritten)
 
-abbrev pub WordCovers : Setting → StackWord → List StackByte → Type 0
-WordCovers setting (Spilled kind) places = IsSpilled setting kind places
-WordCovers setting (Bytes set) places = AreWritten set places
+abbrev pub WordCovers : KindScope → StackWord → List StackByte → Type 0
+WordCovers scope (Spilled kind) places = IsSpilled scope kind places
+WordCovers scope (Bytes set) places = AreWritten set places
 
 -- the eight places of a word
 abbrev pub places_of : ℕ → List StackByte → List StackByte
@@ -128,8 +128,8 @@ places_of word stack = take 8 (drop (8 * word) stack)
 
 -- ---- states
 
-abbrev pub setting_of : List MapDef → Held → Ids → MachineState → Setting
-setting_of maps held ids machine = record {
+abbrev pub kind_scope_of : List MapDef → Held → Ids → MachineState → KindScope
+kind_scope_of maps held ids machine = record {
   maps = maps;
   held = held;
   ids = ids;
@@ -152,9 +152,9 @@ pub record IsMachine (state : State) (machine : MachineState) : Type 0 where
 pub record Abstracts (maps : List MapDef) (held : Held) (state : State) (machine : MachineState) : Type 0 where
   pub ids : Ids
   pub registers : (register : Register) →
-      KindCovers (setting_of maps held ids machine) (kind_of state register) (register_value machine register)
+      KindCovers (kind_scope_of maps held ids machine) (kind_of state register) (register_value machine register)
   pub stack : (word : ℕ) → word < 64 →
-      WordCovers (setting_of maps held ids machine) (word_of state word) (places_of word machine.stack)
+      WordCovers (kind_scope_of maps held ids machine) (word_of state word) (places_of word machine.stack)
   pub start : 0 < state.start_range → state.start_range ≤ length machine.frame.bytes
   -- each addition moves a base by less than twice 2 ^ 16
   pub bases : (id : ℕ) → ids.base id ≤ 131070 * id

@@ -30,7 +30,7 @@ use Rattle.abstract_state.specs.declared.state.State.{State}
 use Rattle.abstract_state.specs.States.{◌>>=◌, kind_of, opening_state}
 use Rattle.abstract_state.specs.Access.{stored, store_of, atomic_on, atomic_of}
 use Rattle.abstract_state.specs.Flow.{is_set, reads, reads_both, reads_atomic, reads_expected, fetch_writable, store_flow, store_register_flow, atomic_flow, flow_of}
-use Rattle.abstract_state.specs.Abstraction.{Setting, KindCovers, setting_of, Abstracts}
+use Rattle.abstract_state.specs.Abstraction.{KindScope, KindCovers, kind_scope_of, Abstracts}
 use Rattle.abstract_state.proofs.shared.Checking.{ok_then, falls_made}
 use Rattle.abstract_state.proofs.shared.Opening.{opening_sound}
 use Rattle.verifier.specs.Readers.{is_value, is_worker_helper, only_reads, IsReader}
@@ -54,7 +54,7 @@ may_be_cell kind = false
 no_cell : (value other : RegisterValue) → value ≡ other → is_cell other ≡ false → is_cell value ≡ true → ⊥
 no_cell value other same none is = false≢true (sym none ∙ sym (ap is_cell same) ∙ is)
 
-cell_kind : (s : Setting) (kind : Kind) (value : RegisterValue) → KindCovers s kind value → is_cell value ≡ true → may_be_cell kind ≡ true
+cell_kind : (s : KindScope) (kind : Kind) (value : RegisterValue) → KindCovers s kind value → is_cell value ≡ true → may_be_cell kind ≡ true
 cell_kind s Unset value c is = refl
 cell_kind s (Scalar i) value c is = absurd (no_cell value (Number c.number) c.is refl is)
 cell_kind s Ctx value c is = absurd (no_cell value ContextPointer c refl is)
@@ -100,20 +100,20 @@ changes_nothing maps state known (St size dst offset immediate) flow a only e = 
     let made = falls_made (store_flow maps known size dst offset immediate) flow e
     in let set = ok_then (reads known dst) (λ _. store_of maps known size dst offset (Scalar (constant_of (twos_complement 64 immediate)))) made.0 made.1.0
     in stored_nowhere maps known size (kind_of known dst) offset dst (Scalar (constant_of (twos_complement 64 immediate))) made.0 set.0 set.1.0 set.1.1 only
-    (cell_kind (setting_of maps all_held a.ids state) (kind_of known dst) (register_value state dst) (a.registers dst) is)
+    (cell_kind (kind_scope_of maps all_held a.ids state) (kind_of known dst) (register_value state dst) (a.registers dst) is)
 changes_nothing maps state known (Stx size dst src offset) flow a only e = λ is.
     let made = falls_made (store_register_flow maps known size dst src offset) flow e
     in let both = ok_then (reads_both known dst (Reg src)) (λ _. store_of maps known size dst offset (kind_of known src)) made.0 made.1.0
     in let set = ok_then (reads known dst) (λ _. reads known src) both.0 both.1.0
     in stored_nowhere maps known size (kind_of known dst) offset dst (kind_of known src) made.0 set.0 set.1.0 both.1.1 only
-    (cell_kind (setting_of maps all_held a.ids state) (kind_of known dst) (register_value state dst) (a.registers dst) is)
+    (cell_kind (kind_scope_of maps all_held a.ids state) (kind_of known dst) (register_value state dst) (a.registers dst) is)
 changes_nothing maps state known (AtomicUpdate width op dst src offset) flow a only e = λ is.
     let made = falls_made (atomic_flow maps known width op dst src offset) flow e
     in let first = ok_then (fetch_writable (fetched_register op src)) (λ _. reads_atomic known op dst src >>= (λ _. atomic_of maps known width op dst src offset)) made.0 made.1.0
     in let second = ok_then (reads_atomic known op dst src) (λ _. atomic_of maps known width op dst src offset) made.0 first.1.1
     in let set = ok_then (reads known dst) (λ _. reads known src >>= (λ _. reads_expected known op)) second.0 second.1.0
     in changed_nowhere maps known width op (kind_of known dst) offset dst src made.0 set.0 set.1.0 second.1.1 only
-    (cell_kind (setting_of maps all_held a.ids state) (kind_of known dst) (register_value state dst) (a.registers dst) is)
+    (cell_kind (kind_scope_of maps all_held a.ids state) (kind_of known dst) (register_value state dst) (a.registers dst) is)
 changes_nothing maps state known (CallHelper number) flow a only e = (
   λ is. false≢true (subst (λ found. not (is_worker_helper found) ≡ true) is only),
   λ is. false≢true (subst (λ found. not (is_worker_helper found) ≡ true) is only),

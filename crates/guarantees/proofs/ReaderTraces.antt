@@ -28,7 +28,7 @@ use Rattle.abstract_state.specs.declared.state.State.{State}
 use Rattle.abstract_state.specs.States.{◌>>=◌, kind_of, opening_state}
 use Rattle.abstract_state.specs.Access.{load_of}
 use Rattle.abstract_state.specs.Flow.{writable, is_set, reads, load_flow, flow_of}
-use Rattle.abstract_state.specs.Abstraction.{Setting, KindCovers, setting_of, Abstracts}
+use Rattle.abstract_state.specs.Abstraction.{KindScope, KindCovers, kind_scope_of, Abstracts}
 use Rattle.abstract_state.proofs.shared.Checking.{ok_then, falls_made}
 use Rattle.abstract_state.proofs.shared.Opening.{opening_sound}
 use Rattle.verifier.specs.Dataflow.{Accepts}
@@ -42,7 +42,7 @@ use Rattle.guarantees.proofs.SameSteps.{SameStep, AsksNoWorker, same_step}
 -- ---- what an accepted instruction that only reads asks for
 
 -- a register that holds the context is known to
-context_kind : (s : Setting) (kind : Kind) (register : Register) (value : RegisterValue) (done : Unit {0}) → is_set kind register ≡ Ok done → KindCovers s kind value → value ≡ ContextPointer → kind ≡ Ctx
+context_kind : (s : KindScope) (kind : Kind) (register : Register) (value : RegisterValue) (done : Unit {0}) → is_set kind register ≡ Ok done → KindCovers s kind value → value ≡ ContextPointer → kind ≡ Ctx
 context_kind s Unset register value done set c is = cc
 context_kind s (Scalar i) register value done set c is = absurd (let e : Number c.number ≡ ContextPointer = sym c.is ∙ is in cc)
 context_kind s Ctx register value done set c is = refl
@@ -63,7 +63,7 @@ asks_none maps state known (Ldx size dst src offset) flow a only e = λ is field
     let made = falls_made (load_flow known dst src (load_of maps known size dst src offset)) flow e
     in let first = ok_then (writable dst) (λ _. reads known src >>= (λ _. load_of maps known size dst src offset)) made.0 made.1.0
     in let second = ok_then (reads known src) (λ _. load_of maps known size dst src offset) made.0 first.1.1
-    in let kind : kind_of known src ≡ Ctx = context_kind (setting_of maps all_held a.ids state) (kind_of known src) src (register_value state src) second.0 second.1.0 (a.registers src) is
+    in let kind : kind_of known src ≡ Ctx = context_kind (kind_scope_of maps all_held a.ids state) (kind_of known src) src (register_value state src) second.0 second.1.0 (a.registers src) is
     in let no_queue : not (is_worker_field (field_at offset)) ≡ true = subst (λ kind. not (is_queue_field kind offset) ≡ true) kind only
     in false≢true (subst (λ found. not (is_worker_field found) ≡ true) field no_queue)
 asks_none maps state known (CallHelper number) flow a only e = λ is. false≢true (subst (λ found. not (is_worker_helper found) ≡ true) is only)

@@ -19,7 +19,7 @@ use Rattle.abstract_state.specs.declared.state.State.{State}
 use Rattle.abstract_state.specs.States.{Checked, ◌>>=◌, with_kind}
 use Rattle.abstract_state.specs.Flow.{writable, falls}
 use Rattle.abstract_state.specs.Soundness.{FallsOn}
-use Rattle.abstract_state.specs.Abstraction.{Held, Ids, Setting, KindCovers, setting_of, Abstracts}
+use Rattle.abstract_state.specs.Abstraction.{Held, Ids, KindScope, KindCovers, kind_scope_of, Abstracts}
 use Rattle.abstract_state.proofs.shared.Writing.{covers_later, written}
 
 -- ---- what was made on the way
@@ -56,14 +56,14 @@ written_ok R9 done e machine v = refl
 written_ok R10 done e machine v = cc
 
 -- what may be spoken of at the next instruction
-abbrev pub next_setting : List MapDef → Held → Ids → MachineState → ℕ → Setting
-next_setting maps held ids machine count = setting_of maps held ids (record machine { slot = machine.slot + count })
+abbrev pub next_setting : List MapDef → Held → Ids → MachineState → ℕ → KindScope
+next_setting maps held ids machine count = kind_scope_of maps held ids (record machine { slot = machine.slot + count })
 
 pub covers_next : (maps : List MapDef) (held held' : Held) (ids : Ids) (machine : MachineState) (count : ℕ) →
     ((map shard cell : ℕ) → IsTrue (held map shard cell) → IsTrue (held' map shard cell)) → (kind : Kind) (v : RegisterValue) →
-    KindCovers (setting_of maps held ids machine) kind v → KindCovers (next_setting maps held' ids machine count) kind v
+    KindCovers (kind_scope_of maps held ids machine) kind v → KindCovers (next_setting maps held' ids machine count) kind v
 covers_next maps held held' ids machine count more kind v now =
-    covers_later (setting_of maps held ids machine) (next_setting maps held' ids machine count)
+    covers_later (kind_scope_of maps held ids machine) (next_setting maps held' ids machine count)
     (record { maps = refl; held = more; base = λ id h. refl; found = λ id h. refl; slot = omega arith; generation = refl; size = refl }) kind v now
 
 pub put : (maps : List MapDef) (held held' : Held) (state : State) (machine : MachineState) (a : Abstracts maps held state machine)

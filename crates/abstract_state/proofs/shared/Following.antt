@@ -23,14 +23,14 @@ use Rattle.abstract_state.specs.declared.state.State.{State}
 use Rattle.abstract_state.specs.States.{Checked, kind_of, with_kind, word_of}
 use Rattle.abstract_state.specs.Arithmetic.{source_kind}
 use Rattle.abstract_state.specs.Flow.{writable, falls}
-use Rattle.abstract_state.specs.Abstraction.{Ids, Held, Setting, KindCovers, setting_of, places_of, Abstracts}
+use Rattle.abstract_state.specs.Abstraction.{Ids, Held, KindScope, KindCovers, kind_scope_of, places_of, Abstracts}
 use Rattle.abstract_state.specs.Soundness.{FallsOn, Follows}
 use Rattle.abstract_state.proofs.shared.Writing.{Extends, covers_later, word_later, written}
 use Rattle.abstract_state.proofs.shared.Inverting.{err_not_ok, ok_value}
 
 -- ---- a value that an instruction makes, which its kind represents at the slot where the run goes on
 
-pub record Gives (s : Setting) (slot : ℕ) (kind : Kind) (outcome : Outcome RegisterValue) : Type 0 where
+pub record Gives (s : KindScope) (slot : ℕ) (kind : Kind) (outcome : Outcome RegisterValue) : Type 0 where
   pub ids : Ids
   pub base : (id : ℕ) → id < s.slot → ids.base id ≡ s.ids.base id
   pub found : (id : ℕ) → id < s.slot → ids.found id ≡ s.ids.found id
@@ -40,7 +40,7 @@ pub record Gives (s : Setting) (slot : ℕ) (kind : Kind) (outcome : Outcome Reg
   pub covered : KindCovers (record s { ids = ids; slot = slot }) kind value
 
 -- with the ids as they are
-pub gives : (s : Setting) (slot : ℕ) (kind : Kind) (outcome : Outcome RegisterValue) (value : RegisterValue) → s.slot ≤ slot →
+pub gives : (s : KindScope) (slot : ℕ) (kind : Kind) (outcome : Outcome RegisterValue) (value : RegisterValue) → s.slot ≤ slot →
     ((id : ℕ) → s.ids.base id ≤ 131070 * id) → outcome ≡ Ok value → KindCovers s kind value → Gives s slot kind outcome
 gives s slot kind outcome value later bases is covered = record {
   ids = s.ids;
@@ -72,7 +72,7 @@ written_is machine R10 value e = absurd (err_not_ok ReadOnlyFp tt e)
 
 pub wrote : (program : Program) (held : Held) (state : State) (machine : MachineState) (insn : Insn) (dst : Register) (kind : Kind)
     (outcome : Outcome RegisterValue) (a : Abstracts program.maps held state machine) → writable dst ≡ Ok tt →
-    Gives (setting_of program.maps held a.ids machine) (machine.slot + slot_count insn) kind outcome →
+    Gives (kind_scope_of program.maps held a.ids machine) (machine.slot + slot_count insn) kind outcome →
     Follows program held (Falls (with_kind state dst kind)) machine insn (write_step insn machine dst outcome)
 wrote program held state machine insn dst kind outcome a may g =
     let step_is : write_step insn machine dst outcome ≡ Continues (at_next_slot insn (with_register machine dst g.value)) =
@@ -97,13 +97,13 @@ falls_follow program held machine insn step (Err why) flow e go = absurd (err_no
 pub moved_on : (maps : List MapDef) (held : Held) (state : State) (machine : MachineState) (slot steps : ℕ) → Abstracts maps held state machine →
     machine.slot ≤ slot → Abstracts maps held state (record machine { slot = slot; steps = steps })
 moved_on maps held state machine slot steps a later =
-    let extends : Extends (setting_of maps held a.ids machine) (setting_of maps held a.ids (record machine { slot = slot; steps = steps })) =
+    let extends : Extends (kind_scope_of maps held a.ids machine) (kind_scope_of maps held a.ids (record machine { slot = slot; steps = steps })) =
     record { maps = refl; held = λ map shard cell h. h; base = λ id h. refl; found = λ id h. refl; slot = later; generation = refl; size = refl }
     in record {
       ids = a.ids;
-      registers = λ register. covers_later (setting_of maps held a.ids machine) (setting_of maps held a.ids (record machine { slot = slot; steps = steps }))
+      registers = λ register. covers_later (kind_scope_of maps held a.ids machine) (kind_scope_of maps held a.ids (record machine { slot = slot; steps = steps }))
           extends (kind_of state register) (register_value machine register) (a.registers register);
-      stack = λ word h. word_later (setting_of maps held a.ids machine) (setting_of maps held a.ids (record machine { slot = slot; steps = steps }))
+      stack = λ word h. word_later (kind_scope_of maps held a.ids machine) (kind_scope_of maps held a.ids (record machine { slot = slot; steps = steps }))
           extends (word_of state word) (places_of word machine.stack) (a.stack word h);
       start = a.start;
       bases = a.bases;
@@ -126,7 +126,7 @@ SourceFits (Imm immediate) = twos_complement 64 immediate < 2 ^ 64
 SourceFits (Reg register) = Unit {0}
 
 pub source_covers : (maps : List MapDef) (held : Held) (state : State) (machine : MachineState) (a : Abstracts maps held state machine) (source : SourceOperand) →
-    SourceFits source → KindCovers (setting_of maps held a.ids machine) (source_kind state source) (source_value machine source)
+    SourceFits source → KindCovers (kind_scope_of maps held a.ids machine) (source_kind state source) (source_value machine source)
 source_covers maps held state machine a (Imm immediate) fits = record {
   number = twos_complement 64 immediate;
   is = refl;

@@ -8,7 +8,7 @@ use Rattle.abstract_state.specs.declared.kind.StackWord.TheVariants.{Spilled}
 use Rattle.abstract_state.specs.States.{kind_of, word_of}
 use Rattle.abstract_state.specs.Join.{zip_with, join_kind, join_word}
 use Rattle.abstract_state.specs.Soundness.{JoinIsSound}
-use Rattle.abstract_state.specs.Abstraction.{places_of, setting_of}
+use Rattle.abstract_state.specs.Abstraction.{places_of, kind_scope_of}
 use Rattle.abstract_state.proofs.shared.Writing.{number_below}
 use Rattle.abstract_state.proofs.JoinKinds.{join_left, join_right}
 use Rattle.abstract_state.proofs.JoinWords.{word_left, word_right}
@@ -30,10 +30,10 @@ join_sound maps held a b machine m n p q (inl c) = record {
   ids = c.ids;
   registers = λ register. let l : register_number register < 11 = number_below register
       in rw (at_place (join_kind a.version) a.registers b.registers (register_number register) Unset Unset Unset (omega arith) (omega arith))
-      (join_left (setting_of maps held c.ids machine) a.version (kind_of a register) (kind_of b register) (register_value machine register) (c.registers register));
+      (join_left (kind_scope_of maps held c.ids machine) a.version (kind_of a register) (kind_of b register) (register_value machine register) (c.registers register));
   stack = λ word h.
       rw (at_place (join_word a.version) a.stack b.stack word (Spilled Unset) (Spilled Unset) (Spilled Unset) (omega arith) (omega arith))
-      (word_left (setting_of maps held c.ids machine) a.version (word_of a word) (word_of b word) (places_of word machine.stack) (c.stack word h));
+      (word_left (kind_scope_of maps held c.ids machine) a.version (word_of a word) (word_of b word) (places_of word machine.stack) (c.stack word h));
   start = λ h. let l : a.start_range ≤ length machine.frame.bytes = c.start (omega arith) in omega arith;
   bases = c.bases;
   is_machine = record {
@@ -50,10 +50,10 @@ join_sound maps held a b machine m n p q (inr c) = record {
   ids = c.ids;
   registers = λ register. let l : register_number register < 11 = number_below register
       in rw (at_place (join_kind a.version) a.registers b.registers (register_number register) Unset Unset Unset (omega arith) (omega arith))
-      (join_right (setting_of maps held c.ids machine) a.version (kind_of a register) (kind_of b register) (register_value machine register) (c.registers register));
+      (join_right (kind_scope_of maps held c.ids machine) a.version (kind_of a register) (kind_of b register) (register_value machine register) (c.registers register));
   stack = λ word h.
       rw (at_place (join_word a.version) a.stack b.stack word (Spilled Unset) (Spilled Unset) (Spilled Unset) (omega arith) (omega arith))
-      (word_right (setting_of maps held c.ids machine) a.version (word_of a word) (word_of b word) (places_of word machine.stack) (c.stack word h));
+      (word_right (kind_scope_of maps held c.ids machine) a.version (word_of a word) (word_of b word) (places_of word machine.stack) (c.stack word h));
   start = λ h. let l : b.start_range ≤ length machine.frame.bytes = c.start (omega arith) in omega arith;
   bases = c.bases;
   is_machine = record {

@@ -19,14 +19,14 @@ use Rattle.abstract_state.specs.declared.kind.StackWord.TheVariants.{Spilled, By
 use Rattle.abstract_state.specs.declared.state.State.{State}
 use Rattle.abstract_state.specs.States.{word_of}
 use Rattle.abstract_state.specs.Words.{are_bytes_set, loaded_number, narrow_loaded, spilled_loaded, word_loaded}
-use Rattle.abstract_state.specs.Abstraction.{Held, Setting, KindCovers, IsNumberIn, IsPacketPlace, IsSpilled, WordCovers, places_of, setting_of, Abstracts}
+use Rattle.abstract_state.specs.Abstraction.{Held, KindScope, KindCovers, IsNumberIn, IsPacketPlace, IsSpilled, WordCovers, places_of, kind_scope_of, Abstracts}
 use Rattle.abstract_state.proofs.shared.Checking.{ok_same, ok_if}
 use Rattle.abstract_state.proofs.shared.ByteNumbers.{bytes_below, Reads, range_read, number_read}
 use Rattle.abstract_state.proofs.shared.StackReading.{set_byte, set_bytes, GivesBack, spilled_back}
 use Rattle.abstract_state.proofs.shared.Accesses.{IsAligned, stack_reached, stack_moved, packet_moved, packet_reached, frame_number}
 
 -- an outcome that the kind covers
-pub record Loads (s : Setting) (kind : Kind) (outcome : Outcome RegisterValue) : Type 0 where
+pub record Loads (s : KindScope) (kind : Kind) (outcome : Outcome RegisterValue) : Type 0 where
   pub value : RegisterValue
   pub is : outcome ≡ Ok value
   pub covered : KindCovers s kind value
@@ -49,7 +49,7 @@ in_full U16 n h = record { number = n; is = refl; within = record { above = omeg
 in_full U32 n h = record { number = n; is = refl; within = record { above = omega arith; below = omega arith }; word = omega arith }
 in_full U64 n h = record { number = n; is = refl; within = record { above = omega arith; below = omega arith }; word = omega arith }
 
-pub number_loads : (s : Setting) (size : Size) (outcome : Outcome RegisterValue) (kind : Kind) → LoadsNumber size outcome → kind ≡ loaded_number size → Loads s kind outcome
+pub number_loads : (s : KindScope) (size : Size) (outcome : Outcome RegisterValue) (kind : Kind) → LoadsNumber size outcome → kind ≡ loaded_number size → Loads s kind outcome
 number_loads s size outcome kind n e = record {
   value = Number n.number;
   is = n.is;
@@ -128,30 +128,30 @@ word_number maps held state machine a size narrow from (Bytes set) k inside m e 
 
 whole_word : (maps : List MapDef) (held : Held) (state : State) (machine : MachineState) (a : Abstracts maps held state machine) (from : ℕ) (word : StackWord) (k : Kind) →
     from + 8 ≤ 512 → from % 8 ≡ 0 → word_of state (from / 8) ≡ word → word_loaded state U64 from word ≡ Ok k →
-    Loads (setting_of maps held a.ids machine) k (spilled_or_number (take 8 (drop from machine.stack)))
+    Loads (kind_scope_of maps held a.ids machine) k (spilled_or_number (take 8 (drop from machine.stack)))
 whole_word maps held state machine a from (Spilled kind) k inside m e l =
     let start : 8 * (from / 8) ≡ from = omega arith
     in let low : from / 8 < 64 = omega arith
     in let same : kind ≡ k = ok_same (spilled_loaded U64 kind) kind k refl l
-    in let covered : IsSpilled (setting_of maps held a.ids machine) kind (take 8 (drop (8 * (from / 8)) machine.stack)) =
-    subst (λ w. WordCovers (setting_of maps held a.ids machine) w (places_of (from / 8) machine.stack)) e (a.stack (from / 8) low)
-    in let moved : IsSpilled (setting_of maps held a.ids machine) k (take 8 (drop from machine.stack)) =
-    subst (λ kind. IsSpilled (setting_of maps held a.ids machine) kind (take 8 (drop from machine.stack))) same
-    (subst (λ at. IsSpilled (setting_of maps held a.ids machine) kind (take 8 (drop at machine.stack))) start covered)
-    in let back : GivesBack (setting_of maps held a.ids machine) k (take 8 (drop from machine.stack)) =
-    spilled_back (setting_of maps held a.ids machine) k (take 8 (drop from machine.stack)) moved
+    in let covered : IsSpilled (kind_scope_of maps held a.ids machine) kind (take 8 (drop (8 * (from / 8)) machine.stack)) =
+    subst (λ w. WordCovers (kind_scope_of maps held a.ids machine) w (places_of (from / 8) machine.stack)) e (a.stack (from / 8) low)
+    in let moved : IsSpilled (kind_scope_of maps held a.ids machine) k (take 8 (drop from machine.stack)) =
+    subst (λ kind. IsSpilled (kind_scope_of maps held a.ids machine) kind (take 8 (drop from machine.stack))) same
+    (subst (λ at. IsSpilled (kind_scope_of maps held a.ids machine) kind (take 8 (drop at machine.stack))) start covered)
+    in let back : GivesBack (kind_scope_of maps held a.ids machine) k (take 8 (drop from machine.stack)) =
+    spilled_back (kind_scope_of maps held a.ids machine) k (take 8 (drop from machine.stack)) moved
     in record { value = back.value; is = back.read; covered = back.covered }
 whole_word maps held state machine a from (Bytes set) k inside m e l =
     let there = set_number maps held state machine a U64 from set k inside l
-    in number_loads (setting_of maps held a.ids machine) U64 (spilled_or_number (take 8 (drop from machine.stack))) k there.number there.loaded
+    in number_loads (kind_scope_of maps held a.ids machine) U64 (spilled_or_number (take 8 (drop from machine.stack))) k there.number there.loaded
 
 narrow_loads : (maps : List MapDef) (held : Held) (state : State) (machine : MachineState) (a : Abstracts maps held state machine) (size : Size) (outcome : Outcome RegisterValue) (k : Kind) →
-    LoadsThere size k outcome → Loads (setting_of maps held a.ids machine) k outcome
-narrow_loads maps held state machine a size outcome k there = number_loads (setting_of maps held a.ids machine) size outcome k there.number there.loaded
+    LoadsThere size k outcome → Loads (kind_scope_of maps held a.ids machine) k outcome
+narrow_loads maps held state machine a size outcome k there = number_loads (kind_scope_of maps held a.ids machine) size outcome k there.number there.loaded
 
 pub word_loads : (maps : List MapDef) (held : Held) (state : State) (machine : MachineState) (a : Abstracts maps held state machine) (size : Size) (from : ℕ) (k : Kind) →
     from + size_bytes size ≤ 512 → from % size_bytes size ≡ 0 → word_loaded state size from (word_of state (from / 8)) ≡ Ok k →
-    Loads (setting_of maps held a.ids machine) k (spilled_or_number (take (size_bytes size) (drop from machine.stack)))
+    Loads (kind_scope_of maps held a.ids machine) k (spilled_or_number (take (size_bytes size) (drop from machine.stack)))
 word_loads maps held state machine a U8 from k inside m l =
     narrow_loads maps held state machine a U8 _ k (word_number maps held state machine a U8 (λ kind. refl) from (word_of state (from / 8)) k inside m refl l)
 word_loads maps held state machine a U16 from k inside m l =
@@ -169,7 +169,7 @@ stack_value_is stack at offset place from count counted long found =
 -- ---- the packet
 
 pub packet_number : (maps : List MapDef) (held : Held) (state : State) (machine : MachineState) (a : Abstracts maps held state machine) (size : Size)
-    (id off range from : ℕ) (offset : ℤ) (v : RegisterValue) (c : IsPacketPlace (setting_of maps held a.ids machine) id off range v) →
+    (id off range from : ℕ) (offset : ℤ) (v : RegisterValue) (c : IsPacketPlace (kind_scope_of maps held a.ids machine) id off range v) →
     pos off +ℤ offset ≡ pos from → from + size_bytes size ≤ range →
     LoadsNumber size (packet_value machine machine.generation (pos (a.ids.base id + off) +ℤ offset) (size_bytes size))
 packet_number maps held state machine a size id off range from offset v c at inside =

@@ -13,7 +13,7 @@ use Rattle.abstract_state.specs.declared.kind.Kind.TheVariants.{Unset}
 use Rattle.abstract_state.specs.declared.kind.StackWord.TheVariants.{Spilled, Bytes}
 use Rattle.abstract_state.specs.States.{no_bytes, opening_state, kind_of}
 use Rattle.abstract_state.specs.Soundness.{OpeningIsSound}
-use Rattle.abstract_state.specs.Abstraction.{Ids, Held, KindCovers, AreWritten, places_of, setting_of}
+use Rattle.abstract_state.specs.Abstraction.{Ids, Held, KindCovers, AreWritten, places_of, kind_scope_of}
 
 abbrev no_ids : Ids
 no_ids = record { base = λ id. 0; found = λ id. None }
@@ -26,7 +26,7 @@ nothing_set places k h = ⊎_elim
     (cases_lt k 8)
 
 opening_registers : (version : Version) (maps : List MapDef) (held : Held) (bytes : List ℕ) (worker now : ℕ) (register : Register) →
-    KindCovers (setting_of maps held no_ids (initial_state (input_frame bytes) worker now)) (kind_of (opening_state version) register)
+    KindCovers (kind_scope_of maps held no_ids (initial_state (input_frame bytes) worker now)) (kind_of (opening_state version) register)
     (register_value (initial_state (input_frame bytes) worker now) register)
 opening_registers version maps held bytes worker now R0 = tt
 opening_registers version maps held bytes worker now R1 = refl

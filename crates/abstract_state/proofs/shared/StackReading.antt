@@ -19,7 +19,7 @@ use Rattle.abstract_state.specs.declared.state.State.{State}
 use Rattle.abstract_state.specs.States.{word_of}
 use Rattle.abstract_state.specs.Join.{bytes_of_kind, bytes_of_word}
 use Rattle.abstract_state.specs.Words.{is_byte_set, are_bytes_set}
-use Rattle.abstract_state.specs.Abstraction.{Held, Setting, KindCovers, IsByte, IsSpilled, WordCovers, places_of, setting_of, Abstracts}
+use Rattle.abstract_state.specs.Abstraction.{Held, KindScope, KindCovers, IsByte, IsSpilled, WordCovers, places_of, kind_scope_of, Abstracts}
 use Rattle.abstract_state.proofs.shared.ByteNumbers.{bytes_length, bytes_small, bytes_back, Reads, range_read, number_read, written_back, written_place}
 
 -- ---- bytes that are set were written
@@ -29,13 +29,13 @@ none_set zero k t = cc
 none_set (suc n) zero t = cc
 none_set (suc n) (suc k) t = none_set n k t
 
-number_places : (s : Setting) (i : _) (places : List StackByte) (c : IsSpilled s (Scalar i) places) →
+number_places : (s : KindScope) (i : _) (places : List StackByte) (c : IsSpilled s (Scalar i) places) →
     places ≡ as_written (bytes_of_number 8 c.covered.number)
 number_places s i places c =
     let stored : stored_places (Number c.covered.number) U64 ≡ Ok places = subst (λ v. stored_places v U64 ≡ Ok places) c.covered.is c.stored
     in cc
 
-spilled_byte : (s : Setting) (kind : Kind) (places : List StackByte) (k : ℕ) → k < 8 → IsSpilled s kind places →
+spilled_byte : (s : KindScope) (kind : Kind) (places : List StackByte) (k : ℕ) → k < 8 → IsSpilled s kind places →
     slice_index_or (bytes_of_kind kind) k false ≡ true → IsByte (slice_index_or places k Unwritten)
 spilled_byte s (Scalar i) places k h c t =
     let inside : k < length (bytes_of_number 8 c.covered.number) = (let e : length (bytes_of_number 8 c.covered.number) ≡ 8 = bytes_length 8 c.covered.number in omega arith)
@@ -49,7 +49,7 @@ spilled_byte s (Map map) places k h c t = absurd (none_set 8 k t)
 spilled_byte s (ValueOrNull map id) places k h c t = absurd (none_set 8 k t)
 spilled_byte s (Value map id off) places k h c t = absurd (none_set 8 k t)
 
-pub word_byte : (s : Setting) (word : StackWord) (places : List StackByte) (k : ℕ) → k < 8 → WordCovers s word places →
+pub word_byte : (s : KindScope) (word : StackWord) (places : List StackByte) (k : ℕ) → k < 8 → WordCovers s word places →
     slice_index_or (bytes_of_word word) k false ≡ true → IsByte (slice_index_or places k Unwritten)
 word_byte s (Bytes set) places k h c t = c k t
 word_byte s (Spilled kind) places k h c t = spilled_byte s kind places k h c t
@@ -66,7 +66,7 @@ set_byte maps held state machine a place h t =
     in let part : place % 8 < 8 = omega arith
     in let whole : 8 * (place / 8) + place % 8 ≡ place = omega arith
     in let byte : IsByte (slice_index_or (places_of (place / 8) machine.stack) (place % 8) Unwritten) =
-    word_byte (setting_of maps held a.ids machine) (word_of state (place / 8)) (places_of (place / 8) machine.stack) (place % 8) part (a.stack (place / 8) inside) t
+    word_byte (kind_scope_of maps held a.ids machine) (word_of state (place / 8)) (places_of (place / 8) machine.stack) (place % 8) part (a.stack (place / 8) inside) t
     in let same : slice_index_or (places_of (place / 8) machine.stack) (place % 8) Unwritten ≡ slice_index_or machine.stack place Unwritten =
     place_at machine.stack (place / 8) (place % 8) part ∙ ap (λ at. slice_index_or machine.stack at Unwritten) whole
     in subst IsByte same byte
@@ -87,12 +87,12 @@ set_bytes maps held state machine a from count inside t =
 
 -- ---- a spilled register is given back
 
-pub record GivesBack (s : Setting) (kind : Kind) (places : List StackByte) : Type 0 where
+pub record GivesBack (s : KindScope) (kind : Kind) (places : List StackByte) : Type 0 where
   pub value : RegisterValue
   pub read : spilled_or_number places ≡ Ok value
   pub covered : KindCovers s kind value
 
-number_back : (s : Setting) (kind : Kind) (n : ℕ) → KindCovers s kind (Number n) → KindCovers s kind (Number (number_of_bytes (bytes_of_number 8 n)))
+number_back : (s : KindScope) (kind : Kind) (n : ℕ) → KindCovers s kind (Number n) → KindCovers s kind (Number (number_of_bytes (bytes_of_number 8 n)))
 number_back s Unset n c = tt
 number_back s (Scalar i) n c =
     let same : n ≡ c.number = (let e : Number n ≡ Number c.number = c.is in cc)
@@ -111,13 +111,13 @@ number_back s (ValueOrNull map id) n (inl c) =
 number_back s (ValueOrNull map id) n (inr c) = absurd (let e : Number n ≡ CellPointer map c.cell.shard c.cell.id _ = c.is in cc)
 number_back s (Value map id off) n c = absurd (let e : Number n ≡ CellPointer map c.cell.shard c.cell.id _ = c.is in cc)
 
-pointer_back : (s : Setting) (kind : Kind) (value : RegisterValue) (places parts : List StackByte) → KindCovers s kind value →
+pointer_back : (s : KindScope) (kind : Kind) (value : RegisterValue) (places parts : List StackByte) → KindCovers s kind value →
     stored_places value U64 ≡ Ok places → stored_places value U64 ≡ Ok parts → spilled_or_number parts ≡ Ok value → GivesBack s kind places
 pointer_back s kind value places parts c e f back =
     let same : places ≡ parts = cc
     in record { value = value; read = rw same back; covered = c }
 
-value_back : (s : Setting) (kind : Kind) (value : RegisterValue) (places : List StackByte) → KindCovers s kind value →
+value_back : (s : KindScope) (kind : Kind) (value : RegisterValue) (places : List StackByte) → KindCovers s kind value →
     stored_places value U64 ≡ Ok places → GivesBack s kind places
 value_back s kind Uninitialized places c e = cc
 value_back s kind (Number n) places c e =
@@ -134,5 +134,5 @@ value_back s kind (meaning.PacketEnd generation) places c e = pointer_back s kin
 value_back s kind (MapPointer map) places c e = pointer_back s kind (MapPointer map) places _ c e refl refl
 value_back s kind (CellPointer map shard cell offset) places c e = pointer_back s kind (CellPointer map shard cell offset) places _ c e refl refl
 
-pub spilled_back : (s : Setting) (kind : Kind) (places : List StackByte) → IsSpilled s kind places → GivesBack s kind places
+pub spilled_back : (s : KindScope) (kind : Kind) (places : List StackByte) → IsSpilled s kind places → GivesBack s kind places
 spilled_back s kind places c = value_back s kind c.value places c.covered c.stored

@@ -20,7 +20,7 @@ use Rattle.abstract_state.specs.declared.kind.StackWord.TheVariants.{Spilled, By
 use Rattle.abstract_state.specs.declared.state.State.{State}
 use Rattle.abstract_state.specs.States.{kind_of, with_kind, word_of}
 use Rattle.abstract_state.specs.Soundness.{HoldingMoreIsSound}
-use Rattle.abstract_state.specs.Abstraction.{Ids, Held, Setting, KindCovers, IsNoCell, IsLiveCell, IsPacketPlace, WordCovers, places_of, setting_of, Abstracts}
+use Rattle.abstract_state.specs.Abstraction.{Ids, Held, KindScope, KindCovers, IsNoCell, IsLiveCell, IsPacketPlace, WordCovers, places_of, kind_scope_of, Abstracts}
 
 pub number_below : (register : Register) → register_number register < 11
 number_below R0 = omega arith
@@ -37,7 +37,7 @@ number_below R10 = omega arith
 
 -- what is known in one setting is known in another: of what more slots were passed, more may be held, and ids of the later slots
 -- may have come
-pub record Extends (s t : Setting) : Type 0 where
+pub record Extends (s t : KindScope) : Type 0 where
   pub maps : t.maps ≡ s.maps
   pub held : (map shard cell : ℕ) → IsTrue (s.held map shard cell) → IsTrue (t.held map shard cell)
   pub base : (id : ℕ) → id < s.slot → t.ids.base id ≡ s.ids.base id
@@ -46,7 +46,7 @@ pub record Extends (s t : Setting) : Type 0 where
   pub generation : t.generation ≡ s.generation
   pub size : t.size ≡ s.size
 
-live_later : (s t : Setting) → Extends s t → (map id : ℕ) (off : Offsets) (v : RegisterValue) → IsLiveCell s map id off v → IsLiveCell t map id off v
+live_later : (s t : KindScope) → Extends s t → (map id : ℕ) (off : Offsets) (v : RegisterValue) → IsLiveCell s map id off v → IsLiveCell t map id off v
 live_later s t e map id off v c = record {
   cell = c.cell;
   found = e.found id c.earlier ∙ c.found;
@@ -58,14 +58,14 @@ live_later s t e map id off v c = record {
   earlier = let p : id < s.slot = c.earlier in let q : s.slot ≤ t.slot = e.slot in omega arith;
 }
 
-no_cell_later : (s t : Setting) → Extends s t → (id : ℕ) (v : RegisterValue) → IsNoCell s id v → IsNoCell t id v
+no_cell_later : (s t : KindScope) → Extends s t → (id : ℕ) (v : RegisterValue) → IsNoCell s id v → IsNoCell t id v
 no_cell_later s t e id v c = record {
   found = e.found id c.earlier ∙ c.found;
   is = c.is;
   earlier = let p : id < s.slot = c.earlier in let q : s.slot ≤ t.slot = e.slot in omega arith;
 }
 
-packet_later : (s t : Setting) → Extends s t → (id off range : ℕ) (v : RegisterValue) → IsPacketPlace s id off range v → IsPacketPlace t id off range v
+packet_later : (s t : KindScope) → Extends s t → (id off range : ℕ) (v : RegisterValue) → IsPacketPlace s id off range v → IsPacketPlace t id off range v
 packet_later s t e id off range v c =
     let same : t.ids.base id ≡ s.ids.base id = e.base id c.earlier
     in record {
@@ -75,7 +75,7 @@ packet_later s t e id off range v c =
       earlier = let p : id < s.slot = c.earlier in let q : s.slot ≤ t.slot = e.slot in omega arith;
     }
 
-pub covers_later : (s t : Setting) → Extends s t → (kind : Kind) (v : RegisterValue) → KindCovers s kind v → KindCovers t kind v
+pub covers_later : (s t : KindScope) → Extends s t → (kind : Kind) (v : RegisterValue) → KindCovers s kind v → KindCovers t kind v
 covers_later s t e Unset v c = tt
 covers_later s t e (Scalar i) v c = c
 covers_later s t e Ctx v c = c
@@ -87,12 +87,12 @@ covers_later s t e (ValueOrNull map id) v (inl c) = inl (no_cell_later s t e id 
 covers_later s t e (ValueOrNull map id) v (inr c) = inr (live_later s t e map id (at_offset 0) v c)
 covers_later s t e (Value map id off) v c = live_later s t e map id off v c
 
-pub word_later : (s t : Setting) → Extends s t → (word : StackWord) (places : List StackByte) → WordCovers s word places → WordCovers t word places
+pub word_later : (s t : KindScope) → Extends s t → (word : StackWord) (places : List StackByte) → WordCovers s word places → WordCovers t word places
 word_later s t e (Spilled kind) places c = record { value = c.value; covered = covers_later s t e kind c.value c.covered; stored = c.stored }
 word_later s t e (Bytes set) places c = c
 
 -- a register that is written: the others stay as they are known
-pub register_written : (s : Setting) (kinds : List Kind) (values : List RegisterValue) (dst : Register) (kind : Kind) (v : RegisterValue) →
+pub register_written : (s : KindScope) (kinds : List Kind) (values : List RegisterValue) (dst : Register) (kind : Kind) (v : RegisterValue) →
     length kinds ≡ 11 → length values ≡ 11 →
     ((register : Register) → KindCovers s (slice_index_or kinds (register_number register) Unset) (slice_index_or values (register_number register) Uninitialized)) →
     KindCovers s kind v → (register : Register) →
@@ -117,18 +117,18 @@ pub written : (maps : List MapDef) (held held' : Held) (state : State) (machine 
     ((map shard cell : ℕ) → IsTrue (held map shard cell) → IsTrue (held' map shard cell)) →
     ((id : ℕ) → id < machine.slot → ids.base id ≡ a.ids.base id) → ((id : ℕ) → id < machine.slot → ids.found id ≡ a.ids.found id) →
     ((id : ℕ) → ids.base id ≤ 131070 * id) →
-    KindCovers (setting_of maps held' ids (record machine { slot = slot })) kind v →
+    KindCovers (kind_scope_of maps held' ids (record machine { slot = slot })) kind v →
     Abstracts maps held' (with_kind state dst kind) (record (with_register machine dst v) { slot = slot; steps = steps })
 written maps held held' state machine ids dst kind v slot steps a later more same_base same_found bases now =
-    let extends : Extends (setting_of maps held a.ids machine) (setting_of maps held' ids (record machine { slot = slot })) =
+    let extends : Extends (kind_scope_of maps held a.ids machine) (kind_scope_of maps held' ids (record machine { slot = slot })) =
     record { maps = refl; held = more; base = same_base; found = same_found; slot = later; generation = refl; size = refl }
     in record {
       ids = ids;
-      registers = register_written (setting_of maps held' ids (record machine { slot = slot })) state.registers machine.registers dst kind v
+      registers = register_written (kind_scope_of maps held' ids (record machine { slot = slot })) state.registers machine.registers dst kind v
           a.is_machine.eleven_kinds a.is_machine.eleven
-          (λ register. covers_later (setting_of maps held a.ids machine) (setting_of maps held' ids (record machine { slot = slot })) extends
+          (λ register. covers_later (kind_scope_of maps held a.ids machine) (kind_scope_of maps held' ids (record machine { slot = slot })) extends
           (kind_of state register) (register_value machine register) (a.registers register)) now;
-      stack = λ word h. word_later (setting_of maps held a.ids machine) (setting_of maps held' ids (record machine { slot = slot })) extends
+      stack = λ word h. word_later (kind_scope_of maps held a.ids machine) (kind_scope_of maps held' ids (record machine { slot = slot })) extends
           (word_of state word) (places_of word machine.stack) (a.stack word h);
       start = a.start;
       bases = bases;
@@ -145,13 +145,13 @@ written maps held held' state machine ids dst kind v slot steps a later more sam
 
 pub held_more : HoldingMoreIsSound
 held_more maps held held' state machine more a =
-    let extends : Extends (setting_of maps held a.ids machine) (setting_of maps held' a.ids machine) =
+    let extends : Extends (kind_scope_of maps held a.ids machine) (kind_scope_of maps held' a.ids machine) =
     record { maps = refl; held = more; base = λ id h. refl; found = λ id h. refl; slot = omega arith; generation = refl; size = refl }
     in record {
       ids = a.ids;
-      registers = λ register. covers_later (setting_of maps held a.ids machine) (setting_of maps held' a.ids machine) extends
+      registers = λ register. covers_later (kind_scope_of maps held a.ids machine) (kind_scope_of maps held' a.ids machine) extends
           (kind_of state register) (register_value machine register) (a.registers register);
-      stack = λ word h. word_later (setting_of maps held a.ids machine) (setting_of maps held' a.ids machine) extends
+      stack = λ word h. word_later (kind_scope_of maps held a.ids machine) (kind_scope_of maps held' a.ids machine) extends
           (word_of state word) (places_of word machine.stack) (a.stack word h);
       start = a.start;
       bases = a.bases;
