@@ -27,7 +27,7 @@ fn join_stack(version: Version, both: &mut [StackWord; 64], second: &[StackWord;
     }
 }
 
-/// Tells each register a fact.
+/// Refines each register by a fact.
 fn tell_registers(fact: Fact, told: &mut [Kind; 11])
     ensures { told.new ≡ map (told_kind fact) told.old }
 {
@@ -36,7 +36,7 @@ fn tell_registers(fact: Fact, told: &mut [Kind; 11])
     }
 }
 
-/// Tells each word of the stack a fact.
+/// Refines each word of the stack by a fact.
 fn tell_stack(fact: Fact, told: &mut [StackWord; 64])
     ensures { told.new ≡ map (told_word fact) told.old }
 {
@@ -64,7 +64,7 @@ impl State {
         self.start_range = self.start_range.min(other.start_range);
     }
 
-    /// Tells all copies of a pointer a fact.
+    /// Refines all copies of a pointer by a fact.
     #[inline(never)]
     pub(crate) fn tell(&mut self, fact: Fact)
         ensures { self.new ≡ told fact self.old }

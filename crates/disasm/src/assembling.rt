@@ -81,7 +81,7 @@ fn first_line(text: &str) -> Option<(Version, &str)>
     }
 }
 
-/// The image of a text: the one of which `text` prints it. Else 21 with the first line, counted from 1, that is no right
+/// The image of a text: the one that `text` prints so. Else 21 with the first line, counted from 1, that is no right
 /// spelling (an empty text has a bad line 1; what comes after the last line feed is a bad line), or 22 with the fault of the
 /// image so spelled (10 for more than 16 maps, 11, 12, 14, or 16 for an instruction that the version doesn't have), or 23 where
 /// memory is refused.

@@ -125,8 +125,8 @@ fn put_notes(alloc: Global, text: &mut Vec<u8>, notes: &[u8]) -> Result<(), Allo
     }
 }
 
-/// The text that is printed of a refusal: the fault's line, and below it the notes in their order, each line of which begins with two blanks. Notes that do
-/// so already stay as they are.
+/// The text that is printed of a refusal: the fault's line, and below it the notes in their order, with two blanks at the beginning of each of their
+/// lines. Notes that have them already stay as they are.
 pub fn refusal_text(alloc: Global, fault: &str, notes: &str) -> Result<Vec<u8>, AllocError>
     ensures form { IfOk result (λ text. IsRefusalText fault.now notes.now text.items) }
     ensures alone { notes.now ≡ [] → IfOk result (λ text. text.items ≡ one_line fault.now ++ 10 ∷ []) }

@@ -271,7 +271,7 @@ pub(crate) fn structure(number: u8) -> Explanation
             name: "Unreachable",
             fields: FieldNames::One("slot"),
             meaning: "No path leads to an instruction.",
-            causes: "It stands after a jump that is always taken, or after `exit`, and no jump goes to it.",
+            causes: "It comes after a jump that is always taken, or after `exit`, and no jump goes to it.",
             example: "`ja +1`, `mov r0, 1`, `exit`: the move is never reached.",
         },
     }

@@ -58,7 +58,7 @@ pub fn reached_histories_are_legal()
     ensures { ReachedHistoriesAreLegal }
 {}
 
-/// Four lists of events, each of which can happen and leads to exactly the history that it is to have: a run over an array, one
+/// Four lists of events that can happen, and that lead each to exactly the history that it is to have: a run over an array, one
 /// over a hash map, a cell that is held while its key goes, and a run that a full journal ends.
 pub fn events_happen()
     ensures array { RunOverAnArray }

@@ -14,7 +14,7 @@ pub record IsSource (source : List ℕ) (image : Contents) : Type 0 where
   pub means : source_meaning source ≡ Ok text
   pub spells : IsAssemblyText text image
 
--- the text that lines mean has a line that is misspelled, the first of which is that line's meaning, or is of parts that no image has
+-- the text that lines mean has misspelled lines, and the first of them is that line's meaning; or it is of parts that no image has
 abbrev pub IsTextFault : List (List ℕ) → List ℕ → SourceFault → Type 0
 IsTextFault statements text (BadLine line problem) = (number : ℕ) × IsFirstBadLine text number ×
     (line ≡ line_of_text 0 number statements) × (problem ≡ NoSpelling)

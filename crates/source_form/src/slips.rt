@@ -50,7 +50,7 @@ fn slip_of_word(alloc: Global, word: &str) -> Result<Option<String>, AllocError>
     }
 }
 
-/// Whether a blank stands in the operand where a comma belongs.
+/// Whether the operand has a blank where a comma belongs.
 fn lacks_comma(operand: &str) -> bool {
     if operand.starts_with("[") {
         operand.contains("] ") || operand.contains("]\t")

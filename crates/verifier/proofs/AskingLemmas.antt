@@ -153,7 +153,7 @@ held_grows setting system plan worker entered call quiet within map s cell held 
     in let of_map : (s / setting.options.shards == map) ≡ true = rw is.of_map (same_number map)
     in rw (of_map, is.was_entered, still) refl
 
--- the run goes on with the reply, which is told to it in full
+-- the run goes on with the reply, which is given to it in full
 pub ask_sound : (setting : Setting) (states : List (Option State)) (system : SystemState) (worker shard : ℕ) (call : Call) (state : MachineState) (entered : List ℕ) (plan : ShardPlan) (next : Reply → MachineState) → IsSetting setting states →
     IsSoundSystem setting states system → worker_state system worker ≡ Runs state entered → plan_at setting.maps setting.options shard ≡ Some plan →
     Meets plan (history_of system plan.number) (Worker worker) call → IsQuiet plan system worker call →

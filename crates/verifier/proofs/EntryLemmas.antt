@@ -127,7 +127,7 @@ local_change setting states system worker now good sound few same run =
       each_shard = sound.each_shard;
     }
 
--- a worker's entry: what it has entered, and what its run knows, are told anew
+-- a worker's entry: what it has entered, and what its run knows, are given anew
 pub own_entry : (setting : Setting) (states : List (Option State)) (system : SystemState) (number : ℕ) (plan : ShardPlan) (worker : ℕ) (call : Call) (now : WorkerState) → IsSetting setting states →
     IsSoundSystem setting states system → plan_at setting.maps setting.options number ≡ Some plan → IsPermitted plan (history_of system plan.number) (Worker worker) call → worker < setting.options.workers →
     ((shard : ℕ) → is_inside worker (history_of (with_entry system plan.number (entry_for plan system (Worker worker) call)) shard) ≡ is_entered shard (entered_of now)) →

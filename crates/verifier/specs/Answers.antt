@@ -28,7 +28,7 @@ FirstRejectIsOne =
     IsFirstReject version maps code one → IsFirstReject version maps code other →
     one ≢ Memory → other ≢ Memory → one ≡ other
 
--- a rule that is broken before the first jump is told, whatever memory there is
+-- a rule that is broken before the first jump is returned, whatever memory there is
 abbrev pub RuleBeforeJumpsIsTold : Type 0
 RuleBeforeJumpsIsTold =
     (version : Version) (maps : List MapDef) (code : List Insn) (slot : ℕ) (why : BrokenRule) (reject : Reject) →

@@ -23,7 +23,7 @@ pub record IsBroken (version : Version) (maps : List MapDef) (code : List Insn) 
 abbrev pub IsLast : List Insn → ℕ → ℕ → Type 0
 IsLast code count slot = (index : ℕ) × (count ≡ index + 1) × (slot_of code index ≡ slot)
 
--- how the instructions end of which something is known: all are looked at and none breaks a rule, or the last of them breaks one
+-- how the instructions end that something is known of: all are looked at and none breaks a rule, or the last of them breaks one
 abbrev pub EndsSo : Version → List MapDef → List Insn → ℕ → Option Broken → Type 0
 EndsSo version maps code count None = Accepts version maps code (states_of version maps code) × (count ≡ length code)
 EndsSo version maps code count (Some broken) = IsBroken version maps code broken × IsLast code count broken.slot

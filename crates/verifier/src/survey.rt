@@ -93,7 +93,7 @@ fn survey_code(
 }
 
 /// What is known along a program that has structure, up to the first instruction that breaks a rule. It can fail only for lack of
-/// memory, of which it asks two kilobytes an instruction.
+/// memory: it asks for two kilobytes an instruction.
 pub fn survey_of(alloc: Global, image: &Image) -> Result<Survey, AllocError>
     requires { HasShape image.now.code }
     ensures { IfOk result (IsSurvey image.now.version image.now.maps image.now.code) }

@@ -16,7 +16,7 @@ use ebpf_decode::image::MAX_SLOTS;
 use ebpf_decode::{Insn, MapDef, Version};
 use std::alloc::Global;
 
-/// Tells whether a program only reads, and notes by slot the memory that each instruction touches; or names the first rule that an
+/// Whether a program only reads; and notes by slot the memory that each instruction touches; or names the first rule that an
 /// instruction breaks. Memory is asked for only at a jump that breaks no rule.
 pub(crate) fn sweep(
     alloc: Global,

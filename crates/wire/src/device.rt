@@ -12,7 +12,7 @@ pub struct Failed;
 
 /// A device that returns bytes: a file, a stream or memory. It returns at most 2^40 in all.
 pub trait Source {
-    /// The bytes that it has left, or `None` where the type does not tell.
+    /// The bytes that it has left, or `None` for a type whose bytes contracts do not know.
     ghost left: { Self → Option (List ℕ) };
 
     /// No more bytes than these are still to come.
@@ -42,7 +42,7 @@ pub trait Source {
 
 /// A device that takes bytes: a file, a stream or memory.
 pub trait Sink {
-    /// The bytes that it holds, or `None` where the type does not tell.
+    /// The bytes that it holds, or `None` for a type whose bytes contracts do not know.
     ghost held: { Self → Option (List ℕ) };
 
     /// How many calls failed.

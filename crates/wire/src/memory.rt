@@ -1,4 +1,4 @@
-//! Devices in memory, which tell their bytes.
+//! Devices in memory, whose bytes contracts know.
 
 ghost use Rattle.std.specs.Prelude.{◌≡◌, ◌^◌, ◌≤◌, [], Some, length};
 ghost use Rattle.wire.specs.Device.{SinkView};

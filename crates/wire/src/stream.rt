@@ -1,4 +1,4 @@
-//! Files and the standard streams as devices, which do not tell their bytes.
+//! Files and the standard streams as devices, whose bytes contracts do not know.
 
 ghost use Rattle.std.specs.Prelude.{◌≡◌, ◌+◌, ◌-◌, ◌^◌, ◌<◌, ◌≤◌, None, length, IfOk, OnOk, OnErr};
 ghost use Rattle.std.specs.Io.KnownBytes.{ReadConsumes, WriteAppends};
