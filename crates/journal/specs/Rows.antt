@@ -123,8 +123,8 @@ journaled shard reserve key_size value_size rows bytes words = record {
 }
 
 -- the rows read within the bytes and the words, and the rooms last for the reserve
-pub record IsKept (reserve key_size value_size : ℕ) (rows : List Row) (row_room : ℕ) (bytes : List ℕ) (byte_room : ℕ) (words : List ℕ) (word_room : ℕ)
-    : Type 0 where
+pub record IsKept (reserve key_size value_size : ℕ) (rows : List Row) (row_room : ℕ) (bytes : List ℕ) (byte_room : ℕ)
+    (words : List ℕ) (word_room : ℕ) : Type 0 where
   pub few : KeepsRows reserve
   pub key : key_size ≤ 32
   pub value : value_size ≤ 256

@@ -1,4 +1,5 @@
--- Which entries a file may have. A call may be one that no map serves, as a Load of three bytes: whether an entry is legal is not asked here.
+-- Which entries a file may have. A call may be one that no map serves, as a Load of three bytes: whether an entry is legal is not asked
+-- here.
 use Rattle.std.specs.Prelude.{◌≡◌, ℕ, ◌/◌, ◌<◌, ◌≤◌, ◌^◌, FitsSigned, List, length, Some, IfSome, slice_get}
 use Rattle.std.specs.Int.{w32}
 use Rattle.ebpf_decode.specs.declared.map.MapDef.{MapDef}
@@ -102,7 +103,8 @@ pub record EntryFits (entry : Entry) : Type 0 where
 -- the call's key and value, where it names them, have the map's lengths
 unfoldable pub HasSizesOf : MapDef → Call → Type 0
 HasSizesOf definition call =
-    IfSome (key_of_call call) (λ key. length key ≡ definition.key_size) × IfSome (value_of_call call) (λ value. length value ≡ definition.value_size)
+    IfSome (key_of_call call) (λ key. length key ≡ definition.key_size)
+    × IfSome (value_of_call call) (λ value. length value ≡ definition.value_size)
 
 -- the call is on a shard of one of the maps, with keys and values of its lengths
 pub record IsCallOn (maps : List MapDef) (options : Options) (call : Call) : Type 0 where

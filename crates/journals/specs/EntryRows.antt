@@ -37,7 +37,8 @@ call_of bytes (Lookup shard key_size at) = calls.Lookup shard (part at key_size 
 call_of bytes (Load cell offset size) = calls.Load cell offset size
 call_of bytes (Store cell offset size value) = calls.Store cell offset size value
 call_of bytes (Atomic cell offset size op value expected) = calls.Atomic cell offset size op value expected
-call_of bytes (Update shard key_size value_size at flags) = calls.Update shard (part at key_size bytes) (part (at + key_size) value_size bytes) flags
+call_of bytes (Update shard key_size value_size at flags) =
+    calls.Update shard (part at key_size bytes) (part (at + key_size) value_size bytes) flags
 call_of bytes (Delete shard key_size at) = calls.Delete shard (part at key_size bytes)
 call_of bytes (Reclaim shard) = calls.Reclaim shard
 

@@ -67,7 +67,8 @@ told_text (calls.Load cell offset size) reply = decimal cell.id ++ 32 ∷ (decim
 told_text (calls.Store cell offset size value) reply =
     decimal cell.id ++ 32 ∷ (decimal offset ++ 32 ∷ (decimal size ++ 32 ∷ (decimal value ++ 32 ∷ reply)))
 told_text (calls.Atomic cell offset size op value expected) reply =
-    decimal cell.id ++ 32 ∷ (decimal offset ++ 32 ∷ (decimal size ++ 32 ∷ (decimal op ++ 32 ∷ (decimal value ++ 32 ∷ (decimal expected ++ 32 ∷ reply)))))
+    decimal cell.id ++ 32 ∷ (decimal offset ++ 32 ∷ (decimal size ++ 32 ∷ (decimal op ++ 32 ∷
+    (decimal value ++ 32 ∷ (decimal expected ++ 32 ∷ reply)))))
 told_text (calls.Update shard key value flags) reply = encode_lower key ++ 32 ∷ (encode_lower value ++ 32 ∷ (decimal flags ++ 32 ∷ reply))
 told_text (calls.Delete shard key) reply = encode_lower key ++ 32 ∷ reply
 told_text (calls.Reclaim shard) reply = reply

@@ -29,7 +29,8 @@ Reads Store who shard text result =
     IsReadAs text result who (calls.Store (record { shard = shard; id = id }) offset size value) replies.Done
 Reads Atomic who shard text result =
     (id offset size op value expected : ℕ) (reply : Reply) → IsNumber id → IsNumber offset → IsNumber size → IsNumber op → IsNumber value →
-    IsNumber expected → IsWord reply → IsReadAs text result who (calls.Atomic (record { shard = shard; id = id }) offset size op value expected) reply
+    IsNumber expected → IsWord reply →
+    IsReadAs text result who (calls.Atomic (record { shard = shard; id = id }) offset size op value expected) reply
 Reads Update who shard text result =
     (key value : List ℕ) (flags : ℕ) (reply : Reply) → IsKey key → IsValue value → IsNumber flags → IsAnswer reply →
     IsReadAs text result who (calls.Update shard key value flags) reply

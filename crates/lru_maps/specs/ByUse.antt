@@ -61,7 +61,8 @@ NewKeyIsFirst =
 -- a key that is taken out with its cell leaves the others in order
 abbrev pub RemovalKeepsOrder : Type 0
 RemovalKeepsOrder =
-    (history : List Entry) (present : List PresentKey) (entries : List (List ℕ × ℕ)) (key : List ℕ) (gone : PresentKey) → IsByUse history present entries →
+    (history : List Entry) (present : List PresentKey) (entries : List (List ℕ × ℕ)) (key : List ℕ) (gone : PresentKey) →
+    IsByUse history present entries →
     find (λ (one : PresentKey). bytes_eq one.key key) present ≡ Some gone →
     IsByUse history (filter (λ (one : PresentKey). not (one.cell == gone.cell)) present) (remove_entry (bytes_eq key) entries)
 

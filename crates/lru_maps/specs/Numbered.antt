@@ -27,7 +27,11 @@ abbrev pub id_at : List ℕ → ℕ → ℕ
 id_at ids n = slice_index_or ids n 0
 
 abbrev pub lru_table : KeyMap → List ℕ → List ℕ → LruTable
-lru_table index ids order = record { size = index.size; capacity = index.capacity; entries = in_order (key_of_number index) (id_at ids) order }
+lru_table index ids order = record {
+  size = index.size;
+  capacity = index.capacity;
+  entries = in_order (key_of_number index) (id_at ids) order;
+}
 
 -- every entry number is in the order, and `count` is how many have a key
 pub record IsLruShard (index : KeyMap) (ids order : List ℕ) (count : ℕ) : Type 0 where

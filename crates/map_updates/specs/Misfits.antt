@@ -9,7 +9,8 @@ use Rattle.map_updates.specs.declared.update.MapUpdate.{MapUpdate}
 abbrev pub misfit_in : MapDef → MapUpdate → Option Misfit
 misfit_in definition update =
     if length update.key == definition.key_size
-    then (if length update.value == definition.value_size then None else Some (ValueLength update.map definition.value_size (length update.value)))
+    then (if length update.value == definition.value_size then None else
+    Some (ValueLength update.map definition.value_size (length update.value)))
     else Some (KeyLength update.map definition.key_size (length update.key))
 
 abbrev pub misfit_among : Option MapDef → MapUpdate → Option Misfit
@@ -23,7 +24,8 @@ misfit_of maps update = misfit_among (slice_get maps update.map) update
 -- what is printed of a key or a value of another length
 abbrev pub length_text : List ℕ → ℕ → ℕ → ℕ → List ℕ
 length_text part map wanted given =
-    codes "a " ++ (part ++ (codes " of map " ++ (decimal map ++ (codes " has " ++ (decimal wanted ++ (codes " bytes, not " ++ decimal given))))))
+    codes "a " ++ (part ++ (codes " of map " ++ (decimal map ++ (codes " has " ++
+    (decimal wanted ++ (codes " bytes, not " ++ decimal given))))))
 
 -- what is printed of a misfit
 abbrev pub misfit_text : Misfit → List ℕ

@@ -65,7 +65,8 @@ homed b home (n ∷ numbers) = one_homed b (home n) + homed b home numbers
 abbrev pub home : ℕ → List ℕ → ℕ → ℕ → ℕ
 home size keys buckets n = home_of buckets (key_of size keys n)
 
-pub record IsIndex (size capacity : ℕ) (keys : List ℕ) (flags : List Bool) (order : List ℕ) (places : ℕ) (buckets : List Bucket) : Type 0 where
+pub record IsIndex (size capacity : ℕ) (keys : List ℕ) (flags : List Bool) (order : List ℕ) (places : ℕ)
+    (buckets : List Bucket) : Type 0 where
   pub ordered : IsOrder size capacity keys order
   pub flag_count : length flags ≡ capacity
   pub few : capacity < nothing
@@ -73,7 +74,9 @@ pub record IsIndex (size capacity : ℕ) (keys : List ℕ) (flags : List Bool) (
   pub room : capacity ≤ places
   pub apart : (n m : ℕ) → There flags n → There flags m → key_of size keys n ≡ key_of size keys m → n ≡ m
   pub listed : (i : ℕ) → i < length order → There flags (slice_index_or order i 0)
-  pub bucketed : (b n : ℕ) → b < length buckets → Stands n (bucket_at buckets b) → n ≢ nothing → There flags n × (home size keys (length buckets) n ≡ b)
+  pub bucketed :
+      (b n : ℕ) → b < length buckets → Stands n (bucket_at buckets b) → n ≢ nothing →
+      There flags n × (home size keys (length buckets) n ≡ b)
   pub exclusive : (b i : ℕ) → b < length buckets → i < length order → Stands (slice_index_or order i 0) (bucket_at buckets b) → ⊥
   pub covered : (n : ℕ) → There flags n → Stands n (bucket_at buckets (home size keys (length buckets) n)) ⊎ InOrder order n
   pub counted : (b : ℕ) → b < length buckets → (bucket_at buckets b).over ≡ homed b (home size keys (length buckets)) order

@@ -1,5 +1,5 @@
--- One run over maps of its own, before which the controller may set values: what the journals hold after it, which is these updates and that
--- run and nothing else.
+-- One run over maps of its own, before which the controller may set values: what the journals hold after it, which is these updates and
+-- that run and nothing else.
 use Rattle.std.specs.Prelude.{◌≡◌, ℕ, ◌*◌, ◌<◌, List, ◌++◌, length, Some}
 use Rattle.ebpf_decode.specs.declared.map.MapDef.{MapDef}
 use Rattle.wire.specs.FrameView.{FrameView}
@@ -36,8 +36,8 @@ pub record AreJournalsOf (maps : List MapDef) (options : Options) (journals : Jo
   pub count : length journals.shards ≡ length maps * options.shards
   pub legal : (number : ℕ) → number < length journals.shards → IsLegalAt maps options number (entries_at journals number)
 
--- Before the run each update was made, in order, by the controller; then the worker's run came to its end. Each journal has the controller's
--- entries, behind them the worker's session, and nothing else: so the run's replies are those of maps with these values.
+-- Before the run each update was made, in order, by the controller; then the worker's run came to its end. Each journal has the
+-- controller's entries, behind them the worker's session, and nothing else: so the run's replies are those of maps with these values.
 pub record HasRunAlone (program : Program) (start : MachineState) (options : Options) (worker : ℕ) (updates : List MapUpdate)
     (verdict : Verdict)
     (steps : ℕ) (frame : FrameView) (journals : JournalsView) : Type 0 where

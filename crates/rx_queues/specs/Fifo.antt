@@ -9,8 +9,8 @@ use Rattle.rx_queues.specs.declared.job.Job.TheVariants.{Frame, Command, Note, E
 use Rattle.rx_queues.specs.declared.rule.JobsKnown.{JobsKnown}
 use Rattle.rx_queues.specs.declared.rule.Purpose.{Purpose}
 
--- The job is one for the queue: a frame for a worker, a command for the controller, each of a number below how many there are, and a note for
--- the reclaimer; the end is for all.
+-- The job is one for the queue: a frame for a worker, a command for the controller, each of a number below how many there are, and a note
+-- for the reclaimer; the end is for all.
 abbrev pub Fits : Purpose → Job → Type 0
 Fits purpose (Frame number) = (purpose.place < purpose.workers) × (number < purpose.records)
 Fits purpose (Command number) = (purpose.place ≡ purpose.workers) × (number < purpose.commands)

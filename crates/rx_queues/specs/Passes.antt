@@ -68,12 +68,14 @@ abbrev pub IsTakePassFor : {Q A : Type 0} → Purpose → Slotted (Option Job) (
 IsTakePassFor purpose queue pass = IsPassOf queue pass × ((view pass).takes ≡ true) × ((view pass).purpose ≡ purpose)
 
 -- the right to put into each of these queues, which are for these
-abbrev pub ArePutPasses : {Q A : Type 0} → (ℕ → Purpose) → List (Slotted (Option Job) (Doing Job JobsKnown) Q A) → List (Pass Job JobsKnown) → Type 0
+abbrev pub ArePutPasses : {Q A : Type 0} → (ℕ → Purpose) → List (Slotted (Option Job) (Doing Job JobsKnown) Q A) →
+    List (Pass Job JobsKnown) → Type 0
 ArePutPasses {Q} {A} purposes queues passes = (at : ℕ) (queue : Slotted (Option Job) (Doing Job JobsKnown) Q A) (pass : Pass Job JobsKnown)
     → get_elem? queues at ≡ some queue → get_elem? passes at ≡ some pass → IsPutPassFor (purposes at) queue pass
 
 -- the right to take from the queue at this place, of queues that are for these
-abbrev pub IsTakePassAt : {Q A : Type 0} → (ℕ → Purpose) → List (Slotted (Option Job) (Doing Job JobsKnown) Q A) → ℕ → Pass Job JobsKnown → Type 0
+abbrev pub IsTakePassAt : {Q A : Type 0} → (ℕ → Purpose) → List (Slotted (Option Job) (Doing Job JobsKnown) Q A) →
+    ℕ → Pass Job JobsKnown → Type 0
 IsTakePassAt {Q} {A} purposes queues at pass = (queue : Slotted (Option Job) (Doing Job JobsKnown) Q A)
     → get_elem? queues at ≡ some queue → IsTakePassFor (purposes at) queue pass
 
@@ -88,7 +90,8 @@ place_taken_from pass = pass.queue
 
 -- the pass has the right to take from one of these queues
 abbrev pub IsTakePassOf : Queues → TakePass → Type 0
-IsTakePassOf queues pass = (pass.queue < length queues.queues.items) × IsTakePassAt (purpose_of queues) queues.queues.items pass.queue pass.pass
+IsTakePassOf queues pass =
+    (pass.queue < length queues.queues.items) × IsTakePassAt (purpose_of queues) queues.queues.items pass.queue pass.pass
 
 -- the lists with the job at the end of the one at this place
 abbrev pub with_job_at : ℕ → Job → List (List Job) → List (List Job)

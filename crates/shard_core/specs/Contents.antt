@@ -21,7 +21,8 @@ filled_table value places ids count = record {
 
 -- the cells of a shard in which nothing has happened
 abbrev pub opened_table : MapKind → ShardPlan → CellTable
-opened_table Array plan = filled_table (replicate plan.definition.value_size 0) (capacity plan) (capacity plan + plan.reserve) (capacity plan)
+opened_table Array plan =
+    filled_table (replicate plan.definition.value_size 0) (capacity plan) (capacity plan + plan.reserve) (capacity plan)
 opened_table kind plan = empty_table plan.definition.value_size (2 * capacity plan) plan.reserve
 
 -- the cell may be retired at this place

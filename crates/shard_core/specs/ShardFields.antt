@@ -33,7 +33,8 @@ IsBalanced kind plan state cells =
     (cells.places ≡ 2 * capacity plan) × (cells.free + (length state.present + length state.retired) ≡ 2 * capacity plan)
 
 -- cells and keys are those of a state, which this history led to
-pub record IsContents (plan : ShardPlan) (history : List Entry) (state : SequentialShard) (cells : CellTable) (keys : KeyTable) : Type 0 where
+pub record IsContents (plan : ShardPlan) (history : List Entry) (state : SequentialShard) (cells : CellTable)
+    (keys : KeyTable) : Type 0 where
   pub sized : cells.value_size ≡ plan.definition.value_size
   pub counted : length cells.cells ≡ length state.cells
   pub mirrored : Mirrors (is_kept plan state) cells.cells state.cells
@@ -51,7 +52,8 @@ pub record IsJournalOf (plan : ShardPlan) (journal : Journaled) : Type 0 where
   pub value_size : journal.value_size ≡ plan.definition.value_size
 
 -- the journal is legal, and the other fields are what it leads to
-pub record IsShard (plan : ShardPlan) (journal : Journaled) (cells : CellTable) (keys : KeyTable) (entered : List (Option ℕ)) (inside : ℕ) : Type 0 where
+pub record IsShard (plan : ShardPlan) (journal : Journaled) (cells : CellTable) (keys : KeyTable)
+    (entered : List (Option ℕ)) (inside : ℕ) : Type 0 where
   pub plan_is : IsPlan plan
   pub journal_is : IsJournalOf plan journal
   pub legal : IsLegalJournal plan journal.entries

@@ -11,9 +11,9 @@ use Rattle.shards.specs.Deeds.{deeds_of, entries_made, made_on, AreMet, AreWithi
 use Rattle.shards.specs.OrderRule.{account}
 use Rattle.shards.specs.Passes.{PassView, pass_at}
 
--- There is one list of deeds, each on one of the shards. Shard by shard, its entries are the journal; caller by caller, of each pass that was
--- handed in, it is what the caller did, in the caller's order over all shards; and each deed that met a full journal is at a place where the entries
--- before it on its shard leave the journal no room for the call.
+-- There is one list of deeds, each on one of the shards. Shard by shard, its entries are the journal; caller by caller, of each pass that
+-- was handed in, it is what the caller did, in the caller's order over all shards; and each deed that met a full journal is at a place
+-- where the entries before it on its shard leave the journal no room for the call.
 pub record IsOneOrder (plan : ℕ → ShardPlan) (count : ℕ) (journals : JournalsView) (passes : List PassView) : Type 0 where
   pub deeds : List Deed
   pub within : AreWithin count deeds

@@ -1,6 +1,7 @@
--- The rule of a shard's word, which is the length of the shard's one history and the shard's lock: four times the number of entries, and the
--- phase of the lock. The shard is the one slot of the word's table. Who takes the lock takes the slot, and who gives it back brings the entries that
--- were made in between, which are all of one caller. Each caller has one seat, which knows all entries of that caller and a beginning of the history.
+-- The rule of a shard's word, which is the length of the shard's one history and the shard's lock: four times the number of entries, and
+-- the phase of the lock. The shard is the one slot of the word's table. Who takes the lock takes the slot, and who gives it back brings the
+-- entries that were made in between, which are all of one caller. Each caller has one seat, which knows all entries of that caller and a
+-- beginning of the history.
 use Rattle.std.specs.Prelude.{◌≡◌, ◌≤◌, ◌<◌, ◌+◌, ◌*◌, ◌==◌, ℕ, zero, suc, true, false, List, [], ◌∷◌, length, reverse, slice_index}
 use Rattle.std.specs.Prelude.{MatchBool}
 use mathlib.Core.Option.{Option, some}
@@ -220,8 +221,8 @@ taking v all = record {
   all = all;
 }
 
--- the seat has the shard, as it was planned. If it is a caller's, it learns that its own entries are all of its caller's, and that what it saw is a
--- beginning of the history
+-- the seat has the shard, as it was planned. If it is a caller's, it learns that its own entries are all of its caller's, and that what it
+-- saw is a beginning of the history
 pub record HasTaken (before after : Me Lodged Known) : Type 0 where
   pub shard : Lodged
   pub planned : shard.key ≡ before.0.key

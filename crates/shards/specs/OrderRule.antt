@@ -1,5 +1,6 @@
--- The rule of the order: each part (a shard, a caller) has one account, which lies with one seat and is all deeds of this part in the order. So who has
--- the account of a shard and that of a caller can add what the caller does on the shard, and both know that nothing was added in between.
+-- The rule of the order: each part (a shard, a caller) has one account, which lies with one seat and is all deeds of this part in the
+-- order. So who has the account of a shard and that of a caller can add what the caller does on the shard, and both know that nothing was
+-- added in between.
 use Rattle.std.specs.Prelude.{◌≡◌, ◌≢◌, ℕ, zero, suc, ◌*◌, ◌<◌, List, [], ◌∷◌, ◌⊎◌, map, length, slice_index_or}
 use mathlib.Core.Option.{some}
 use lib.ListN.{get_elem?}

@@ -36,8 +36,8 @@ abbrev pub IsFlagOf : Caller → List Entry → Bool → Type 0
 IsFlagOf (Worker number) own flag = flag ≡ is_inside number own
 IsFlagOf who own flag = Unit {0}
 
--- a caller's seat, with or without the shard; a flag, and a list of the cells that the caller holds, by its own entries. Its own entries are all of the
--- caller's in what it has seen, and what it has seen is legal
+-- a caller's seat, with or without the shard; a flag, and a list of the cells that the caller holds, by its own entries. Its own entries
+-- are all of the caller's in what it has seen, and what it has seen is legal
 pub record IsShardPass (seat : Seat Lodged Known) (inside : Bool) (held : HeldIds) : Type 0 where
   pub seated : seat.me.0.seated ≡ true
   pub acts : seat.me.0.acts ≡ true
