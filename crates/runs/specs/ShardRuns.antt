@@ -53,7 +53,7 @@ IsCutSession worker number exchanges refused written =
     (written ≡ session_at worker number exchanges) ⊎ IsVisit worker number exchanges refused written
 
 -- the journal had no room for the worker's Enter, and it is as it was
-pub record IsKeptOut (worker : ℕ) (here : JournaledShard) (journal : List Entry) : Type 0 where
+pub record IsFullForEnter (worker : ℕ) (here : JournaledShard) (journal : List Entry) : Type 0 where
   pub full : IsFalse (can_enter worker here)
   pub nothing : journal ≡ here.journal
 
@@ -61,7 +61,7 @@ pub record IsKeptOut (worker : ℕ) (here : JournaledShard) (journal : List Entr
 abbrev pub IsFullAfter : ℕ → ℕ → List Exchange → Call → JournaledShard → List Entry → Type 0
 IsFullAfter worker number exchanges refused before journal =
     let here : JournaledShard = with_entries before (begun worker number (entries_at worker number exchanges)) in
-    IsKeptOut worker here journal ⊎ IsJournalFull here.plan (reverse (entered worker here).journal) refused
+    IsFullForEnter worker here journal ⊎ IsJournalFull here.plan (reverse (entered worker here).journal) refused
 
 -- ---- over shards
 
