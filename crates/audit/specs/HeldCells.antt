@@ -1,4 +1,4 @@
--- What is kept of a worker's entries to tell which cells it holds: places of the journal, counted from 1, and 0 for none.
+-- What is kept of a worker's entries to know which cells it holds: places of the journal, counted from 1, and 0 for none.
 use Rattle.std.specs.Prelude.{◌≡◌, ℕ, ◌≤◌, ◌==◌, Bool, nat_lt, cond, List, length, Some, slice_get, slice_index_or}
 use Rattle.semantics.specs.declared.call.HeldChange.{HeldChange}
 use Rattle.semantics.specs.declared.call.HeldChange.TheVariants.{LetsGo, Finds}

@@ -11,7 +11,7 @@ use std::alloc::{AllocError, Global};
 /// How many workers there may be.
 const WORKERS: u8 = 8;
 
-/// What a worker's own entries tell so far of the cells that it holds. Places are counted from 1; 0 is none.
+/// What a worker's own entries so far say of the cells that it holds. Places are counted from 1; 0 is none.
 #[derive(Drop)]
 pub(crate) struct Findings {
     /// The place of its newest Enter or Leave.

@@ -8,7 +8,7 @@ abbrev pub with_place : Caller → Option ℕ → List (Option ℕ) → List (Op
 with_place (Worker number) place places = slice_set places number place
 with_place who place places = places
 
--- the lower of two places, one of which may be none
+-- the lower of two places; the first may be none
 abbrev pub earlier : Option ℕ → ℕ → ℕ
 earlier (Some at) floor = if nat_lt at floor then at else floor
 earlier None floor = floor

@@ -29,7 +29,7 @@ pub fn set(places: &mut [Option<u64>], who: &Caller, place: Option<u64>)
     }
 }
 
-/// The lower of two places, one of which may be none.
+/// The lower of two places; the first may be none.
 fn earlier(place: Option<u64>, floor: u64) -> u64
     ensures { result ≡ earlier place floor }
 {

@@ -12,8 +12,8 @@ use semantics::Caller;
 use std::alloc::{AllocError, Global};
 use std::marker::{Brand, Model};
 
-/// The entries of a shard, of which no memory is taken. Contracts see the list of them, the oldest first, and what the journal was opened with; code
-/// knows their number.
+/// The entries of a shard, counted and not stored. Contracts see the list of them, the oldest first, and what the journal was opened with;
+/// code knows their number.
 #[derive(Drop)]
 pub(crate) struct Counted {
     shape: Shape,

@@ -124,7 +124,7 @@ list_at journals are legal number within =
 
 -- ---- the lists of all shards
 
--- the lists, of which the first is that of this shard
+-- the lists from this shard on
 abbrev AreListsFrom : List MapDef → Options → ℕ → List (List Entry) → Type 0
 AreListsFrom maps options from shards =
     (place : ℕ) → place < length shards → AllByRecursion (IsListed maps options (from + place)) (slice_index_or shards place [])

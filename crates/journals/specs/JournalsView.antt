@@ -14,7 +14,7 @@ pub record JournalsView : Type 0 where
   -- of each shard, by its number, the entries with the oldest first
   pub shards : List (List Entry)
 
--- maps that an image may have: those of version 2, of which all of version 1 are some
+-- maps that an image may have: those of version 2, which include all of version 1
 pub record AreImageMaps (maps : List MapDef) : Type 0 where
   pub few : length maps ≤ 16
   pub allowed : AllByRecursion (IsAllowedMap V2) maps

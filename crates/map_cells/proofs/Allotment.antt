@@ -155,7 +155,7 @@ module _ (places : ℕ) (few : places < no_place) (place_of free : List ℕ) (p 
     balance = let count = kept_count_push place_of p taken_some in omega (arith, count, more_free, before.balance);
   }
 
-  -- the cells there are where they stood, and the new one is behind them
+  -- the cells there are where they were, and the new one is behind them
   pub cells_taken : (size : ℕ) (bytes written value : List ℕ) → ((m : ℕ) → m ≢ p → block_of size written m ≡ block_of size bytes m) → block_of size written p ≡ value → cells_in size written (place_of ++ p ∷ []) ≡ cells_in size bytes place_of ++ Some value ∷ []
   cells_taken size bytes written value elsewhere here = map-append (cell_in size written) place_of (p ∷ []) ∙ rw (cells_same size bytes written p elsewhere place_of (λ id lt. taken_unused id), cell_in_place size written p taken_some, here) refl
 

@@ -20,7 +20,7 @@ use std::alloc::{AllocError, Global};
 use std::collections::VecDeque;
 use std::marker::Model;
 
-/// Stands for the place of an id that was freed.
+/// The place of an id that was freed: none.
 const NO_PLACE: u32 = u32::MAX;
 
 /// The cells of one shard. Contracts see a `CellTable`.

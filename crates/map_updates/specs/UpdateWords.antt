@@ -13,7 +13,7 @@ number_in text = digits_value 10 (without_leading_plus text)
 abbrev pub IsNumber : List ℕ → Type 0
 IsNumber text = IsNumeral 10 (without_leading_plus text) × (number_in text < 2 ^ 32)
 
--- the text writes these bytes, of which there are this many at most
+-- the text writes these bytes, this many at most
 abbrev pub IsHex : ℕ → List ℕ → List ℕ → Type 0
 IsHex most text bytes = (decode_of text ≡ Ok bytes) × (length bytes ≤ most)
 

@@ -50,7 +50,7 @@ fn number_of(text: &str) -> Result<u32, Mistake>
     }
 }
 
-/// The bytes that hexadecimal digits write, of which two make a byte.
+/// The bytes that hexadecimal digits write, two for each byte.
 fn bytes_of(alloc: Global, text: &str, mistake: Mistake) -> Result<Vec<u8>, Mistake>
     ensures read { IfOk result (λ bytes. decode_of text.now ≡ Ok bytes.items) }
     ensures mistaken { IfErr result (λ told. (told ≡ mistakes.Memory) ⊎ ((told ≡ mistake) × IsUndecoded text.now)) }

@@ -6,7 +6,7 @@ ghost use Rattle.plain_maps.specs.Buckets.{nothing, Stands, has, found_in, place
 
 use crate::search::key_at;
 
-/// Stands where a bucket has no entry number.
+/// In a bucket, a place without an entry number.
 pub(crate) const NOTHING: u32 = u32::MAX;
 
 /// Up to three entry numbers, whose keys have this bucket.

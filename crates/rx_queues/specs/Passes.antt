@@ -15,7 +15,7 @@ use Rattle.rx_queues.specs.declared.rule.JobsKnown.{JobsKnown}
 use Rattle.rx_queues.specs.declared.rule.Purpose.{Purpose}
 use Rattle.rx_queues.specs.Fifo.{Fits}
 
--- the queues stand in this order: the workers' by their numbers, the controller's, the reclaimer's
+-- the queues are in this order: the workers' by their numbers, the controller's, the reclaimer's
 abbrev pub queue_of : ℕ → Caller → ℕ
 queue_of workers (Worker number) = number
 queue_of workers Controller = workers

@@ -70,9 +70,9 @@ pub record StoppedAtEnter (plan : ShardPlan) (full_at : List Entry) (count worke
       IsKeptOut plan full_at worker exchanges (shard_of_call call) (own_at before (shard_of_call call)) (own_at after (shard_of_call call))
   pub did : after.deeds ≡ reverse (deeds_to_enter worker count exchanges call) ++ before.deeds
 
--- the same of a run that ended because a call was refused, but that the shard of this call, if it was the first there, may have an Enter
--- and a Leave with no call between. There the journal was full for the call at the end of a history that the pass's now begins with; or it
--- was full for the Enter, and then the worker has written nothing there.
+-- the same of a run that ended because a call was refused, except that the shard of this call, if it was the first there, may have an
+-- Enter and a Leave with no call between. There the journal was full for the call at the end of a history that the pass's now begins with;
+-- or it was full for the Enter, and then the worker has written nothing there.
 pub record HasRefusedSessions (plan : ℕ → ShardPlan) (count worker : ℕ) (exchanges : List Exchange) (call : Call)
     (before after : PassView) : Type 0
   where

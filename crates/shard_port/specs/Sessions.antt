@@ -58,7 +58,7 @@ WritesSessions =
     × (slice_get (all_left after.worker after.shards.now) number ≡ Some
     (with_entries shard (session before.worker shard.plan.number (entries_at before.worker number exchanges))))
 
--- where the run ended because a call was refused: the same, but that the shard of this call, if it was the first there, may
+-- where the run ended because a call was refused: the same, except that the shard of this call, if it was the first there, may
 -- have an Enter and a Leave with no call between
 abbrev pub WritesRefusedSessions : Type 0
 WritesRefusedSessions =

@@ -47,7 +47,7 @@ present cell id ids there = elim (eqb_tells id cell) [
   | inr apart ↦ rw apart.0 refl
 ]
 
--- what stands at a place is among them
+-- what is at a place is among them
 pub among_at : (id place : ℕ) (ids : List ℕ) → place < length ids → slice_index_or ids place 0 ≡ id → is_among id ids ≡ true
 among_at id place [] below is = absurd (omega (arith, below))
 among_at id zero (x ∷ ids) below is = ap (λ (here : Bool). here || is_among id ids) (eq-eqb x id is)
@@ -67,7 +67,7 @@ among_after LetsGo cell ids = refl
 among_after (Finds id) cell ids = among_new cell id ids
 among_after Stays cell ids = refl
 
--- ---- each cell stands there once
+-- ---- each cell is there once
 
 once_more : (id : ℕ) (ids : List ℕ) → AreOnce ids → is_among id ids ≡ false → AreOnce (ids ++ id ∷ [])
 once_more id [] once apart = (refl, tt)

@@ -11,7 +11,7 @@ use Rattle.semantics.specs.declared.call.Call.{Call}
 pub record CallerView : Type 0 where
   -- a beginning of the shard's history
   pub seen : List Entry
-  -- all entries that the caller made, which stand in what was seen
+  -- all entries that the caller made, which are in what was seen
   pub own : List Entry
 
 -- a history begins with an earlier one: newest first, so that one is left where the later entries are gone
