@@ -30,7 +30,8 @@ is_new_in map made = made.map == map && made.is_new
 abbrev pub is_known : List MadeUpdate → ℕ → List ℕ → Bool
 is_known made map key = list_any (is_of map key) made
 
--- whether the map takes the key: an array has its indices, a hash map keeps what it has and has room for this many keys, an LRU map makes room
+-- whether the map takes the key: an array has its indices, a hash map keeps what it has and has room for this many keys, an LRU map makes
+-- room
 abbrev pub is_taken_by : MapKind → List MadeUpdate → ℕ → List ℕ → ℕ → Bool
 is_taken_by Array made map key most = length key == 4 && nat_lt (number_of_bytes key) most
 is_taken_by Hash made map key most = is_known made map key || nat_lt (count_by (is_new_in map) made) most

@@ -1,4 +1,5 @@
--- The text of a script: a line for each command, each ended by a line feed, with single spaces between words. It is the one spelling of the commands.
+-- The text of a script: a line for each command, each ended by a line feed, with single spaces between words. It is the one spelling of the
+-- commands.
 use Rattle.std.specs.Prelude.{◌≡◌, ℕ, ◌<◌, ◌≤◌, ◌^◌, ◌/◌, ◌%◌, ◌+◌, Bool, true, false, List, [], ◌∷◌, ◌++◌, All, codes, length, slice_index}
 use Rattle.std.specs.Fmt.{decimal}
 use Rattle.std.specs.List.{flat_map, AllByRecursion}

@@ -1,8 +1,8 @@
 -- What a replay of a verified image promises, in the order of the sentence: the image is safe; each shard has one legal history, in which
 -- each reply is the one-thread map's at its own place; each run is a list of steps of the system around this image, with the verdict, the
 -- frame and the number of instructions of its program's trace on the replies that it was given; what all callers did on all shards is one
--- order, in which the controller's deeds are its script's and the reclaimer's its rounds, each in their own order; the steps of all workers,
--- with what the controller and the reclaimer did, are one list of events.
+-- order, in which the controller's deeds are its script's and the reclaimer's its rounds, each in their own order; the steps of all
+-- workers, with what the controller and the reclaimer did, are one list of events.
 use Rattle.std.specs.Prelude.{◌≡◌, ℕ, ◌<◌, List, [], ◌∷◌, ◌++◌, length, reverse, Some}
 use Rattle.std.specs.List.{AllByRecursion}
 use Rattle.wire.specs.FrameView.{FrameView}
@@ -141,9 +141,8 @@ pub record Headline (verified : Verified) (script : List Command) (options : Opt
   -- what all callers did on all shards is one order: shard by shard it is the journal, and each look at a full journal met one
   pub order : List Deed
   pub ordered : IsOrderOf plan count outcome.journals order
-  -- the controller's deeds in it are the updates before the first record and then those of the script's commands, in order over all shards, each with
-  -- its answer, and
-  -- behind those of a command that a full journal stopped the look at that journal
+  -- the controller's deeds in it are the updates before the first record and then those of the script's commands, in order over all shards,
+  -- each with its answer, and behind those of a command that a full journal stopped the look at that journal
   pub commands :
       IsScriptAccounted plan verified.maps options count outcome.updates.items script outcome.journals order outcome.refused.items
   -- and the reclaimer's are its rounds, one behind the other: in each a Reclaim of each hash and LRU shard, the lowest number first
@@ -157,16 +156,16 @@ pub record Headline (verified : Verified) (script : List Command) (options : Opt
       (worker : ℕ) → worker < options.workers →
       IsWorkOf (IsRunAt (IsEitherOfImage verified options plan count worker) records)
       (share (frames_of records) options.workers worker (length records)) worker (runs_at runs worker) count outcome.journals order
-  -- and the worker's runs are one list of steps, from idle to idle, which wrote on each shard what its journal has of this worker, in order,
-  -- and did over all shards what the order has of it
+  -- and the worker's runs are one list of steps, from idle to idle, which wrote on each shard what its journal has of this worker, in
+  -- order, and did over all shards what the order has of it
   pub moves : HasMoves (setting_of verified options) count runs outcome.journals order
   -- these steps are those of the runs in `work`, each on its record's frame, at its moment
   pub of_runs :
       (worker : ℕ) → worker < options.workers →
       AreOfRuns verified options plan count worker records runs outcome.journals order work (moves.moves worker)
   -- the steps of all workers, with what the controller and the reclaimer did, are one list of events of the system, which can all happen
-  -- from the opening on; each worker's are in their order in it; they write the entries of the one order, in this order over all shards; after
-  -- it the histories are the journals, and every worker is idle
+  -- from the opening on; each worker's are in their order in it; they write the entries of the one order, in this order over all shards;
+  -- after it the histories are the journals, and every worker is idle
   pub list :
       IsOneList (setting_of verified options) count (λ number. entries_at outcome.journals number) moves.moves
       (entries_made (reverse order))

@@ -57,8 +57,8 @@ AreWrittenInOrder setting before (event ∷ later) entries =
     (first : List Entry) × (more : List Entry) × (entries ≡ first ++ more) × IsWrittenNext before first (after_event setting before event)
     × AreWrittenInOrder setting (after_event setting before event) later more
 
--- one list of events, which can all happen from the opening on; of each worker it has the worker's own events, in their order; over all shards
--- they write these entries, in this order; after it the histories are the journals, and every worker is idle
+-- one list of events, which can all happen from the opening on; of each worker it has the worker's own events, in their order; over all
+-- shards they write these entries, in this order; after it the histories are the journals, and every worker is idle
 pub record IsOneList (setting : Setting) (count : ℕ) (journal : ℕ → List Entry) (moves : ℕ → List Move)
     (entries : List Entry) : Type 0 where
   pub events : List SystemEvent

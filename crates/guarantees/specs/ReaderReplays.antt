@@ -73,8 +73,8 @@ pub record IsCaptured (captured : Sent) : Type 0 where
   pub bytes : All (λ byte. byte < 256) captured.bytes.items
   pub time : time_of captured < 2 ^ 64
 
--- A replay without commands, and without updates before its first record, in which no run was stopped sends what the runs over maps in which nothing
--- has happened send: for every number of workers the same.
+-- A replay without commands, and without updates before its first record, in which no run was stopped sends what the runs over maps in
+-- which nothing has happened send: for every number of workers the same.
 abbrev pub SendsAsAtOpening : List MapDef → List Insn → Type 0
 SendsAsAtOpening maps code =
     (options : Options) (records : List Sent) (outcome : Outcome) → AreOptions maps options → AllByRecursion IsCaptured records →

@@ -33,8 +33,8 @@ HaveGrown count moves before after =
 abbrev pub HaveDone : ℕ → List Move → PassView → PassView → Type 0
 HaveDone worker moves before after = after.deeds ≡ reverse (deeds_in worker moves) ++ before.deeds
 
--- The worker is idle, and begins a run on the frame; steps of this one run lead to the instruction that ends it with this verdict and
--- this last state; then the worker leaves the shards that it entered, and is idle. What these steps wrote on each shard, and what they did over
+-- The worker is idle, and begins a run on the frame; steps of this one run lead to the instruction that ends it with this verdict and this
+-- last state; then the worker leaves the shards that it entered, and is idle. What these steps wrote on each shard, and what they did over
 -- all shards, is what its pass has more.
 pub record IsRunOfSystem (setting : Setting) (worker told now : ℕ) (frame : List ℕ) (count : ℕ) (before after : PassView)
     (verdict : Verdict) (last : MachineState) : Type 0 where

@@ -55,14 +55,16 @@ pub record AreHandedOver (place from end : ℕ) (before after : List (List Job))
   pub together : from + count ≡ end
   pub put : ArePutAt place (commands_from from count) before after
 
--- how many commands are due: all from this one on that stand behind no more records than were dispatched, up to the first for which it is too early
+-- how many commands are due: all from this one on that stand behind no more records than were dispatched, up to the first for which it is
+-- too early
 pub record AreDue (starts : List ℕ) (from number end : ℕ) : Type 0 where
   pub up : from ≤ end
   pub within : end ≤ length starts
   pub due : (place : ℕ) → from ≤ place → place < end → slice_index starts place ≤ number
   pub early : end < length starts → number < slice_index starts end
 
--- In time: no command was handed over before as many records as its number were dispatched, unless all were; and none is left whose number has gone by.
+-- In time: no command was handed over before as many records as its number were dispatched, unless all were; and none is left whose number
+-- has gone by.
 pub record AreInTime (starts : List ℕ) (records number first next : ℕ) : Type 0 where
   pub not_early : (place : ℕ) → first ≤ place → place < next → (slice_index starts place ≤ number) ⊎ (number ≡ records)
   pub not_late : next < length starts → number ≤ slice_index starts next

@@ -179,8 +179,8 @@ pub record IsFullFor (plan : ℕ → ShardPlan) (maps : List MapDef) (options : 
       IsJournalFull (plan (shard_of maps options update)) (seen_at pass (shard_of maps options update))
       (update_call (shard_of maps options update) update)
 
--- Updates one after the other lead from one state of a port to another: each adds its entry to the history of the shard of its key, and what the
--- controller has seen of each shard grows.
+-- Updates one after the other lead from one state of a port to another: each adds its entry to the history of the shard of its key, and
+-- what the controller has seen of each shard grows.
 pub record IsMoved (before after : UpdatesView) (made : List AnsweredUpdate) : Type 0 where
   pub maps : after.maps ≡ before.maps
   pub options : after.options ≡ before.options
@@ -205,9 +205,9 @@ pub record HasSet (maps : List MapDef) (options : Options) (updates : List MapUp
   pub own : (number : ℕ) → own_at pass number ≡ with_updates maps options number (all_set updates) []
   pub did : pass.deeds ≡ reverse (made_deeds maps options (all_set updates))
 
--- The commands noted are those of the script, each did what it says in the state that the one before it left; the controller's own entries in the
--- history of each shard are its first updates and behind them those of the commands to it, in order; where one met a full journal, that journal is
--- full for it; and over all shards its deeds are the first updates and then those of the commands, in order.
+-- The commands noted are those of the script, each did what it says in the state that the one before it left; the controller's own entries
+-- in the history of each shard are its first updates and behind them those of the commands to it, in order; where one met a full journal,
+-- that journal is full for it; and over all shards its deeds are the first updates and then those of the commands, in order.
 pub record IsAccount (plan : ℕ → ShardPlan) (maps : List MapDef) (options : Options) (updates : List MapUpdate) (script : List Command)
     (size : ℕ) (noted : List Applied) (state : ControllerState) (pass : PassView) : Type 0 where
   pub done : List CommandDone

@@ -46,9 +46,9 @@ first_state all size = record {
   ends = [];
 }
 
--- The first updates were made, one after the other, over shards in which nothing had happened. Then the turns were taken in their order, each from the
--- state that the one before it left: before each record the commands that are due then, and a round after every 64 records. What is returned is that of
--- the last state.
+-- The first updates were made, one after the other, over shards in which nothing had happened. Then the turns were taken in their order,
+-- each from the state that the one before it left: before each record the commands that are due then, and a round after every 64 records.
+-- What is returned is that of the last state.
 pub record IsInTurn (program : Program) (script : List Command) (options : Options) (records : List Sent) (outcome : Outcome) : Type 0 where
   pub maps : outcome.journals.maps ≡ program.maps
   pub options_are : outcome.journals.options ≡ options

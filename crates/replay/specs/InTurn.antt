@@ -1,5 +1,5 @@
--- A replay on one thread: turn after turn, each from the state that the one before it left. So what a turn finds in the maps is what the turns
--- before it left there, and the journals have the entries of the turns in their order.
+-- A replay on one thread: turn after turn, each from the state that the one before it left. So what a turn finds in the maps is what the
+-- turns before it left there, and the journals have the entries of the turns in their order.
 use Rattle.std.specs.Prelude.{◌≡◌, ◌⊎◌, ℕ, zero, suc, ℤ, Bool, true, false, List, [], ◌∷◌, ◌++◌, length, reverse}
 use Rattle.std.specs.Prelude.{Option, Some, None, slice_get, slice_set}
 use Rattle.ebpf_decode.specs.declared.map.MapDef.{MapDef}
@@ -180,8 +180,8 @@ IsRoundTo (suc number) before after =
 
 -- ---- turns
 
--- where a replay stands between two turns: the maps with what was done there, the controller, what came of the commands so far, the counts, what
--- was sent, and what became of each record so far
+-- where a replay stands between two turns: the maps with what was done there, the controller, what came of the commands so far, the counts,
+-- what was sent, and what became of each record so far
 pub record TurnState : Type 0 where
   pub all : TurnMaps
   pub controller : ControllerState

@@ -90,11 +90,12 @@ pub record IsFullInJournal (plan : ℕ → ShardPlan) (maps : List MapDef) (opti
       IsJournalFull (plan (shard_of maps options update)) (reverse (entries_at journals (shard_of maps options update)))
       (update_call (shard_of maps options update) update)
 
--- Each command of the script was applied once, in the script's order, and did what it says in the state that the one before it left, for a lookup
--- table of a size that is served, the one that the maps have (without commands any served size does); the controller's entries in each journal
--- are the first updates to that shard, each answered 0, and behind them those of the commands, in order; where one met a full journal, that journal is
--- full for it at its end. In the one order of all deeds those of the controller are the first updates, then the updates of all commands, in order over
--- all shards, each with its answer, and behind those of a command that a full journal stopped the look at that journal.
+-- Each command of the script was applied once, in the script's order, and did what it says in the state that the one before it left, for a
+-- lookup table of a size that is served, the one that the maps have (without commands any served size does); the controller's entries in
+-- each journal are the first updates to that shard, each answered 0, and behind them those of the commands, in order; where one met a full
+-- journal, that journal is full for it at its end. In the one order of all deeds those of the controller are the first updates, then the
+-- updates of all commands, in order over all shards, each with its answer, and behind those of a command that a full journal stopped the
+-- look at that journal.
 pub record IsScriptAccounted (plan : ℕ → ShardPlan) (maps : List MapDef) (options : Options) (count : ℕ) (updates : List MapUpdate)
     (script : List Command) (journals : JournalsView) (order : List Deed) (refused : List Applied) : Type 0 where
   pub size : ℕ
@@ -116,8 +117,9 @@ pub record IsScriptAccounted (plan : ℕ → ShardPlan) (maps : List MapDef) (op
 abbrev pub rounds_of : ℕ → ℕ
 rounds_of records = records / 64 + 1
 
--- The reclaimer's entries in each journal are those of N rounds, fewer only where the journal is full for another at its end. In the one order of
--- all deeds those of the reclaimer are these rounds, one behind the other, each with one Reclaim of each hash and LRU shard, the lowest number first.
+-- The reclaimer's entries in each journal are those of N rounds, fewer only where the journal is full for another at its end. In the one
+-- order of all deeds those of the reclaimer are these rounds, one behind the other, each with one Reclaim of each hash and LRU shard, the
+-- lowest number first.
 pub record AreRoundsAccounted (plan : ℕ → ShardPlan) (count rounds : ℕ) (journals : JournalsView) (order : List Deed) : Type 0 where
   pub each : (number : ℕ) → number < count → IsReclaimedBy (plan number).definition.kind (plan number) number rounds
       (own_entries Reclaimer (reverse (entries_at journals number))) (reverse (entries_at journals number))

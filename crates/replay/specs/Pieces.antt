@@ -22,8 +22,8 @@ use Rattle.replay.specs.Turns.{due_before, turns_to}
 abbrev pub HasPiece : List Sent → ℕ → List Sent → Type 0
 HasPiece records first piece = (place : ℕ) → place < length piece → slice_get records (first + place) ≡ slice_get piece place
 
--- The replay can go on with this script, which fits its maps: it counted each record once, knows which command is next, and keeps nothing that was
--- handed out.
+-- The replay can go on with this script, which fits its maps: it counted each record once, knows which command is next, and keeps nothing
+-- that was handed out.
 pub record GoesOn (script : List Command) (replay : PieceReplay) : Type 0 where
   pub serves : ServesScript replay.turns.all.maps replay.turns.controller.size script
   pub starts : replay.starts.items ≡ starts_in script
@@ -34,8 +34,8 @@ pub record GoesOn (script : List Command) (replay : PieceReplay) : Type 0 where
   pub none_sent : replay.turns.sent.items ≡ []
   pub no_ends : replay.turns.ends.items ≡ []
 
--- The first updates were made, and then all turns up to the last of these records, and a round if it was its time. What was sent of them, and what
--- became of each, was handed out.
+-- The first updates were made, and then all turns up to the last of these records, and a round if it was its time. What was sent of them,
+-- and what became of each, was handed out.
 pub record IsUnderway (program : Program) (script : List Command) (options : Options) (updates : List MapUpdate) (records sent : List Sent)
     (ends : List RecordEnd) (replay : PieceReplay) : Type 0 where
   pub size : ℕ

@@ -1,5 +1,5 @@
--- What rounds of Reclaims leave: in each hash and LRU shard one entry a round, fewer only where its journal is full for it; and over all shards one
--- Reclaim for each of these shards a round, in the order of their numbers.
+-- What rounds of Reclaims leave: in each hash and LRU shard one entry a round, fewer only where its journal is full for it; and over all
+-- shards one Reclaim for each of these shards a round, in the order of their numbers.
 use Rattle.std.specs.Prelude.{◌≡◌, ◌≤◌, ◌<◌, ℕ, zero, suc, ◌⊎◌, Bool, true, false, List, [], ◌∷◌, ◌++◌, length, reverse, if◌then◌else◌}
 use Rattle.std.specs.List.{AllByRecursion}
 use Rattle.ebpf_decode.specs.declared.map.MapKind.{MapKind}

@@ -103,8 +103,8 @@ IsRunBy count plan program worker captured before end after =
 
 -- ---- compared with the journals
 
--- the journal of the shard of a refused call is full for it at its end; or, where the run had not entered the shard, and so wrote nothing there, full
--- for its Enter
+-- the journal of the shard of a refused call is full for it at its end; or, where the run had not entered the shard, and so wrote nothing
+-- there, full for its Enter
 abbrev pub IsFullAtEnd : (ℕ → ShardPlan) → JournalsView → PassView → PassView → Call → Type 0
 IsFullAtEnd plan journals before after call =
     IsJournalFull (plan (shard_of_call call)) (reverse (entries_at journals (shard_of_call call))) call

@@ -29,8 +29,8 @@ AreForAll setting =
     (records_of setting.queues.now ≡ length setting.capture.now.records.items) ×
     (commands_of setting.queues.now ≡ length setting.starts.now)
 
--- there is a worker for each state, which may go to the worker's thread; nothing was put through the passes yet, and the queues are for all records
--- and commands; and no more commands came first than there are
+-- there is a worker for each state, which may go to the worker's thread; nothing was put through the passes yet, and the queues are for all
+-- records and commands; and no more commands came first than there are
 pub record IsReadyToRun {S W R : Type 0} (IsNew IsIdle : W → ℕ → S → Type 0) (setting : Setting W R) (put : PutPass) (takes : List TakePass)
     (states : List S) : Type 0 where
   pub passes : AreFreshPasses setting.queues.now (length states) put takes

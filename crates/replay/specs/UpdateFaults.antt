@@ -16,7 +16,8 @@ use Rattle.replay.specs.FirstUpdates.{IsWhyNotSet}
 use Rattle.replay.specs.InTurn.{IsUpdatedInTurn, IsTurnedAwayInTurn}
 use Rattle.replay.specs.SharedUpdates.{IsUpdated, IsTurnedAway}
 
--- by what the controller's pass saw of shards that it shares: from a pass that had seen nothing, those before it were answered 0, one after the other
+-- by what the controller's pass saw of shards that it shares: from a pass that had seen nothing, those before it were answered 0, one after
+-- the other
 pub record IsWhyByPass (maps : List MapDef) (options : Options) (updates : List MapUpdate) (fault : ReplayFault) : Type 0 where
   pub count : ℕ
   pub plan : ℕ → ShardPlan

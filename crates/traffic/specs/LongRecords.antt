@@ -28,8 +28,9 @@ without_long records = flat_map unless_long records
 abbrev pub long_count : List (List ℕ) → ℕ
 long_count records = length (filter is_long records)
 
--- The file consists of a header of 24 bytes (of all bytes, if there are fewer), of whole records, and of a rest that begins with no whole record: nothing,
--- or a record that is cut short. What is left of it are the header, the records that are not long, and the rest; the long records are counted.
+-- The file consists of a header of 24 bytes (of all bytes, if there are fewer), of whole records, and of a rest that begins with no whole
+-- record: nothing, or a record that is cut short. What is left of it are the header, the records that are not long, and the rest; the long
+-- records are counted.
 pub record IsShortened (bytes : List ℕ) (shortened : ShortenedCapture) : Type 0 where
   pub records : List (List ℕ)
   pub rest : List ℕ

@@ -70,8 +70,8 @@ kind_word kinds.Expired = codes "expired"
 kind_word kinds.Large = codes "large"
 kind_word kinds.Flow = codes "no-backend"
 
--- the case of the steering rule by which a frame of this kind has this verdict: a frame without a flow passes, and so does one whose flow is
--- for no service; one that cannot go through the tunnel is dropped; any other is sent to a backend, or dropped where there is none
+-- the case of the steering rule by which a frame of this kind has this verdict: a frame without a flow passes, and so does one whose flow
+-- is for no service; one that cannot go through the tunnel is dropped; any other is sent to a backend, or dropped where there is none
 abbrev pub case_word : FrameKind → LineVerdict → List ℕ
 case_word kind verdicts.Drop = kind_word kind
 case_word kind verdicts.Tx = codes "sent"

@@ -1,5 +1,5 @@
--- How much of a lookup table each backend has, and how many of its slots change hands. A table is the list of its words, by slot: an owner's number and
--- one, or 0 where nobody owns the slot.
+-- How much of a lookup table each backend has, and how many of its slots change hands. A table is the list of its words, by slot: an
+-- owner's number and one, or 0 where nobody owns the slot.
 use Rattle.std.specs.Prelude.{ℕ, zero, suc, ◌+◌, ◌-◌, ◌==◌, List, slice_get, unwrap_or, if◌then◌else◌}
 use Rattle.maglev.specs.Population.{share_of}
 
@@ -19,7 +19,7 @@ unfoldable pub gains_below : List ℕ → List ℕ → ℕ → ℕ
 gains_below old new zero = 0
 gains_below old new (suc word) = gains_below old new word + gain_of old new word
 
--- The least number of slots that change hands from the first table to any in which each of 256 backends, and nobody, has the share of the second table:
--- what each of them gains.
+-- The least number of slots that change hands from the first table to any in which each of 256 backends, and nobody, has the share of the
+-- second table: what each of them gains.
 abbrev pub least_moves : List ℕ → List ℕ → ℕ
 least_moves old new = gains_below old new 257

@@ -65,8 +65,8 @@ done_lines place frame before maps =
 
 -- ---- a script
 
--- The command at a place leads from one state of the controller and of the maps to another, as a replay's controller carries it out; or it is refused,
--- and leaves what the controller says. What is printed is so, and it is noted where it was refused.
+-- The command at a place leads from one state of the controller and of the maps to another, as a replay's controller carries it out; or it
+-- is refused, and leaves what the controller says. What is printed is so, and it is noted where it was refused.
 pub data IsShown (place : ℕ) (state : ControllerState) (maps : MapsState) (command : Command) (state' : ControllerState)
     (maps' : MapsState) (printed : List ℕ) (noted : List Refused) : Type 0 where
   carried_out : refusal_of state command.action ≡ None

@@ -1,4 +1,5 @@
--- The maps of steering as a controller writes them, without journals: what they hold that a table of shares is made of, and what they answer.
+-- The maps of steering as a controller writes them, without journals: what they hold that a table of shares is made of, and what they
+-- answer.
 use Rattle.std.specs.Prelude.{◌≡◌, ℕ, ◌==◌, ℤ, Bool, ◌||◌, not, nat_lt, bytes_eq, List, [], ◌∷◌, ◌++◌, length, set, slice_index}
 use Rattle.std.specs.Prelude.{if◌then◌else◌}
 use Rattle.std.specs.List.{list_any}
