@@ -20,7 +20,7 @@ use Rattle.conntrack.specs.declared.choosing.Choice.{Choice}
 use Rattle.conntrack.specs.declared.choosing.Choice.TheVariants as C
 use Rattle.conntrack.specs.Layouts.{vip_of, flow_of, backend_of, tunnel_of, service_of, service_key}
 use Rattle.conntrack.specs.SteeringRule.{fits_tunnel, tracked_choice, ring_choice}
-use Rattle.conntrack.specs.Steering.{Setting, steering, ending, choice_in, has_flow, service_bytes_of, read_service, read_tunnel}
+use Rattle.conntrack.specs.Steering.{SteeringSizes, steering, ending, choice_in, has_flow, service_bytes_of, read_service, read_tunnel}
 use Rattle.conntrack.specs.Steering.{read_note, read_slot, read_backend, unless_tracked, finish, no_records, record_of, read}
 use Rattle.conntrack.specs.declared.steering_maps.SteeringMap.TheVariants.{Flows}
 use Rattle.conntrack.specs.SteeringLaws.{FlowsStick, FindsNote, AsksForTheService}
@@ -57,19 +57,19 @@ choice_is frame vip tunnel number backend flow fits ready tracks up =
     (unwrap_or (ring_choice vip (records_of vip tunnel (Some (assigned_to number backend)))) C.Drop))
 
 -- what is left once the tunnel is known to be ready, and once the flows are to be looked up
-abbrev on_state : Setting → FrameView → VipRecord → CellRef → ℕ → Plan
+abbrev on_state : SteeringSizes → FrameView → VipRecord → CellRef → ℕ → Plan
 on_state setting frame vip cell state =
     read cell 0 8 (λ source. read cell 8 8 (λ macs.
     read_note setting frame vip (records_of vip (tunnel_of (bytes_of_number 8 source ++ (bytes_of_number 8 macs ++ bytes_of_number 8 state))) None)))
 
-abbrev on_note : Setting → FrameView → VipRecord → TunnelRecord → Plan
+abbrev on_note : SteeringSizes → FrameView → VipRecord → TunnelRecord → Plan
 on_note setting frame vip tunnel =
     record_of setting Flows (flow_bytes_of frame.bytes)
     (λ word. read_backend setting (flow_of (bytes_of_number 8 word)).backend (λ assigned.
     unless_tracked setting frame (records_of vip tunnel (Some assigned)) (tracked_choice vip (records_of vip tunnel (Some assigned)))))
     (read_slot setting frame (records_of vip tunnel None))
 
-goes_on : (setting : Setting) (frame : FrameView) (number : ℕ) (backend : BackendRecord) (tunnel : TunnelRecord) (replies : List Reply) →
+goes_on : (setting : SteeringSizes) (frame : FrameView) (number : ℕ) (backend : BackendRecord) (tunnel : TunnelRecord) (replies : List Reply) →
     has_flow frame.bytes ≡ true → fits_tunnel frame.bytes ≡ true → tunnel.is_ready ≡ true → backend.is_up ≡ true →
     FindsNote tunnel number backend replies →
     plan_after (steering setting frame) replies ≡ ending setting frame (Some tunnel) (C.Tx number backend.address false)

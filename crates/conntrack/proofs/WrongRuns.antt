@@ -5,7 +5,7 @@ use Rattle.semantics.specs.declared.call.Call.{Call}
 use Rattle.semantics.specs.declared.call.Call.TheVariants.{Store}
 use Rattle.semantics.specs.declared.verdict.Verdict.{Verdict}
 use Rattle.map_port.specs.Exchanges.{Exchange}
-use Rattle.conntrack.specs.Steering.{Setting}
+use Rattle.conntrack.specs.Steering.{SteeringSizes}
 use Rattle.conntrack.specs.Results.{change_of, changes_in, note_call, IsRaised, IsNotFound}
 use Rattle.conntrack.specs.SteeringLaws.{UncountedRunsAreNoResults, StoringRunsAreNoResults}
 
@@ -54,11 +54,11 @@ changes_of_both (exchange ∷ front) back =
     regrouped [] b c = refl
     regrouped (call ∷ a) b c = ap (λ (later : List Call). call ∷ later) (regrouped a b c)
 
-note_stores_not : (setting : Setting) (note : Option (List ℕ × List ℕ)) → NoneStores (note_call setting note)
+note_stores_not : (setting : SteeringSizes) (note : Option (List ℕ × List ℕ)) → NoneStores (note_call setting note)
 note_stores_not setting None = tt
 note_stores_not setting (Some note) = (tt, tt)
 
-count_stores_not : (setting : Setting) (verdict : Verdict) (last : List Exchange) → (IsRaised setting verdict last ⊎ IsNotFound setting verdict last) → NoneStores (changes_in last)
+count_stores_not : (setting : SteeringSizes) (verdict : Verdict) (last : List Exchange) → (IsRaised setting verdict last ⊎ IsNotFound setting verdict last) → NoneStores (changes_in last)
 count_stores_not setting verdict last (inl raised) = subst (λ (exchanges : List Exchange). NoneStores (changes_in exchanges)) (sym raised.calls) (tt, tt)
 count_stores_not setting verdict last (inr absent) = subst (λ (exchanges : List Exchange). NoneStores (changes_in exchanges)) (sym absent.calls) tt
 

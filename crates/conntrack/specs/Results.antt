@@ -22,7 +22,7 @@ use Rattle.conntrack.specs.declared.records.VipRecord.{VipRecord}
 use Rattle.conntrack.specs.declared.choosing.Records.{Records}
 use Rattle.conntrack.specs.declared.choosing.Choice.{Choice}
 use Rattle.conntrack.specs.SteeringRule.{IsSteered, fits_tunnel, is_set_up, flow_update, frame_after, verdict_of_choice}
-use Rattle.conntrack.specs.Steering.{Setting, shard_of, has_flow, count_call}
+use Rattle.conntrack.specs.Steering.{SteeringSizes, shard_of, has_flow, count_call}
 
 -- ---- changes of the maps
 
@@ -37,7 +37,7 @@ changes_in [] = []
 changes_in (exchange ∷ later) = change_of exchange.call ++ changes_in later
 
 -- the note of the chosen backend, made with the flag ANY
-abbrev pub note_call : Setting → Option (List ℕ × List ℕ) → List Call
+abbrev pub note_call : SteeringSizes → Option (List ℕ × List ℕ) → List Call
 note_call setting None = []
 note_call setting (Some note) = Update (shard_of setting Flows note.0) note.0 note.1 (flags_number Any) ∷ []
 
@@ -46,11 +46,11 @@ note_call setting (Some note) = Update (shard_of setting Flows note.0) note.0 no
 abbrev pub count_key : Verdict → List ℕ
 count_key verdict = bytes_of_number 4 (verdict_number verdict)
 
-abbrev pub count_lookup : Setting → Verdict → Call
+abbrev pub count_lookup : SteeringSizes → Verdict → Call
 count_lookup setting verdict = Lookup (shard_of setting Stats (count_key verdict)) (count_key verdict)
 
 -- the verdict's count is looked up, and one is added to it
-pub record IsRaised (setting : Setting) (verdict : Verdict) (exchanges : List Exchange) : Type 0 where
+pub record IsRaised (setting : SteeringSizes) (verdict : Verdict) (exchanges : List Exchange) : Type 0 where
   pub cell : CellRef
   pub old : Reply
   pub calls :
@@ -62,7 +62,7 @@ IsNoCell (Cell cell) = ⊥
 IsNoCell reply = Unit {0}
 
 -- the verdict's count is looked up and not found, so nothing is added: an array's shard never replies so
-pub record IsNotFound (setting : Setting) (verdict : Verdict) (exchanges : List Exchange) : Type 0 where
+pub record IsNotFound (setting : SteeringSizes) (verdict : Verdict) (exchanges : List Exchange) : Type 0 where
   pub absent : Reply
   pub no_cell : IsNoCell absent
   pub calls : exchanges ≡ (record { call = count_lookup setting verdict; reply = absent }) ∷ []
@@ -91,7 +91,7 @@ flow_lookups_due frame records = if gets_to_note frame records then 1 else 0
 
 -- ---- the result
 
-pub record IsResult (setting : Setting) (frame : FrameView) (exchanges : List Exchange) (verdict : Verdict) (left : FrameView) :
+pub record IsResult (setting : SteeringSizes) (frame : FrameView) (exchanges : List Exchange) (verdict : Verdict) (left : FrameView) :
     Type 0 where
   -- the rule chose this by these records
   pub records : Records

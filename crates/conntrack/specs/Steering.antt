@@ -36,14 +36,14 @@ use Rattle.conntrack.specs.SteeringRule.{choice_for_service, tracked_choice, fit
 use Rattle.block_runs.specs.Plan.{Plan, Asks, Ends, either}
 
 -- how many shards each map has, and how many slots the lookup table
-pub record Setting : Type 0 where
+pub record SteeringSizes : Type 0 where
   pub shards : ℕ
   pub size : ℕ
 
 -- ---- calls on the maps
 
 -- the number of the shard that has a key
-abbrev pub shard_of : Setting → SteeringMap → List ℕ → ℕ
+abbrev pub shard_of : SteeringSizes → SteeringMap → List ℕ → ℕ
 shard_of setting map key = shard_of_key (map_place map) (map_kind map) setting.shards key
 
 -- a lookup: the plan goes on with the cell that was found, or without one
@@ -51,14 +51,14 @@ abbrev pub found_or : (CellRef → Plan) → Plan → Reply → Plan
 found_or found absent (Cell cell) = found cell
 found_or found absent reply = absent
 
-abbrev pub look : Setting → SteeringMap → List ℕ → (CellRef → Plan) → Plan → Plan
+abbrev pub look : SteeringSizes → SteeringMap → List ℕ → (CellRef → Plan) → Plan → Plan
 look setting map key found absent = Asks (Lookup (shard_of setting map key) key) (found_or found absent)
 
 abbrev pub read : CellRef → ℕ → ℕ → (ℕ → Plan) → Plan
 read cell offset size on = Asks (Load cell offset size) (λ reply. on (word_in reply))
 
 -- the record of eight bytes that a key has, as one number; or none
-abbrev pub record_of : Setting → SteeringMap → List ℕ → (ℕ → Plan) → Plan → Plan
+abbrev pub record_of : SteeringSizes → SteeringMap → List ℕ → (ℕ → Plan) → Plan → Plan
 record_of setting map key known absent = look setting map key (λ cell. read cell 0 8 known) absent
 
 -- ---- frames
@@ -81,7 +81,7 @@ abbrev pub count_call : CellRef → Call
 count_call cell = Atomic cell 0 8 0 1 0
 
 -- the verdict's count is raised by one, and the run ends
-abbrev pub counted : Setting → Verdict → FrameView → Plan
+abbrev pub counted : SteeringSizes → Verdict → FrameView → Plan
 counted setting verdict frame =
     look setting Stats (bytes_of_number 4 (verdict_number verdict))
     (λ cell. Asks (count_call cell) (λ reply. Ends verdict frame)) (Ends verdict frame)
@@ -91,16 +91,16 @@ abbrev pub choice_in : List ℕ → Records → Choice
 choice_in frame records = if has_flow frame then choice_for_service (fits_tunnel frame) records records.vip else Pass
 
 -- the chosen backend is noted for the flow, where the rule says so
-abbrev pub noting : Setting → Option (List ℕ × List ℕ) → Plan → Plan
+abbrev pub noting : SteeringSizes → Option (List ℕ × List ℕ) → Plan → Plan
 noting setting None onward = onward
 noting setting (Some note) onward = Asks (Update (shard_of setting Flows note.0) note.0 note.1 (flags_number Any)) (λ reply. onward)
 
 -- a choice carried out: the note, the verdict's count, the verdict and the frame
-abbrev pub ending : Setting → FrameView → Option TunnelRecord → Choice → Plan
+abbrev pub ending : SteeringSizes → FrameView → Option TunnelRecord → Choice → Plan
 ending setting frame tunnel choice =
     noting setting (flow_update frame.bytes choice) (counted setting (verdict_of_choice choice) (frame_after tunnel choice frame))
 
-abbrev pub finish : Setting → FrameView → Records → Plan
+abbrev pub finish : SteeringSizes → FrameView → Records → Plan
 finish setting frame records = ending setting frame records.tunnel (choice_in frame.bytes records)
 
 -- ---- which records are read
@@ -109,30 +109,30 @@ abbrev pub no_records : Records
 no_records = record { vip = None; tunnel = None; tracked = None; slot = None }
 
 -- a backend's record, by its number
-abbrev pub read_backend : Setting → ℕ → (Assigned → Plan) → Plan
+abbrev pub read_backend : SteeringSizes → ℕ → (Assigned → Plan) → Plan
 read_backend setting number on =
     record_of setting Backends (bytes_of_number 4 number)
     (λ word. on (record { number = number; «record» = Some (backend_of (bytes_of_number 8 word)) }))
     (on (record { number = number; «record» = None }))
 
 -- the owner of the flow's slot
-abbrev pub read_owner : Setting → FrameView → Records → Option ℕ → Plan
+abbrev pub read_owner : SteeringSizes → FrameView → Records → Option ℕ → Plan
 read_owner setting frame records None = finish setting frame records
 read_owner setting frame records (Some number) =
     read_backend setting number (λ assigned. finish setting frame (record records { slot = Some assigned }))
 
-abbrev pub read_slot : Setting → FrameView → Records → Plan
+abbrev pub read_slot : SteeringSizes → FrameView → Records → Plan
 read_slot setting frame records =
     look setting Ring (bytes_of_number 4 (fnv1a64_of (flow_bytes_of frame.bytes) % setting.size))
     (λ cell. read cell 0 4 (λ word. read_owner setting frame records (owner_of word)))
     (finish setting frame records)
 
 -- the slot is read where the noted backend does not get the frame
-abbrev pub unless_tracked : Setting → FrameView → Records → Option Choice → Plan
+abbrev pub unless_tracked : SteeringSizes → FrameView → Records → Option Choice → Plan
 unless_tracked setting frame records (Some choice) = finish setting frame records
 unless_tracked setting frame records None = read_slot setting frame records
 
-abbrev pub read_note : Setting → FrameView → VipRecord → Records → Plan
+abbrev pub read_note : SteeringSizes → FrameView → VipRecord → Records → Plan
 read_note setting frame vip records =
     either vip.is_notrack (read_slot setting frame records)
     (record_of setting Flows (flow_bytes_of frame.bytes)
@@ -142,7 +142,7 @@ read_note setting frame vip records =
     (read_slot setting frame records))
 
 -- the tunnel's record: first whether it is ready, and then its addresses
-abbrev pub read_tunnel : Setting → FrameView → VipRecord → Records → Plan
+abbrev pub read_tunnel : SteeringSizes → FrameView → VipRecord → Records → Plan
 read_tunnel setting frame vip records =
     look setting Ctl (bytes_of_number 4 0)
     (λ cell. read cell 16 8 (λ state.
@@ -154,16 +154,16 @@ read_tunnel setting frame vip records =
     (finish setting frame records)
 
 -- a packet that can go through the tunnel gets on
-abbrev pub pass_guard : Setting → FrameView → VipRecord → Plan
+abbrev pub pass_guard : SteeringSizes → FrameView → VipRecord → Plan
 pass_guard setting frame vip =
     either (fits_tunnel frame.bytes) (read_tunnel setting frame vip (record no_records { vip = Some vip }))
     (finish setting frame (record no_records { vip = Some vip }))
 
-abbrev pub read_service : Setting → FrameView → Plan
+abbrev pub read_service : SteeringSizes → FrameView → Plan
 read_service setting frame =
     record_of setting Vips (service_bytes_of frame.bytes) (λ word. pass_guard setting frame (vip_of (bytes_of_number 8 word)))
     (finish setting frame no_records)
 
 -- the whole rule: a frame without a flow reads nothing
-abbrev pub steering : Setting → FrameView → Plan
+abbrev pub steering : SteeringSizes → FrameView → Plan
 steering setting frame = either (has_flow frame.bytes) (read_service setting frame) (finish setting frame no_records)

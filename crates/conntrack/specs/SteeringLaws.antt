@@ -20,7 +20,7 @@ use Rattle.conntrack.specs.declared.choosing.Records.{Records}
 use Rattle.conntrack.specs.declared.choosing.Choice.TheVariants.{Tx}
 use Rattle.conntrack.specs.Layouts.{service_of, service_key, vip_of, flow_of, backend_of, tunnel_of}
 use Rattle.conntrack.specs.SteeringRule.{IsSteered, fits_tunnel}
-use Rattle.conntrack.specs.Steering.{Setting, steering, ending, choice_in, service_bytes_of}
+use Rattle.conntrack.specs.Steering.{SteeringSizes, steering, ending, choice_in, service_bytes_of}
 use Rattle.conntrack.specs.Results.{IsResult, count_lookup}
 
 -- the plan chooses by the records that it has read as the rule does, for every frame and all records
@@ -36,7 +36,7 @@ AsksForTheService =
 -- a run of the plan that is over is a result of the rule
 abbrev pub FinishedRunsAreResults : Type 0
 FinishedRunsAreResults =
-    (setting : Setting) (frame : FrameView) (exchanges : List Exchange) (verdict : Verdict) (left : FrameView) →
+    (setting : SteeringSizes) (frame : FrameView) (exchanges : List Exchange) (verdict : Verdict) (left : FrameView) →
     plan_outcome (steering setting frame) (replies_in exchanges) ≡ record { calls = calls_in exchanges; ending = Ended verdict left } →
     IsResult setting frame exchanges verdict left
 
@@ -52,13 +52,13 @@ pub record Asked (call : Call) (exchanges : List Exchange) : Type 0 where
 -- a run that does not look its verdict's count up, as one that counts nothing where it drops, is no result of the rule
 abbrev pub UncountedRunsAreNoResults : Type 0
 UncountedRunsAreNoResults =
-    (setting : Setting) (frame : FrameView) (exchanges : List Exchange) (verdict : Verdict) (left : FrameView) →
+    (setting : SteeringSizes) (frame : FrameView) (exchanges : List Exchange) (verdict : Verdict) (left : FrameView) →
     ¬ Asked (count_lookup setting verdict) exchanges → ¬ IsResult setting frame exchanges verdict left
 
 -- nor is a run that stores, as one that counts by a Load and a Store
 abbrev pub StoringRunsAreNoResults : Type 0
 StoringRunsAreNoResults =
-    (setting : Setting) (frame : FrameView) (exchanges : List Exchange) (verdict : Verdict) (left : FrameView)
+    (setting : SteeringSizes) (frame : FrameView) (exchanges : List Exchange) (verdict : Verdict) (left : FrameView)
     (cell : CellRef) (offset size value : ℕ) →
     Asked (Store cell offset size value) exchanges → ¬ IsResult setting frame exchanges verdict left
 
@@ -92,7 +92,7 @@ pub record FindsNote (tunnel : TunnelRecord) (number : ℕ) (backend : BackendRe
 -- the note
 abbrev pub FlowsStick : Type 0
 FlowsStick =
-    (setting : Setting) (frame : FrameView) (tunnel : TunnelRecord) (number : ℕ) (backend : BackendRecord) (replies : List Reply) →
+    (setting : SteeringSizes) (frame : FrameView) (tunnel : TunnelRecord) (number : ℕ) (backend : BackendRecord) (replies : List Reply) →
     HasFlow frame.bytes → fits_tunnel frame.bytes ≡ true → tunnel.is_ready ≡ true → backend.is_up ≡ true →
     FindsNote tunnel number backend replies →
     plan_after (steering setting frame) replies ≡ ending setting frame (Some tunnel) (Tx number backend.address false)

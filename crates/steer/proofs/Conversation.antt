@@ -10,7 +10,7 @@ use Rattle.semantics.specs.declared.verdict.Verdict.TheVariants as V
 use Rattle.semantics.specs.LittleEndian.{bytes_of_number}
 use Rattle.semantics.specs.Program.{shard_of_key}
 use Rattle.block_runs.specs.Plan.{Plan, Asks, either}
-use Rattle.conntrack.specs.Steering.{Setting, look, read, record_of, counted, has_flow, service_bytes_of}
+use Rattle.conntrack.specs.Steering.{SteeringSizes, look, read, record_of, counted, has_flow, service_bytes_of}
 use Rattle.steer.proofs.Tunnelling.{tunnelled}
 use Rattle.conntrack.specs.declared.steering_maps.SteeringMap.TheVariants as M
 
@@ -28,19 +28,19 @@ is_ready state = state % 2 ^ 32 == 1
 -- ---- the rule
 
 -- to the backend with this record
-abbrev pub sent : Setting → ℕ → ℕ → ℕ → FrameView → Plan
+abbrev pub sent : SteeringSizes → ℕ → ℕ → ℕ → FrameView → Plan
 sent setting source macs backend frame = counted setting V.Tx (tunnelled frame source macs backend)
 
-abbrev pub dropped : Setting → FrameView → Plan
+abbrev pub dropped : SteeringSizes → FrameView → Plan
 dropped setting frame = counted setting V.Drop frame
 
 -- this backend is noted for the flow
-abbrev pub noted : Setting → ℕ → FrameView → Plan → Plan
+abbrev pub noted : SteeringSizes → ℕ → FrameView → Plan → Plan
 noted setting number frame onward =
     Asks (Update (shard_of_key 1 LruHash setting.shards (flow_bytes_of frame.bytes)) (flow_bytes_of frame.bytes) (bytes_of_number 8 number) 0) (λ reply. onward)
 
 -- the owner of the flow's slot, if it is up
-abbrev pub by_ring : Setting → ℕ → ℕ → ℕ → FrameView → Plan
+abbrev pub by_ring : SteeringSizes → ℕ → ℕ → ℕ → FrameView → Plan
 by_ring setting flags source macs frame =
     look setting M.Ring (bytes_of_number 4 (fnv1a64_of (flow_bytes_of frame.bytes) % setting.size)) (λ cell. read cell 0 4 (λ owner.
     either (owner == 0) (dropped setting frame)
@@ -52,7 +52,7 @@ by_ring setting flags source macs frame =
     (dropped setting frame)
 
 -- the backend that was noted for the flow, if it is up
-abbrev pub by_note : Setting → ℕ → ℕ → ℕ → FrameView → Plan
+abbrev pub by_note : SteeringSizes → ℕ → ℕ → ℕ → FrameView → Plan
 by_note setting flags source macs frame =
     either (is_notrack flags) (by_ring setting flags source macs frame)
     (record_of setting M.Flows (flow_bytes_of frame.bytes) (λ note.
@@ -62,7 +62,7 @@ by_note setting flags source macs frame =
     (by_ring setting flags source macs frame))
 
 -- a packet that fits through the tunnel, where that is set up
-abbrev pub by_tunnel : Setting → ℕ → FrameView → Plan
+abbrev pub by_tunnel : SteeringSizes → ℕ → FrameView → Plan
 by_tunnel setting flags frame =
     either (time_to_live frame.bytes == 0) (dropped setting frame)
     (either (nat_lt 1480 (total_length frame.bytes)) (dropped setting frame)
@@ -73,9 +73,9 @@ by_tunnel setting flags frame =
     (dropped setting frame)))
 
 -- a flow for a service
-abbrev pub by_service : Setting → FrameView → Plan
+abbrev pub by_service : SteeringSizes → FrameView → Plan
 by_service setting frame =
     record_of setting M.Vips (service_bytes_of frame.bytes) (λ flags. by_tunnel setting flags frame) (counted setting V.Pass frame)
 
-abbrev pub steered : Setting → FrameView → Plan
+abbrev pub steered : SteeringSizes → FrameView → Plan
 steered setting frame = either (has_flow frame.bytes) (by_service setting frame) (counted setting V.Pass frame)

@@ -10,7 +10,7 @@ use Rattle.semantics.specs.MachineState.{MachineState, StackByte}
 use Rattle.semantics.specs.Semantics.{verdict_number}
 use Rattle.block_runs.specs.Plan.{Plan, Ends}
 use Rattle.block_runs.proofs.shared.Blocks.{Promise, Meets, Arrives}
-use Rattle.conntrack.specs.Steering.{Setting, counted}
+use Rattle.conntrack.specs.Steering.{SteeringSizes, counted}
 use Rattle.steer.proofs.Promises.{AtEnd, AtCount, AtVerdict, program, promise, after_count, End, Count, Drop}
 use Rattle.steer.specs.PartStarts.{with_r6, any_stack, reg, place}
 use Rattle.block_runs.proofs.shared.SpelledStates.{spelled, as_spelled}
@@ -19,7 +19,7 @@ use Rattle.steer.specs.ShippedProgram.{count_block, end_block, pass_block, drop_
 
 -- ---- the end
 
-end_from : (leaves : Promise) (setting : Setting) (code : List Insn) (verdict : Verdict) (r : ℕ → RegisterValue) (stack : List StackByte) (frame : FrameView)
+end_from : (leaves : Promise) (setting : SteeringSizes) (code : List Insn) (verdict : Verdict) (r : ℕ → RegisterValue) (stack : List StackByte) (frame : FrameView)
     (generation worker now steps : ℕ) →
     Meets leaves (program setting code) end_block (spelled 217 (with_r6 (Number (verdict_number verdict)) (r 7) (r 8) (r 9) r) stack frame generation worker now steps)
     (Ends verdict frame)
@@ -29,7 +29,7 @@ end_from leaves setting code V.Drop r stack frame generation worker now steps = 
 end_from leaves setting code V.Pass r stack frame generation worker now steps = (refl, refl)
 end_from leaves setting code V.Tx r stack frame generation worker now steps = (refl, refl)
 
-pub end_meets : (leaves : Promise) (setting : Setting) (code : List Insn) (state : MachineState) (plan : Plan) → AtEnd setting state plan →
+pub end_meets : (leaves : Promise) (setting : SteeringSizes) (code : List Insn) (state : MachineState) (plan : Plan) → AtEnd setting state plan →
     Meets leaves (program setting code) end_block state plan
 end_meets leaves setting code state plan at =
     as_spelled (Meets leaves (program setting code) end_block) state plan _ 217 _ _ _ at.slot at.registers refl refl at.plan_is
@@ -37,7 +37,7 @@ end_meets leaves setting code state plan at =
 
 -- ---- the count
 
-count_from : (setting : Setting) (code : List Insn) (verdict : Verdict) (r : ℕ → RegisterValue) (p : ℕ → StackByte) (frame : FrameView)
+count_from : (setting : SteeringSizes) (code : List Insn) (verdict : Verdict) (r : ℕ → RegisterValue) (p : ℕ → StackByte) (frame : FrameView)
     (generation worker now steps : ℕ) →
     Meets (after_count setting) (program setting code) count_block
     (spelled 208 (with_r6 (Number (verdict_number verdict)) (r 7) (r 8) (r 9) r) (any_stack p) frame generation worker now steps) (counted setting verdict frame)
@@ -50,7 +50,7 @@ count_from setting code verdict r p frame generation worker now steps = (
   ),
 )
 
-pub count_meets : (setting : Setting) (code : List Insn) (state : MachineState) (plan : Plan) → AtCount setting state plan →
+pub count_meets : (setting : SteeringSizes) (code : List Insn) (state : MachineState) (plan : Plan) → AtCount setting state plan →
     Meets (after_count setting) (program setting code) count_block state plan
 count_meets setting code state plan at =
     as_spelled (Meets (after_count setting) (program setting code) count_block) state plan _ 208 _ _ _ at.here.slot at.here.registers at.here.stack refl at.plan_is
@@ -58,7 +58,7 @@ count_meets setting code state plan at =
 
 -- ---- the verdicts
 
-drop_from : (setting : Setting) (code : List Insn) (r : ℕ → RegisterValue) (p : ℕ → StackByte) (frame : FrameView)
+drop_from : (setting : SteeringSizes) (code : List Insn) (r : ℕ → RegisterValue) (p : ℕ → StackByte) (frame : FrameView)
     (generation worker now steps : ℕ) →
     Meets (Arrives (promise setting) 208 ((Count, count_block) ∷ (End, end_block) ∷ [])) (program setting code) drop_block
     (spelled 207 (with_r6 (r 6) (r 7) (r 8) (r 9) r) (any_stack p) frame generation worker now steps) (counted setting V.Drop frame)
@@ -66,7 +66,7 @@ unfolding slot_count
 drop_from setting code r p frame generation worker now steps =
     record { verdict = V.Drop; here = record { slot = refl; registers = refl; stack = refl }; plan_is = refl }
 
-pass_from : (setting : Setting) (code : List Insn) (r : ℕ → RegisterValue) (p : ℕ → StackByte) (frame : FrameView)
+pass_from : (setting : SteeringSizes) (code : List Insn) (r : ℕ → RegisterValue) (p : ℕ → StackByte) (frame : FrameView)
     (generation worker now steps : ℕ) →
     Meets (Arrives (promise setting) 207 ((Drop, drop_block) ∷ (Count, count_block) ∷ (End, end_block) ∷ [])) (program setting code) pass_block
     (spelled 205 (with_r6 (r 6) (r 7) (r 8) (r 9) r) (any_stack p) frame generation worker now steps) (counted setting V.Pass frame)
@@ -74,14 +74,14 @@ unfolding slot_count
 pass_from setting code r p frame generation worker now steps =
     record { verdict = V.Pass; here = record { slot = refl; registers = refl; stack = refl }; plan_is = refl }
 
-pub drop_meets : (setting : Setting) (code : List Insn) (state : MachineState) (plan : Plan) → AtVerdict 207 V.Drop setting state plan →
+pub drop_meets : (setting : SteeringSizes) (code : List Insn) (state : MachineState) (plan : Plan) → AtVerdict 207 V.Drop setting state plan →
     Meets (Arrives (promise setting) 208 ((Count, count_block) ∷ (End, end_block) ∷ [])) (program setting code) drop_block state plan
 drop_meets setting code state plan at =
     as_spelled (Meets (Arrives (promise setting) 208 ((Count, count_block) ∷ (End, end_block) ∷ [])) (program setting code) drop_block) state plan _ 207 _ _ _
     at.here.slot at.here.registers at.here.stack refl at.plan_is
     (drop_from setting code (reg state.registers) (place state.stack) state.frame state.generation state.worker state.now state.steps)
 
-pub pass_meets : (setting : Setting) (code : List Insn) (state : MachineState) (plan : Plan) → AtVerdict 205 V.Pass setting state plan →
+pub pass_meets : (setting : SteeringSizes) (code : List Insn) (state : MachineState) (plan : Plan) → AtVerdict 205 V.Pass setting state plan →
     Meets (Arrives (promise setting) 207 ((Drop, drop_block) ∷ (Count, count_block) ∷ (End, end_block) ∷ [])) (program setting code) pass_block state plan
 pass_meets setting code state plan at =
     as_spelled (Meets (Arrives (promise setting) 207 ((Drop, drop_block) ∷ (Count, count_block) ∷ (End, end_block) ∷ [])) (program setting code) pass_block) state plan _ 205 _ _ _

@@ -11,7 +11,7 @@ use Rattle.semantics.specs.RegisterValue.{RegisterValue, Number, Uninitialized, 
 use Rattle.semantics.specs.MachineState.{MachineState, Unwritten, initial_registers}
 use Rattle.block_runs.specs.Plan.{Plan, either}
 use Rattle.block_runs.proofs.shared.Blocks.{Meets, Arrives}
-use Rattle.conntrack.specs.Steering.{Setting, counted}
+use Rattle.conntrack.specs.Steering.{SteeringSizes, counted}
 use Rattle.steer.proofs.Conversation.{steered, by_service}
 use Rattle.steer.proofs.Promises.{AtFlow, program, promise, came_in, from_key}
 use Rattle.steer.specs.PartStarts.{IsLong, long_frame, packet_start}
@@ -26,7 +26,7 @@ ninth : (a b c d e f g h i : RegisterValue) (m n : ℕ) (j : RegisterValue) → 
     a ∷ b ∷ c ∷ d ∷ e ∷ f ∷ g ∷ h ∷ i ∷ Number m ∷ j ∷ [] ≡ a ∷ b ∷ c ∷ d ∷ e ∷ f ∷ g ∷ h ∷ i ∷ Number n ∷ j ∷ []
 ninth a b c d e f g h i m n j same = ap (λ k. a ∷ b ∷ c ∷ d ∷ e ∷ f ∷ g ∷ h ∷ i ∷ Number k ∷ j ∷ []) same
 
-abbrev FlowFrom : Setting → List Insn → ℕ → ℕ → ℕ → FrameView → Type 0
+abbrev FlowFrom : SteeringSizes → List Insn → ℕ → ℕ → ℕ → FrameView → Type 0
 FlowFrom setting code worker now steps frame =
     Meets (Arrives (promise setting) 23 (from_key setting)) (program setting code) flow_block
     (spelled 0 initial_registers (replicate 512 Unwritten) frame 0 worker now steps) (steered setting frame)
@@ -37,12 +37,12 @@ looked two three nine =
     Uninitialized ∷ ContextPointer ∷ two ∷ three ∷ Uninitialized ∷ Uninitialized ∷ ContextPointer ∷ packet_start ∷ PacketEnd 0 ∷ nine ∷ StackPointer (pos 0) ∷ []
 
 -- from a slot of the block on
-abbrev FlowRest : Setting → List Insn → ℕ → ℕ → ℕ → (ℕ → ℕ) → List ℕ → ℕ → List RegisterValue → Type 0
+abbrev FlowRest : SteeringSizes → List Insn → ℕ → ℕ → ℕ → (ℕ → ℕ) → List ℕ → ℕ → List RegisterValue → Type 0
 FlowRest setting code worker now steps byte rest from registers =
     Meets (Arrives (promise setting) 23 (from_key setting)) (program setting code) (drop from flow_block)
     (spelled from registers (replicate 512 Unwritten) (came_in byte rest) 0 worker now steps) (steered setting (came_in byte rest))
 
-module _ (setting : Setting) (code : List Insn) (worker now : ℕ) (byte : ℕ → ℕ) (rest : List ℕ) (are : (n : ℕ) → byte n < 256)
+module _ (setting : SteeringSizes) (code : List Insn) (worker now : ℕ) (byte : ℕ → ℕ) (rest : List ℕ) (are : (n : ℕ) → byte n < 256)
     (are_all : (n : ℕ) → slice_index (long_frame byte rest) n < 256) (most : length (long_frame byte rest) ≤ 2048) where
   long : byte 16 * 256 + byte 17 ≤ 2034 → IsLong (came_in byte rest)
   long short = record { bytes = refl; headroom = refl; are_bytes = are_all; short = short }
@@ -112,7 +112,7 @@ module _ (setting : Setting) (code : List Insn) (worker now : ℕ) (byte : ℕ �
   long_from steps = falls _ _ _ _ _ _ (flow_6 _ (PacketPointer 0 (pos 42)) Uninitialized Uninitialized)
 
 -- a frame of fewer than 42 bytes
-short_from : (setting : Setting) (code : List Insn) (worker now steps : ℕ) (frame : FrameView) → reaches 42 frame.bytes ≡ false →
+short_from : (setting : SteeringSizes) (code : List Insn) (worker now steps : ℕ) (frame : FrameView) → reaches 42 frame.bytes ≡ false →
     FlowFrom setting code worker now steps frame
 unfolding slot_count
 short_from setting code worker now steps frame short =
@@ -137,7 +137,7 @@ pub spelled_out : (bytes : List ℕ) → reaches 42 bytes ≡ true → bytes ≡
 spelled_out (a0 ∷ a1 ∷ a2 ∷ a3 ∷ a4 ∷ a5 ∷ a6 ∷ a7 ∷ a8 ∷ a9 ∷ a10 ∷ a11 ∷ a12 ∷ a13 ∷ a14 ∷ a15 ∷ a16 ∷ a17 ∷ a18 ∷ a19 ∷ a20 ∷ a21 ∷ a22 ∷ a23 ∷ a24 ∷ a25 ∷ a26 ∷ a27 ∷ a28 ∷ a29 ∷ a30 ∷ a31 ∷ a32 ∷ a33 ∷ a34 ∷ a35 ∷ a36 ∷ a37 ∷ a38 ∷ a39 ∷ a40 ∷ a41 ∷ rest) far = refl
 spelled_out _ far = absurd cc
 
-long_frames : (setting : Setting) (code : List Insn) (worker now steps : ℕ) (frame : FrameView) → IsInput frame → reaches 42 frame.bytes ≡ true →
+long_frames : (setting : SteeringSizes) (code : List Insn) (worker now steps : ℕ) (frame : FrameView) → IsInput frame → reaches 42 frame.bytes ≡ true →
     FlowFrom setting code worker now steps frame
 unfolding IsInput
 long_frames setting code worker now steps frame input far =
@@ -148,12 +148,12 @@ long_frames setting code worker now steps frame input far =
     (subst (λ (bytes : List ℕ). (n : ℕ) → slice_index bytes n < 256) spelled_bytes input.2)
     (subst (λ (bytes : List ℕ). length bytes ≤ 2048) spelled_bytes input.1) steps)
 
-flow_from : (setting : Setting) (code : List Insn) (worker now steps : ℕ) (frame : FrameView) → IsInput frame → (far : Bool) → reaches 42 frame.bytes ≡ far →
+flow_from : (setting : SteeringSizes) (code : List Insn) (worker now steps : ℕ) (frame : FrameView) → IsInput frame → (far : Bool) → reaches 42 frame.bytes ≡ far →
     FlowFrom setting code worker now steps frame
 flow_from setting code worker now steps frame input true far = long_frames setting code worker now steps frame input far
 flow_from setting code worker now steps frame input false short = short_from setting code worker now steps frame short
 
-pub flow_meets : (setting : Setting) (code : List Insn) (state : MachineState) (plan : Plan) → AtFlow setting state plan →
+pub flow_meets : (setting : SteeringSizes) (code : List Insn) (state : MachineState) (plan : Plan) → AtFlow setting state plan →
     Meets (Arrives (promise setting) 23 (from_key setting)) (program setting code) flow_block state plan
 unfolding IsInput
 flow_meets setting code state plan at =

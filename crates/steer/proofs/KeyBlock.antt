@@ -11,7 +11,7 @@ use Rattle.semantics.specs.RegisterValue.{RegisterValue, Number, StackPointer, C
 use Rattle.semantics.specs.MachineState.{MachineState, StackByte}
 use Rattle.block_runs.specs.Plan.{Plan}
 use Rattle.block_runs.proofs.shared.Blocks.{Meets, Arrives}
-use Rattle.conntrack.specs.Steering.{Setting}
+use Rattle.conntrack.specs.Steering.{SteeringSizes}
 use Rattle.steer.proofs.Conversation.{by_service}
 use Rattle.steer.proofs.Promises.{AtKey, program, promise, came_in, is_came_in, from_vip}
 use Rattle.steer.specs.PartStarts.{IsLong, packet_start, any_stack, cells, reg, place}
@@ -19,14 +19,14 @@ use Rattle.block_runs.proofs.shared.SpelledStates.{spelled, as_spelled}
 use Rattle.steer.proofs.NumberLemmas.{small_cells, bytes_back, upper_four, port_word, one_byte_word}
 use Rattle.steer.specs.ShippedProgram.{key_block}
 
-abbrev KeyFrom : Setting → List Insn → (ℕ → RegisterValue) → (ℕ → StackByte) → ℕ → ℕ → ℕ → FrameView → Type 0
+abbrev KeyFrom : SteeringSizes → List Insn → (ℕ → RegisterValue) → (ℕ → StackByte) → ℕ → ℕ → ℕ → FrameView → Type 0
 KeyFrom setting code r p worker now steps frame =
     Meets (Arrives (promise setting) 34 (from_vip setting)) (program setting code) key_block
     (spelled 23 (r 0 ∷ r 1 ∷ r 2 ∷ r 3 ∷ Number (slice_index frame.bytes 23) ∷ r 5 ∷ ContextPointer ∷ packet_start ∷ r 8 ∷ Number (total_length frame.bytes) ∷ StackPointer (pos 0) ∷ [])
     (any_stack p) frame 0 worker now steps)
     (by_service setting frame)
 
-key_from : (setting : Setting) (code : List Insn) (r : ℕ → RegisterValue) (p : ℕ → StackByte) (worker now steps : ℕ) (byte : ℕ → ℕ) (rest : List ℕ) →
+key_from : (setting : SteeringSizes) (code : List Insn) (r : ℕ → RegisterValue) (p : ℕ → StackByte) (worker now steps : ℕ) (byte : ℕ → ℕ) (rest : List ℕ) →
     ((n : ℕ) → byte n < 256) → IsLong (came_in byte rest) → KeyFrom setting code r p worker now steps (came_in byte rest)
 unfolding slot_count
 key_from setting code r p worker now steps byte rest are long =
@@ -51,7 +51,7 @@ key_from setting code r p worker now steps byte rest are long =
       plan_is = refl;
     }
 
-pub key_meets : (setting : Setting) (code : List Insn) (state : MachineState) (plan : Plan) → AtKey setting state plan →
+pub key_meets : (setting : SteeringSizes) (code : List Insn) (state : MachineState) (plan : Plan) → AtKey setting state plan →
     Meets (Arrives (promise setting) 34 (from_vip setting)) (program setting code) key_block state plan
 key_meets setting code state plan at =
     as_spelled (Meets (Arrives (promise setting) 34 (from_vip setting)) (program setting code) key_block) state plan _ 23 _ _ 0

@@ -19,7 +19,7 @@ use Rattle.semantics.specs.RegisterValue.{RegisterValue, Number, ContextPointer}
 use Rattle.semantics.specs.MachineState.{MachineState, StackByte}
 use Rattle.block_runs.specs.Plan.{Plan}
 use Rattle.block_runs.proofs.shared.Blocks.{Meets, Arrives}
-use Rattle.conntrack.specs.Steering.{Setting, service_bytes_of}
+use Rattle.conntrack.specs.Steering.{SteeringSizes, service_bytes_of}
 use Rattle.steer.proofs.Conversation.{by_service, by_tunnel, by_note, by_ring, is_up}
 use Rattle.steer.proofs.Promises.{AtVip, AtGuards, AtTracking, AtHash, AtRing, program, promise, came_in, is_came_in, from_guards}
 use Rattle.steer.proofs.Promises.{from_tracking, from_hash, from_ring, from_tunnel}
@@ -30,14 +30,14 @@ use Rattle.steer.specs.ShippedProgram.{vip_block, guards_block, tracking_block, 
 
 -- ---- the service
 
-abbrev VipFrom : Setting → List Insn → (ℕ → RegisterValue) → (ℕ → StackByte) → ℕ → ℕ → ℕ → FrameView → Type 0
+abbrev VipFrom : SteeringSizes → List Insn → (ℕ → RegisterValue) → (ℕ → StackByte) → ℕ → ℕ → ℕ → FrameView → Type 0
 VipFrom setting code r p worker now steps frame =
     Meets (Arrives (promise setting) 41 (from_guards setting)) (program setting code) vip_block
     (spelled 34 (with_r6 ContextPointer packet_start (r 8) (Number (total_length frame.bytes)) r)
     (service_stack p (service_bytes_of frame.bytes) (flow_bytes_of frame.bytes)) frame 0 worker now steps)
     (by_service setting frame)
 
-vip_from : (setting : Setting) (code : List Insn) (r : ℕ → RegisterValue) (p : ℕ → StackByte) (worker now steps : ℕ) (byte : ℕ → ℕ) (rest : List ℕ) →
+vip_from : (setting : SteeringSizes) (code : List Insn) (r : ℕ → RegisterValue) (p : ℕ → StackByte) (worker now steps : ℕ) (byte : ℕ → ℕ) (rest : List ℕ) →
     IsLong (came_in byte rest) → VipFrom setting code r p worker now steps (came_in byte rest)
 unfolding slot_count
 vip_from setting code r p worker now steps byte rest long = (
@@ -48,7 +48,7 @@ vip_from setting code r p worker now steps byte rest long = (
   ),
 )
 
-pub vip_meets : (setting : Setting) (code : List Insn) (state : MachineState) (plan : Plan) → AtVip setting state plan →
+pub vip_meets : (setting : SteeringSizes) (code : List Insn) (state : MachineState) (plan : Plan) → AtVip setting state plan →
     Meets (Arrives (promise setting) 41 (from_guards setting)) (program setting code) vip_block state plan
 vip_meets setting code state plan at =
     as_spelled (Meets (Arrives (promise setting) 41 (from_guards setting)) (program setting code) vip_block) state plan _ 34 _ _ 0
@@ -63,14 +63,14 @@ not_not false = refl
 
 -- ---- guards
 
-abbrev GuardsFrom : Setting → List Insn → ℕ → (ℕ → RegisterValue) → (ℕ → StackByte) → ℕ → ℕ → ℕ → FrameView → Type 0
+abbrev GuardsFrom : SteeringSizes → List Insn → ℕ → (ℕ → RegisterValue) → (ℕ → StackByte) → ℕ → ℕ → ℕ → FrameView → Type 0
 GuardsFrom setting code flags r p worker now steps frame =
     Meets (Arrives (promise setting) 57 (from_tracking setting)) (program setting code) guards_block
     (spelled 41 (with_r6 ContextPointer packet_start (Number flags) (Number (total_length frame.bytes)) r)
     (flow_stack p (flow_bytes_of frame.bytes)) frame 0 worker now steps)
     (by_tunnel setting flags frame)
 
-guards_from : (setting : Setting) (code : List Insn) (flags : ℕ) (r : ℕ → RegisterValue) (p : ℕ → StackByte) (worker now steps : ℕ) (byte : ℕ → ℕ) (rest : List ℕ) →
+guards_from : (setting : SteeringSizes) (code : List Insn) (flags : ℕ) (r : ℕ → RegisterValue) (p : ℕ → StackByte) (worker now steps : ℕ) (byte : ℕ → ℕ) (rest : List ℕ) →
     IsLong (came_in byte rest) → GuardsFrom setting code flags r p worker now steps (came_in byte rest)
 unfolding slot_count
 guards_from setting code flags r p worker now steps byte rest long =
@@ -96,7 +96,7 @@ guards_from setting code flags r p worker now steps byte rest long =
       ),
     )))
 
-pub guards_meets : (setting : Setting) (code : List Insn) (state : MachineState) (plan : Plan) → AtGuards setting state plan →
+pub guards_meets : (setting : SteeringSizes) (code : List Insn) (state : MachineState) (plan : Plan) → AtGuards setting state plan →
     Meets (Arrives (promise setting) 57 (from_tracking setting)) (program setting code) guards_block state plan
 guards_meets setting code state plan at =
     as_spelled (Meets (Arrives (promise setting) 57 (from_tracking setting)) (program setting code) guards_block) state plan _ 41 _ _ 0
@@ -107,14 +107,14 @@ guards_meets setting code state plan at =
 
 -- ---- tracking
 
-abbrev TrackingFrom : Setting → List Insn → ℕ → ℕ → ℕ → (ℕ → RegisterValue) → (ℕ → StackByte) → ℕ → ℕ → ℕ → FrameView → Type 0
+abbrev TrackingFrom : SteeringSizes → List Insn → ℕ → ℕ → ℕ → (ℕ → RegisterValue) → (ℕ → StackByte) → ℕ → ℕ → ℕ → FrameView → Type 0
 TrackingFrom setting code flags source macs r p worker now steps frame =
     Meets (Arrives (promise setting) 76 (from_hash setting)) (program setting code) tracking_block
     (spelled 57 (with_r6 ContextPointer packet_start (Number flags) (r 9) r)
     (tunnel_stack p source macs (flow_bytes_of frame.bytes)) frame 0 worker now steps)
     (by_note setting flags source macs frame)
 
-tracking_from : (setting : Setting) (code : List Insn) (flags source macs : ℕ) (r : ℕ → RegisterValue) (p : ℕ → StackByte) (worker now steps : ℕ) (byte : ℕ → ℕ) (rest : List ℕ) →
+tracking_from : (setting : SteeringSizes) (code : List Insn) (flags source macs : ℕ) (r : ℕ → RegisterValue) (p : ℕ → StackByte) (worker now steps : ℕ) (byte : ℕ → ℕ) (rest : List ℕ) →
     IsLong (came_in byte rest) → TrackingFrom setting code flags source macs r p worker now steps (came_in byte rest)
 unfolding slot_count
 tracking_from setting code flags source macs r p worker now steps byte rest long =
@@ -142,7 +142,7 @@ tracking_from setting code flags source macs r p worker now steps byte rest long
       ),
     ))
 
-pub tracking_meets : (setting : Setting) (code : List Insn) (state : MachineState) (plan : Plan) → AtTracking setting state plan →
+pub tracking_meets : (setting : SteeringSizes) (code : List Insn) (state : MachineState) (plan : Plan) → AtTracking setting state plan →
     Meets (Arrives (promise setting) 76 (from_hash setting)) (program setting code) tracking_block state plan
 tracking_meets setting code state plan at =
     as_spelled (Meets (Arrives (promise setting) 76 (from_hash setting)) (program setting code) tracking_block) state plan _ 57 _ _ 0
@@ -171,14 +171,14 @@ three_zero_bytes hash =
 first_number : (a b : ℕ) (rest : List RegisterValue) → a ≡ b → Number a ∷ rest ≡ Number b ∷ rest
 first_number a b rest same = ap (λ n. Number n ∷ rest) same
 
-abbrev HashFrom : Setting → List Insn → ℕ → ℕ → ℕ → (ℕ → RegisterValue) → (ℕ → StackByte) → ℕ → ℕ → ℕ → FrameView → Type 0
+abbrev HashFrom : SteeringSizes → List Insn → ℕ → ℕ → ℕ → (ℕ → RegisterValue) → (ℕ → StackByte) → ℕ → ℕ → ℕ → FrameView → Type 0
 HashFrom setting code flags source macs r p worker now steps frame =
     Meets (Arrives (promise setting) 122 (from_ring setting)) (program setting code) hash_block
     (spelled 76 (with_r6 ContextPointer packet_start (Number flags) (r 9) r)
     (tunnel_stack p source macs (flow_bytes_of frame.bytes)) frame 0 worker now steps)
     (by_ring setting flags source macs frame)
 
-hash_from : (setting : Setting) (code : List Insn) (flags source macs : ℕ) (r : ℕ → RegisterValue) (p : ℕ → StackByte) (worker now steps : ℕ) (byte : ℕ → ℕ) (rest : List ℕ) →
+hash_from : (setting : SteeringSizes) (code : List Insn) (flags source macs : ℕ) (r : ℕ → RegisterValue) (p : ℕ → StackByte) (worker now steps : ℕ) (byte : ℕ → ℕ) (rest : List ℕ) →
     IsLong (came_in byte rest) → HashFrom setting code flags source macs r p worker now steps (came_in byte rest)
 unfolding slot_count
 hash_from setting code flags source macs r p worker now steps byte rest long =
@@ -196,7 +196,7 @@ hash_from setting code flags source macs r p worker now steps byte rest long =
       plan_is = refl;
     }
 
-pub hash_meets : (setting : Setting) (code : List Insn) (state : MachineState) (plan : Plan) → AtHash setting state plan →
+pub hash_meets : (setting : SteeringSizes) (code : List Insn) (state : MachineState) (plan : Plan) → AtHash setting state plan →
     Meets (Arrives (promise setting) 122 (from_ring setting)) (program setting code) hash_block state plan
 hash_meets setting code state plan at =
     as_spelled (Meets (Arrives (promise setting) 122 (from_ring setting)) (program setting code) hash_block) state plan _ 76 _ _ 0
@@ -221,14 +221,14 @@ modulo a b some = ap (λ (t : Bool). if t then a else a % b) some
 one_less : (owner : ℕ) → owner < 256 ^ 4 → (owner == 0) ≡ false → (owner + 18446744073709551615) % 18446744073709551616 ≡ owner - 1
 one_less owner small some = grind (arith, nat_tests)
 
-abbrev RingFrom : Setting → List Insn → ℕ → ℕ → ℕ → (ℕ → RegisterValue) → (ℕ → StackByte) → ℕ → ℕ → ℕ → FrameView → Type 0
+abbrev RingFrom : SteeringSizes → List Insn → ℕ → ℕ → ℕ → (ℕ → RegisterValue) → (ℕ → StackByte) → ℕ → ℕ → ℕ → FrameView → Type 0
 RingFrom setting code flags source macs r p worker now steps frame =
     Meets (Arrives (promise setting) 153 (from_tunnel setting)) (program setting code) (ring_block setting.size)
     (spelled 122 (Number (fnv1a64_of (flow_bytes_of frame.bytes)) ∷ drop 1 (with_r6 ContextPointer packet_start (Number flags) (r 9) r))
     (tunnel_stack p source macs (flow_bytes_of frame.bytes)) frame 0 worker now steps)
     (by_ring setting flags source macs frame)
 
-ring_from : (setting : Setting) (code : List Insn) (flags source macs : ℕ) (r : ℕ → RegisterValue) (p : ℕ → StackByte) (worker now steps : ℕ) (byte : ℕ → ℕ) (rest : List ℕ) →
+ring_from : (setting : SteeringSizes) (code : List Insn) (flags source macs : ℕ) (r : ℕ → RegisterValue) (p : ℕ → StackByte) (worker now steps : ℕ) (byte : ℕ → ℕ) (rest : List ℕ) →
     IsLong (came_in byte rest) → (setting.size == 0) ≡ false → RingFrom setting code flags source macs r p worker now steps (came_in byte rest)
 unfolding slot_count
 ring_from setting code flags source macs r p worker now steps byte rest long some_size = (
@@ -261,7 +261,7 @@ ring_from setting code flags source macs r p worker now steps byte rest long som
   ),
 )
 
-pub ring_meets : (setting : Setting) (code : List Insn) → (setting.size == 0) ≡ false → (state : MachineState) (plan : Plan) → AtRing setting state plan →
+pub ring_meets : (setting : SteeringSizes) (code : List Insn) → (setting.size == 0) ≡ false → (state : MachineState) (plan : Plan) → AtRing setting state plan →
     Meets (Arrives (promise setting) 153 (from_tunnel setting)) (program setting code) (ring_block setting.size) state plan
 ring_meets setting code some state plan at =
     as_spelled (Meets (Arrives (promise setting) 153 (from_tunnel setting)) (program setting code) (ring_block setting.size)) state plan _ 122 _ _ 0

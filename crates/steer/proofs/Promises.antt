@@ -12,7 +12,7 @@ use Rattle.block_runs.specs.Plan.{Plan, Ends}
 use Rattle.steer.specs.PartStarts.{place, reg, with_r6, packet_start, any_stack, tunnel_stack, long_frame, IsLong, IsAt, FlowStart}
 use Rattle.steer.specs.PartStarts.{VipStart, GuardsStart, TrackingStart, RingStart, TunnelStart, VerdictStart, CountStart}
 use Rattle.block_runs.proofs.shared.Blocks.{Promise, Named, Arrives}
-use Rattle.conntrack.specs.Steering.{Setting, counted}
+use Rattle.conntrack.specs.Steering.{SteeringSizes, counted}
 use Rattle.steer.proofs.Conversation.{sent, by_ring, by_note, by_tunnel, by_service, steered}
 use Rattle.semantics.specs.declared.verdict.Verdict.{Verdict}
 use Rattle.semantics.specs.declared.verdict.Verdict.TheVariants as V
@@ -26,26 +26,26 @@ use Rattle.steer.specs.ShippedProgram as B
 
 -- ---- the program
 
-abbrev pub program : Setting → List Insn → Program
+abbrev pub program : SteeringSizes → List Insn → Program
 program setting code = record { code = code; maps = steering_maps setting.size; shards = setting.shards }
 
-pub record AtEnd (setting : Setting) (state : MachineState) (plan : Plan) : Type 0 where
+pub record AtEnd (setting : SteeringSizes) (state : MachineState) (plan : Plan) : Type 0 where
   pub verdict : Verdict
   pub slot : state.slot ≡ 217
   pub registers : state.registers ≡ with_r6 (Number (verdict_number verdict)) (reg state.registers 7) (reg state.registers 8) (reg state.registers 9) (reg state.registers)
   pub plan_is : plan ≡ Ends verdict state.frame
 
-pub record AtCount (setting : Setting) (state : MachineState) (plan : Plan) : Type 0 where
+pub record AtCount (setting : SteeringSizes) (state : MachineState) (plan : Plan) : Type 0 where
   pub verdict : Verdict
   pub here : CountStart verdict state
   pub plan_is : plan ≡ counted setting verdict state.frame
 
 -- the verdicts of frames that are not sent
-pub record AtVerdict (start : ℕ) (verdict : Verdict) (setting : Setting) (state : MachineState) (plan : Plan) : Type 0 where
+pub record AtVerdict (start : ℕ) (verdict : Verdict) (setting : SteeringSizes) (state : MachineState) (plan : Plan) : Type 0 where
   pub here : VerdictStart start state
   pub plan_is : plan ≡ counted setting verdict state.frame
 
-pub record AtTunnel (setting : Setting) (state : MachineState) (plan : Plan) : Type 0 where
+pub record AtTunnel (setting : SteeringSizes) (state : MachineState) (plan : Plan) : Type 0 where
   pub source : ℕ
   pub macs : ℕ
   pub backend : ℕ
@@ -54,7 +54,7 @@ pub record AtTunnel (setting : Setting) (state : MachineState) (plan : Plan) : T
   pub plan_is : plan ≡ sent setting source macs backend state.frame
 
 -- the new headers are written, all but the checksum
-pub record AtChecksum (setting : Setting) (state : MachineState) (plan : Plan) : Type 0 where
+pub record AtChecksum (setting : SteeringSizes) (state : MachineState) (plan : Plan) : Type 0 where
   pub source : ℕ
   pub macs : ℕ
   pub backend : ℕ
@@ -72,7 +72,7 @@ pub record AtChecksum (setting : Setting) (state : MachineState) (plan : Plan) :
   pub frame_is : state.frame ≡ tunnelled_with (first ∷ second ∷ []) old source macs backend
   pub plan_is : plan ≡ sent setting source macs backend old
 
-pub record AtRing (setting : Setting) (state : MachineState) (plan : Plan) : Type 0 where
+pub record AtRing (setting : SteeringSizes) (state : MachineState) (plan : Plan) : Type 0 where
   pub flags : ℕ
   pub source : ℕ
   pub macs : ℕ
@@ -82,30 +82,30 @@ pub record AtRing (setting : Setting) (state : MachineState) (plan : Plan) : Typ
       (tunnel_stack (place state.stack) source macs (flow_bytes_of state.frame.bytes)) state
   pub plan_is : plan ≡ by_ring setting flags source macs state.frame
 
-pub record AtHash (setting : Setting) (state : MachineState) (plan : Plan) : Type 0 where
+pub record AtHash (setting : SteeringSizes) (state : MachineState) (plan : Plan) : Type 0 where
   pub flags : ℕ
   pub source : ℕ
   pub macs : ℕ
   pub here : RingStart flags source macs state
   pub plan_is : plan ≡ by_ring setting flags source macs state.frame
 
-pub record AtTracking (setting : Setting) (state : MachineState) (plan : Plan) : Type 0 where
+pub record AtTracking (setting : SteeringSizes) (state : MachineState) (plan : Plan) : Type 0 where
   pub flags : ℕ
   pub source : ℕ
   pub macs : ℕ
   pub here : TrackingStart flags source macs state
   pub plan_is : plan ≡ by_note setting flags source macs state.frame
 
-pub record AtGuards (setting : Setting) (state : MachineState) (plan : Plan) : Type 0 where
+pub record AtGuards (setting : SteeringSizes) (state : MachineState) (plan : Plan) : Type 0 where
   pub flags : ℕ
   pub here : GuardsStart flags state
   pub plan_is : plan ≡ by_tunnel setting flags state.frame
 
-pub record AtVip (setting : Setting) (state : MachineState) (plan : Plan) : Type 0 where
+pub record AtVip (setting : SteeringSizes) (state : MachineState) (plan : Plan) : Type 0 where
   pub here : VipStart state
   pub plan_is : plan ≡ by_service setting state.frame
 
-pub record AtKey (setting : Setting) (state : MachineState) (plan : Plan) : Type 0 where
+pub record AtKey (setting : SteeringSizes) (state : MachineState) (plan : Plan) : Type 0 where
   pub here :
       IsAt 23 (reg state.registers 0 ∷ reg state.registers 1 ∷ reg state.registers 2 ∷ reg state.registers 3 ∷ Number (slice_index state.frame.bytes 23)
       ∷ reg state.registers 5 ∷ ContextPointer ∷ packet_start ∷ reg state.registers 8 ∷ Number (total_length state.frame.bytes) ∷ StackPointer (pos 0) ∷ [])
@@ -114,7 +114,7 @@ pub record AtKey (setting : Setting) (state : MachineState) (plan : Plan) : Type
 
 -- ---- the beginning
 
-pub record AtFlow (setting : Setting) (state : MachineState) (plan : Plan) : Type 0 where
+pub record AtFlow (setting : SteeringSizes) (state : MachineState) (plan : Plan) : Type 0 where
   pub here : FlowStart state
   pub plan_is : plan ≡ steered setting state.frame
 
@@ -123,7 +123,7 @@ pub record AtFlow (setting : Setting) (state : MachineState) (plan : Plan) : Typ
 pub data Part : Type 0 where
   Flow Key Vip Guards Tracking Hash Ring Tunnel Checksum Pass Drop Count End : Part
 
-abbrev pub promise : Setting → Part → Promise
+abbrev pub promise : SteeringSizes → Part → Promise
 promise setting Flow = AtFlow setting
 promise setting Key = AtKey setting
 promise setting Vip = AtVip setting
@@ -139,37 +139,37 @@ promise setting Count = AtCount setting
 promise setting End = AtEnd setting
 
 -- by which slot a part begins
-abbrev pub after_count : Setting → Promise
+abbrev pub after_count : SteeringSizes → Promise
 after_count setting = Arrives (promise setting) 217 ((End, B.end_block) ∷ [])
 
-abbrev pub from_pass : Setting → List (Named Part)
+abbrev pub from_pass : SteeringSizes → List (Named Part)
 from_pass setting = (Pass, B.pass_block) ∷ (Drop, B.drop_block) ∷ (Count, B.count_block) ∷ (End, B.end_block) ∷ []
 
-abbrev pub from_checksum : Setting → List (Named Part)
+abbrev pub from_checksum : SteeringSizes → List (Named Part)
 from_checksum setting = (Checksum, B.checksum_block) ∷ from_pass setting
 
-abbrev pub from_tunnel : Setting → List (Named Part)
+abbrev pub from_tunnel : SteeringSizes → List (Named Part)
 from_tunnel setting = (Tunnel, B.tunnel_block) ∷ from_checksum setting
 
-abbrev pub from_ring : Setting → List (Named Part)
+abbrev pub from_ring : SteeringSizes → List (Named Part)
 from_ring setting = (Ring, B.ring_block setting.size) ∷ from_tunnel setting
 
-abbrev pub from_hash : Setting → List (Named Part)
+abbrev pub from_hash : SteeringSizes → List (Named Part)
 from_hash setting = (Hash, B.hash_block) ∷ from_ring setting
 
-abbrev pub from_tracking : Setting → List (Named Part)
+abbrev pub from_tracking : SteeringSizes → List (Named Part)
 from_tracking setting = (Tracking, B.tracking_block) ∷ from_hash setting
 
-abbrev pub from_guards : Setting → List (Named Part)
+abbrev pub from_guards : SteeringSizes → List (Named Part)
 from_guards setting = (Guards, B.guards_block) ∷ from_tracking setting
 
-abbrev pub from_vip : Setting → List (Named Part)
+abbrev pub from_vip : SteeringSizes → List (Named Part)
 from_vip setting = (Vip, B.vip_block) ∷ from_guards setting
 
-abbrev pub from_key : Setting → List (Named Part)
+abbrev pub from_key : SteeringSizes → List (Named Part)
 from_key setting = (Key, B.key_block) ∷ from_vip setting
 
-abbrev pub from_flow : Setting → List (Named Part)
+abbrev pub from_flow : SteeringSizes → List (Named Part)
 from_flow setting = (Flow, B.flow_block) ∷ from_key setting
 
 abbrev pub came_in : (ℕ → ℕ) → List ℕ → FrameView

@@ -24,8 +24,8 @@ use Rattle.conntrack.specs.Layouts.{vip_of, flow_of, backend_of, tunnel_of, owne
 use Rattle.conntrack.specs.SteeringRule.{fits_tunnel, tracked_choice, ring_choice, tunnel_to}
 use Rattle.conntrack.specs.declared.steering_maps.SteeringMap.TheVariants as M
 use Rattle.block_runs.specs.Plan.{Plan, Asks, either}
-use Rattle.conntrack.specs.Steering.{Setting, look, read, record_of, counted, has_flow, steering, finish, ending, choice_in, no_records}
-use Rattle.conntrack.specs.Steering.{read_service, pass_guard, read_tunnel, read_note, read_slot, read_owner, unless_tracked}
+use Rattle.conntrack.specs.Steering.{SteeringSizes, look, read, record_of, counted, has_flow, steering, finish, ending, choice_in}
+use Rattle.conntrack.specs.Steering.{no_records, read_service, pass_guard, read_tunnel, read_note, read_slot, read_owner, unless_tracked}
 use Rattle.steer.proofs.Conversation.{dropped, sent, noted, by_ring, by_note, by_service, by_tunnel, steered, is_up, is_ready, is_notrack}
 use Rattle.block_runs.proofs.shared.Agreement.{Agrees, agrees_same, agree_forks}
 use Rattle.steer.proofs.RecordLemmas.{notrack_is, up_is, ready_is, note_key, fits_is, same_frame, note_bytes}
@@ -35,15 +35,15 @@ use Rattle.steer.proofs.RecordLemmas.{notrack_is, up_is, ready_is, note_key, fit
 all_of : Option VipRecord → Option TunnelRecord → Option Assigned → Option Assigned → Records
 all_of vip tunnel tracked slot = record { vip = vip; tunnel = tunnel; tracked = tracked; slot = slot }
 
-finish_is : (setting : Setting) (frame : FrameView) (records : Records) (choice : Choice) → choice_in frame.bytes records ≡ choice →
+finish_is : (setting : SteeringSizes) (frame : FrameView) (records : Records) (choice : Choice) → choice_in frame.bytes records ≡ choice →
     finish setting frame records ≡ ending setting frame records.tunnel choice
 finish_is setting frame records choice is = ap (ending setting frame records.tunnel) is
 
-leaf : (program : Program) (setting : Setting) (frame : FrameView) (plan : Plan) (records : Records) (choice : Choice) → choice_in frame.bytes records ≡ choice →
+leaf : (program : Program) (setting : SteeringSizes) (frame : FrameView) (plan : Plan) (records : Records) (choice : Choice) → choice_in frame.bytes records ≡ choice →
     plan ≡ ending setting frame records.tunnel choice → Agrees program plan (finish setting frame records)
 leaf program setting frame plan records choice is same = agrees_same program plan (finish setting frame records) (same ∙ sym (finish_is setting frame records choice is))
 
-module _ (setting : Setting) (frame : FrameView) (program : Program) where
+module _ (setting : SteeringSizes) (frame : FrameView) (program : Program) where
   -- what holds from the tunnel on
   pub record Served (vip : VipRecord) (tunnel : TunnelRecord) : Type 0 where
     pub flow : has_flow frame.bytes ≡ true

@@ -14,7 +14,7 @@ use Rattle.semantics.specs.MachineState.{MachineState, StackByte}
 use Rattle.block_runs.specs.Plan.{Plan}
 use Rattle.block_runs.proofs.shared.Blocks.{Meets, Arrives}
 use Rattle.steer.proofs.Tunnelling.{tunnelled_with, header_checksum}
-use Rattle.conntrack.specs.Steering.{Setting, counted}
+use Rattle.conntrack.specs.Steering.{SteeringSizes, counted}
 use Rattle.steer.proofs.Conversation.{sent}
 use Rattle.steer.proofs.Promises.{AtTunnel, AtChecksum, program, promise, came_in, is_came_in, from_checksum, from_pass}
 use Rattle.steer.specs.PartStarts.{IsLong, packet_start, with_r6, tunnel_stack, any_stack, long_frame, reg, place}
@@ -25,7 +25,7 @@ use Rattle.block_runs.proofs.shared.BlockTests.{falls}
 use Rattle.steer.proofs.ChecksumLemmas.{checksum_field, added, fold_once}
 use Rattle.steer.specs.ShippedProgram.{tunnel_block, checksum_block}
 
-abbrev TunnelFrom : Setting → List Insn → ℕ → ℕ → ℕ → (ℕ → RegisterValue) → (ℕ → StackByte) → ℕ → ℕ → ℕ → FrameView → Type 0
+abbrev TunnelFrom : SteeringSizes → List Insn → ℕ → ℕ → ℕ → (ℕ → RegisterValue) → (ℕ → StackByte) → ℕ → ℕ → ℕ → FrameView → Type 0
 TunnelFrom setting code source macs backend r p worker now steps frame =
     Meets (Arrives (promise setting) 185 (from_checksum setting)) (program setting code) tunnel_block
     (spelled 153 (with_r6 ContextPointer packet_start (r 8) (Number backend) r)
@@ -36,7 +36,7 @@ seventh_to_ninth : (a b c d e f g : RegisterValue) (h h' i i' j j' : ℕ) (k : R
     a ∷ b ∷ c ∷ d ∷ e ∷ f ∷ g ∷ Number h ∷ Number i ∷ Number j ∷ k ∷ [] ≡ a ∷ b ∷ c ∷ d ∷ e ∷ f ∷ g ∷ Number h' ∷ Number i' ∷ Number j' ∷ k ∷ []
 seventh_to_ninth a b c d e f g h h' i i' j j' k at_h at_i at_j = (λ n. a ∷ b ∷ c ∷ d ∷ e ∷ f ∷ g ∷ Number (at_h n) ∷ Number (at_i n) ∷ Number (at_j n) ∷ k ∷ [])
 
-tunnel_from : (setting : Setting) (code : List Insn) (source macs backend : ℕ) (r : ℕ → RegisterValue) (p : ℕ → StackByte) (worker now steps : ℕ) (byte : ℕ → ℕ) (rest : List ℕ) →
+tunnel_from : (setting : SteeringSizes) (code : List Insn) (source macs backend : ℕ) (r : ℕ → RegisterValue) (p : ℕ → StackByte) (worker now steps : ℕ) (byte : ℕ → ℕ) (rest : List ℕ) →
     ((n : ℕ) → byte n < 256) → IsLong (came_in byte rest) → TunnelFrom setting code source macs backend r p worker now steps (came_in byte rest)
 unfolding slot_count
 tunnel_from setting code source macs backend r p worker now steps byte rest are long =
@@ -64,7 +64,7 @@ tunnel_from setting code source macs backend r p worker now steps byte rest are 
       plan_is = refl;
     }))
 
-pub tunnel_meets : (setting : Setting) (code : List Insn) (state : MachineState) (plan : Plan) → AtTunnel setting state plan →
+pub tunnel_meets : (setting : SteeringSizes) (code : List Insn) (state : MachineState) (plan : Plan) → AtTunnel setting state plan →
     Meets (Arrives (promise setting) 185 (from_checksum setting)) (program setting code) tunnel_block state plan
 tunnel_meets setting code state plan at =
     as_spelled (Meets (Arrives (promise setting) 185 (from_checksum setting)) (program setting code) tunnel_block) state plan _ 153 _ _ 0
@@ -79,7 +79,7 @@ tunnel_meets setting code state plan at =
 digits : ℕ → ℕ → ℕ
 digits word n = slice_index (bytes_of_number 4 word) n
 
-ChecksumFrom : Setting → List Insn → ℕ → ℕ → ℕ → FrameView → ℕ → ℕ → (ℕ → RegisterValue) → (ℕ → StackByte) → ℕ → ℕ → ℕ → Type 0
+ChecksumFrom : SteeringSizes → List Insn → ℕ → ℕ → ℕ → FrameView → ℕ → ℕ → (ℕ → RegisterValue) → (ℕ → StackByte) → ℕ → ℕ → ℕ → Type 0
 ChecksumFrom setting code source macs backend old first second r p worker now steps =
     Meets (Arrives (promise setting) 205 (from_pass setting)) (program setting code) checksum_block
     (spelled 185 (r 0 ∷ PacketPointer 1 (pos 0) ∷ r 2 ∷ r 3 ∷ Number (number_of_bytes (bytes_of_number 4 source)) ∷ r 5 ∷ r 6
@@ -88,7 +88,7 @@ ChecksumFrom setting code source macs backend old first second r p worker now st
     (any_stack p) (tunnelled_with (first ∷ second ∷ []) old source macs backend) 1 worker now steps)
     (sent setting source macs backend old)
 
-checksum_from : (setting : Setting) (code : List Insn) (source macs backend : ℕ) (old : FrameView) (first second : ℕ) (r : ℕ → RegisterValue) (p : ℕ → StackByte) (worker now steps : ℕ) →
+checksum_from : (setting : SteeringSizes) (code : List Insn) (source macs backend : ℕ) (old : FrameView) (first second : ℕ) (r : ℕ → RegisterValue) (p : ℕ → StackByte) (worker now steps : ℕ) →
     IsLong old → ChecksumFrom setting code source macs backend old first second r p worker now steps
 unfolding slot_count ChecksumFrom
 checksum_from setting code source macs backend old first second r p worker now steps long =
@@ -120,7 +120,7 @@ checksum_from setting code source macs backend old first second r p worker now s
         (low source) (low (source / 256)) (low (source / 256 / 256)) (low (source / 256 / 256 / 256))
         (low backend) (low (backend / 256)) (low (backend / 256 / 256)) (low (backend / 256 / 256 / 256))
 
-pub checksum_meets : (setting : Setting) (code : List Insn) (state : MachineState) (plan : Plan) → AtChecksum setting state plan →
+pub checksum_meets : (setting : SteeringSizes) (code : List Insn) (state : MachineState) (plan : Plan) → AtChecksum setting state plan →
     Meets (Arrives (promise setting) 205 (from_pass setting)) (program setting code) checksum_block state plan
 unfolding ChecksumFrom
 checksum_meets setting code state plan at =

@@ -21,7 +21,7 @@ use Rattle.block_runs.proofs.shared.BlockLaw.{blocks_join, does_more}
 use Rattle.block_runs.proofs.shared.Agreement.{does_agreeing, agrees_same}
 use Rattle.conntrack.specs.Layouts.{backend_of}
 use Rattle.conntrack.specs.SteeringRule.{tunnel_to}
-use Rattle.conntrack.specs.Steering.{Setting, steering, read_service, pass_guard, read_note, read_slot, counted}
+use Rattle.conntrack.specs.Steering.{SteeringSizes, steering, read_service, pass_guard, read_note, read_slot, counted}
 use Rattle.conntrack.proofs.shared.RuleLemmas.{passes_test}
 use Rattle.conntrack.proofs.shared.ResultLemmas.{finished_runs}
 use Rattle.steer.specs.ShippedProgram.{shipped_image}
@@ -38,7 +38,7 @@ use Rattle.steer.proofs.KeyBlock.{key_meets}
 use Rattle.steer.proofs.FlowBlock.{flow_meets}
 use Rattle.steer.proofs.TunnelBlock.{tunnel_meets, checksum_meets}
 
-blocks_meet : (setting : Setting) (code : List Insn) → (setting.size == 0) ≡ false → BlocksMeet (promise setting) (program setting code) 0 (from_flow setting)
+blocks_meet : (setting : SteeringSizes) (code : List Insn) → (setting.size == 0) ≡ false → BlocksMeet (promise setting) (program setting code) 0 (from_flow setting)
 unfolding slot_count
 blocks_meet setting code some = (
   λ state plan at. (at.here.slot, flow_meets setting code state plan at),
@@ -79,7 +79,7 @@ blocks_meet setting code some = (
 )
 
 -- by the list of blocks as it is told
-same_code : (setting : Setting) → code_of (from_flow setting) ≡ (shipped_image setting.size).code
+same_code : (setting : SteeringSizes) → code_of (from_flow setting) ≡ (shipped_image setting.size).code
 same_code setting = refl
 
 pub has_size : (size : ℕ) → IsRingSize size → (size == 0) ≡ false
@@ -107,7 +107,7 @@ moved : (state : MachineState) (start : ℕ) → state.slot ≡ start → state 
 moved state start is = (λ i. record state { slot = is i })
 
 -- the rest of the program does what is promised there
-from_part : (setting : Setting) → IsRingSize setting.size → (state : MachineState) (plan : Plan) →
+from_part : (setting : SteeringSizes) → IsRingSize setting.size → (state : MachineState) (plan : Plan) →
     Arrives (promise setting) 0 (from_flow setting) state plan → DoesFrom setting state plan
 unfolding slot_count
 from_part setting is state plan arrives =
@@ -116,7 +116,7 @@ from_part setting is state plan arrives =
     (blocks_meet setting (code_of (from_flow setting)) (has_size setting.size is)) state plan arrives)
 
 -- of a part that starts at this slot
-starting : (setting : Setting) → IsRingSize setting.size → (state : MachineState) (plan : Plan) (start : ℕ) (promised : Promise) → state.slot ≡ start →
+starting : (setting : SteeringSizes) → IsRingSize setting.size → (state : MachineState) (plan : Plan) (start : ℕ) (promised : Promise) → state.slot ≡ start →
     promised state plan → (promised (record state { slot = start }) plan → Arrives (promise setting) 0 (from_flow setting) (record state { slot = start }) plan) →
     DoesFrom setting state plan
 starting setting is state plan start promised slot at arrives =

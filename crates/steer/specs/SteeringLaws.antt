@@ -13,14 +13,14 @@ use Rattle.maglev.specs.RingSize.{IsRingSize}
 use Rattle.map_port.specs.Exchanges.{Exchange, calls_in, replies_in}
 use Rattle.conntrack.specs.Results.{IsResult}
 use Rattle.block_runs.specs.Plan.{outcome_of, plan_outcome}
-use Rattle.conntrack.specs.Steering.{Setting, steering}
+use Rattle.conntrack.specs.Steering.{SteeringSizes, steering}
 use Rattle.steer.specs.ShippedProgram.{shipped_image}
 
-abbrev pub of_size : ℕ → ℕ → Setting
+abbrev pub of_size : ℕ → ℕ → SteeringSizes
 of_size shards size = record { shards = shards; size = size }
 
 -- the shipped program over N shards to a map
-abbrev pub shipped_program : Setting → Program
+abbrev pub shipped_program : SteeringSizes → Program
 shipped_program setting =
     record { code = (shipped_image setting.size).code; maps = (shipped_image setting.size).maps; shards = setting.shards }
 

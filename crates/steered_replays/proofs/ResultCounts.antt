@@ -19,7 +19,7 @@ use Rattle.semantics.specs.Semantics.{verdict_number}
 use Rattle.map_port.specs.Exchanges.{Exchange}
 use Rattle.conntrack.specs.declared.steering_maps.SteeringMap.TheVariants.{Stats}
 use Rattle.conntrack.specs.SteeringRule.{flow_update}
-use Rattle.conntrack.specs.Steering.{Setting, shard_of, count_call}
+use Rattle.conntrack.specs.Steering.{SteeringSizes, shard_of, count_call}
 use Rattle.conntrack.specs.Results.{IsResult, IsRaised, IsNotFound, IsNoCell, change_of, changes_in, note_call, count_key, count_lookup}
 use Rattle.steered_replays.specs.Counting.{IsQuiet, IsCounting, raised_by}
 use Rattle.steered_replays.proofs.CountLemmas.{quiet_raises}
@@ -35,13 +35,13 @@ module _ {A : Type 0} where
 
 -- ---- where a verdict's count is
 
-abbrev pub count_shard : Setting → Verdict → ℕ
+abbrev pub count_shard : SteeringSizes → Verdict → ℕ
 count_shard setting verdict = shard_of setting Stats (count_key verdict)
 
-abbrev pub count_id : Setting → Verdict → ℕ
+abbrev pub count_id : SteeringSizes → Verdict → ℕ
 count_id setting verdict = verdict_number verdict / setting.shards
 
-abbrev pub count_cell : Setting → Verdict → CellRef
+abbrev pub count_cell : SteeringSizes → Verdict → CellRef
 count_cell setting verdict = record { shard = count_shard setting verdict; id = count_id setting verdict }
 
 pub key_number : (verdict : Verdict) → number_of_bytes (count_key verdict) ≡ verdict_number verdict
@@ -50,7 +50,7 @@ key_number Drop = refl
 key_number Pass = refl
 key_number Tx = refl
 
-pub count_shard_is : (setting : Setting) (verdict : Verdict) → count_shard setting verdict ≡ 5 * setting.shards + verdict_number verdict % setting.shards
+pub count_shard_is : (setting : SteeringSizes) (verdict : Verdict) → count_shard setting verdict ≡ 5 * setting.shards + verdict_number verdict % setting.shards
 count_shard_is setting verdict = ap (λ n. 5 * setting.shards + n % setting.shards) (key_number verdict)
 
 -- the count of another verdict is in another cell or shard
@@ -91,13 +91,13 @@ raised_both number cell [] ys = omega arith
 raised_both number cell (x ∷ xs) ys = (let rest = raised_both number cell xs ys in omega (arith, rest))
 
 -- a count that was looked up was found
-abbrev pub IsFound : Setting → Call → Reply → Type 0
+abbrev pub IsFound : SteeringSizes → Call → Reply → Type 0
 IsFound setting call reply = (verdict : Verdict) → call ≡ count_lookup setting verdict → reply ≡ Cell (count_cell setting verdict)
 
 -- ---- the calls before the count
 
 -- the call is one of a map before the counts, and raises none
-record IsAside (setting : Setting) (call : Call) : Type 0 where
+record IsAside (setting : SteeringSizes) (call : Call) : Type 0 where
   before : shard_of_call call < 5 * setting.shards
   raises_none : (cell : ℕ) → raised_by cell call ≡ 0
 
@@ -118,16 +118,16 @@ quiet_or Q [] all = tt
 quiet_or Q (exchange ∷ later) all =
     let parts = all_parts Q (change_of exchange.call) (changes_in later) all in (by_call Q exchange.call parts.0, quiet_or Q later parts.1)
 
-note_aside : (setting : Setting) → 0 < setting.shards → (note : Option (List ℕ × List ℕ)) → AllByRecursion (IsAside setting) (note_call setting note)
+note_aside : (setting : SteeringSizes) → 0 < setting.shards → (note : Option (List ℕ × List ℕ)) → AllByRecursion (IsAside setting) (note_call setting note)
 note_aside setting some None = tt
 note_aside setting some (Some note) =
     let part : fnv1a64_of note.0 % setting.shards < setting.shards = mod-lt (fnv1a64_of note.0) some in
     (record { before = omega (arith, part, some); raises_none = λ cell. refl }, tt)
 
-abbrev IsBefore : Setting → Exchange → Type 0
+abbrev IsBefore : SteeringSizes → Exchange → Type 0
 IsBefore setting exchange = IsQuiet exchange.call ⊎ IsAside setting exchange.call
 
-none_raised : (setting : Setting) (number cell : ℕ) (exchanges : List Exchange) → AllByRecursion (IsBefore setting) exchanges → raised_on number cell exchanges ≡ 0
+none_raised : (setting : SteeringSizes) (number cell : ℕ) (exchanges : List Exchange) → AllByRecursion (IsBefore setting) exchanges → raised_on number cell exchanges ≡ 0
 none_raised setting number cell [] all = refl
 none_raised setting number cell (exchange ∷ later) all =
     let rest : raised_on number cell later ≡ 0 = none_raised setting number cell later all.1 in
@@ -145,7 +145,7 @@ none_raised setting number cell (exchange ∷ later) all =
 
 -- ---- the count
 
-module _ (setting : Setting) (some : 0 < setting.shards) (verdict : Verdict) where
+module _ (setting : SteeringSizes) (some : 0 < setting.shards) (verdict : Verdict) where
   -- the count is found, and raised
   pub raised_last : (last : List Exchange) → IsRaised setting verdict last ⊎ IsNotFound setting verdict last →
       AllByRecursion (λ (exchange : Exchange). IsFound setting exchange.call exchange.reply) last →
@@ -181,7 +181,7 @@ module _ (setting : Setting) (some : 0 < setting.shards) (verdict : Verdict) whe
       nothing false = refl
 
 -- a result raises the count of its verdict once, and no other one
-pub result_raises : (setting : Setting) → 0 < setting.shards → (frame : FrameView) (exchanges : List Exchange) (verdict : Verdict) (left : FrameView) →
+pub result_raises : (setting : SteeringSizes) → 0 < setting.shards → (frame : FrameView) (exchanges : List Exchange) (verdict : Verdict) (left : FrameView) →
     IsResult setting frame exchanges verdict left → AllByRecursion (λ (exchange : Exchange). IsFound setting exchange.call exchange.reply) exchanges →
     (other : Verdict) → raised_on (count_shard setting other) (count_id setting other) exchanges ≡ (if verdict_number verdict == verdict_number other then 1 else 0)
 result_raises setting some frame exchanges verdict left result found other =
@@ -202,10 +202,10 @@ result_raises setting some frame exchanges verdict left result found other =
     plain n = omega arith
 
 -- a call of a shard of counts finds, reads or raises one
-abbrev pub IsCountingIn : Setting → Exchange → Type 0
+abbrev pub IsCountingIn : SteeringSizes → Exchange → Type 0
 IsCountingIn setting exchange = 5 * setting.shards ≤ shard_of_call exchange.call → IsCounting exchange.call
 
-counting_before : (setting : Setting) (exchanges : List Exchange) → AllByRecursion (IsBefore setting) exchanges → AllByRecursion (IsCountingIn setting) exchanges
+counting_before : (setting : SteeringSizes) (exchanges : List Exchange) → AllByRecursion (IsBefore setting) exchanges → AllByRecursion (IsCountingIn setting) exchanges
 counting_before setting [] all = tt
 counting_before setting (exchange ∷ later) all = (by_kind all.0, counting_before setting later all.1)
   where
@@ -213,7 +213,7 @@ counting_before setting (exchange ∷ later) all = (by_kind all.0, counting_befo
     by_kind (inl quiet) = λ past. inl quiet
     by_kind (inr aside) = λ past. absurd (let before = aside.before in omega (arith, before, past))
 
-pub result_counts : (setting : Setting) → 0 < setting.shards → (frame : FrameView) (exchanges : List Exchange) (verdict : Verdict) (left : FrameView) →
+pub result_counts : (setting : SteeringSizes) → 0 < setting.shards → (frame : FrameView) (exchanges : List Exchange) (verdict : Verdict) (left : FrameView) →
     IsResult setting frame exchanges verdict left → AllByRecursion (IsCountingIn setting) exchanges
 result_counts setting some frame exchanges verdict left result =
     let aside = quiet_or (IsAside setting) result.before

@@ -7,7 +7,7 @@ use Rattle.std.proofs.lemmas.Bool.Decides.{nat_tests}
 use Rattle.semantics.specs.declared.call.Entry.{Entry}
 use Rattle.semantics.specs.History.{shard_of_call}
 use Rattle.map_port.specs.Exchanges.{Exchange}
-use Rattle.conntrack.specs.Steering.{Setting}
+use Rattle.conntrack.specs.Steering.{SteeringSizes}
 use Rattle.shards.specs.Passes.{PassView, own_at}
 use Rattle.shard_port.specs.Asking.{enter_by, leave_by}
 use Rattle.shard_port.specs.PassSessions.{HasSessions, AreWithin, session_at}
@@ -120,24 +120,24 @@ own_exchanges P count worker exchanges before after sessions all =
     (subst (λ (own : List Entry). AllByRecursion P own) (sessions.written number within) (all number within))).0))
 
 -- an entry in which a count that was looked up was found
-abbrev pub IsFoundIn : Setting → Entry → Type 0
+abbrev pub IsFoundIn : SteeringSizes → Entry → Type 0
 IsFoundIn setting entry = IsFound setting entry.call entry.reply
 
-pub found_exchanges : (setting : Setting) (count worker : ℕ) (exchanges : List Exchange) (before after : PassView) → HasSessions count worker exchanges before after →
+pub found_exchanges : (setting : SteeringSizes) (count worker : ℕ) (exchanges : List Exchange) (before after : PassView) → HasSessions count worker exchanges before after →
     ((number : ℕ) → number < count → AllByRecursion (IsFoundIn setting) (own_at after number)) →
     AllByRecursion (λ (exchange : Exchange). IsFound setting exchange.call exchange.reply) exchanges
 found_exchanges setting count worker exchanges before after sessions all = own_exchanges (IsFoundIn setting) count worker exchanges before after sessions all
 
 -- ---- shards of counts
 
-if_at : (setting : Setting) (worker number : ℕ) → 5 * setting.shards ≤ number → (exchange : Exchange) (rest : List Exchange) (test : Bool) →
+if_at : (setting : SteeringSizes) (worker number : ℕ) → 5 * setting.shards ≤ number → (exchange : Exchange) (rest : List Exchange) (test : Bool) →
     is_at number exchange ≡ test → IsCountingIn setting exchange → AreCounting (map (entry_of worker) rest) →
     AreCounting (map (entry_of worker) (if test then exchange ∷ rest else rest))
 if_at setting worker number past exchange rest true is here all =
     let same : shard_of_call exchange.call ≡ number = grind (arith, nat_tests) in (here (omega (arith, past, same)), all)
 if_at setting worker number past exchange rest false is here all = all
 
-counting_entries : (setting : Setting) (worker number : ℕ) → 5 * setting.shards ≤ number → (exchanges : List Exchange) →
+counting_entries : (setting : SteeringSizes) (worker number : ℕ) → 5 * setting.shards ≤ number → (exchanges : List Exchange) →
     AllByRecursion (IsCountingIn setting) exchanges → AreCounting (entries_at worker number exchanges)
 counting_entries setting worker number past [] all = tt
 counting_entries setting worker number past (exchange ∷ later) all =
@@ -145,7 +145,7 @@ counting_entries setting worker number past (exchange ∷ later) all =
     (counting_entries setting worker number past later all.1)
 
 -- a run keeps a shard of counts what it is
-pub stays_counting : (setting : Setting) (count worker : ℕ) (exchanges : List Exchange) (before after : PassView) → HasSessions count worker exchanges before after →
+pub stays_counting : (setting : SteeringSizes) (count worker : ℕ) (exchanges : List Exchange) (before after : PassView) → HasSessions count worker exchanges before after →
     AllByRecursion (IsCountingIn setting) exchanges → (number : ℕ) → number < count → 5 * setting.shards ≤ number → AreCounting (own_at before number) →
     AreCounting (own_at after number)
 stays_counting setting count worker exchanges before after sessions counting number within past all =

@@ -18,7 +18,7 @@ use Rattle.semantics.specs.System.{IsInputFrame, input_frame}
 use Rattle.maglev.specs.RingSize.{IsRingSize}
 use Rattle.map_port.specs.Exchanges.{Exchange, calls_in, replies_in}
 use Rattle.block_runs.specs.Plan.{Ended, outcome_of, plan_outcome}
-use Rattle.conntrack.specs.Steering.{Setting, steering}
+use Rattle.conntrack.specs.Steering.{SteeringSizes, steering}
 use Rattle.conntrack.specs.Results.{IsResult}
 use Rattle.steer.specs.SteeringLaws.{of_size, shipped_program, ShippedSteers, ExitedRunsAreResults}
 use Rattle.journals.specs.JournalsView.{JournalsView}
@@ -52,7 +52,7 @@ before_answered program (exchange ∷ later) next formed = (formed.0, before_ans
 
 pub runs_are_steered : ShippedSteers → ExitedRunsAreResults → RunsAreSteered
 runs_are_steered steers results size shards is frame input told now count worker before after verdict steps left run =
-    let setting : Setting = of_size shards size in
+    let setting : SteeringSizes = of_size shards size in
     let program : Program = shipped_program setting in
     let answers : AreReplies program (calls_in run.exchanges) (replies_in run.exchanges) = all_answered program run.exchanges run.formed in
     let own : AreReplies program (whole_trace program (initial_state (input_frame frame) told now) (replies_in run.exchanges)).calls (replies_in run.exchanges) =
@@ -68,7 +68,7 @@ runs_are_steered steers results size shards is frame input told now count worker
 
 pub refused_runs_are_steered : ShippedSteers → RefusedRunsAreSteered
 refused_runs_are_steered steers size shards is frame input told now plan count worker before after left shard was =
-    let setting : Setting = of_size shards size in
+    let setting : SteeringSizes = of_size shards size in
     let program : Program = shipped_program setting in
     let answers = before_answered program was.exchanges was.refused was.formed in
     let own : AreReplies program (whole_trace program (initial_state (input_frame frame) told now) (replies_in was.exchanges)).calls (replies_in was.exchanges) =
@@ -170,7 +170,7 @@ share_at frames workers worker number (suc count) handed below =
 
 module _ (steers : ShippedSteers) (results : ExitedRunsAreResults) (size shards : ℕ) (is : IsRingSize size) (plan : ℕ → ShardPlan) (count worker : ℕ)
     (journals : JournalsView) where
-  abbrev ruled : Setting
+  abbrev ruled : SteeringSizes
   ruled = of_size shards size
 
   abbrev program : Program
@@ -218,14 +218,14 @@ module _ (steers : ShippedSteers) (results : ExitedRunsAreResults) (size shards 
 -- ---- what became of each record
 
 -- the run is one of the record by the rule
-record IsSteeredOne (plan : ℕ → ShardPlan) (count : ℕ) (setting : Setting) (worker : ℕ) (records : List Sent) (ran : Ran) : Type 0 where
+record IsSteeredOne (plan : ℕ → ShardPlan) (count : ℕ) (setting : SteeringSizes) (worker : ℕ) (records : List Sent) (ran : Ran) : Type 0 where
   captured : Sent
   known : slice_get records ran.number ≡ Some captured
   before : PassView
   after : PassView
   run : IsSteeredRun plan count setting worker captured before ran.end after
 
-each_steered : (plan : ℕ → ShardPlan) (count : ℕ) (setting : Setting) (worker : ℕ) (records : List Sent) (before : PassView) (runs : List Ran) (after : PassView) →
+each_steered : (plan : ℕ → ShardPlan) (count : ℕ) (setting : SteeringSizes) (worker : ℕ) (records : List Sent) (before : PassView) (runs : List Ran) (after : PassView) →
     IsChainOfRuns (IsRunAt (IsSteeredRun plan count setting worker) records) before runs after → AllByRecursion (IsSteeredOne plan count setting worker records) runs
 each_steered plan count setting worker records before [] after chain = tt
 each_steered plan count setting worker records before (ran ∷ later) after chain =
@@ -235,7 +235,7 @@ each_steered plan count setting worker records before (ran ∷ later) after chai
     )
 
 -- a fate is that of the run at the record's place
-fate_there : (plan : ℕ → ShardPlan) (count : ℕ) (setting : Setting) (worker : ℕ) (records : List Sent) (captured : Sent) (number : ℕ) →
+fate_there : (plan : ℕ → ShardPlan) (count : ℕ) (setting : SteeringSizes) (worker : ℕ) (records : List Sent) (captured : Sent) (number : ℕ) →
     slice_get records number ≡ Some captured → (runs : List Ran) (place : ℕ) → AllByRecursion (IsSteeredOne plan count setting worker records) runs →
     slice_get (records_of runs) place ≡ Some number → IsSteeredFate plan count setting worker captured (end_at runs place)
 fate_there plan count setting worker records captured number known [] place all there = absurd cc
@@ -250,7 +250,7 @@ flow_below : (flow : Bool) (hash workers : ℕ) → 0 < workers → (if flow the
 flow_below true hash workers some = mod-lt hash some
 flow_below false hash workers some = some
 
-module _ (plan : ℕ → ShardPlan) (count : ℕ) (setting : Setting) (workers : ℕ) (some : 0 < workers) (records : List Sent) (runs : List (List Ran))
+module _ (plan : ℕ → ShardPlan) (count : ℕ) (setting : SteeringSizes) (workers : ℕ) (some : 0 < workers) (records : List Sent) (runs : List (List Ran))
     (in_order : (worker : ℕ) → worker < workers → records_of (runs_at runs worker) ≡ share (frames_of records) workers worker (length records))
     (steered : (worker : ℕ) → worker < workers → AllByRecursion (IsSteeredOne plan count setting worker records) (runs_at runs worker)) where
   fate_by_length : (number : ℕ) (captured : Sent) → slice_get records number ≡ Some captured → number < length records → (short : Bool) →

@@ -28,8 +28,8 @@ use Rattle.conntrack.specs.declared.records.TunnelRecord.{TunnelRecord}
 use Rattle.conntrack.specs.declared.records.VipRecord.{VipRecord}
 use Rattle.conntrack.specs.declared.steering_maps.SteeringMap.TheVariants.{Flows, Backends}
 use Rattle.conntrack.specs.Layouts.{vip_of, flow_of, backend_of, tunnel_of}
-use Rattle.conntrack.specs.Steering.{Setting, steering, ending, counted, count_call, found_or, shard_of, has_flow, read_service, read_tunnel}
-use Rattle.conntrack.specs.Steering.{read_note, read_slot, read_backend, unless_tracked, finish, no_records, record_of, read}
+use Rattle.conntrack.specs.Steering.{SteeringSizes, steering, ending, counted, count_call, found_or, shard_of, has_flow, read_service}
+use Rattle.conntrack.specs.Steering.{read_tunnel, read_note, read_slot, read_backend, unless_tracked, finish, no_records, record_of, read}
 use Rattle.conntrack.specs.SteeringLaws.{FlowsStick, FindsNote}
 use Rattle.conntrack.specs.SteeringRule.{fits_tunnel, tracked_choice, frame_after}
 use Rattle.conntrack.proofs.shared.RuleLemmas.{passes_test}
@@ -71,7 +71,7 @@ replies_joined [] ys = refl
 replies_joined (x ∷ xs) ys = ap (λ rest. x.reply ∷ rest) (replies_joined xs ys)
 
 -- a counted verdict ends with it
-counted_ends : (setting : Setting) (sent left : FrameView) (verdict : Verdict) (last : List Exchange) →
+counted_ends : (setting : SteeringSizes) (sent left : FrameView) (verdict : Verdict) (last : List Exchange) →
     plan_outcome (counted setting V.Tx sent) (replies_in last) ≡ done (calls_in last) (Ended verdict left) →
     (verdict ≡ V.Tx) × (left ≡ sent)
 counted_ends setting sent left verdict [] is = (let ends : Waiting ≡ Ended verdict left = ap (λ (o : RunOutcome). o.ending) is in absurd cc ends)
@@ -98,23 +98,23 @@ on_right test one other replies is = ap (λ t. plan_after (either t one other) r
 abbrev records_of : VipRecord → TunnelRecord → Option Assigned → Records
 records_of vip tunnel tracked = record { vip = Some vip; tunnel = Some tunnel; tracked = tracked; slot = None }
 
-abbrev on_state : Setting → FrameView → VipRecord → CellRef → ℕ → Plan
+abbrev on_state : SteeringSizes → FrameView → VipRecord → CellRef → ℕ → Plan
 on_state setting frame vip cell state =
     read cell 0 8 (λ source. read cell 8 8 (λ macs.
     read_note setting frame vip (records_of vip (tunnel_of (bytes_of_number 8 source ++ (bytes_of_number 8 macs ++ bytes_of_number 8 state))) None)))
 
-abbrev on_assigned : Setting → FrameView → VipRecord → TunnelRecord → Assigned → Plan
+abbrev on_assigned : SteeringSizes → FrameView → VipRecord → TunnelRecord → Assigned → Plan
 on_assigned setting frame vip tunnel assigned =
     unless_tracked setting frame (records_of vip tunnel (Some assigned)) (tracked_choice vip (records_of vip tunnel (Some assigned)))
 
-abbrev on_backend : Setting → FrameView → VipRecord → TunnelRecord → ℕ → ℕ → Plan
+abbrev on_backend : SteeringSizes → FrameView → VipRecord → TunnelRecord → ℕ → ℕ → Plan
 on_backend setting frame vip tunnel number word =
     on_assigned setting frame vip tunnel (record { number = number; «record» = Some (backend_of (bytes_of_number 8 word)) })
 
-abbrev on_word : Setting → FrameView → VipRecord → TunnelRecord → ℕ → Plan
+abbrev on_word : SteeringSizes → FrameView → VipRecord → TunnelRecord → ℕ → Plan
 on_word setting frame vip tunnel word = read_backend setting (flow_of (bytes_of_number 8 word)).backend (on_assigned setting frame vip tunnel)
 
-abbrev on_note : Setting → FrameView → VipRecord → TunnelRecord → Plan
+abbrev on_note : SteeringSizes → FrameView → VipRecord → TunnelRecord → Plan
 on_note setting frame vip tunnel =
     record_of setting Flows (flow_bytes_of frame.bytes) (on_word setting frame vip tunnel) (read_slot setting frame (records_of vip tunnel None))
 
@@ -158,7 +158,7 @@ index_back n small = omega arith
 
 -- ---- the run
 
-module _ (sticks : FlowsStick) (setting : Setting) (frame : FrameView) (tunnel : TunnelRecord) (number : ℕ) (backend : BackendRecord) (worker : ℕ)
+module _ (sticks : FlowsStick) (setting : SteeringSizes) (frame : FrameView) (tunnel : TunnelRecord) (number : ℕ) (backend : BackendRecord) (worker : ℕ)
     (exchanges : List Exchange) (verdict : Verdict) (left : FrameView) (ends : EndsByRule setting frame exchanges verdict left)
     (run : RunOfNoted frame tunnel number backend worker exchanges) where
   abbrev vip : VipRecord

@@ -25,7 +25,7 @@ use Rattle.semantics.proofs.shared.CallNumbers.{same_number}
 use Rattle.semantics.proofs.shared.ConditionLemmas.{first_true}
 use Rattle.journals.specs.JournalsView.{entries_at}
 use Rattle.conntrack.specs.SteeringMaps.{steering_maps, defined}
-use Rattle.conntrack.specs.Steering.{Setting}
+use Rattle.conntrack.specs.Steering.{SteeringSizes}
 use Rattle.conntrack.specs.Results.{count_key}
 use Rattle.steer.specs.SteeringLaws.{of_size}
 use Rattle.shards.specs.CallerView.{CallerView}
@@ -115,7 +115,7 @@ plan_number options number None plan is = absurd cc
 plan_number options number (Some definition) plan is = cc is
 
 module _ (size : ℕ) (options : Options) (shards : IsShards options.shards) where
-  abbrev counted_in : Setting
+  abbrev counted_in : SteeringSizes
   counted_in = of_size options.shards size
 
   count_place : (verdict : Verdict) → count_shard counted_in verdict / options.shards ≡ 5
@@ -154,7 +154,7 @@ module _ (size : ℕ) (options : Options) (shards : IsShards options.shards) whe
 
 -- ---- the runs of a worker
 
-exit_of : (plan : ℕ → ShardPlan) (count : ℕ) (setting : Setting) (worker : ℕ) (captured : Sent) (before : PassView) (end : RunEnd) (after : PassView) →
+exit_of : (plan : ℕ → ShardPlan) (count : ℕ) (setting : SteeringSizes) (worker : ℕ) (captured : Sent) (before : PassView) (end : RunEnd) (after : PassView) →
     is_end 4 end ≡ 0 → IsSteeredRun plan count setting worker captured before end after → IsSteeredExit setting count worker captured before end after
 exit_of plan count setting worker captured before Stopped after ended run = absurd cc
 exit_of plan count setting worker captured before (Exited steps fate) after ended run = run
@@ -167,7 +167,7 @@ all_ended [] none = tt
 all_ended (ran ∷ later) none =
     let both : is_end 4 ran.end + ends_in 4 later ≡ 0 = none in (omega (arith, both), all_ended later (omega (arith, both)))
 
-module _ (plan : ℕ → ShardPlan) (count : ℕ) (setting : Setting) (some : 0 < setting.shards) (worker : ℕ) (records : List Sent) where
+module _ (plan : ℕ → ShardPlan) (count : ℕ) (setting : SteeringSizes) (some : 0 < setting.shards) (worker : ℕ) (records : List Sent) where
   abbrev IsRun : PassView → Ran → PassView → Type 0
   IsRun before ran after = IsRunAt (IsSteeredRun plan count setting worker) records before ran after
 
@@ -234,7 +234,7 @@ rounds_none kind array plan number rounds own seen made = subst (λ (k : MapKind
 module _ (exact : CountsAreExact) (finds : LookupsOfArraysFind) (size : ℕ) (script : List Command) (options : Options) (records : List Sent) (outcome : Outcome)
     (fit : AreOptions (steering_maps size) options) (replayed : IsSteeredReplay size script options records outcome) (none_set : outcome.updates.items ≡ [])
     (none : outcome.counts.stopped ≡ 0) where
-  abbrev setting : Setting
+  abbrev setting : SteeringSizes
   setting = of_size options.shards size
 
   abbrev history : ℕ → List Entry

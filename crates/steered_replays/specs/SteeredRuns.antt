@@ -15,7 +15,7 @@ use Rattle.semantics.specs.System.{IsInputFrame, input_frame}
 use Rattle.maglev.specs.RingSize.{IsRingSize}
 use Rattle.map_port.specs.Exchanges.{Exchange, calls_in, replies_in}
 use Rattle.block_runs.specs.Plan.{Ended, Waiting, plan_outcome}
-use Rattle.conntrack.specs.Steering.{Setting, steering}
+use Rattle.conntrack.specs.Steering.{SteeringSizes, steering}
 use Rattle.conntrack.specs.SteeringMaps.{steering_maps}
 use Rattle.conntrack.specs.Results.{IsResult}
 use Rattle.steer.specs.SteeringLaws.{of_size, shipped_program}
@@ -35,21 +35,21 @@ use Rattle.replay.specs.Shares.{frames_of, is_short, worker_of_frame, share}
 -- ---- runs
 
 -- on these calls and replies the rule's plan ends so, and that is a result of the rule
-pub record EndsByRule (setting : Setting) (frame : FrameView) (exchanges : List Exchange) (verdict : Verdict) (left : FrameView) :
+pub record EndsByRule (setting : SteeringSizes) (frame : FrameView) (exchanges : List Exchange) (verdict : Verdict) (left : FrameView) :
     Type 0 where
   pub plan : plan_outcome (steering setting frame) (replies_in exchanges) ≡
       record { calls = calls_in exchanges; ending = Ended verdict left }
   pub result : IsResult setting frame exchanges verdict left
 
 -- after these calls and replies the rule's plan makes this call, and waits
-abbrev pub WaitsByRule : Setting → FrameView → List Exchange → Call → Type 0
+abbrev pub WaitsByRule : SteeringSizes → FrameView → List Exchange → Call → Type 0
 WaitsByRule setting frame exchanges next =
     plan_outcome (steering setting frame) (replies_in exchanges) ≡ record { calls = calls_in exchanges ++ next ∷ []; ending = Waiting }
 
 -- a run on a record ended: what it asked and was answered, which is among its worker's entries session by session, is what the rule
 -- asks; and what became of the record's frame is what the rule's verdict says of it
-pub record IsSteeredExit (setting : Setting) (count worker : ℕ) (captured : Sent) (before : PassView) (end : RunEnd) (after : PassView) :
-    Type 0 where
+pub record IsSteeredExit (setting : SteeringSizes) (count worker : ℕ) (captured : Sent) (before : PassView) (end : RunEnd)
+    (after : PassView) : Type 0 where
   pub exchanges : List Exchange
   pub verdict : Verdict
   pub frame : FrameView
@@ -58,14 +58,14 @@ pub record IsSteeredExit (setting : Setting) (count worker : ℕ) (captured : Se
   pub told : IsTold captured verdict frame end
 
 -- a run on a record was stopped, since a journal was full for the rule's next call
-pub record IsSteeredStop (plan : ℕ → ShardPlan) (setting : Setting) (count worker : ℕ) (captured : Sent) (before after : PassView) :
+pub record IsSteeredStop (plan : ℕ → ShardPlan) (setting : SteeringSizes) (count worker : ℕ) (captured : Sent) (before after : PassView) :
     Type 0 where
   pub exchanges : List Exchange
   pub refused : Call
   pub sessions : HasRefusedSessions plan count worker exchanges refused before after
   pub by_rule : WaitsByRule setting (input_frame captured.bytes.items) exchanges refused
 
-abbrev pub IsSteeredRun : (ℕ → ShardPlan) → ℕ → Setting → ℕ → Sent → PassView → RunEnd → PassView → Type 0
+abbrev pub IsSteeredRun : (ℕ → ShardPlan) → ℕ → SteeringSizes → ℕ → Sent → PassView → RunEnd → PassView → Type 0
 IsSteeredRun plan count setting worker captured before Stopped after = IsSteeredStop plan setting count worker captured before after
 IsSteeredRun plan count setting worker captured before end after = IsSteeredExit setting count worker captured before end after
 
@@ -77,7 +77,7 @@ pub record IsOfCapture (captured : Sent) : Type 0 where
   pub bytes : All (λ byte. byte < 256) captured.bytes.items
 
 -- what became of a record: it is short, and was not run; or it is the end of a run by the rule
-abbrev pub IsSteeredFate : (ℕ → ShardPlan) → ℕ → Setting → ℕ → Sent → Option RunEnd → Type 0
+abbrev pub IsSteeredFate : (ℕ → ShardPlan) → ℕ → SteeringSizes → ℕ → Sent → Option RunEnd → Type 0
 IsSteeredFate plan count setting worker captured None = is_short captured.bytes.items ≡ true
 IsSteeredFate plan count setting worker captured (Some end) =
     (before : PassView) × (after : PassView) × IsSteeredRun plan count setting worker captured before end after

@@ -29,7 +29,7 @@ use Rattle.conntrack.specs.declared.choosing.Choice.TheVariants.{Tx}
 use Rattle.conntrack.specs.declared.records.BackendRecord.{BackendRecord}
 use Rattle.conntrack.specs.declared.records.TunnelRecord.{TunnelRecord}
 use Rattle.conntrack.specs.Layouts.{flow_bytes, vip_of, backend_of, tunnel_of}
-use Rattle.conntrack.specs.Steering.{Setting, steering, ending}
+use Rattle.conntrack.specs.Steering.{SteeringSizes, steering, ending}
 use Rattle.conntrack.specs.SteeringRule.{fits_tunnel, tunnel_to}
 use Rattle.steered_replays.specs.SteeredRuns.{EndsByRule}
 
@@ -170,7 +170,7 @@ pub record RunOfNoted (frame : FrameView) (tunnel : TunnelRecord) (number : ℕ)
   pub up : StandsUp backends backends_history worker number backend backend_lookup backend_load
 
 -- the run chooses this backend, and does not note it anew
-pub record ChoosesNoted (setting : Setting) (frame : FrameView) (tunnel : TunnelRecord) (number : ℕ) (backend : BackendRecord)
+pub record ChoosesNoted (setting : SteeringSizes) (frame : FrameView) (tunnel : TunnelRecord) (number : ℕ) (backend : BackendRecord)
     (exchanges : List Exchange) (verdict : Verdict) (left : FrameView) : Type 0 where
   pub asked : List Exchange
   pub last : List Exchange
@@ -182,7 +182,7 @@ pub record ChoosesNoted (setting : Setting) (frame : FrameView) (tunnel : Tunnel
 -- every run of the rule that is one of a flow that is noted chooses the noted backend
 abbrev pub NotedFlowsStick : Type 0
 NotedFlowsStick =
-    (setting : Setting) (frame : FrameView) (tunnel : TunnelRecord) (number : ℕ) (backend : BackendRecord) (worker : ℕ)
+    (setting : SteeringSizes) (frame : FrameView) (tunnel : TunnelRecord) (number : ℕ) (backend : BackendRecord) (worker : ℕ)
     (exchanges : List Exchange) (verdict : Verdict) (left : FrameView) →
     EndsByRule setting frame exchanges verdict left → RunOfNoted frame tunnel number backend worker exchanges →
     ChoosesNoted setting frame tunnel number backend exchanges verdict left

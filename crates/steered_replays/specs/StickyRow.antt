@@ -19,14 +19,14 @@ use Rattle.conntrack.specs.declared.records.TunnelRecord.{TunnelRecord}
 use Rattle.conntrack.specs.declared.steering_maps.SteeringMap.{SteeringMap}
 use Rattle.conntrack.specs.declared.steering_maps.SteeringMap.TheVariants.{Vips, Flows, Backends, Ctl, Stats}
 use Rattle.conntrack.specs.Layouts.{flow_bytes, backend_of, tunnel_of}
-use Rattle.conntrack.specs.Steering.{Setting, service_bytes_of, count_call}
+use Rattle.conntrack.specs.Steering.{SteeringSizes, service_bytes_of, count_call}
 use Rattle.conntrack.specs.SteeringMaps.{map_place, map_kind, defined}
 use Rattle.steered_replays.specs.SteeredRuns.{EndsByRule}
 use Rattle.steered_replays.specs.StickyFlows.{noting, RunOfNoted}
 use Rattle.semantics.specs.declared.call.Caller.TheVariants.{Controller}
 
 -- one shard to a map
-abbrev pub row_setting : Setting
+abbrev pub row_setting : SteeringSizes
 row_setting = record { shards = 1; size = 7 }
 
 -- UDP from 10.0.0.9, port 1000, to 10.0.0.1, port 80; the packet has 28 bytes

@@ -25,7 +25,7 @@ use Rattle.conntrack.specs.declared.choosing.Records.{Records}
 use Rattle.conntrack.specs.declared.choosing.Choice.{Choice}
 use Rattle.conntrack.specs.Layouts.{vip_of, flow_of, backend_of, tunnel_of, owner_of}
 use Rattle.conntrack.specs.SteeringRule.{IsSteered, tracked_choice, fits_tunnel, flow_update, frame_after, verdict_of_choice}
-use Rattle.conntrack.specs.Steering.{Setting, shard_of, look, read, found_or, counted, has_flow, service_bytes_of, steering, finish}
+use Rattle.conntrack.specs.Steering.{SteeringSizes, shard_of, look, read, found_or, counted, has_flow, service_bytes_of, steering, finish}
 use Rattle.conntrack.specs.Steering.{noting, choice_in, no_records, read_service, read_tunnel, read_note, read_slot, read_owner}
 use Rattle.conntrack.specs.Steering.{read_backend, unless_tracked}
 use Rattle.conntrack.specs.Results.{change_of, changes_in, note_call, IsRaised, IsNotFound, flow_lookups, lookups_of_flows}
@@ -44,7 +44,7 @@ without_tunnel true fits flow = refl
 
 -- ---- the ends of the plan
 
-module _ (setting : Setting) (frame : FrameView) where
+module _ (setting : SteeringSizes) (frame : FrameView) where
   abbrev due_of : Records → ℕ
   due_of records = flow_lookups_due frame.bytes records
 
