@@ -29,7 +29,7 @@ use Rattle.replay.specs.Accounts.{runs_at}
 use Rattle.replay.specs.RunJobs.{records_of}
 use Rattle.replay.specs.RunsInOrder.{IsRunAt, IsChainOfRuns}
 use Rattle.replay.specs.Shares.{frames_of, frame_at, is_short, is_handed, share}
-use Rattle.replay.specs.Accounted.{IsWorkOf, IsOrderOf}
+use Rattle.replay.specs.Accounted.{IsWorkOf, IsOrderOfJournals}
 use Rattle.replay.specs.RunsOverShards.{start_of, IsExit, IsStopIn, StopsFor, IsRunIn}
 use Rattle.guarantees.specs.ReaderReplays.{IsCaptured}
 use Rattle.guarantees.specs.SystemLaws.{RunsAreOfTheSystem, StoppedRunsAreOfTheSystem}
@@ -169,7 +169,7 @@ work_of ran stopped verified options few plan count worker below journals order 
 one_list : (verified : Verified) (options : Options) → AreOptions verified.maps options → (plan : ℕ → ShardPlan) (count : ℕ) →
     ArePlans verified.maps options count plan → (runs : List (List Ran)) (journals : JournalsView) →
     ((number : ℕ) → number < count → IsLegalJournal (plan number) (entries_at journals number)) → (order : List Deed) →
-    IsOrderOf plan count journals order → (moves : HasMoves (setting_of verified options) count runs journals order) →
+    IsOrderOfJournals plan count journals order → (moves : HasMoves (setting_of verified options) count runs journals order) →
     IsOneList (setting_of verified options) count (λ number. entries_at journals number) moves.moves (entries_made (reverse order))
 one_list verified options fit plan count plans runs journals legal order ordered moves =
     one_order_is_one_list (setting_of verified options) plan count (λ number. entries_at journals number) moves.moves (reverse order)

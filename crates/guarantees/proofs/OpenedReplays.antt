@@ -30,7 +30,7 @@ use Rattle.replay.specs.declared.runner.RunEnd.TheVariants.{Stopped, Exited}
 use Rattle.replay.specs.declared.account.Counts.{Counts}
 use Rattle.replay.specs.Accounts.{SentFrame, counts_of, sent_by, sent_of, sent_frames, runs_at, fate_of}
 use Rattle.replay.specs.RunsInOrder.{IsRunAt, IsChainOfRuns}
-use Rattle.replay.specs.Shares.{frames_of, frame_at, is_short, has_flow, worker_of_frame, is_handed, share}
+use Rattle.replay.specs.Shares.{frames_of, frame_at, is_short, is_spread_by_flow, worker_of_frame, is_handed, share}
 use Rattle.replay.proofs.shared.AccountLemmas.{handed_own}
 use Rattle.replay.specs.declared.outcome.Outcome.{Outcome}
 use Rattle.replay.specs.Accounted.{IsAccounted}
@@ -232,7 +232,7 @@ module _ (maps : List MapDef) (code : List Insn) (options : Options) (some : 0 <
   by_length number below false is =
       let worker : ℕ = worker_of_frame (frame_at (frames_of records) number) options.workers in
       let few : worker < options.workers =
-      flow_below (has_flow (frame_at (frames_of records) number)) (fnv1a64_of (flow_bytes_of (frame_at (frames_of records) number))) options.workers some in
+      flow_below (is_spread_by_flow (frame_at (frames_of records) number)) (fnv1a64_of (flow_bytes_of (frame_at (frames_of records) number))) options.workers some in
       let handed : is_handed (frames_of records) options.workers worker number ≡ true = handed_own (frames_of records) options.workers worker number is refl in
       let place : ℕ = length (share (frames_of records) options.workers worker number) in
       let there = share_at (frames_of records) options.workers worker number (length records) handed below in

@@ -34,7 +34,7 @@ use Rattle.replay.specs.Shares.{frames_of, share}
 use Rattle.control.specs.declared.command.Command.{Command}
 use Rattle.replay.specs.declared.outcome.Outcome.{Outcome}
 use Rattle.replay.specs.Parts.{IsScriptAccounted, AreRoundsAccounted, rounds_of}
-use Rattle.replay.specs.Accounted.{IsWorkOf, IsOrderOf, IsAccounted}
+use Rattle.replay.specs.Accounted.{IsWorkOf, IsOrderOfJournals, IsAccounted}
 use Rattle.replay.specs.RunsOverShards.{time_of, start_of, IsTold, steps_in}
 use Rattle.semantics.specs.System.{Setting}
 use Rattle.guarantees.specs.Steps.{Move, Refused, begins, does, asks, leavings}
@@ -140,7 +140,7 @@ pub record Headline (verified : Verified) (script : List Command) (options : Opt
       entries_at outcome.journals number ≡ earlier ++ entry ∷ later → IsSequentialStep (plan number) (reverse earlier) entry
   -- what all callers did on all shards is one order: shard by shard it is the journal, and each look at a full journal met one
   pub order : List Deed
-  pub ordered : IsOrderOf plan count outcome.journals order
+  pub ordered : IsOrderOfJournals plan count outcome.journals order
   -- the controller's deeds in it are the updates before the first record and then those of the script's commands, in order over all shards,
   -- each with its answer, and behind those of a command that a full journal stopped the look at that journal
   pub commands :

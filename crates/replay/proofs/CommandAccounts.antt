@@ -16,7 +16,7 @@ use Rattle.control.specs.MapUpdates.{UpdateBytes}
 use Rattle.control.specs.Controlling.{ControllerState, opened_controller}
 use Rattle.replay.specs.declared.outcome.Applied.{Applied}
 use Rattle.replay.specs.SharedUpdates.{UpdatesView, shard_of, update_call}
-use Rattle.replay.specs.Commands.{CommandDone, IsDone, AreDone, IsNotedOf, AreNotedOf, all_set, made_in, with_updates, made_deeds, command_deeds, commands_deeds, IsFullFor, IsMoved, HasEffect, HasSet, IsAccount, IsCommander, ServesScript}
+use Rattle.replay.specs.Commands.{CommandDone, IsDone, AreDone, IsNotedOf, AreNotedOf, all_set, made_in, with_updates, made_deeds, command_deeds, commands_deeds, IsFullFor, IsMoved, HasEffect, HasSet, IsScriptAccount, IsCommander, ServesScript}
 use Rattle.replay.proofs.Moving.{with_updates_more}
 use Rattle.replay.proofs.shared.FullStays.{full_stays}
 
@@ -96,9 +96,9 @@ account_did maps options before after first done one were did =
 
 pub account_more : (plan : ℕ → ShardPlan) (updates : List MapUpdate) (script : List Command) (size : ℕ) (noted : List Applied) (state state' : ControllerState)
     (before after : UpdatesView) (command : Command) (last : Applied) →
-    IsAccount plan before.maps before.options updates script size noted state before.pass → slice_get script last.command ≡ Some command →
+    IsScriptAccount plan before.maps before.options updates script size noted state before.pass → slice_get script last.command ≡ Some command →
     HasEffect plan state command.action last.fault state' before after →
-    IsAccount plan after.maps after.options updates script size (noted ++ last ∷ []) state' after.pass
+    IsScriptAccount plan after.maps after.options updates script size (noted ++ last ∷ []) state' after.pass
 account_more plan updates script size noted state state' before after command last account known effect =
     let one : CommandDone = effect.one in
     record {
@@ -117,7 +117,7 @@ account_more plan updates script size noted state state' before after command la
     }
 
 pub account_of_nothing : (plan : ℕ → ShardPlan) (maps : List MapDef) (options : Options) (updates : List MapUpdate) (script : List Command) (size : ℕ)
-    (pass : PassView) → HasSet maps options updates pass → IsAccount plan maps options updates script size [] (opened_controller size) pass
+    (pass : PassView) → HasSet maps options updates pass → IsScriptAccount plan maps options updates script size [] (opened_controller size) pass
 account_of_nothing plan maps options updates script size pass set = record {
   done = [];
   are_noted = tt;
@@ -146,11 +146,11 @@ pub commander_more : (plan : ℕ → ShardPlan) (updates : List MapUpdate) (scri
     slice_get script last.command ≡ Some command → HasEffect plan state command.action last.fault state' before after → state'.size ≡ state.size →
     IsCommander plan updates script noted' state' after
 commander_more plan updates script noted noted' state state' before after command last was is known effect size =
-    let account : IsAccount plan after.maps after.options updates script state.size (noted ++ last ∷ []) state' after.pass =
+    let account : IsScriptAccount plan after.maps after.options updates script state.size (noted ++ last ∷ []) state' after.pass =
     account_more plan updates script state.size noted state state' before after command last was.account known effect in
     record {
-      account = subst (λ n. IsAccount plan after.maps after.options updates script n noted' state' after.pass) (sym size)
-          (subst (λ all. IsAccount plan after.maps after.options updates script state.size all state' after.pass) (sym is) account);
+      account = subst (λ n. IsScriptAccount plan after.maps after.options updates script n noted' state' after.pass) (sym size)
+          (subst (λ all. IsScriptAccount plan after.maps after.options updates script state.size all state' after.pass) (sym is) account);
       serves = subst (λ maps. ServesScript maps state'.size script) (sym effect.moved.maps)
           (subst (λ n. ServesScript before.maps n script) (sym size) was.serves);
       who = effect.moved.who;

@@ -7,7 +7,7 @@ use Rattle.rx_queues.specs.declared.job.Job.{Job}
 use Rattle.rx_queues.specs.declared.job.Job.TheVariants.{Command, Note, End}
 use Rattle.rx_queues.specs.Fifo.{IsTakenInOrder}
 use Rattle.rx_queues.specs.Passes.{with_job_at}
-use Rattle.replay.specs.Actors.{numbers_from, commands_from, HasEnded, HasNoEnd, EndsOnce, ArePutAt, AreHandedOver, AreBothEnded}
+use Rattle.replay.specs.Actors.{numbers_from, commands_from, HasEndLast, HasNoEnd, EndsOnce, ArePutAt, AreHandedOver, AreBothEnded}
 use Rattle.replay.specs.Puts.{put_at}
 use Rattle.replay.proofs.PutLemmas.{length_with_job, job_here, job_elsewhere}
 
@@ -132,7 +132,7 @@ same_to_end (job ∷ put) [] left none e = absurd (none.0 (grind (arith)))
 same_to_end (job ∷ put) (one ∷ mine) left none e = grind (arith, same_to_end put mine left none.1)
 
 -- who took to an end has taken all that was put
-pub taken_all : (taken put : List Job) → HasEnded taken → EndsOnce put → IsTakenInOrder taken put → taken ≡ put
+pub taken_all : (taken put : List Job) → HasEndLast taken → EndsOnce put → IsTakenInOrder taken put → taken ≡ put
 taken_all taken put ended once order =
     let same = same_to_end once.before ended.before order.left once.no_end (sym once.jobs_are ∙ order.rest ∙ ap (λ jobs. jobs ++ order.left) ended.jobs_are) in
     ended.jobs_are ∙ ap (λ jobs. jobs ++ End ∷ []) same ∙ sym once.jobs_are

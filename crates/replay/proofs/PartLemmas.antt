@@ -28,7 +28,7 @@ use Rattle.control.specs.declared.command.Command.{Command}
 use Rattle.control.specs.MapUpdates.{UpdateBytes}
 use Rattle.replay.specs.declared.outcome.Applied.{Applied}
 use Rattle.replay.specs.SharedUpdates.{shard_of, update_call}
-use Rattle.replay.specs.Commands.{CommanderView, CommandDone, IsAccount, IsFullFor, ServesScript}
+use Rattle.replay.specs.Commands.{CommanderView, CommandDone, IsScriptAccount, IsFullFor, ServesScript}
 use Rattle.replay.specs.ActorJobs.{command_jobs}
 use Rattle.replay.specs.Rounds.{AreReclaimed, AreRoundsDone, IsReclaimedBy}
 use Rattle.replay.specs.Actors.{numbers_from, commands_from}
@@ -140,16 +140,16 @@ script_run plan maps options updates script size start noted pass first count is
     sym (numbers_noted later) ∙ ap job_numbers (sym has.taken.each_once) ∙ numbers_handed (numbers_from first count) in
     let here : first ≡ 0 + first = omega arith in
     let state = has.account.state in
-    let one = subst (λ m. IsAccount plan m start.port.options start.updates start.script start.controller.size noted state pass) is_maps has.account.account in
-    let two = subst (λ o. IsAccount plan maps o start.updates start.script start.controller.size noted state pass) is_options one in
-    let set = subst (λ u. IsAccount plan maps options u start.script start.controller.size noted state pass) is_updates two in
-    let three = subst (λ s. IsAccount plan maps options updates s start.controller.size noted state pass) is_script set in
+    let one = subst (λ m. IsScriptAccount plan m start.port.options start.updates start.script start.controller.size noted state pass) is_maps has.account.account in
+    let two = subst (λ o. IsScriptAccount plan maps o start.updates start.script start.controller.size noted state pass) is_options one in
+    let set = subst (λ u. IsScriptAccount plan maps options u start.script start.controller.size noted state pass) is_updates two in
+    let three = subst (λ s. IsScriptAccount plan maps options updates s start.controller.size noted state pass) is_script set in
     record {
       each_once = ap numbers_of has.taken.noted ∙ numbers_both start.noted later ∙ ap (λ (l : List ℕ). l ++ numbers_of later) were
           ∙ ap (λ (l : List ℕ). numbers_from 0 first ++ l) (rest ∙ ap (λ (n : ℕ). numbers_from n count) here) ∙ numbers_more 0 first count
           ∙ ap (λ (n : ℕ). numbers_from 0 n) all;
       state = state;
-      account = subst (λ n. IsAccount plan maps options updates script n noted state pass) is_size three;
+      account = subst (λ n. IsScriptAccount plan maps options updates script n noted state pass) is_size three;
       who = has.who;
     }
 

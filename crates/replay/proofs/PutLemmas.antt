@@ -10,7 +10,7 @@ use Rattle.std.proofs.lemmas.Bool.Decides.{nat_tests}
 use Rattle.rx_queues.specs.declared.job.Job.{Job}
 use Rattle.rx_queues.specs.declared.job.Job.TheVariants.{Frame, End}
 use Rattle.rx_queues.specs.Passes.{with_job_at, IsPutPassOf, jobs_put, workers_of}
-use Rattle.replay.specs.Shares.{frame_at, is_short, has_flow, worker_of_frame, share}
+use Rattle.replay.specs.Shares.{frame_at, is_short, is_spread_by_flow, worker_of_frame, share}
 use Rattle.replay.specs.Puts.{put_at, frame_jobs, with_record, ArePut, ArePutWithEnd, AreAllPut}
 
 pub length_with_job : (at : ℕ) (job : Job) (puts : List (List Job)) → length (with_job_at at job puts) ≡ length puts
@@ -91,8 +91,8 @@ record_put frames workers count puts below were = subst (λ n. ArePut frames wor
   }
 
 pub worker_below : (frame : List ℕ) (workers : ℕ) → 0 < workers → worker_of_frame frame workers < workers
-worker_below frame workers some = by_test (has_flow frame) refl where
-  by_test : (test : Bool) → has_flow frame ≡ test → worker_of_frame frame workers < workers
+worker_below frame workers some = by_test (is_spread_by_flow frame) refl where
+  by_test : (test : Bool) → is_spread_by_flow frame ≡ test → worker_of_frame frame workers < workers
   by_test true has = rw has (mod-lt _ {m = workers} some)
   by_test false none = rw none some
 

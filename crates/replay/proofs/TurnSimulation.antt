@@ -31,7 +31,7 @@ use Rattle.replay.specs.declared.runner.RunEnd.TheVariants.{Stopped, Exited}
 use Rattle.replay.specs.Shares.{frames_of, frame_at, is_short, worker_of_frame, share}
 use Rattle.replay.specs.Accounts.{SentFrame, runs_at, end_at, fate_of, counted, counts_of, sent_by, sent_frames, sent_of, record_end, ends_of, AreRunsOfShares}
 use Rattle.replay.specs.Actors.{numbers_from}
-use Rattle.replay.specs.Commands.{IsAccount}
+use Rattle.replay.specs.Commands.{IsScriptAccount}
 use Rattle.replay.specs.Parts.{numbers_of}
 use Rattle.replay.specs.Rounds.{AreReclaimed}
 use Rattle.replay.specs.RunsInOrder.{IsRunAt, HasHandled}
@@ -80,7 +80,7 @@ module _ (program : Program) (updates : List MapUpdate) (script : List Command) 
     pub controller : PassView
     pub controls : IsPassOf count Controller order controller
     pub each_once : numbers_of state.noted ≡ numbers_from 0 next
-    pub account : IsAccount plan program.maps options updates script size state.noted state.controller controller
+    pub account : IsScriptAccount plan program.maps options updates script size state.noted state.controller controller
     -- the reclaimer
     pub reclaimer : PassView
     pub reclaims : IsPassOf count Reclaimer order reclaimer
@@ -127,8 +127,8 @@ module _ (program : Program) (updates : List MapUpdate) (script : List Command) 
         controller = was.controller;
         controls = others_stay count Reclaimer Controller was.order done.order' was.controller done.more refl was.controls;
         each_once = ap numbers_of turn.noted ∙ was.each_once;
-        account = subst (λ (state : ControllerState). IsAccount plan program.maps options updates script size after.noted state was.controller) (sym turn.controller)
-            (subst (λ (noted : List Applied). IsAccount plan program.maps options updates script size noted before.controller was.controller) (sym turn.noted) was.account);
+        account = subst (λ (state : ControllerState). IsScriptAccount plan program.maps options updates script size after.noted state was.controller) (sym turn.controller)
+            (subst (λ (noted : List Applied). IsScriptAccount plan program.maps options updates script size noted before.controller was.controller) (sym turn.noted) was.account);
         reclaimer = done.pass';
         reclaims = done.stands.mine;
         reclaimed = done.reclaimed;
@@ -144,15 +144,15 @@ module _ (program : Program) (updates : List MapUpdate) (script : List Command) 
       let last : Applied = record { command = next; fault = turn.fault } in
       let maps : after.all.maps ≡ program.maps = done.effect.moved.maps ∙ was.maps in
       let options_are : after.all.options ≡ options = done.effect.moved.options ∙ was.options_are in
-      let there : IsAccount plan before.all.maps before.all.options updates script size before.noted before.controller was.controller =
-      subst (λ (o : Options). IsAccount plan before.all.maps o updates script size before.noted before.controller was.controller) (sym was.options_are)
-      (subst (λ (m : List MapDef). IsAccount plan m options updates script size before.noted before.controller was.controller) (sym was.maps) was.account) in
-      let more : IsAccount plan after.all.maps after.all.options updates script size (before.noted ++ last ∷ []) after.controller done.pass' =
+      let there : IsScriptAccount plan before.all.maps before.all.options updates script size before.noted before.controller was.controller =
+      subst (λ (o : Options). IsScriptAccount plan before.all.maps o updates script size before.noted before.controller was.controller) (sym was.options_are)
+      (subst (λ (m : List MapDef). IsScriptAccount plan m options updates script size before.noted before.controller was.controller) (sym was.maps) was.account) in
+      let more : IsScriptAccount plan after.all.maps after.all.options updates script size (before.noted ++ last ∷ []) after.controller done.pass' =
       account_more plan updates script size before.noted before.controller after.controller (by_pass before.all was.controller) (by_pass after.all done.pass')
       turn.command last there turn.known done.effect in
-      let moved : IsAccount plan program.maps options updates script size (before.noted ++ last ∷ []) after.controller done.pass' =
-      subst (λ (o : Options). IsAccount plan program.maps o updates script size (before.noted ++ last ∷ []) after.controller done.pass') options_are
-      (subst (λ (m : List MapDef). IsAccount plan m after.all.options updates script size (before.noted ++ last ∷ []) after.controller done.pass') maps more) in
+      let moved : IsScriptAccount plan program.maps options updates script size (before.noted ++ last ∷ []) after.controller done.pass' =
+      subst (λ (o : Options). IsScriptAccount plan program.maps o updates script size (before.noted ++ last ∷ []) after.controller done.pass') options_are
+      (subst (λ (m : List MapDef). IsScriptAccount plan m after.all.options updates script size (before.noted ++ last ∷ []) after.controller done.pass') maps more) in
       record {
         order = done.order';
         sound = done.stands.sound;
@@ -171,7 +171,7 @@ module _ (program : Program) (updates : List MapUpdate) (script : List Command) 
         controller = done.pass';
         controls = done.stands.mine;
         each_once = numbers_next before.noted after.noted last next was.each_once refl turn.noted;
-        account = subst (λ (noted : List Applied). IsAccount plan program.maps options updates script size noted after.controller done.pass') (sym turn.noted) moved;
+        account = subst (λ (noted : List Applied). IsScriptAccount plan program.maps options updates script size noted after.controller done.pass') (sym turn.noted) moved;
         reclaimer = was.reclaimer;
         reclaims = others_stay count Controller Reclaimer was.order done.order' was.reclaimer done.more refl was.reclaims;
         reclaimed = was.reclaimed;
@@ -253,8 +253,8 @@ module _ (program : Program) (updates : List MapUpdate) (script : List Command) 
         controller = was.controller;
         controls = was.controls;
         each_once = ap numbers_of noted ∙ was.each_once;
-        account = subst (λ (state : ControllerState). IsAccount plan program.maps options updates script size after.noted state was.controller) (sym controller)
-            (subst (λ (list : List Applied). IsAccount plan program.maps options updates script size list before.controller was.controller) (sym noted) was.account);
+        account = subst (λ (state : ControllerState). IsScriptAccount plan program.maps options updates script size after.noted state was.controller) (sym controller)
+            (subst (λ (list : List Applied). IsScriptAccount plan program.maps options updates script size list before.controller was.controller) (sym noted) was.account);
         reclaimer = was.reclaimer;
         reclaims = was.reclaims;
         reclaimed = was.reclaimed;
@@ -378,8 +378,8 @@ module _ (program : Program) (updates : List MapUpdate) (script : List Command) 
       controller = was.controller;
       controls = others_stay count (Worker own) Controller was.order done.order' was.controller done.more refl was.controls;
       each_once = ap numbers_of noted ∙ was.each_once;
-      account = subst (λ (state : ControllerState). IsAccount plan program.maps options updates script size after.noted state was.controller) (sym controller)
-          (subst (λ (list : List Applied). IsAccount plan program.maps options updates script size list before.controller was.controller) (sym noted) was.account);
+      account = subst (λ (state : ControllerState). IsScriptAccount plan program.maps options updates script size after.noted state was.controller) (sym controller)
+          (subst (λ (list : List Applied). IsScriptAccount plan program.maps options updates script size list before.controller was.controller) (sym noted) was.account);
       reclaimer = was.reclaimer;
       reclaims = others_stay count (Worker own) Reclaimer was.order done.order' was.reclaimer done.more refl was.reclaims;
       reclaimed = was.reclaimed;

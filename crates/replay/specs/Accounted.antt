@@ -32,7 +32,7 @@ pub record IsWorkOf (IsRun : PassView → Ran → PassView → Type 0) (records 
   pub did : after.deeds ≡ deeds_of (ByCaller (Worker worker)) order
 
 -- one order of all deeds on N shards, newest first: shard by shard it is the journal, and each look at a full journal met one
-pub record IsOrderOf (plan : ℕ → ShardPlan) (count : ℕ) (journals : JournalsView) (order : List Deed) : Type 0 where
+pub record IsOrderOfJournals (plan : ℕ → ShardPlan) (count : ℕ) (journals : JournalsView) (order : List Deed) : Type 0 where
   pub within : AreWithin count order
   pub journals_are : (number : ℕ) → number < count → entries_at journals number ≡ reverse (made_on number order)
   pub met : AreMet plan order
@@ -49,7 +49,7 @@ pub record IsAccounted (program : Program) (script : List Command) (options : Op
   pub legal : (number : ℕ) → number < count → IsLegalJournal (plan number) (entries_at outcome.journals number)
   -- what all callers did on all shards, in one order
   pub order : List Deed
-  pub ordered : IsOrderOf plan count outcome.journals order
+  pub ordered : IsOrderOfJournals plan count outcome.journals order
   -- the runs of each worker
   pub runs : List (List Ran)
   pub workers : length runs ≡ options.workers

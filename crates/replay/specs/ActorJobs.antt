@@ -9,7 +9,7 @@ use Rattle.semantics.specs.declared.plan.ShardPlan.{ShardPlan}
 use Rattle.shards.specs.Passes.{PassView}
 use Rattle.control.specs.Controlling.{ControllerState}
 use Rattle.replay.specs.declared.outcome.Applied.{Applied}
-use Rattle.replay.specs.Commands.{CommanderView, IsAccount}
+use Rattle.replay.specs.Commands.{CommanderView, IsScriptAccount}
 use Rattle.replay.specs.Rounds.{AreReclaimed}
 
 -- the queue at the place is the controller's, of queues for as many commands as the script has
@@ -29,7 +29,7 @@ pub record AreCommandsTaken (before after : List Applied) (jobs : List Job) : Ty
 -- what was noted since the controller began, with its own entries, is an account of its script
 pub record IsAccounted (plan : ℕ → ShardPlan) (start : CommanderView) (noted : List Applied) (pass : PassView) : Type 0 where
   pub state : ControllerState
-  pub account : IsAccount plan start.port.maps start.port.options start.updates start.script start.controller.size noted state pass
+  pub account : IsScriptAccount plan start.port.maps start.port.options start.updates start.script start.controller.size noted state pass
 
 -- a note, or the end
 abbrev pub round_job : Bool → Job

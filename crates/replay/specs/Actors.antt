@@ -28,7 +28,7 @@ abbrev pub round_jobs : ℕ → List Job
 round_jobs records = replicate (records / 64 + 1) Note ++ End ∷ []
 
 -- the last job is the end
-pub record HasEnded (jobs : List Job) : Type 0 where
+pub record HasEndLast (jobs : List Job) : Type 0 where
   pub before : List Job
   pub jobs_are : jobs ≡ before ++ End ∷ []
 

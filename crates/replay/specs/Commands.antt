@@ -208,8 +208,8 @@ pub record HasSet (maps : List MapDef) (options : Options) (updates : List MapUp
 -- The commands noted are those of the script, each did what it says in the state that the one before it left; the controller's own entries
 -- in the history of each shard are its first updates and behind them those of the commands to it, in order; where one met a full journal,
 -- that journal is full for it; and over all shards its deeds are the first updates and then those of the commands, in order.
-pub record IsAccount (plan : ℕ → ShardPlan) (maps : List MapDef) (options : Options) (updates : List MapUpdate) (script : List Command)
-    (size : ℕ) (noted : List Applied) (state : ControllerState) (pass : PassView) : Type 0 where
+pub record IsScriptAccount (plan : ℕ → ShardPlan) (maps : List MapDef) (options : Options) (updates : List MapUpdate)
+    (script : List Command) (size : ℕ) (noted : List Applied) (state : ControllerState) (pass : PassView) : Type 0 where
   pub done : List CommandDone
   pub are_noted : AreNotedOf script noted done
   pub are_done : AreDone (opened_controller size) done state
@@ -237,7 +237,8 @@ StaysOf before after =
 -- what was noted is an account of the script
 abbrev pub HasAccount : (ℕ → ShardPlan) → CommanderView → Type 0
 HasAccount plan view =
-    IsAccount plan view.port.maps view.port.options view.updates view.script view.controller.size view.noted view.controller view.port.pass
+    IsScriptAccount plan view.port.maps view.port.options view.updates view.script view.controller.size view.noted
+    view.controller view.port.pass
 
 -- the maps are those of steering for the controller's table, or there is no command
 abbrev pub ServesScript : List MapDef → ℕ → List Command → Type 0
@@ -245,6 +246,6 @@ ServesScript maps size script = (script ≡ []) ⊎ (maps ≡ steering_maps size
 
 pub record IsCommander (plan : ℕ → ShardPlan) (updates : List MapUpdate) (script : List Command) (noted : List Applied)
     (state : ControllerState) (port : UpdatesView) : Type 0 where
-  pub account : IsAccount plan port.maps port.options updates script state.size noted state port.pass
+  pub account : IsScriptAccount plan port.maps port.options updates script state.size noted state port.pass
   pub serves : ServesScript port.maps state.size script
   pub who : port.pass.who ≡ Controller

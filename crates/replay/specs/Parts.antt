@@ -22,7 +22,7 @@ use Rattle.control.specs.Controlling.{ControllerState, opened_controller}
 use Rattle.control.specs.MapUpdates.{UpdateBytes}
 use Rattle.replay.specs.declared.outcome.Applied.{Applied}
 use Rattle.replay.specs.SharedUpdates.{shard_of, update_call}
-use Rattle.replay.specs.Commands.{CommanderView, CommandDone, AreNotedOf, AreDone, IsAccount, ServesScript}
+use Rattle.replay.specs.Commands.{CommanderView, CommandDone, AreNotedOf, AreDone, IsScriptAccount, ServesScript}
 use Rattle.replay.specs.Commands.{all_set, made_in, with_updates, made_deeds, commands_deeds}
 use Rattle.replay.specs.ActorJobs.{AreCommandsTaken, AreRoundsMade, IsAccounted as IsControllersAccount}
 use Rattle.replay.specs.Rounds.{IsReclaimedBy, AreRoundsDone}
@@ -73,7 +73,7 @@ pub record IsScriptRun (plan : ℕ → ShardPlan) (maps : List MapDef) (options 
     (size : ℕ) (noted : List Applied) (pass : PassView) : Type 0 where
   pub each_once : numbers_of noted ≡ numbers_from 0 (length script)
   pub state : ControllerState
-  pub account : IsAccount plan maps options updates script size noted state pass
+  pub account : IsScriptAccount plan maps options updates script size noted state pass
   pub who : pass.who ≡ Controller
 
 -- ---- compared with the journals

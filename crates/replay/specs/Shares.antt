@@ -16,16 +16,16 @@ frame_at frames number = slice_index_or frames number []
 abbrev pub is_short : List ℕ → Bool
 is_short frame = nat_lt (length frame) 14
 
--- the frame has a flow key (as `HasFlow` says)
-abbrev pub has_flow : List ℕ → Bool
-has_flow frame =
+-- the frame is spread by its flow key: it has one (as `HasFlow` says)
+abbrev pub is_spread_by_flow : List ℕ → Bool
+is_spread_by_flow frame =
     not (nat_lt (length frame) 42) && (slice_index frame 12 == 0x08) && (slice_index frame 13 == 0x00) && (slice_index frame 14 == 0x45)
     && not (nat_lt (be_word_at 16 frame) 28) && not (nat_lt (length frame) (14 + be_word_at 16 frame))
     && (bit_and (be_word_at 20 frame) 0x3fff == 0) && ((slice_index frame 23 == 6) || (slice_index frame 23 == 17))
 
 -- the hash of the flow's key modulo the number of workers; a frame without a flow goes to worker 0
 abbrev pub worker_of_frame : List ℕ → ℕ → ℕ
-worker_of_frame frame workers = if has_flow frame then fnv1a64_of (flow_bytes_of frame) % workers else 0
+worker_of_frame frame workers = if is_spread_by_flow frame then fnv1a64_of (flow_bytes_of frame) % workers else 0
 
 -- the record is long enough, and its flow is this worker's
 abbrev pub is_handed : List (List ℕ) → ℕ → ℕ → ℕ → Bool

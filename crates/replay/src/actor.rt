@@ -2,7 +2,7 @@
 
 ghost use Rattle.std.specs.Prelude.{◌≡◌, false, [], IfSome};
 ghost use Rattle.rx_queues.specs.Passes.{IsPutPassOf, IsTakePassOf, place_taken_from, jobs_taken, jobs_put};
-ghost use Rattle.replay.specs.Actors.{HasEnded, EndsOnce};
+ghost use Rattle.replay.specs.Actors.{HasEndLast, EndsOnce};
 ghost use Rattle.replay.specs.Puts.{put_at};
 
 use rx_queues::{PutPass, Queues, TakePass};
@@ -25,7 +25,7 @@ pub trait Actor<E: Drop> {
     ghost use Rattle.rx_queues.specs.declared.job.Job.{Job as Work};
     ghost use Rattle.rx_queues.specs.declared.passes.Queues.{Queues as AllQueues};
     ghost use Rattle.rx_queues.specs.Passes.{IsTakePassOf, place_taken_from, jobs_taken};
-    ghost use Rattle.replay.specs.Actors.{HasEnded};
+    ghost use Rattle.replay.specs.Actors.{HasEndLast};
 
     /// What is known of it, and of the queue at the place from which it takes, before it begins.
     ghost is_ready: { Self → AllQueues → ℕ → Type 0 };
@@ -44,7 +44,7 @@ pub trait Actor<E: Drop> {
         requires take { IsTakePassOf queues.now take × (jobs_taken take ≡ []) }
         requires ready { is_ready self queues.now (place_taken_from take) }
         ensures take { IsTakePassOf queues.now result.take × (place_taken_from result.take ≡ place_taken_from take) }
-        ensures ended { HasEnded (jobs_taken result.take) }
+        ensures ended { HasEndLast (jobs_taken result.take) }
         ensures given { (result.is_refused ≡ false) → gives self (jobs_taken result.take) result.given };
 }
 
@@ -59,10 +59,10 @@ pub struct Part<'a, C> {
 impl<'a, E: Drop, C: Actor<E>> Promise<ActorEnded<E>> for Part<'a, C> {
     ghost use Rattle.std.specs.Prelude.{◌≡◌, false};
     ghost use Rattle.rx_queues.specs.Passes.{IsTakePassOf, place_taken_from, jobs_taken};
-    ghost use Rattle.replay.specs.Actors.{HasEnded};
+    ghost use Rattle.replay.specs.Actors.{HasEndLast};
 
     ghost kept_by = { λ part ended. IsTakePassOf part.queues.now ended.take × (place_taken_from ended.take ≡ part.place)
-        × HasEnded (jobs_taken ended.take) × ((ended.is_refused ≡ false) → C.gives part.actor.value (jobs_taken ended.take) ended.given) };
+        × HasEndLast (jobs_taken ended.take) × ((ended.is_refused ≡ false) → C.gives part.actor.value (jobs_taken ended.take) ended.given) };
 }
 
 /// The thread of an actor, and what it promises.
@@ -101,7 +101,7 @@ pub(crate) fn start_actor<
                 requires take { IsTakePassOf queues.now take × (jobs_taken take ≡ []) }
                 requires ready { C.is_ready actor queues.now (place_taken_from take) }
                 ensures take { IsTakePassOf queues.entry.now result.take × (place_taken_from result.take ≡ place_taken_from take) }
-                ensures ended { HasEnded (jobs_taken result.take) }
+                ensures ended { HasEndLast (jobs_taken result.take) }
                 ensures given { (result.is_refused ≡ false) → C.gives actor (jobs_taken result.take) result.given }
             { actor.until_end(rt, alloc, queues, take) },
         )

@@ -4,7 +4,7 @@ ghost use Rattle.std.specs.Prelude.{◌≡◌, ◌<◌, ◌∷◌, ◌++◌, [],
 ghost use Rattle.rx_queues.specs.Passes.{IsTakePassOf, jobs_taken, place_taken_from, workers_of, commands_of};
 ghost use Rattle.rx_queues.specs.declared.job.Job.TheVariants.{Command as CommandJob, End};
 ghost use Rattle.replay.specs.ActorJobs.{AreCommandsTaken, IsAccounted, IsForCommands};
-ghost use Rattle.replay.specs.Actors.{HasEnded, IsUnused};
+ghost use Rattle.replay.specs.Actors.{HasEndLast, IsUnused};
 ghost use Rattle.maglev.specs.RingSize.{IsRingSize};
 ghost use Rattle.map_updates.specs.Misfits.{AreFitting};
 ghost use Rattle.replay.specs.UpdateFaults.{IsWhyByPass};
@@ -12,7 +12,7 @@ ghost use Rattle.semantics.specs.declared.call.Caller.TheVariants.{Controller as
 ghost use Rattle.control.specs.declared.fault.ControlFault.{ControlFault as Fault};
 ghost use Rattle.conntrack.specs.SteeringMaps.{steering_maps};
 ghost use Rattle.control.specs.Controlling.{opened_controller};
-ghost use Rattle.replay.specs.Commands.{CommanderView, HasEffect, IsAccount, HasAccount, StaysOf, ServesScript};
+ghost use Rattle.replay.specs.Commands.{CommanderView, HasEffect, IsScriptAccount, HasAccount, StaysOf, ServesScript};
 
 use crate::actor::{Actor, ActorEnded};
 use crate::fault::ReplayFault;
@@ -135,7 +135,7 @@ impl<'a, B: Naming, W: Wait, G: Gate> Commander<'a, B, W, G> {
         ensures pass { result.0 ≡ self.entry.port.pass }
         ensures who { result.0.who ≡ TheController }
         ensures noted { result.1.items ≡ self.entry.noted }
-        ensures account { IsAccount B.plan self.entry.port.maps self.entry.port.options self.entry.updates self.entry.script
+        ensures account { IsScriptAccount B.plan self.entry.port.maps self.entry.port.options self.entry.updates self.entry.script
             self.entry.controller.size result.1.items self.entry.controller result.0 }
     {
         let Commander { port, noted, .. } = self;
@@ -208,7 +208,7 @@ fn commands_until_end<B: Naming, W: Wait, G: Gate, R: Wait>(
     requires take { IsTakePassOf queues.now take × (jobs_taken take ≡ []) }
     requires jobs { IsForCommands commander.script queues.now (place_taken_from take) }
     ensures take { IsTakePassOf queues.now result.take × (place_taken_from result.take ≡ place_taken_from take) }
-    ensures ended { HasEnded (jobs_taken result.take) }
+    ensures ended { HasEndLast (jobs_taken result.take) }
     ensures jobs { result.is_refused ≡ false → AreCommandsTaken commander.entry.noted result.given.noted.items (jobs_taken result.take) }
     ensures account { IsAccounted B.plan commander.entry result.given.noted.items result.given.pass }
     ensures who { result.given.pass.who ≡ TheController }

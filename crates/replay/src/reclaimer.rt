@@ -5,7 +5,7 @@ ghost use Rattle.rx_queues.specs.Passes.{IsTakePassOf, jobs_taken, place_taken_f
 ghost use Rattle.semantics.specs.declared.call.Caller.TheVariants.{Reclaimer};
 ghost use Rattle.shards.specs.Passes.{IsElsewhereSame};
 ghost use Rattle.replay.specs.ActorJobs.{AreRoundsMade, round_job};
-ghost use Rattle.replay.specs.Actors.{HasEnded, IsUnused};
+ghost use Rattle.replay.specs.Actors.{HasEndLast, IsUnused};
 ghost use Rattle.replay.specs.Rounds.{AreReclaimed, IsReclaimedAt, IsAsked, HasAsked, HasTurned, is_keyed};
 
 use crate::actor::{Actor, ActorEnded};
@@ -157,7 +157,7 @@ fn rounds_until_end<B: Naming, W: Wait, G: Gate, R: Wait>(
     requires unused { IsUnused reclaiming }
     requires notes { place_taken_from take ≡ workers_of queues.now + 1 }
     ensures take { IsTakePassOf queues.now result.take × (place_taken_from result.take ≡ place_taken_from take) }
-    ensures ended { HasEnded (jobs_taken result.take) }
+    ensures ended { HasEndLast (jobs_taken result.take) }
     ensures rounds { AreRoundsMade B.plan B.count (jobs_taken result.take) result.given }
     ensures who { result.given.who ≡ Reclaimer }
 {

@@ -4,7 +4,7 @@ ghost use Rattle.std.specs.Prelude.{◌≡◌, ◌<◌, ◌≤◌, ◌∷◌, �
 ghost use Rattle.machine.specs.Running.{program_of};
 ghost use Rattle.rx_queues.specs.declared.job.Job.TheVariants.{Frame as Record, End};
 ghost use Rattle.rx_queues.specs.Passes.{IsTakePassOf, place_taken_from, jobs_taken, workers_of, records_of};
-ghost use Rattle.replay.specs.Actors.{HasEnded};
+ghost use Rattle.replay.specs.Actors.{HasEndLast};
 ghost use Rattle.replay.specs.RunsInOrder.{IsRunAt, IsOneMore, HasDoneItsJobs};
 ghost use Rattle.replay.specs.RunsOverShards.{IsIdle, IsSentOf, IsTold, IsRunOf, steps_in, time_of};
 
@@ -197,7 +197,7 @@ pub(crate) fn work<S: Drop, W: Runner<S>, R: Wait>(
     requires jobs { (worker < workers_of queues.now) × (records_of queues.now ≡ length capture.now.records.items) }
     requires state { W.is_new runner.now worker state × W.is_idle runner.now worker state }
     ensures take { IsTakePassOf queues.now result.take × (place_taken_from result.take ≡ worker) }
-    ensures ended { HasEnded (jobs_taken result.take) }
+    ensures ended { HasEndLast (jobs_taken result.take) }
     ensures worked { HasDoneItsJobs (W.is_new runner.now worker) (W.runs runner.now worker) capture.now.records.items result }
 {
     let mut runs = Vec::new(alloc);

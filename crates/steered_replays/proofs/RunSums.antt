@@ -18,7 +18,7 @@ use Rattle.replay.specs.declared.runner.FrameFate.TheVariants.{Aborted, Dropped,
 use Rattle.replay.specs.Accounts.{no_counts, counted, counts_of, fate_of, runs_at, end_at}
 use Rattle.replay.specs.RunJobs.{records_of}
 use Rattle.replay.specs.RunsOverShards.{IsTold}
-use Rattle.replay.specs.Shares.{frame_at, is_short, has_flow, is_handed, worker_of_frame, share}
+use Rattle.replay.specs.Shares.{frame_at, is_short, is_spread_by_flow, is_handed, worker_of_frame, share}
 use Rattle.steered_replays.proofs.CallerSums.{sum_below, same_sums, more_for, one_more}
 
 -- ---- ends, by number: the verdict's, and 4 for a run that was stopped
@@ -131,7 +131,7 @@ module _ (kind : ℕ) (tell : Counts → ℕ) (tells : (counts : Counts) (fate :
       same_sums workers (of_worker (suc number)) (λ worker. more_for owner x worker + of_worker number worker)
       (λ worker below. by_owner number worker long owner refl (owner == worker) refl)
       ∙ one_more workers owner x (of_worker number)
-      (flow_below (has_flow (frame_at frames number)) (fnv1a64_of (flow_bytes_of (frame_at frames number))))
+      (flow_below (is_spread_by_flow (frame_at frames number)) (fnv1a64_of (flow_bytes_of (frame_at frames number))))
       ∙ ap (λ n. n + sum_below workers (of_worker number)) (sym fate)
 
   none_first : (n : ℕ) → sum_below n (of_worker 0) ≡ 0

@@ -34,7 +34,7 @@ use Rattle.replay.specs.Accounts.{runs_at, end_at, fate_of}
 use Rattle.replay.specs.RunJobs.{records_of}
 use Rattle.replay.specs.RunsInOrder.{IsRunAt, IsChainOfRuns}
 use Rattle.replay.specs.RunsOverShards.{IsRunIn, IsExit, StopsFor}
-use Rattle.replay.specs.Shares.{frames_of, frame_at, is_short, has_flow, worker_of_frame, is_handed, share}
+use Rattle.replay.specs.Shares.{frames_of, frame_at, is_short, is_spread_by_flow, worker_of_frame, is_handed, share}
 use Rattle.steered_replays.specs.SteeredRuns.{IsSteeredFate, IsSteeredExit, IsSteeredStop, IsSteeredRun, IsOfCapture}
 use Rattle.steered_replays.specs.SteeredRuns.{RunsAreSteered, RefusedRunsAreSteered, ReplaysAreSteered}
 use Rattle.steered_replays.proofs.ResultCounts.{all_both}
@@ -263,7 +263,7 @@ module _ (plan : ℕ → ShardPlan) (count : ℕ) (setting : SteeringSizes) (wor
   fate_by_length number captured known below false is same =
       let worker : ℕ = worker_of_frame (frame_at (frames_of records) number) workers in
       let few : worker < workers =
-      flow_below (has_flow (frame_at (frames_of records) number)) (fnv1a64_of (flow_bytes_of (frame_at (frames_of records) number))) workers some in
+      flow_below (is_spread_by_flow (frame_at (frames_of records) number)) (fnv1a64_of (flow_bytes_of (frame_at (frames_of records) number))) workers some in
       let own : (worker_of_frame (frame_at (frames_of records) number) workers == worker) ≡ true = same_test worker in
       let handed : is_handed (frames_of records) workers worker number ≡ true = rw (is, own) refl in
       let fate : fate_of (frames_of records) workers runs number

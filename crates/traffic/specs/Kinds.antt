@@ -41,8 +41,8 @@ kind_of frame =
     else OtherType
 
 -- the kinds of frames that have a flow
-abbrev pub has_flow : FrameKind → Bool
-has_flow Expired = true
-has_flow Large = true
-has_flow Flow = true
-has_flow other = false
+abbrev pub is_of_flow_kind : FrameKind → Bool
+is_of_flow_kind Expired = true
+is_of_flow_kind Large = true
+is_of_flow_kind Flow = true
+is_of_flow_kind other = false

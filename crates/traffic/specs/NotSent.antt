@@ -19,7 +19,7 @@ use Rattle.traffic.specs.declared.not_sent.NotSent.TheVariants.{NoService, Expir
 use Rattle.traffic.specs.declared.record_line.LineVerdict.{LineVerdict}
 use Rattle.traffic.specs.declared.record_line.LineVerdict.TheVariants as verdicts
 use Rattle.traffic.specs.Counting.{one_if}
-use Rattle.traffic.specs.Kinds.{has_flow, kind_of}
+use Rattle.traffic.specs.Kinds.{is_of_flow_kind, kind_of}
 use Rattle.traffic.specs.SummaryText.{dotted, line_about}
 use Rattle.control.specs.ScriptText.{transport_text}
 
@@ -27,7 +27,7 @@ use Rattle.control.specs.ScriptText.{transport_text}
 
 -- a frame of this kind, whose run came to this verdict, was not sent for this reason
 abbrev pub is_not_sent : NotSent → FrameKind → LineVerdict → Bool
-is_not_sent NoService kind verdicts.Pass = has_flow kind
+is_not_sent NoService kind verdicts.Pass = is_of_flow_kind kind
 is_not_sent Expired kinds.Expired verdicts.Drop = true
 is_not_sent Large kinds.Large verdicts.Drop = true
 is_not_sent NoBackend kinds.Flow verdicts.Drop = true
@@ -70,7 +70,7 @@ is_to address bytes =
 -- the frame has a flow to the service
 abbrev pub is_for : Service → List ℕ → Bool
 is_for service bytes =
-    has_flow (kind_of bytes) && not (nat_lt (length bytes) 38) && is_to service.address.0 bytes
+    is_of_flow_kind (kind_of bytes) && not (nat_lt (length bytes) 38) && is_to service.address.0 bytes
     && be_word_at 36 bytes == service.port && slice_index bytes 23 == protocol_number service.transport
 
 -- how many of the frames do

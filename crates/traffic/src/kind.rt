@@ -4,7 +4,7 @@ ghost use Rattle.std.specs.Prelude.{◌≡◌, ◌+◌, ◌<◌, ◌≤◌, ◌�
 ghost use Rattle.wire.specs.FlowForm.{HasFlow};
 ghost use Rattle.wire.specs.PlainIpv4.{IsPlainIpv4};
 ghost use Rattle.traffic.specs.Counting.{how_many, place_of};
-ghost use Rattle.traffic.specs.Kinds.{flow_kind, has_flow, ipv4_kind, kind_of, packet_kind};
+ghost use Rattle.traffic.specs.Kinds.{flow_kind, ipv4_kind, is_of_flow_kind, kind_of, packet_kind};
 
 use ipip::MOST_TUNNELLED;
 use wire::{MIN_FRAME, Sent, word_at};
@@ -64,7 +64,7 @@ impl FrameKind {
 
     /// Whether a frame of this kind has a flow: a whole datagram of TCP or UDP.
     pub fn has_flow(self) -> bool
-        ensures { result ≡ has_flow self }
+        ensures { result ≡ is_of_flow_kind self }
     {
         matches!(
             self,
@@ -86,7 +86,7 @@ impl FrameKind {
     /// The kind of a frame.
     pub fn of(frame: &[u8]) -> FrameKind
         ensures kind { result ≡ kind_of frame.now }
-        ensures flow { has_flow result ≡ true ↔ HasFlow frame.now }
+        ensures flow { is_of_flow_kind result ≡ true ↔ HasFlow frame.now }
     {
         if frame.len() < MIN_FRAME {
             return FrameKind::Short;
@@ -106,7 +106,7 @@ fn ipv4_kind(frame: &[u8]) -> FrameKind
     requires long { 14 ≤ length frame.now }
     requires ether_type { (slice_index frame.now 12 ≡ 0x08) × (slice_index frame.now 13 ≡ 0x00) }
     ensures kind { result ≡ ipv4_kind frame.now }
-    ensures flow { has_flow result ≡ true ↔ HasFlow frame.now }
+    ensures flow { is_of_flow_kind result ≡ true ↔ HasFlow frame.now }
 {
     if frame.len() < 34 || frame[14] / 16 != 4 || frame[14] % 16 < 5 {
         return FrameKind::Malformed;
@@ -125,7 +125,7 @@ fn ipv4_kind(frame: &[u8]) -> FrameKind
 fn packet_kind(frame: &[u8]) -> FrameKind
     requires plain { IsPlainIpv4 frame.now }
     ensures kind { result ≡ packet_kind frame.now }
-    ensures flow { has_flow result ≡ true ↔ HasFlow frame.now }
+    ensures flow { is_of_flow_kind result ≡ true ↔ HasFlow frame.now }
 {
     if word_at(frame, 20) & 0x3fff != 0 {
         return FrameKind::Fragment;
@@ -147,7 +147,7 @@ fn packet_kind(frame: &[u8]) -> FrameKind
 fn flow_kind(frame: &[u8]) -> FrameKind
     requires plain { IsPlainIpv4 frame.now }
     ensures kind { result ≡ flow_kind frame.now }
-    ensures flow { has_flow result ≡ true }
+    ensures flow { is_of_flow_kind result ≡ true }
 {
     if frame[22] == 0 {
         FrameKind::Expired
