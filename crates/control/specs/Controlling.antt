@@ -49,7 +49,7 @@ pub record AreUp (size : ℕ) (up : List Server) : Type 0 where
   pub below : AllByRecursion (λ (server : Server). (server.number < size) × (server.number < 256)) up
   pub addresses : AllByRecursion (λ (one : Server). AllByRecursion (IsApart one) up) up
 
--- the table is Maglev's population of the backends that are up, of which there is one, and without any backend there is no owner
+-- the table is Maglev's population of the backends that are up, and the only one; without any backend there is no owner
 abbrev pub IsTable : ℕ → List Server → List ℕ → Type 0
 IsTable size [] owners = owners ≡ []
 IsTable size (server ∷ up) owners =

@@ -42,7 +42,7 @@ IsReached-next size preference table free choice slot next reached owned moved =
           (cases_eq earlier choice);
     }
 
--- a slot that is free is found among the first preferences, of which there are as many as slots
+-- a slot that is free is found among the first preferences, where these are as many as there are slots
 pub IsReached-all : (size : ℕ) (preference : Preference) (table : List ℕ) (free choice slot : ℕ) → size ≡ length table → IsRingSize size → IsPreference size preference
     → Contains table free → size ≤ choice → ¬ IsReached size preference table free choice slot
 IsReached-all size preference table free choice slot whole served fits some all reached =

@@ -63,7 +63,7 @@ pub full_later : (plan : ShardPlan) (history earlier : List Entry) (call : Call)
 full_later plan history earlier call begins full =
     subst (λ (l : List Entry). IsJournalFull plan l call) (sym begins.1) (full_stays plan begins.0 earlier call full)
 
--- what is seen on each of so many shards begins with what was seen before
+-- what is seen on each of N shards begins with what was seen before
 abbrev Grows : ℕ → PassView → PassView → Type 0
 Grows count before after = (number : ℕ) → number < count → BeginsWith (seen_at after number) (seen_at before number)
 

@@ -34,7 +34,7 @@ lists_count : {A : Type 0} (runs : List (Vec Ran A)) → length (lists_of runs) 
 lists_count [] = refl
 lists_count (first ∷ later) = ap suc (lists_count later)
 
--- so many were taken apart
+-- N were taken apart
 pub record ArePartedTo {S A : Type 0} (all : List (Handled S)) (done : ℕ) (left : List (Handled S)) (runs : List (Vec Ran A)) (states : List S) : Type 0
   where
     pub counted : length runs ≡ done

@@ -1,4 +1,4 @@
--- Every thread was told to end, and was handed nothing after that.
+-- Every thread was handed the end, and nothing after that.
 use Rattle.std.proofs.Common.{replicate, nat_lt, refl, ◌≡◌, ℕ, ◌+◌, ◌/◌, ◌<◌, Bool, true, false, List, [], ◌∷◌, ◌++◌, length, sym, ap, ◌∙◌, subst, arith}
 use Rattle.std.proofs.lemmas.Bool.Decides.{nat_tests}
 use Rattle.rx_queues.specs.declared.job.Job.{Job}
@@ -70,7 +70,7 @@ all_ended workers before after were same both = λ place below. by_test place be
       let past : workers < place + 1 = grind (arith, nat_tests, is) in
       by_last place below past (nat_lt place (workers + 1)) refl
 
--- no thread was started: first the controller and the reclaimer were told to end, then the workers
+-- no thread was started: first the controller and the reclaimer were handed the end, then the workers
 pub nobody_ran : (workers : ℕ) (before middle after : List (List Job)) → before ≡ replicate (workers + 2) [] → workers + 1 < length before
     → AreBothEnded workers before middle → ArePutWithEnd workers middle after → AreNonePut workers after × AreAllEnded (workers + 2) after
 nobody_ran workers before middle after is within both ended =
@@ -100,7 +100,7 @@ pub closed_others : (workers : ℕ) (before asked ended after : List (List Job))
 closed_others workers before asked ended after put both is = λ place below.
     ap (λ p. put_at p place) is ∙ both.others place below ∙ put.elsewhere place (λ same. absurd (omega (arith, same, below)))
 
--- the workers' queues when all was handed over and they were told to end
+-- the workers' queues when all was handed over and they were handed the end
 pub workers_done : (frames : List (List ℕ)) (workers count : ℕ) (before ended after : List (List Job)) → ArePut frames workers count before
     → ArePutWithEnd workers before ended → after ≡ ended → AreAllPut frames workers count after
 workers_done frames workers count before ended after were put is =
@@ -123,7 +123,7 @@ actors_idle workers before after is put = (
   nothing_no_end workers (workers + 1) before after is (put.others (workers + 1) (omega arith)),
 )
 
--- and then those two were told to end
+-- and then those two were handed the end
 pub ended_then : (workers : ℕ) (before after : List (List Job)) → workers + 1 < length before → AreAllEnded workers before
     → HasNoEnd (put_at before workers) × HasNoEnd (put_at before (workers + 1)) → AreBothEnded workers before after → AreAllEnded (workers + 2) after
 ended_then workers before after within were none both =

@@ -45,7 +45,7 @@ notes_more : (rounds : ℕ) → replicate rounds Note ++ Note ∷ [] ≡ replica
 notes_more zero = refl
 notes_more (suc rounds) = ap (λ rest. Note ∷ rest) (notes_more rounds)
 
--- so many notes were taken, and so many rounds made
+-- N notes were taken, and N rounds made
 pub record AreNotesTaken (plan : ℕ → ShardPlan) (count : ℕ) (jobs : List Job) (pass : PassView) : Type 0 where
   pub rounds : ℕ
   pub notes : jobs ≡ replicate rounds Note

@@ -116,7 +116,7 @@ all_queues queues pass right =
     let sized = queues.sized in
     omega (arith, lists, as_many, sized)
 
--- so many of the workers were told to end
+-- the first N workers were handed the end
 pub record AreEndedUpTo (done : ℕ) (before after : List (List Job)) : Type 0 where
   pub count : length after ≡ length before
   pub ended : (worker : ℕ) → worker < done → put_at after worker ≡ put_at before worker ++ End ∷ []
@@ -159,7 +159,7 @@ nothing_put frames workers puts is = record {
   each = λ worker below. ap (λ p. put_at p worker) is ∙ none_put (workers + 2) worker;
 }
 
--- and all was, once the workers were told to end
+-- and all was, once the workers were handed the end
 pub all_put : (frames : List (List ℕ)) (workers count : ℕ) (before after : List (List Job)) → ArePut frames workers count before
     → ArePutWithEnd workers before after → AreAllPut frames workers count after
 all_put frames workers count before after were ended worker below = ended.each worker below ∙ ap (λ jobs. jobs ++ End ∷ []) (were.each worker below)

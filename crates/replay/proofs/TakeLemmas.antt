@@ -10,7 +10,7 @@ module _ {A : Type 0} where
   removed_count (x ∷ xs) zero count = omega (arith, count)
   removed_count (x ∷ xs) (suc last) count = ap suc (removed_count xs last (omega (arith, count)))
 
-  -- what is left stands where it stood
+  -- what is left is where it was
   pub kept_before : (l : List A) (last place : ℕ) (x : A) → length l ≡ suc last → get_elem? (remove l last) place ≡ some x → get_elem? l place ≡ some x
   kept_before [] last place x count there = absurd (omega (arith, count))
   kept_before (y ∷ []) zero place x count there = absurd (some-ne-none x (sym there))

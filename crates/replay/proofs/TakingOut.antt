@@ -1,4 +1,4 @@
--- Runs of which the ends of the first ones were taken out: what is said of the later records stays.
+-- Runs from which the ends of the first ones were taken out: what is said of the later records stays.
 use Rattle.std.proofs.Common.{◌≡◌, ℕ, zero, suc, ◌+◌, ◌<◌, ◌≤◌, ◌==◌, Bool, true, false, List, [], ◌∷◌, ◌++◌, length, set, get_or, refl, sym, ap, ◌∙◌, subst, add-one, arith}
 use Rattle.std.specs.Prelude.{Vec, Some}
 use Rattle.std.proofs.lemmas.Bool.Decides.{nat_tests}

@@ -23,7 +23,7 @@ use Rattle.shards.specs.Passes.{PassView, view_at, own_at, seen_at, IsElsewhereS
 
 -- ---- one order
 
--- each deed is on one of so many shards, each history that is left is legal, and each look at a full journal met one
+-- each deed is on one of N shards, each history that is left is legal, and each look at a full journal met one
 pub record IsSound (plan : ℕ → ShardPlan) (count : ℕ) (order : List Deed) : Type 0 where
   pub within : AreWithin count order
   pub met : AreMet plan order

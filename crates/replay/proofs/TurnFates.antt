@@ -44,7 +44,7 @@ run_here worker ran runs below = or_set_here runs worker (runs_at runs worker ++
 pub run_else : (worker other : ℕ) (ran : Ran) (runs : List (List Ran)) → other ≢ worker → runs_at (with_run worker ran runs) other ≡ runs_at runs other
 run_else worker other ran runs apart = or_set_else runs worker other (runs_at runs worker ++ ran ∷ []) [] apart
 
--- where each worker ran its records among the first so many, the next record's run tells nothing else of them
+-- where each worker ran its records among the first N, the next record's run changes nothing that is said of them
 module _ (frames : List (List ℕ)) (workers : ℕ) where
   abbrev pub SameBelow : ℕ → List (List Ran) → List (List Ran) → Type 0
   SameBelow most runs runs' = (number : ℕ) → number < most → fate_of frames workers runs' number ≡ fate_of frames workers runs number

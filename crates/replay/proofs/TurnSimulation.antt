@@ -55,7 +55,7 @@ record_there [] number captured known = absurd cc
 record_there (first ∷ later) zero captured known = let same : first ≡ captured = cc in ap (λ (sent : Sent). sent.bytes.items) same
 record_there (first ∷ later) (suc number) captured known = record_there later number captured known
 
--- ---- where a replay stands
+-- ---- the state of a replay
 
 module _ (program : Program) (updates : List MapUpdate) (script : List Command) (options : Options) (records : List Sent) (size : ℕ) (plan : ℕ → ShardPlan) (count : ℕ) where
   pub record IsSimulated (number next rounds : ℕ) (state : TurnState) : Type 0 where

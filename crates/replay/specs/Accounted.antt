@@ -61,7 +61,7 @@ pub record IsAccounted (program : Program) (script : List Command) (options : Op
   pub each_once : frames_in outcome.counts ≡ length records
   -- what is sent, in the capture's order
   pub sent : sent_frames outcome.sent.items ≡ sent_of (frames_of records) options.workers runs (length records)
-  -- what is told of each record, in the capture's order
+  -- what became of each record, in the capture's order
   pub ends : outcome.ends.items ≡ ends_of (frames_of records) options.workers runs (length records)
   -- the updates before the first record, the commands of the script, and those that were refused
   pub commands : IsScriptAccounted plan program.maps options count outcome.updates.items script outcome.journals order outcome.refused.items

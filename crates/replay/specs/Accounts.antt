@@ -29,7 +29,7 @@ end_at [] place = None
 end_at (ran ∷ later) zero = Some ran.end
 end_at (ran ∷ later) (suc place) = end_at later place
 
--- a worker's runs are of its records in order, so that of a record stands behind those of its earlier records; a short record has none
+-- a worker's runs are of its records in order, so the run of a record comes after those of its earlier records; a short record has none
 abbrev pub fate_of : List (List ℕ) → ℕ → List (List Ran) → ℕ → Option RunEnd
 fate_of frames workers runs number =
     if is_short (frame_at frames number) then None
@@ -60,7 +60,7 @@ counts_of frames workers runs (suc number) = counted (counts_of frames workers r
 
 -- ---- what is sent
 
--- a sent frame by what a capture tells of it
+-- a sent frame by what a capture has of it
 pub record SentFrame : Type 0 where
   pub seconds : ℕ
   pub micros : ℕ
@@ -81,7 +81,7 @@ abbrev pub sent_of : List (List ℕ) → ℕ → List (List Ran) → ℕ → Lis
 sent_of frames workers runs zero = []
 sent_of frames workers runs (suc number) = sent_of frames workers runs number ++ sent_by (fate_of frames workers runs number)
 
--- ---- what is told of each
+-- ---- what became of each
 
 -- what the frame's fate says of the verdict
 abbrev pub verdict_for : FrameFate → Verdict
@@ -115,7 +115,7 @@ abbrev pub AreFatesFrom : ℕ → List (List ℕ) → ℕ → List (List Ran) �
 AreFatesFrom first frames workers runs others =
     (number : ℕ) → first ≤ number → fate_of frames workers others number ≡ fate_of frames workers runs number
 
--- of each worker, how many of its records stand before this one
+-- of each worker, how many of its records come before this one
 pub record AreNext (frames : List (List ℕ)) (workers number : ℕ) (next : List ℕ) : Type 0 where
   pub count : length next ≡ workers
   pub each : (worker : ℕ) → worker < workers → slice_index next worker ≡ length (share frames workers worker number)

@@ -55,7 +55,7 @@ pub record AreHandedOver (place from end : ℕ) (before after : List (List Job))
   pub together : from + count ≡ end
   pub put : ArePutAt place (commands_from from count) before after
 
--- how many commands are due: all from this one on that stand behind no more records than were dispatched, up to the first for which it is
+-- how many commands are due: all from this one on that come after no more records than were dispatched, up to the first for which it is
 -- too early
 pub record AreDue (starts : List ℕ) (from number end : ℕ) : Type 0 where
   pub up : from ≤ end
@@ -79,11 +79,11 @@ pub record AreDispatched (frames : List (List ℕ)) (starts : List ℕ) (workers
   pub notes : put_at puts (workers + 1) ≡ replicate (number / 64) Note
   pub in_time : AreInTime starts (length frames) number first next
 
--- every thread was told to end, and handed nothing after that, whether or not it was started
+-- every thread was handed the end, and nothing after that, whether or not it was started
 abbrev pub AreAllEnded : ℕ → List (List Job) → Type 0
 AreAllEnded queues puts = (place : ℕ) → place < queues → EndsOnce (put_at puts place)
 
--- both were told to end, and nobody else was handed anything
+-- both were handed the end, and nobody else was handed anything
 pub record AreBothEnded (workers : ℕ) (before after : List (List Job)) : Type 0 where
   pub others : (place : ℕ) → place < workers → put_at after place ≡ put_at before place
   pub controller : workers < length before → put_at after workers ≡ put_at before workers ++ End ∷ []

@@ -180,7 +180,7 @@ IsRoundTo (suc number) before after =
 
 -- ---- turns
 
--- where a replay stands between two turns: the maps with what was done there, the controller, what came of the commands so far, the counts,
+-- the state of a replay between two turns: the maps with what was done there, the controller, what came of the commands so far, the counts,
 -- what was sent, and what became of each record so far
 pub record TurnState : Type 0 where
   pub all : TurnMaps

@@ -22,17 +22,17 @@ pub record ArePut (frames : List (List ℕ)) (workers count : ℕ) (puts : List 
   pub enough : workers < length puts
   pub each : (worker : ℕ) → worker < workers → put_at puts worker ≡ frame_jobs (share frames workers worker count)
 
--- and then told to end
+-- each worker was then handed the end
 pub record ArePutWithEnd (workers : ℕ) (before after : List (List Job)) : Type 0 where
   pub count : length after ≡ length before
   pub each : (worker : ℕ) → worker < workers → put_at after worker ≡ put_at before worker ++ End ∷ []
   pub others : (place : ℕ) → workers ≤ place → put_at after place ≡ put_at before place
 
--- each worker was told to end, and handed no record
+-- each worker was handed the end, and no record
 abbrev pub AreNonePut : ℕ → List (List Job) → Type 0
 AreNonePut workers puts = (worker : ℕ) → worker < workers → put_at puts worker ≡ End ∷ []
 
--- each worker was handed its records, and then told to end
+-- each worker was handed its records, and then the end
 abbrev pub AreAllPut : List (List ℕ) → ℕ → ℕ → List (List Job) → Type 0
 AreAllPut frames workers count puts =
     (worker : ℕ) → worker < workers → put_at puts worker ≡ frame_jobs (share frames workers worker count) ++ End ∷ []

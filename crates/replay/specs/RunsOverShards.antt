@@ -75,7 +75,7 @@ abbrev pub steps_in : RunEnd → Option ℕ
 steps_in Stopped = None
 steps_in (Exited steps fate) = Some steps
 
--- the run ended: by the program's own trace on the replies that stand among the worker's entries, session by session
+-- the run ended: by the program's own trace on the replies that are among the worker's entries, session by session
 pub record IsExit (count : ℕ) (program : Program) (worker : ℕ) (captured : Sent) (before : PassView) (end : RunEnd)
     (after : PassView) : Type 0 where
   pub verdict : Verdict

@@ -10,7 +10,7 @@ pub data Turn : Type 0 where
   -- the reclaimer makes a round
   TheRound : Turn
 
--- how many commands are due once N records were dispatched: those at the script's beginning that stand behind no more
+-- how many commands are due once N records were dispatched: those at the script's beginning that come after no more
 abbrev pub due_to : List ℕ → ℕ → ℕ
 due_to [] number = 0
 due_to (start ∷ later) number = if nat_lt number start then 0 else suc (due_to later number)

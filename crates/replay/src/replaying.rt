@@ -135,7 +135,7 @@ fn replay_over<'x, B: Naming + Send + Sync, R: Threads + Wait + Sync, G: Gate + 
 /// 64 records and one after the workers' end.
 ///
 /// Each record is counted once: as short where it has fewer than 14 bytes, and else by its run, which the worker of its flow makes, in
-/// the capture's order. Verdict and frame of a run are the program's own on the replies that stand among its worker's entries; these
+/// the capture's order. Verdict and frame of a run are the program's own on the replies that are among its worker's entries; these
 /// are, run after run, Enter, its calls with their replies, and Leave, on each shard that it called; and every journal is legal. A run
 /// is stopped only where the journal of the shard of its next call is full for good. The controller's entries are the first updates, each
 /// answered 0, and those of the script's commands, and the reclaimer's are those of its rounds. What is sent is in the capture's order.

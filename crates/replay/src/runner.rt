@@ -30,7 +30,7 @@ pub trait Runner<S> {
 /// How a run ended.
 #[derive(Debug, Drop)]
 pub enum RunEnd {
-    /// A journal was full for the run's next call: the calls before it stand, and the frame is not sent.
+    /// A journal was full for the run's next call: the calls before it remain, and the frame is not sent.
     Stopped,
     /// The program came to its end, after `steps` instructions, a wide one counted once.
     Exited { steps: u64, frame: FrameFate },

@@ -8,7 +8,7 @@ use Rattle.wire.specs.FlowBytes.{be_bytes}
 use Rattle.semantics.specs.LittleEndian.{bytes_of_number, number_of_bytes}
 use Rattle.steer.proofs.Tunnelling.{header_with, header_checksum}
 
--- ---- ones' complement sums: what stands for a plain sum
+-- ---- ones' complement sums: what represents a plain sum
 
 -- the plain sum modulo 65535, between 1 and 65535 unless it is 0
 pub record StandsFor (folded total : ℕ) : Type 0 where

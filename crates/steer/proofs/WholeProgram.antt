@@ -78,7 +78,7 @@ blocks_meet setting code some = (
   ),
 )
 
--- by the list of blocks as it is told
+-- by the list of blocks as it is written
 same_code : (setting : SteeringSizes) → code_of (from_flow setting) ≡ (shipped_image setting.size).code
 same_code setting = refl
 

@@ -23,7 +23,7 @@ insn_of starts next (L.Do insn) = insn
 insn_of starts next (L.Jump to) = Ja (pos (starts to - next))
 insn_of starts next (L.JumpIf width test dst source to) = JumpIf width test dst source (pos (starts to - next))
 
--- the instructions of these lines, the first of which is at this slot
+-- the instructions of these lines, where the first instruction is at this slot
 abbrev pub laid_out : (Block → ℕ) → ℕ → List Line → List Insn
 laid_out starts slot [] = []
 laid_out starts slot (line ∷ lines) = insn_of starts (slot + line_slots line) line ∷ laid_out starts (slot + line_slots line) lines

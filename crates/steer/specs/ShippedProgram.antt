@@ -161,7 +161,7 @@ hash_byte offset =
     Alu Bits64 Xor R0 (Reg R3) ∷
     Alu Bits64 Mul R0 (Reg R4) ∷ []
 
--- where the bytes of the flow's key stand that may be other than zero
+-- the offsets of the bytes of the flow's key that may be other than zero
 abbrev pub key_offsets : List ℤ
 key_offsets = map minus (16 ∷ 15 ∷ 14 ∷ 13 ∷ 12 ∷ 11 ∷ 10 ∷ 9 ∷ 8 ∷ 7 ∷ 6 ∷ 5 ∷ 4 ∷ [])
 

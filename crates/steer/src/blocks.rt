@@ -290,7 +290,7 @@ const HASH_START: [Insn; 2] = [
     Lddw { dst: R4, value: 0x00000100000001b3 },
 ];
 
-/// Where the bytes of the flow's key stand on the stack that may be other than zero.
+/// The offsets on the stack of the bytes of the flow's key that may be other than zero.
 const KEY_OFFSETS: [i16; 13] = [-16, -15, -14, -13, -12, -11, -10, -9, -8, -7, -6, -5, -4];
 
 /// The byte at an offset goes into the hash.
@@ -311,7 +311,7 @@ const HASH_ZERO: [Insn; 1] = [
     Alu { width: Bits64, op: Mul, dst: R0, source: Reg(R4) },
 ];
 
-/// R0 is the flow's hash: FNV-1a of the sixteen bytes of its key, the last three of which are zero.
+/// R0 is the flow's hash: FNV-1a of the sixteen bytes of its key, the last three of them zero.
 pub(crate) fn put_hash(code: &mut Vec<Insn>) -> Result<(), AllocError>
     ensures { OnOk result (code.new.items ≡ code.old.items ++ hash_block) }
 {
@@ -364,7 +364,7 @@ pub(crate) fn ring_lines(size: u32) -> [Line; 28]
 }
 
 /// The frame gets 20 bytes more at its start, and its new headers, all but the checksum. R4 has the tunnel's source, R9 the backend's
-/// address, R7 the packet's length and R8 its first two bytes, as they stand in the frame.
+/// address, R7 the packet's length and R8 its first two bytes, as they are in the frame.
 #[rattlefmt::skip]
 pub(crate) fn tunnel_lines() -> [Line; 32]
     ensures { result ≡ tunnel_lines }

@@ -50,7 +50,7 @@ at_most_one : (flag : Bool) (count : ℕ) → one_if flag + count ≤ count + 1
 at_most_one true count = omega arith
 at_most_one false count = omega arith
 
--- tests that agree but for one number
+-- tests that agree except for one number
 one_fewer : (number : ℕ) (f g : ℕ → Bool) → ((n : ℕ) → (number == n) ≡ false → g n ≡ f n) → (ns : List ℕ) → distinct ns ≡ true →
     count_by f ns ≤ count_by g ns + 1
 one_fewer number f g same [] apart = omega arith

@@ -3,7 +3,7 @@ use Rattle.steer.specs.Layout.{laid_out}
 use Rattle.steer.specs.ShippedProgram.{start_of}
 use Rattle.steer.proofs.layout.put.Given as goal
 
--- the code so far and the lines to come are all lines of the block, each of which takes at most two slots
+-- the code so far and the lines to come are all lines of the block, and each takes at most two slots
 abbrev pub invariant-lines : goal.invariant-lines
 invariant-lines l =
     (l.code.items ++ laid_out start_of l.slot (drop l.line-index l.lines) ≡ l.fn.code.items ++ laid_out start_of (start_of l.fn.block) l.lines)
