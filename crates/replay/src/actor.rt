@@ -62,7 +62,8 @@ impl<'a, E: Drop, C: Actor<E>> Promise<ActorEnded<E>> for Part<'a, C> {
     ghost use Rattle.replay.specs.Actors.{HasEndLast};
 
     ghost kept_by = { λ part ended. IsTakePassOf part.queues.now ended.take × (place_taken_from ended.take ≡ part.place)
-        × HasEndLast (jobs_taken ended.take) × ((ended.is_refused ≡ false) → C.gives part.actor.value (jobs_taken ended.take) ended.given) };
+        × HasEndLast (jobs_taken ended.take)
+        × ((ended.is_refused ≡ false) → C.gives part.actor.value (jobs_taken ended.take) ended.given) };
 }
 
 /// The thread of an actor, and what it promises.
