@@ -189,7 +189,7 @@ impl<'a> Dispatch<'a> {
     }
 }
 
-/// Tells each worker to end.
+/// Hands each worker the end.
 pub(crate) fn end_all<R: Wait>(rt: &R, queues: &Queues, put: &mut PutPass, workers: usize)
     requires workers { (workers_of queues.now ≡ workers) × (workers ≤ 8) }
     requires pass { IsPutPassOf queues.now put.old }
@@ -208,7 +208,7 @@ pub(crate) fn end_all<R: Wait>(rt: &R, queues: &Queues, put: &mut PutPass, worke
     }
 }
 
-/// Tells the controller and the reclaimer to end.
+/// Hands the controller and the reclaimer the end.
 pub(crate) fn end_both<R: Wait>(rt: &R, queues: &Queues, put: &mut PutPass)
     requires pass { IsPutPassOf queues.now put.old }
     ensures pass { IsPutPassOf queues.now put.new }
