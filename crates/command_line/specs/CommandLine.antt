@@ -98,7 +98,9 @@ replay_reported = with_rule (with_rule replay_files (option_rule (codes "report"
 abbrev pub replay_opened : App
 replay_opened =
     with_rule
-    (with_rule (with_rule replay_reported (number_rule (codes "workers") 4294967295 (codes "1"))) (number_rule (codes "shards") 4294967295 (codes "1")))
+    (with_rule
+    (with_rule replay_reported (number_rule (codes "workers") 4294967295 (codes "1")))
+    (number_rule (codes "shards") 4294967295 (codes "1")))
     (number_rule (codes "journal") 4294967295 (codes "65536"))
 
 -- and the size of the lookup table, whether commands take effect at exact moments, and whether a summary is printed

@@ -38,12 +38,13 @@ word_of id rows = unwrap_or (first_of id rows) []
 -- the number that the argument's text writes, where it writes one below 2 ^ bits
 abbrev pub IsNumberOf : ℕ → Text → List Row → ℕ → Type 0
 IsNumberOf bits id rows number =
-    (text : Text) → one_of id rows ≡ Some text → IsNumeral 10 (without_leading_plus text) → digits_value 10 (without_leading_plus text) < 2 ^ bits
-    → number ≡ digits_value 10 (without_leading_plus text)
+    (text : Text) → one_of id rows ≡ Some text → IsNumeral 10 (without_leading_plus text)
+    → digits_value 10 (without_leading_plus text) < 2 ^ bits → number ≡ digits_value 10 (without_leading_plus text)
 
 -- a switch is on where the parser found it given, and off where it found it missing
 abbrev pub IsSwitchOf : Text → List Row → Bool → Type 0
-IsSwitchOf id rows switch = (one_of id rows ≡ Some (codes "true") → switch ≡ true) × (one_of id rows ≡ Some (codes "false") → switch ≡ false)
+IsSwitchOf id rows switch =
+    (one_of id rows ≡ Some (codes "true") → switch ≡ true) × (one_of id rows ≡ Some (codes "false") → switch ≡ false)
 
 abbrev pub is_named : Text → Text → Type 0
 is_named name wanted = IsTrue (bytes_eq name wanted)
@@ -208,8 +209,8 @@ IsReadFrom name rows (Replay files options ring exact summary skip_long no_journ
     × IsFalse (no_journals && has_journals rows)
     × AreUpdates (words_of (codes "update") rows) updates.items
 
--- what was asked for: a command, what a word means that is no fault, a replay of both an image and a script or of two images, one with updates and
--- without an image, one with a file for journals that keep no rows, or a malformed update
+-- what was asked for: a command, what a word means that is no fault, a replay of both an image and a script or of two images, one with
+-- updates and without an image, one with a file for journals that keep no rows, or a malformed update
 abbrev pub IsAsked : Text → List Row → AskedWords → Type 0
 IsAsked name rows (Command settings) = IsReadFrom name rows settings
 IsAsked name rows (NoSuchFault word) = is_named name (codes "explain")
@@ -229,8 +230,8 @@ IsAsked name rows asks.JournalsOfNone = is_named name (codes "replay")
     × IsTrue (has_journals rows)
 IsAsked name rows (NoUpdate place mistake) = IsOfUpdates name rows × IsBadUpdate (words_of (codes "update") rows) place mistake
 
--- the words ask for what there is not: what a word means that is no fault, a replay of both an image and a script or of two images, one with updates and
--- without an image, one with a file for journals that keep no rows, or a malformed update
+-- the words ask for what there is not: what a word means that is no fault, a replay of both an image and a script or of two images, one
+-- with updates and without an image, one with a file for journals that keep no rows, or a malformed update
 abbrev pub AsksInVain : Text → List Row → WordsFault → Type 0
 AsksInVain name rows (UnknownFault word) = IsAsked name rows (NoSuchFault word)
 AsksInVain name rows Both = IsAsked name rows ImageAndScript

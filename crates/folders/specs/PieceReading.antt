@@ -4,7 +4,8 @@ use Rattle.wire.specs.declared.records.Sent.{Sent}
 use Rattle.wire.specs.declared.capture_fault.CaptureFault.{CaptureFault}
 use Rattle.wire.specs.CaptureFormat.{le32_at, BeginsWithHeader, AreRecords, IsCaptureFile, Refuses}
 
--- what a contract sees of a reader: the bytes that its folder returned and that are still unread, how many records it read, and how many of these were cut
+-- what a contract sees of a reader: the bytes that its folder returned and that are still unread, how many records it read, and how many
+-- of these were cut
 pub record ReaderView : Type 0 where
   pub unread : List ℕ
   pub count : ℕ
@@ -48,7 +49,8 @@ pub record IsRefused (has : List ℕ → Type 0) (fault : CaptureFault) : Type 0
   pub refused : Refuses all fault
 
 -- from the one state to the other these records were read: behind whatever records a file has in the one, it has these in the other
-abbrev pub ReadsOn : {F : Type 0} → (F → List ℕ → List ℕ → Type 0) → (List ℕ → Type 0) → (List ℕ → Type 0) → ReaderView → ReaderView → List Sent → Type 0
+abbrev pub ReadsOn : {F : Type 0} → (F → List ℕ → List ℕ → Type 0) → (List ℕ → Type 0) → (List ℕ → Type 0) → ReaderView → ReaderView
+    → List Sent → Type 0
 ReadsOn holds was_left is_left was now sents =
     (opened : _) (name : List ℕ) (records : List Sent) → IsReadTo (holds opened name) was_left records was →
     IsReadTo (holds opened name) is_left (records ++ sents) now
@@ -62,4 +64,5 @@ ReadsToEnd holds was_left was sents cut =
 -- whatever file has some records in this state is refused with this fault
 abbrev pub RefusesNext : {F : Type 0} → (F → List ℕ → List ℕ → Type 0) → (List ℕ → Type 0) → ReaderView → CaptureFault → Type 0
 RefusesNext holds was_left was fault =
-    (opened : _) (name : List ℕ) (records : List Sent) → IsReadTo (holds opened name) was_left records was → IsRefused (holds opened name) fault
+    (opened : _) (name : List ℕ) (records : List Sent) → IsReadTo (holds opened name) was_left records was →
+    IsRefused (holds opened name) fault

@@ -9,8 +9,8 @@ use Rattle.command_line.specs.declared.commands.Settings.TheVariants.{Run, Asm, 
 abbrev pub IsReplayInput : ReplayFiles → List ℕ → Type 0
 IsReplayInput files name = (name ≡ files.capture.now) ⊎ ((text_of files.image ≡ Some name) ⊎ (text_of files.script ≡ Some name))
 
--- a replay writes the file of the first name, and reads that of the second, or writes it before: it writes the sent frames, the journals and the report,
--- in this order
+-- a replay writes the file of the first name, and reads that of the second, or writes it before: it writes the sent frames, the journals
+-- and the report, in this order
 abbrev pub IsOverInReplay : ReplayFiles → List ℕ → List ℕ → Type 0
 IsOverInReplay files written other = ((written ≡ files.sent.now) × IsReplayInput files other)
     ⊎ (((text_of files.journals ≡ Some written) × (IsReplayInput files other ⊎ (other ≡ files.sent.now)))

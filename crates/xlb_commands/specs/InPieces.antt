@@ -57,8 +57,8 @@ pub record IsGoing (program : Program) (script : List Command) (options : Option
   pub ends : List RecordEnd
   pub underway : IsUnderway program script options updates records sent ends replay
 
--- all that a replay promises holds for the outcome of an exact replay of these records, which sent these frames; and the bytes of the journals and the
--- report are that outcome's
+-- all that a replay promises holds for the outcome of an exact replay of these records, which sent these frames; and the bytes of the
+-- journals and the report are that outcome's
 pub record IsMadeOf (files : ReplayFiles) (program : Contents) (states : List (Option State)) (script : List Command) (options : Options)
     (recording : Recording) (ring : ℕ) (updates : List MapUpdate) (records sent : List Sent) (report : Report)
     (journals : List ℕ) : Type 0 where

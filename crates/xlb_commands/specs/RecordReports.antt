@@ -106,8 +106,8 @@ backend_at backends (Some address) = only_number (holder_among address backends)
 
 -- ---- the lines
 
--- the line of a record, counted from 0: its number, counted from 1, its moment in microseconds, its worker, its verdict, its steps, the case, the backend and
--- the address
+-- the line of a record, counted from 0: its number, counted from 1, its moment in microseconds, its worker, its verdict, its steps, the
+-- case, the backend and the address
 abbrev pub line_text : ReportForm → Bool → List (ℕ × ℕ) → ℕ → Sent → RecordEnd → Option Sent → List ℕ
 line_text form is_steering backends number captured end sent =
     front_text form (number + 1) (captured.seconds * 1000000 + captured.micros) (worker_in end) (verdict_in end)

@@ -221,8 +221,8 @@ pub data IsAuditRefusal (files : FileBytes) (failed : Type 0) (name journals : L
   no_verdict : (told : JournalsView) → AreJournalsOfImage files name journals told → AreLegal told → fault ≡ faults.Memory
       → IsAuditRefusal files failed name journals fault
 
--- Memory was refused for what a run or a replay is to write or to print. Where a file is named for the journals, it may have been refused for their bytes,
--- which has the fault of journals.
+-- Memory was refused for what a run or a replay is to write or to print. Where a file is named for the journals, it may have been refused
+-- for their bytes, which has the fault of journals.
 pub data LacksRoom (journals : Option (List ℕ)) (fault : Fault) : Type 0 where
   no_report_room : fault ≡ faults.Memory → LacksRoom journals fault
   no_journal_room : (name : List ℕ) → journals ≡ Some name → fault ≡ faults.Journals journal_faults.Memory → LacksRoom journals fault
@@ -250,7 +250,8 @@ pub record AreRunInputs (files : FileBytes) (run : RunFiles) (updates : List Map
   pub read : files run.frame.now bytes
   pub size : IsInputFrame bytes
 
--- why no run was made: no shards are opened for these maps; or they are, and memory was refused for them, an update was refused, or its journal was full
+-- why no run was made: no shards are opened for these maps; or they are, and memory was refused for them, an update was refused, or its
+-- journal was full
 pub data IsRunFault (maps : List MapDef) (updates : List MapUpdate) (fault : Fault) : Type 0 where
   not_served : IsFalse (are_served_options maps run_options) → fault ≡ faults.Options opens.BadOptions → IsRunFault maps updates fault
   no_map_memory : IsTrue (are_served_options maps run_options) → fault ≡ faults.Options opens.Memory → IsRunFault maps updates fault
@@ -274,8 +275,8 @@ pub record IsEndedRun (program : Contents) (bytes : List ℕ) (now worker : ℕ)
   pub journals : JournalsView
   pub ended : HasRunAlone (program_of_run program) (start_of_run bytes worker now) run_options worker updates verdict steps frame journals
 
--- xlb run: no program that may run; no frame; a worker that there is not; no run; one that was stopped; one that came to its end, and memory was refused
--- for its journals or its lines; until then no file changed; or its journals were not written
+-- xlb run: no program that may run; no frame; a worker that there is not; no run; one that was stopped; one that came to its end, and
+-- memory was refused for its journals or its lines; until then no file changed; or its journals were not written
 pub data IsRunRefusal (files after : FileBytes) (failed : Type 0) (run : RunFiles) (now worker : ℕ) (updates : List MapUpdate)
     (fault : Fault) : Type 0 where
   no_run_program : AreKept files after → IsProgramRefusal files failed run.image.now fault
@@ -298,7 +299,8 @@ pub data IsRunRefusal (files after : FileBytes) (failed : Type 0) (run : RunFile
 
 -- ---- replays
 
--- the shipped program was not made: the fault of a lookup table without a size that is served comes exactly for one; else memory was refused
+-- the shipped program was not made: the fault of a lookup table without a size that is served comes exactly for one; else memory was
+-- refused
 pub record IsNotMade (ring : ℕ) (fault : Fault) : Type 0 where
   pub why : SteerFault
   pub size : (why ≡ steering.BadSize) ↔ (¬ IsRingSize ring)
@@ -359,8 +361,9 @@ pub data IsCaptureRefusal (files : FileBytes) (failed : Type 0) (skip_long : Boo
   no_capture : (bytes : List ℕ) → files name bytes → IsNoCaptureIn skip_long bytes fault
       → IsCaptureRefusal files failed skip_long name fault
 
--- why the replay was given up: for its options exactly where no shards are opened with them, or the script has commands and the maps are not those of
--- steering; else memory was refused, an update was refused or met a full journal, or a thread could not be started (an exact replay has none)
+-- why the replay was given up: for its options exactly where no shards are opened with them, or the script has commands and the maps are
+-- not those of steering; else memory was refused, an update was refused or met a full journal, or a thread could not be started (an exact
+-- replay has none)
 pub record IsGivenUp (exact : Bool) (maps : List MapDef) (updates : List MapUpdate) (script : List Command) (options : Options)
     (recording : Recording) (why : ReplayFault) : Type 0 where
   pub options_are_bad : (why ≡ replays.BadOptions) ↔ AreBadOptions maps options script
@@ -368,8 +371,8 @@ pub record IsGivenUp (exact : Bool) (maps : List MapDef) (updates : List MapUpda
   pub by_pass : exact ≡ false → OfUpdate (IsWhyByPass maps (recorded recording options) updates) why
   pub in_turn : exact ≡ true → OfUpdate (IsWhyInTurn maps (recorded recording options) updates) why
 
--- The files of a replay were not written: that of the sent frames, and no other file changed; or that of the journals, and the sent frames are in theirs;
--- or that of the report, and the sent frames and the journals are in theirs.
+-- The files of a replay were not written: that of the sent frames, and no other file changed; or that of the journals, and the sent
+-- frames are in theirs; or that of the report, and the sent frames and the journals are in theirs.
 pub data AreUnfiled (before after : FileBytes) (failed : Type 0) (names : ReplayFiles) (sent : List ℕ) (journals : JournalsView)
     (fault : Fault) : Type 0 where
   no_sent_file : AreOthersKept before after names.sent.now → IsUnserved failed fault
@@ -380,14 +383,15 @@ pub data AreUnfiled (before after : FileBytes) (failed : Type 0) (names : Replay
       → (text_of names.report ≢ text_of names.journals → AreWritten after (text_of names.journals) journals)
       → AreUnwritten (text_of names.report) failed fault → AreUnfiled before after failed names sent journals fault
 
--- what is read and asked for is right, and the replay was broken off while its capture was read, or its sent frames were written, in pieces: the device
--- failed, or memory was refused for a piece, for its sent frames, or for the replay
+-- what is read and asked for is right, and the replay was broken off while its capture was read, or its sent frames were written, in
+-- pieces: the device failed, or memory was refused for a piece, for its sent frames, or for the replay
 pub data IsBrokenOff (failed : Type 0) (fault : Fault) : Type 0 where
   no_piece : IsUnserved failed fault → IsBrokenOff failed fault
   no_replay_memory : fault ≡ faults.Replay replays.Memory → IsBrokenOff failed fault
 
--- Of a program that may run and whose maps take the updates, and a script: no capture; a replay that was given up; an exact one that was broken off; one that
--- was made, and memory was refused for its sent frames, its journals, its report or what is printed; until then no file changed; or its files were not written.
+-- Of a program that may run and whose maps take the updates, and a script: no capture; a replay that was given up; an exact one that was
+-- broken off; one that was made, and memory was refused for its sent frames, its journals, its report or what is printed; until then no
+-- file changed; or its files were not written.
 pub data IsUnreplayed (files after : FileBytes) (failed : Type 0) (names : ReplayFiles) (program : Contents) (script : List Command)
     (options : Options) (recording : Recording) (exact skip_long : Bool) (updates : List MapUpdate) (fault : Fault) : Type 0 where
   no_replay_capture : AreKept files after → IsCaptureRefusal files failed skip_long names.capture.now fault
@@ -459,8 +463,8 @@ pub data PrintsRefusal (fault : Fault) (notes : List ℕ) (before after : Option
       → PrintsRefusal fault notes before after
   lacks_text : after ≡ append_known before (codes "fault 8 Memory\n") → PrintsRefusal fault notes before after
 
--- To a stream that held `before` one text was written: which update the image's maps do not take, and why. Where memory was refused for that text, it is
--- the line of fault 8.
+-- To a stream that held `before` one text was written: which update the image's maps do not take, and why. Where memory was refused for
+-- that text, it is the line of fault 8.
 pub data PrintsMistake (place : ℕ) (misfit : Misfit) (before after : Option (List ℕ)) : Type 0 where
   in_words : after ≡ append_known before (mistake_text place misfit) → PrintsMistake place misfit before after
   lacks_words : after ≡ append_known before (codes "fault 8 Memory\n") → PrintsMistake place misfit before after
@@ -470,8 +474,8 @@ pub data PrintsClash (written other : List ℕ) (before after : Option (List ℕ
   in_line : after ≡ append_known before (clash_text written other) → PrintsClash written other before after
   lacks_line : after ≡ append_known before (codes "fault 8 Memory\n") → PrintsClash written other before after
 
--- a file would be written over another one that the command has, which are one by what the folder knows: that was printed on `err`, unless that
--- failed; no file was read or written, and nothing was printed on `out`
+-- a file would be written over another one that the command has, which are one by what the folder knows: that was printed on `err`, unless
+-- that failed; no file was read or written, and nothing was printed on `out`
 pub record IsClash (before after : FileBytes) (are_one : FileBytes) (settings : Settings) (out out' err err' : Stream) : Type 0 where
   pub written : List ℕ
   pub other : List ℕ

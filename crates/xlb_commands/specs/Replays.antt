@@ -165,14 +165,14 @@ frame_records (frame ∷ frames) = frame_record frame ++ frame_records frames
 abbrev pub reader_file : Program → List Sent → List ℕ
 reader_file program records = header_bytes ++ frame_records (all_sent_at_opening program records (length records))
 
--- Of a program that only reads, where the script has no commands and no run was stopped, the bytes of the sent frames' file follow from the program, the
--- number of shards and the capture: so they are the same for every number of workers.
+-- Of a program that only reads, where the script has no commands and no run was stopped, the bytes of the sent frames' file follow from
+-- the program, the number of shards and the capture: so they are the same for every number of workers.
 abbrev pub SendsAlike : Contents → List (Option State) → List Command → Options → List Sent → Outcome → Type 0
 SendsAlike image states script options records outcome = IsReader image.code states → script ≡ [] → outcome.counts.stopped ≡ 0 →
     capture_bytes outcome.sent.items ≡ reader_file (program_of_replay image options) records
 
--- the replay made these updates before the commands of the script, and accounts for every record, every command and every entry of the journals; an exact
--- one was made in turn, with the updates before the first frame
+-- the replay made these updates before the commands of the script, and accounts for every record, every command and every entry of the
+-- journals; an exact one was made in turn, with the updates before the first frame
 pub record IsMade (exact : Bool) (program : Program) (updates : List MapUpdate) (script : List Command) (options : Options)
     (records : List Sent) (outcome : Outcome) : Type 0 where
   pub updates_are : outcome.updates.items ≡ updates
@@ -186,10 +186,10 @@ pub record KeepsHeadline (image : Contents) (script : List Command) (options : O
   pub image_is : image_of verified ≡ image
   pub kept : Headline verified script options records outcome
 
--- Of a program that may run and a script: the capture is read from its file; the replay was made, with these updates; the headline holds of it; without
--- updates the shipped program follows the steering rule, and one that only reads sends the same for every number of workers; the sent frames, the journals
--- and the report are written to their files; and what is printed are the counts, and the commands that were refused. Where no rows of journals are kept, the
--- journals are known to proofs alone.
+-- Of a program that may run and a script: the capture is read from its file; the replay was made, with these updates; the headline holds
+-- of it; without updates the shipped program follows the steering rule, and one that only reads sends the same for every number of workers;
+-- the sent frames, the journals and the report are written to their files; and what is printed are the counts, and the commands that were
+-- refused. Where no rows of journals are kept, the journals are known to proofs alone.
 pub record IsReplayedWith (before after : FileBytes) (files : ReplayFiles) (program : Contents) (states : List (Option State))
     (script : List Command) (options : Options) (recording : Recording) (ring : ℕ) (exact skip_long : Bool) (updates : List MapUpdate)
     (printed : List ℕ) (refused : List Applied) : Type 0 where
@@ -201,7 +201,8 @@ pub record IsReplayedWith (before after : FileBytes) (files : ReplayFiles) (prog
   pub by_rule : updates ≡ [] → FollowsRule (text_of files.image) ring script (recorded recording options) records outcome
   pub readers : updates ≡ [] → SendsAlike program states script (recorded recording options) records outcome
   pub refused_are : outcome.refused.items ≡ refused
-  -- the journals are written after the sent frames, and the report after both; two of them have one name in no command that is done (Clashes)
+  -- the journals are written after the sent frames, and the report after both; two of them have one name in no command that is done
+  -- (Clashes)
   pub sent :
       text_of files.journals ≢ Some files.sent.now → text_of files.report ≢ Some files.sent.now →
       after files.sent.now (capture_bytes outcome.sent.items)

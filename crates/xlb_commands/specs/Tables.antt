@@ -12,8 +12,8 @@ abbrev pub AreShownTables : ℕ → List Command → List ℕ → Bool → Type 
 AreShownTables ring script printed some_refused =
     (noted : List Refused) × AreTables ring script printed noted × (some_refused ≡ is_some noted)
 
--- the size is one of a lookup table, the script is read from its file, and what is printed are the tables that a replay's controller writes for it; and whether
--- some of its commands was refused
+-- the size is one of a lookup table, the script is read from its file, and what is printed are the tables that a replay's controller
+-- writes for it; and whether some of its commands was refused
 pub record IsTableShown (files : FileBytes) (name : List ℕ) (ring : ℕ) (printed : List ℕ) (some_refused : Bool) : Type 0 where
   pub size : IsRingSize ring
   pub script : List Command

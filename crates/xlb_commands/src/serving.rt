@@ -1,6 +1,7 @@
 //! The program, except its command line.
 
-ghost use Rattle.std.specs.Prelude.{◌≡◌, ◌+◌, ◌-◌, ◌<◌, ◌≤◌, ◌^◌, ℕ, List, true, false, drop, length, IfErr, IfOk, OnOk, string_bytes};
+ghost use Rattle.std.specs.Prelude.{◌≡◌, ◌+◌, ◌-◌, ◌<◌, ◌≤◌, ◌^◌, ℕ, List, true, false};
+ghost use Rattle.std.specs.Prelude.{drop, length, IfErr, IfOk, OnOk, string_bytes};
 ghost use Rattle.std.specs.Io.KnownBytes.{append_known};
 ghost use Rattle.faults.specs.Refusals.{IsRefusalText};
 ghost use Rattle.xlb_commands.specs.Clashes.{AreApart};
