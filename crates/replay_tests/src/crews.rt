@@ -270,10 +270,10 @@ fn each_record_is_run_once(rt: HostRuntime) -> Result<(), Fail> {
 /// Which worker is refused memory at which of its runs (0: at none), whether the controller and the reclaimer are, the fault (0: none), and how many
 /// frames that worker is asked to run. Of 1000 frames by four workers the first one runs 250, so that its queue is full several times after it was
 /// refused.
-type Refusal = (&'static str, u8, u64, bool, bool, u8, u64);
+type RefusalRow = (&'static str, u8, u64, bool, bool, u8, u64);
 
 #[rattlefmt::skip]
-const REFUSALS: [Refusal; 8] = [
+const REFUSALS: [RefusalRow; 8] = [
     ("nobody",                          0, 0,   false, false, 0,  250),
     ("the first worker at once",        0, 1,   false, false, 52, 1),
     ("a middle worker at once",         1, 1,   false, false, 52, 1),
@@ -289,7 +289,7 @@ const REFUSALS: [Refusal; 8] = [
 fn refused<R: Abort + Threads + Wait + Sync>(
     rt: &R,
     alloc: Global,
-    refusal: &Refusal,
+    refusal: &RefusalRow,
 ) -> Result<(u8, u64), Fail> {
     let (_, worker, run, controller, reclaimer, ..) = *refusal;
     let capture = capture(alloc, 1000)?;
@@ -329,7 +329,7 @@ fn refused<R: Abort + Threads + Wait + Sync>(
 fn is_refused<R: Abort + Threads + Wait + Sync>(
     rt: &R,
     alloc: Global,
-    refusal: &Refusal,
+    refusal: &RefusalRow,
 ) -> Result<(), Fail> {
     let (name, _, _, _, _, fault, asked) = *refusal;
     let found = refused(rt, alloc, refusal)?;

@@ -159,7 +159,7 @@ const NOT_SET: &str = "XLBJ 1 2 1 16
 ";
 
 /// What a map is set to before a run: the map, the first byte of the key and that of the value. All their other bytes are zeros.
-type Update = (u32, u8, u8);
+type UpdateRow = (u32, u8, u8);
 
 /// What becomes of a run: its end, or why there is none.
 type End = Result<Result<Exit, Stop>, RunFault>;
@@ -171,7 +171,7 @@ struct Row {
     program: &'static str,
     options: Options,
     worker: u8,
-    updates: &'static [Update],
+    updates: &'static [UpdateRow],
     end: End,
     /// The frame's first byte.
     first_byte: u8,
@@ -262,7 +262,7 @@ const REFUSED: [Row; 7] = [
     },
 ];
 
-const TWO: Update = (1, 7, 2);
+const TWO: UpdateRow = (1, 7, 2);
 
 /// Updates of key 7, and what becomes of a run after them with journals of 16 entries, of which it needs four: after 12 it ends, after 13 its
 /// Load has no room, after 15 its Enter, and the 17th update has none.
@@ -275,7 +275,7 @@ const MANY: [Row; 5] = [
     Row { name: "17 updates", updates: &[TWO; 17], end: Err(RunFault::Full { place: 16 }), ..RUN },
 ];
 
-fn update_of(update: Update) -> MapUpdate {
+fn update_of(update: UpdateRow) -> MapUpdate {
     let (map, key, value) = update;
     MapUpdate {
         map,
@@ -284,7 +284,7 @@ fn update_of(update: Update) -> MapUpdate {
     }
 }
 
-fn updates_of(alloc: Global, updates: &[Update]) -> Result<Vec<MapUpdate>, Fail> {
+fn updates_of(alloc: Global, updates: &[UpdateRow]) -> Result<Vec<MapUpdate>, Fail> {
     let mut all = Vec::new(alloc);
     for update in updates {
         all.push(update_of(*update))?;

@@ -36,7 +36,7 @@ fn a_large_order(rt: HostRuntime) -> Result<(), AllocError> {
 
 /// A call on a shard whose keys are one byte, once or repeated, or a number that it returns.
 #[derive(Clone, Copy)]
-enum Ask {
+enum LruCall {
     /// Key, cell.
     Insert(u8, u64),
     Touch(u8),
@@ -50,7 +50,7 @@ enum Ask {
 }
 
 /// A call, and the cell or number that it returns.
-type Row = (&'static str, Ask, Option<u64>);
+type Row = (&'static str, LruCall, Option<u64>);
 
 /// Puts a new key in, for which there is room.
 fn insert<const N: usize>(rt: &impl Abort, shard: &mut LruShard, name: &str, byte: u8, id: u64)
@@ -76,23 +76,23 @@ fn answer<const N: usize>(
     rt: &impl Abort,
     shard: &mut LruShard,
     name: &str,
-    ask: Ask,
+    ask: LruCall,
 ) -> Option<u64>
     requires size { shard.old.size ≡ N }
     requires small { N ≤ 32 }
     ensures { shard.new.size ≡ N }
 {
     match ask {
-        Ask::Insert(byte, id) => {
+        LruCall::Insert(byte, id) => {
             insert::<N>(rt, shard, name, byte, id);
             None
         }
-        Ask::Touch(byte) => shard.touch(&[byte; N]),
-        Ask::Find(byte) => shard.find(&[byte; N]),
-        Ask::Remove(byte) => shard.remove(&[byte; N]),
-        Ask::Evict => Some(evict(rt, shard, name)),
-        Ask::Count => Some(shard.len() as u64),
-        Ask::Capacity => Some(shard.capacity() as u64),
+        LruCall::Touch(byte) => shard.touch(&[byte; N]),
+        LruCall::Find(byte) => shard.find(&[byte; N]),
+        LruCall::Remove(byte) => shard.remove(&[byte; N]),
+        LruCall::Evict => Some(evict(rt, shard, name)),
+        LruCall::Count => Some(shard.len() as u64),
+        LruCall::Capacity => Some(shard.capacity() as u64),
     }
 }
 
@@ -116,14 +116,14 @@ fn serves<const N: usize>(
 
 #[rattlefmt::skip]
 const A_LOOKUP_SAVES_A_KEY: [Row; 8] = [
-    ("A comes",      Ask::Insert(b'A', 0), None),
-    ("B comes",      Ask::Insert(b'B', 1), None),
-    ("A is used",    Ask::Touch(b'A'),     Some(0)),
-    ("B goes",       Ask::Evict,           Some(1)),
-    ("C comes",      Ask::Insert(b'C', 2), None),
-    ("A is there",   Ask::Find(b'A'),      Some(0)),
-    ("B is not",     Ask::Find(b'B'),      None),
-    ("C is there",   Ask::Find(b'C'),      Some(2)),
+    ("A comes",      LruCall::Insert(b'A', 0), None),
+    ("B comes",      LruCall::Insert(b'B', 1), None),
+    ("A is used",    LruCall::Touch(b'A'),     Some(0)),
+    ("B goes",       LruCall::Evict,           Some(1)),
+    ("C comes",      LruCall::Insert(b'C', 2), None),
+    ("A is there",   LruCall::Find(b'A'),      Some(0)),
+    ("B is not",     LruCall::Find(b'B'),      None),
+    ("C is there",   LruCall::Find(b'C'),      Some(2)),
 ];
 
 #[test]
@@ -133,12 +133,12 @@ fn a_lookup_saves_a_key_from_eviction(rt: HostRuntime) -> Result<(), AllocError>
 
 #[rattlefmt::skip]
 const A_FIND_SAVES_NO_KEY: [Row; 6] = [
-    ("A comes",      Ask::Insert(b'A', 0), None),
-    ("B comes",      Ask::Insert(b'B', 1), None),
-    ("A is found",   Ask::Find(b'A'),      Some(0)),
-    ("A goes",       Ask::Evict,           Some(0)),
-    ("B stays",      Ask::Count,           Some(1)),
-    ("A is gone",    Ask::Touch(b'A'),     None),
+    ("A comes",      LruCall::Insert(b'A', 0), None),
+    ("B comes",      LruCall::Insert(b'B', 1), None),
+    ("A is found",   LruCall::Find(b'A'),      Some(0)),
+    ("A goes",       LruCall::Evict,           Some(0)),
+    ("B stays",      LruCall::Count,           Some(1)),
+    ("A is gone",    LruCall::Touch(b'A'),     None),
 ];
 
 #[test]
@@ -148,13 +148,13 @@ fn a_find_saves_no_key_from_eviction(rt: HostRuntime) -> Result<(), AllocError> 
 
 #[rattlefmt::skip]
 const A_REMOVED_KEY_LEAVES_ROOM: [Row; 7] = [
-    ("A comes",      Ask::Insert(b'A', 0), None),
-    ("B comes",      Ask::Insert(b'B', 1), None),
-    ("B is removed", Ask::Remove(b'B'),    Some(1)),
-    ("B is gone",    Ask::Remove(b'B'),    None),
-    ("C comes",      Ask::Insert(b'C', 2), None),
-    ("A goes",       Ask::Evict,           Some(0)),
-    ("C is there",   Ask::Find(b'C'),      Some(2)),
+    ("A comes",      LruCall::Insert(b'A', 0), None),
+    ("B comes",      LruCall::Insert(b'B', 1), None),
+    ("B is removed", LruCall::Remove(b'B'),    Some(1)),
+    ("B is gone",    LruCall::Remove(b'B'),    None),
+    ("C comes",      LruCall::Insert(b'C', 2), None),
+    ("A goes",       LruCall::Evict,           Some(0)),
+    ("C is there",   LruCall::Find(b'C'),      Some(2)),
 ];
 
 #[test]
@@ -164,12 +164,12 @@ fn a_removed_key_leaves_room(rt: HostRuntime) -> Result<(), AllocError> {
 
 #[rattlefmt::skip]
 const OF_A_LARGE_SHARD: [Row; 6] = [
-    ("the capacity", Ask::Capacity,        Some(131_072)),
-    ("a key comes",  Ask::Insert(7, 9),    None),
-    ("it is used",   Ask::Touch(7),        Some(9)),
-    ("no other is",  Ask::Touch(8),        None),
-    ("it goes",      Ask::Remove(7),       Some(9)),
-    ("none is left", Ask::Count,           Some(0)),
+    ("the capacity", LruCall::Capacity,        Some(131_072)),
+    ("a key comes",  LruCall::Insert(7, 9),    None),
+    ("it is used",   LruCall::Touch(7),        Some(9)),
+    ("no other is",  LruCall::Touch(8),        None),
+    ("it goes",      LruCall::Remove(7),       Some(9)),
+    ("none is left", LruCall::Count,           Some(0)),
 ];
 
 #[test]
@@ -179,16 +179,16 @@ fn a_large_shard(rt: HostRuntime) -> Result<(), AllocError> {
 
 #[rattlefmt::skip]
 const A_CELL_IS_HELD: [Row; 10] = [
-    ("A comes",              Ask::Insert(b'A', 0), None),
-    ("A goes for B",         Ask::Evict,           Some(0)),
-    ("B comes",              Ask::Insert(b'B', 1), None),
-    ("one key beside A's cell", Ask::Count,        Some(1)),
-    ("B stays",              Ask::Find(b'B'),      Some(1)),
-    ("B goes for C",         Ask::Evict,           Some(1)),
-    ("none is left",         Ask::Count,           Some(0)),
-    ("C comes",              Ask::Insert(b'C', 2), None),
-    ("C is there",           Ask::Find(b'C'),      Some(2)),
-    ("B is not",             Ask::Find(b'B'),      None),
+    ("A comes",              LruCall::Insert(b'A', 0), None),
+    ("A goes for B",         LruCall::Evict,           Some(0)),
+    ("B comes",              LruCall::Insert(b'B', 1), None),
+    ("one key beside A's cell", LruCall::Count,        Some(1)),
+    ("B stays",              LruCall::Find(b'B'),      Some(1)),
+    ("B goes for C",         LruCall::Evict,           Some(1)),
+    ("none is left",         LruCall::Count,           Some(0)),
+    ("C comes",              LruCall::Insert(b'C', 2), None),
+    ("C is there",           LruCall::Find(b'C'),      Some(2)),
+    ("B is not",             LruCall::Find(b'B'),      None),
 ];
 
 /// A run that entered before holds A's cell while B takes its place: with one key there and one cell that waits both cells are taken, so no

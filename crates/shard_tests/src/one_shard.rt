@@ -26,7 +26,7 @@ const SHARD: u32 = 3;
 
 /// A call in one row of a table, on a map with values of eight bytes.
 #[derive(Clone, Copy)]
-enum Ask {
+enum IndexCall {
     /// By a worker.
     Enter(u8),
     Leave(u8),
@@ -45,7 +45,7 @@ enum Ask {
     Reclaim,
 }
 
-type Row = (&'static str, Ask, Reply);
+type Row = (&'static str, IndexCall, Reply);
 
 fn plan_of(kind: MapKind, value_size: u32, max_entries: u32, reserve: u32) -> ShardPlan
     ensures { IsPlan result }
@@ -79,17 +79,17 @@ fn value_of(byte: u8) -> Value {
     Value::of(&[byte; 8]).unwrap_or(Value::empty())
 }
 
-fn caller_of(ask: Ask) -> Caller {
+fn caller_of(ask: IndexCall) -> Caller {
     match ask {
-        Ask::Enter(number) => Caller::Worker { number },
-        Ask::Leave(number) => Caller::Worker { number },
-        Ask::Look(number, _) => Caller::Worker { number },
-        Ask::Load(number, _, _, _) => Caller::Worker { number },
-        Ask::Store(number, _, _, _, _) => Caller::Worker { number },
-        Ask::Change(number, _, _, _, _) => Caller::Worker { number },
-        Ask::Put(_, _, _) => Caller::Controller,
-        Ask::Remove(_) => Caller::Controller,
-        Ask::Reclaim => Caller::Reclaimer,
+        IndexCall::Enter(number) => Caller::Worker { number },
+        IndexCall::Leave(number) => Caller::Worker { number },
+        IndexCall::Look(number, _) => Caller::Worker { number },
+        IndexCall::Load(number, _, _, _) => Caller::Worker { number },
+        IndexCall::Store(number, _, _, _, _) => Caller::Worker { number },
+        IndexCall::Change(number, _, _, _, _) => Caller::Worker { number },
+        IndexCall::Put(_, _, _) => Caller::Controller,
+        IndexCall::Remove(_) => Caller::Controller,
+        IndexCall::Reclaim => Caller::Reclaimer,
     }
 }
 
@@ -97,26 +97,26 @@ fn cell(id: u64) -> CellRef {
     CellRef { shard: SHARD, id }
 }
 
-fn call_of(ask: Ask) -> Call {
+fn call_of(ask: IndexCall) -> Call {
     match ask {
-        Ask::Enter(_) => Call::Enter { shard: SHARD },
-        Ask::Leave(_) => Call::Leave { shard: SHARD },
-        Ask::Look(_, index) => Call::Lookup {
+        IndexCall::Enter(_) => Call::Enter { shard: SHARD },
+        IndexCall::Leave(_) => Call::Leave { shard: SHARD },
+        IndexCall::Look(_, index) => Call::Lookup {
             shard: SHARD,
             key: key_of(index),
         },
-        Ask::Load(_, id, offset, size) => Call::Load {
+        IndexCall::Load(_, id, offset, size) => Call::Load {
             cell: cell(id),
             offset,
             size,
         },
-        Ask::Store(_, id, offset, size, value) => Call::Store {
+        IndexCall::Store(_, id, offset, size, value) => Call::Store {
             cell: cell(id),
             offset,
             size,
             value,
         },
-        Ask::Change(_, id, op, value, expected) => Call::Atomic {
+        IndexCall::Change(_, id, op, value, expected) => Call::Atomic {
             cell: cell(id),
             offset: 0,
             size: 8,
@@ -124,17 +124,17 @@ fn call_of(ask: Ask) -> Call {
             value,
             expected,
         },
-        Ask::Put(index, byte, flags) => Call::Update {
+        IndexCall::Put(index, byte, flags) => Call::Update {
             shard: SHARD,
             key: key_of(index),
             value: value_of(byte),
             flags,
         },
-        Ask::Remove(index) => Call::Delete {
+        IndexCall::Remove(index) => Call::Delete {
             shard: SHARD,
             key: key_of(index),
         },
-        Ask::Reclaim => Call::Reclaim { shard: SHARD },
+        IndexCall::Reclaim => Call::Reclaim { shard: SHARD },
     }
 }
 
@@ -142,7 +142,7 @@ fn call_of(ask: Ask) -> Call {
 fn make(
     rt: &impl Abort,
     shard: &mut Shard,
-    ask: Ask,
+    ask: IndexCall,
     name: &'static str,
 ) -> Result<Reply, JournalFull> {
     let who = caller_of(ask);
@@ -163,14 +163,14 @@ fn newest(shard: &Shard) -> Option<(Caller, Call, Reply)> {
 }
 
 /// Makes a call, which is served, and whose entry is the newest.
-fn served(rt: &impl Abort, shard: &mut Shard, name: &'static str, ask: Ask, want: Reply) {
+fn served(rt: &impl Abort, shard: &mut Shard, name: &'static str, ask: IndexCall, want: Reply) {
     same(rt, name, &make(rt, shard, ask, name), &Ok(want));
     let entered = Some((caller_of(ask), call_of(ask), want));
     same(rt, name, &newest(shard), &entered);
 }
 
 /// Makes a call, which a full journal refuses, and nothing is changed.
-fn refused(rt: &impl Abort, shard: &mut Shard, name: &'static str, ask: Ask) {
+fn refused(rt: &impl Abort, shard: &mut Shard, name: &'static str, ask: IndexCall) {
     let before = shard.journal().len();
     let full = Err(JournalFull { shard: SHARD });
     same(rt, name, &make(rt, shard, ask, name), &full);
@@ -213,32 +213,32 @@ fn entries_of(
 
 #[rattlefmt::skip]
 const ARRAY_OF_TWO: [Row; 26] = [
-    ("an index out of range under NOEXIST",       Ask::Put(2, 7, NOEXIST), Reply::Answer { code: -7 }),
-    ("an index is there under NOEXIST",           Ask::Put(0, 7, NOEXIST), Reply::Answer { code: -17 }),
-    ("unknown flags",                             Ask::Put(0, 7, 3),       Reply::Answer { code: -22 }),
-    ("unknown flags out of range",                Ask::Put(2, 7, 3),       Reply::Answer { code: -22 }),
-    ("an index under EXIST",                      Ask::Put(0, 1, EXIST),   Reply::Answer { code: 0 }),
-    ("an index under ANY",                        Ask::Put(1, 2, ANY),     Reply::Answer { code: 0 }),
-    ("an array deletes nothing",                  Ask::Remove(0),          Reply::Answer { code: -22 }),
-    ("nor out of range",                          Ask::Remove(2),          Reply::Answer { code: -22 }),
-    ("a worker enters",                           Ask::Enter(0),           Reply::Entered),
-    ("an index out of range is not found",        Ask::Look(0, 2),         Reply::Null),
-    ("nor one that is 0 in its low half",         Ask::Look(0, 0x10000),   Reply::Null),
-    ("index 1 has cell 1",                        Ask::Look(0, 1),         Reply::Cell { cell: CellRef { shard: SHARD, id: 1 } }),
-    ("index 0 has cell 0",                        Ask::Look(0, 0),         Reply::Cell { cell: CellRef { shard: SHARD, id: 0 } }),
-    ("failed updates changed nothing",            Ask::Load(0, 0, 0, 8),   Reply::Word { value: 0x01010101_01010101 }),
-    ("a store of two bytes",                      Ask::Store(0, 1, 2, 2, 0xabcd), Reply::Done),
-    ("bytes are little-endian",                   Ask::Load(0, 1, 0, 8),   Reply::Word { value: 0x02020202_abcd0202 }),
-    ("one byte",                                  Ask::Load(0, 1, 3, 1),   Reply::Word { value: 0xab }),
-    ("an atomic addition replies the old number", Ask::Change(0, 1, 0x00, 0xfe, 0), Reply::Word { value: 0x02020202_abcd0202 }),
-    ("and adds once",                             Ask::Load(0, 1, 0, 8),   Reply::Word { value: 0x02020202_abcd0300 }),
-    ("a comparison that fails",                   Ask::Change(0, 1, 0xf1, 5, 6), Reply::Word { value: 0x02020202_abcd0300 }),
-    ("stores nothing",                            Ask::Load(0, 1, 0, 8),   Reply::Word { value: 0x02020202_abcd0300 }),
-    ("an Update of a held cell",                  Ask::Put(1, 9, ANY),     Reply::Answer { code: 0 }),
-    ("is seen at once",                           Ask::Load(0, 1, 4, 4),   Reply::Word { value: 0x09090909 }),
-    ("the other cell stays",                      Ask::Load(0, 0, 4, 4),   Reply::Word { value: 0x01010101 }),
-    ("an array retires nothing",                  Ask::Reclaim,            Reply::Freed { count: 0 }),
-    ("the worker leaves",                         Ask::Leave(0),           Reply::Left),
+    ("an index out of range under NOEXIST",       IndexCall::Put(2, 7, NOEXIST), Reply::Answer { code: -7 }),
+    ("an index is there under NOEXIST",           IndexCall::Put(0, 7, NOEXIST), Reply::Answer { code: -17 }),
+    ("unknown flags",                             IndexCall::Put(0, 7, 3),       Reply::Answer { code: -22 }),
+    ("unknown flags out of range",                IndexCall::Put(2, 7, 3),       Reply::Answer { code: -22 }),
+    ("an index under EXIST",                      IndexCall::Put(0, 1, EXIST),   Reply::Answer { code: 0 }),
+    ("an index under ANY",                        IndexCall::Put(1, 2, ANY),     Reply::Answer { code: 0 }),
+    ("an array deletes nothing",                  IndexCall::Remove(0),          Reply::Answer { code: -22 }),
+    ("nor out of range",                          IndexCall::Remove(2),          Reply::Answer { code: -22 }),
+    ("a worker enters",                           IndexCall::Enter(0),           Reply::Entered),
+    ("an index out of range is not found",        IndexCall::Look(0, 2),         Reply::Null),
+    ("nor one that is 0 in its low half",         IndexCall::Look(0, 0x10000),   Reply::Null),
+    ("index 1 has cell 1",                        IndexCall::Look(0, 1),         Reply::Cell { cell: CellRef { shard: SHARD, id: 1 } }),
+    ("index 0 has cell 0",                        IndexCall::Look(0, 0),         Reply::Cell { cell: CellRef { shard: SHARD, id: 0 } }),
+    ("failed updates changed nothing",            IndexCall::Load(0, 0, 0, 8),   Reply::Word { value: 0x01010101_01010101 }),
+    ("a store of two bytes",                      IndexCall::Store(0, 1, 2, 2, 0xabcd), Reply::Done),
+    ("bytes are little-endian",                   IndexCall::Load(0, 1, 0, 8),   Reply::Word { value: 0x02020202_abcd0202 }),
+    ("one byte",                                  IndexCall::Load(0, 1, 3, 1),   Reply::Word { value: 0xab }),
+    ("an atomic addition replies the old number", IndexCall::Change(0, 1, 0x00, 0xfe, 0), Reply::Word { value: 0x02020202_abcd0202 }),
+    ("and adds once",                             IndexCall::Load(0, 1, 0, 8),   Reply::Word { value: 0x02020202_abcd0300 }),
+    ("a comparison that fails",                   IndexCall::Change(0, 1, 0xf1, 5, 6), Reply::Word { value: 0x02020202_abcd0300 }),
+    ("stores nothing",                            IndexCall::Load(0, 1, 0, 8),   Reply::Word { value: 0x02020202_abcd0300 }),
+    ("an Update of a held cell",                  IndexCall::Put(1, 9, ANY),     Reply::Answer { code: 0 }),
+    ("is seen at once",                           IndexCall::Load(0, 1, 4, 4),   Reply::Word { value: 0x09090909 }),
+    ("the other cell stays",                      IndexCall::Load(0, 0, 4, 4),   Reply::Word { value: 0x01010101 }),
+    ("an array retires nothing",                  IndexCall::Reclaim,            Reply::Freed { count: 0 }),
+    ("the worker leaves",                         IndexCall::Leave(0),           Reply::Left),
 ];
 
 #[test]
@@ -265,16 +265,16 @@ fn array_of_size(
     let found = cell(u64::from(last));
     let place = u64::from(value_size.saturating_sub(8));
     let rows = [
-        ("a worker enters", Ask::Enter(1), Reply::Entered),
-        ("past the end", Ask::Look(1, max_entries), Reply::Null),
+        ("a worker enters", IndexCall::Enter(1), Reply::Entered),
+        ("past the end", IndexCall::Look(1, max_entries), Reply::Null),
         (
             "the last index",
-            Ask::Look(1, last),
+            IndexCall::Look(1, last),
             Reply::Cell { cell: found },
         ),
         (
             "its last bytes are zeros",
-            Ask::Load(1, found.id, place, 8),
+            IndexCall::Load(1, found.id, place, 8),
             Reply::Word { value: 0 },
         ),
     ];
@@ -292,41 +292,41 @@ fn arrays_of_each_size(rt: HostRuntime) -> Result<(), AllocError> {
 
 #[rattlefmt::skip]
 const HASH_OF_ONE: [Row; 5] = [
-    ("a new key",                         Ask::Put(1, 1, ANY),     Reply::Answer { code: 0 }),
-    ("it is there under NOEXIST",         Ask::Put(1, 2, NOEXIST), Reply::Answer { code: -17 }),
-    ("the shard is full of keys",         Ask::Put(2, 1, ANY),     Reply::Answer { code: -7 }),
-    ("the key goes",                      Ask::Remove(1),          Reply::Answer { code: 0 }),
-    ("and is there no more",              Ask::Remove(1),          Reply::Answer { code: -2 }),
+    ("a new key",                         IndexCall::Put(1, 1, ANY),     Reply::Answer { code: 0 }),
+    ("it is there under NOEXIST",         IndexCall::Put(1, 2, NOEXIST), Reply::Answer { code: -17 }),
+    ("the shard is full of keys",         IndexCall::Put(2, 1, ANY),     Reply::Answer { code: -7 }),
+    ("the key goes",                      IndexCall::Remove(1),          Reply::Answer { code: 0 }),
+    ("and is there no more",              IndexCall::Remove(1),          Reply::Answer { code: -2 }),
 ];
 
 #[rattlefmt::skip]
 const CELLS_RUN_OUT: [Row; 8] = [
-    ("an absent key under EXIST",         Ask::Put(1, 1, EXIST),   Reply::Answer { code: -2 }),
-    ("a first key",                       Ask::Put(1, 1, ANY),     Reply::Answer { code: 0 }),
-    ("goes",                              Ask::Remove(1),          Reply::Answer { code: 0 }),
-    ("a second key",                      Ask::Put(2, 1, ANY),     Reply::Answer { code: 0 }),
-    ("goes",                              Ask::Remove(2),          Reply::Answer { code: 0 }),
-    ("two cells wait",                    Ask::Put(3, 1, ANY),     Reply::Answer { code: -12 }),
-    ("nobody is inside",                  Ask::Reclaim,            Reply::Freed { count: 2 }),
-    ("there is a cell again",             Ask::Put(3, 1, ANY),     Reply::Answer { code: 0 }),
+    ("an absent key under EXIST",         IndexCall::Put(1, 1, EXIST),   Reply::Answer { code: -2 }),
+    ("a first key",                       IndexCall::Put(1, 1, ANY),     Reply::Answer { code: 0 }),
+    ("goes",                              IndexCall::Remove(1),          Reply::Answer { code: 0 }),
+    ("a second key",                      IndexCall::Put(2, 1, ANY),     Reply::Answer { code: 0 }),
+    ("goes",                              IndexCall::Remove(2),          Reply::Answer { code: 0 }),
+    ("two cells wait",                    IndexCall::Put(3, 1, ANY),     Reply::Answer { code: -12 }),
+    ("nobody is inside",                  IndexCall::Reclaim,            Reply::Freed { count: 2 }),
+    ("there is a cell again",             IndexCall::Put(3, 1, ANY),     Reply::Answer { code: 0 }),
 ];
 
 #[rattlefmt::skip]
 const HELD_CELL_STAYS: [Row; 14] = [
-    ("a key",                             Ask::Put(1, 1, ANY),     Reply::Answer { code: 0 }),
-    ("a worker enters",                   Ask::Enter(0),           Reply::Entered),
-    ("an absent key",                     Ask::Look(0, 2),         Reply::Null),
-    ("the key's cell",                    Ask::Look(0, 1),         Reply::Cell { cell: CellRef { shard: SHARD, id: 0 } }),
-    ("the key goes",                      Ask::Remove(1),          Reply::Answer { code: 0 }),
-    ("its cell is held",                  Ask::Reclaim,            Reply::Freed { count: 0 }),
-    ("another key",                       Ask::Put(2, 2, ANY),     Reply::Answer { code: 0 }),
-    ("has another cell",                  Ask::Look(0, 2),         Reply::Cell { cell: CellRef { shard: SHARD, id: 1 } }),
-    ("the held cell has its bytes",       Ask::Load(0, 0, 0, 8),   Reply::Word { value: 0x01010101_01010101 }),
-    ("and takes others",                  Ask::Change(0, 0, 0x00, 1, 0), Reply::Word { value: 0x01010101_01010101 }),
-    ("for itself",                        Ask::Load(0, 1, 0, 8),   Reply::Word { value: 0x02020202_02020202 }),
-    ("the worker leaves",                 Ask::Leave(0),           Reply::Left),
-    ("its cell is freed",                 Ask::Reclaim,            Reply::Freed { count: 1 }),
-    ("and none is left to free",          Ask::Reclaim,            Reply::Freed { count: 0 }),
+    ("a key",                             IndexCall::Put(1, 1, ANY),     Reply::Answer { code: 0 }),
+    ("a worker enters",                   IndexCall::Enter(0),           Reply::Entered),
+    ("an absent key",                     IndexCall::Look(0, 2),         Reply::Null),
+    ("the key's cell",                    IndexCall::Look(0, 1),         Reply::Cell { cell: CellRef { shard: SHARD, id: 0 } }),
+    ("the key goes",                      IndexCall::Remove(1),          Reply::Answer { code: 0 }),
+    ("its cell is held",                  IndexCall::Reclaim,            Reply::Freed { count: 0 }),
+    ("another key",                       IndexCall::Put(2, 2, ANY),     Reply::Answer { code: 0 }),
+    ("has another cell",                  IndexCall::Look(0, 2),         Reply::Cell { cell: CellRef { shard: SHARD, id: 1 } }),
+    ("the held cell has its bytes",       IndexCall::Load(0, 0, 0, 8),   Reply::Word { value: 0x01010101_01010101 }),
+    ("and takes others",                  IndexCall::Change(0, 0, 0x00, 1, 0), Reply::Word { value: 0x01010101_01010101 }),
+    ("for itself",                        IndexCall::Load(0, 1, 0, 8),   Reply::Word { value: 0x02020202_02020202 }),
+    ("the worker leaves",                 IndexCall::Leave(0),           Reply::Left),
+    ("its cell is freed",                 IndexCall::Reclaim,            Reply::Freed { count: 1 }),
+    ("and none is left to free",          IndexCall::Reclaim,            Reply::Freed { count: 0 }),
 ];
 
 fn hash_plan(max_entries: u32) -> ShardPlan
@@ -350,7 +350,7 @@ fn large_hash(rt: HostRuntime) -> Result<(), AllocError> {
 }
 
 /// A call that is made this many times: its reply, or None where the full journal refuses it.
-type Filling = (&'static str, u32, Ask, Option<Reply>);
+type Filling = (&'static str, u32, IndexCall, Option<Reply>);
 
 /// Makes the calls of the rows in turn, on an array with a journal of 16, and says how many entries it then has.
 fn fills(rt: &impl Abort, alloc: Global, rows: &[Filling]) -> Result<usize, AllocError> {
@@ -368,14 +368,14 @@ fn fills(rt: &impl Abort, alloc: Global, rows: &[Filling]) -> Result<usize, Allo
 
 #[rattlefmt::skip]
 const LAST_IS_A_LEAVE: [Filling; 8] = [
-    ("a worker enters",       1,  Ask::Enter(0),       Some(Reply::Entered)),
-    ("an index out of range", 14, Ask::Look(0, 2),     Some(Reply::Null)),
-    ("a Lookup",              1,  Ask::Look(0, 0),     None),
-    ("another run",           1,  Ask::Enter(1),       None),
-    ("the controller",        1,  Ask::Put(0, 1, ANY), None),
-    ("the run leaves",        1,  Ask::Leave(0),       Some(Reply::Left)),
-    ("a Reclaim",             1,  Ask::Reclaim,        None),
-    ("an Enter",              1,  Ask::Enter(0),       None),
+    ("a worker enters",       1,  IndexCall::Enter(0),       Some(Reply::Entered)),
+    ("an index out of range", 14, IndexCall::Look(0, 2),     Some(Reply::Null)),
+    ("a Lookup",              1,  IndexCall::Look(0, 0),     None),
+    ("another run",           1,  IndexCall::Enter(1),       None),
+    ("the controller",        1,  IndexCall::Put(0, 1, ANY), None),
+    ("the run leaves",        1,  IndexCall::Leave(0),       Some(Reply::Left)),
+    ("a Reclaim",             1,  IndexCall::Reclaim,        None),
+    ("an Enter",              1,  IndexCall::Enter(0),       None),
 ];
 
 /// With one run inside and 15 entries, a journal of 16 has room for that run's Leave alone.
@@ -388,16 +388,16 @@ fn last_entry_is_a_leave(rt: HostRuntime) -> Result<(), AllocError> {
 
 #[rattlefmt::skip]
 const ENTERS_AFTER_14: [Filling; 2] = [
-    ("an Update",        14, Ask::Put(0, 1, ANY), Some(Reply::Answer { code: 0 })),
-    ("after 14 entries", 1,  Ask::Enter(0),       Some(Reply::Entered)),
+    ("an Update",        14, IndexCall::Put(0, 1, ANY), Some(Reply::Answer { code: 0 })),
+    ("after 14 entries", 1,  IndexCall::Enter(0),       Some(Reply::Entered)),
 ];
 
 #[rattlefmt::skip]
 const ENTERS_AFTER_15: [Filling; 4] = [
-    ("an Update",        15, Ask::Put(0, 1, ANY), Some(Reply::Answer { code: 0 })),
-    ("after 15 entries", 1,  Ask::Enter(0),       None),
-    ("one more Update",  1,  Ask::Put(0, 1, ANY), Some(Reply::Answer { code: 0 })),
-    ("after 16 entries", 1,  Ask::Put(0, 1, ANY), None),
+    ("an Update",        15, IndexCall::Put(0, 1, ANY), Some(Reply::Answer { code: 0 })),
+    ("after 15 entries", 1,  IndexCall::Enter(0),       None),
+    ("one more Update",  1,  IndexCall::Put(0, 1, ANY), Some(Reply::Answer { code: 0 })),
+    ("after 16 entries", 1,  IndexCall::Put(0, 1, ANY), None),
 ];
 
 /// With no run inside, a run that enters needs room for its Enter and for its Leave.
@@ -412,11 +412,11 @@ fn last_enter_needs_two_places(rt: HostRuntime) -> Result<(), AllocError> {
 
 #[rattlefmt::skip]
 const HOLDS_CELL_0: [Row; 2] = [
-    ("a worker enters", Ask::Enter(1),   Reply::Entered),
-    ("it finds cell 0", Ask::Look(1, 0), Reply::Cell { cell: CellRef { shard: SHARD, id: 0 } }),
+    ("a worker enters", IndexCall::Enter(1),   Reply::Entered),
+    ("it finds cell 0", IndexCall::Look(1, 0), Reply::Cell { cell: CellRef { shard: SHARD, id: 0 } }),
 ];
 
-const LEAVES: [Row; 1] = [("it leaves", Ask::Leave(1), Reply::Left)];
+const LEAVES: [Row; 1] = [("it leaves", IndexCall::Leave(1), Reply::Left)];
 
 /// Whether the workers 1 and 0 are inside, and whether they hold a cell: 1 the cells 0 and 1, 0 the cell 0.
 fn standings(shard: &Shard) -> [bool; 5] {
@@ -448,7 +448,11 @@ fn tests_for_callers(rt: HostRuntime) -> Result<(), AllocError> {
     same(&rt, "who is inside and holds", &standings(&shard), &inside);
     serves(&rt, &mut shard, &LEAVES);
     same(&rt, "after the Leave", &standings(&shard), &[false; 5]);
-    holds(&rt, "there is room", !shard.is_full(&call_of(Ask::Reclaim)));
+    holds(
+        &rt,
+        "there is room",
+        !shard.is_full(&call_of(IndexCall::Reclaim)),
+    );
     same(&rt, "its number", &shard.plan().number, &SHARD);
     Ok(())
 }

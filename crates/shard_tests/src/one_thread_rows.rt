@@ -25,7 +25,7 @@ const C: u8 = 3;
 
 /// A call in one row of a table: keys by their first byte, values by all of theirs.
 #[derive(Clone, Copy)]
-enum Ask {
+enum KeyCall {
     /// By a worker.
     Enter(u8),
     Leave(u8),
@@ -45,7 +45,7 @@ enum Ask {
     Reclaim,
 }
 
-type Row = (&'static str, Ask, Reply);
+type Row = (&'static str, KeyCall, Reply);
 
 fn plan(kind: MapKind, max_entries: u32, reserve: u32) -> ShardPlan
     requires some { 1 ≤ max_entries }
@@ -77,18 +77,18 @@ fn value_of(byte: u8) -> Value {
     Value::of(&[byte; 8]).unwrap_or(Value::empty())
 }
 
-fn caller_of(ask: Ask) -> Caller {
+fn caller_of(ask: KeyCall) -> Caller {
     match ask {
-        Ask::Enter(number) => Caller::Worker { number },
-        Ask::Leave(number) => Caller::Worker { number },
-        Ask::Look(number, _) => Caller::Worker { number },
-        Ask::Load(number, _, _, _) => Caller::Worker { number },
-        Ask::Store(number, _, _, _, _) => Caller::Worker { number },
-        Ask::Change(number, _, _, _, _) => Caller::Worker { number },
-        Ask::Add(number, _, _) => Caller::Worker { number },
-        Ask::Put(_, _) => Caller::Controller,
-        Ask::Remove(_) => Caller::Controller,
-        Ask::Reclaim => Caller::Reclaimer,
+        KeyCall::Enter(number) => Caller::Worker { number },
+        KeyCall::Leave(number) => Caller::Worker { number },
+        KeyCall::Look(number, _) => Caller::Worker { number },
+        KeyCall::Load(number, _, _, _) => Caller::Worker { number },
+        KeyCall::Store(number, _, _, _, _) => Caller::Worker { number },
+        KeyCall::Change(number, _, _, _, _) => Caller::Worker { number },
+        KeyCall::Add(number, _, _) => Caller::Worker { number },
+        KeyCall::Put(_, _) => Caller::Controller,
+        KeyCall::Remove(_) => Caller::Controller,
+        KeyCall::Reclaim => Caller::Reclaimer,
     }
 }
 
@@ -96,26 +96,26 @@ fn cell(id: u64) -> CellRef {
     CellRef { shard: 0, id }
 }
 
-fn call_of(ask: Ask) -> Call {
+fn call_of(ask: KeyCall) -> Call {
     match ask {
-        Ask::Enter(_) => Call::Enter { shard: 0 },
-        Ask::Leave(_) => Call::Leave { shard: 0 },
-        Ask::Look(_, key) => Call::Lookup {
+        KeyCall::Enter(_) => Call::Enter { shard: 0 },
+        KeyCall::Leave(_) => Call::Leave { shard: 0 },
+        KeyCall::Look(_, key) => Call::Lookup {
             shard: 0,
             key: key_of(key),
         },
-        Ask::Load(_, id, offset, size) => Call::Load {
+        KeyCall::Load(_, id, offset, size) => Call::Load {
             cell: cell(id),
             offset,
             size,
         },
-        Ask::Store(_, id, offset, size, value) => Call::Store {
+        KeyCall::Store(_, id, offset, size, value) => Call::Store {
             cell: cell(id),
             offset,
             size,
             value,
         },
-        Ask::Change(_, id, op, value, expected) => Call::Atomic {
+        KeyCall::Change(_, id, op, value, expected) => Call::Atomic {
             cell: cell(id),
             offset: 0,
             size: 8,
@@ -123,7 +123,7 @@ fn call_of(ask: Ask) -> Call {
             value,
             expected,
         },
-        Ask::Add(_, id, offset) => Call::Atomic {
+        KeyCall::Add(_, id, offset) => Call::Atomic {
             cell: cell(id),
             offset,
             size: 4,
@@ -131,17 +131,17 @@ fn call_of(ask: Ask) -> Call {
             value: 1,
             expected: 0,
         },
-        Ask::Put(key, flags) => Call::Update {
+        KeyCall::Put(key, flags) => Call::Update {
             shard: 0,
             key: key_of(key),
             value: value_of(key),
             flags,
         },
-        Ask::Remove(key) => Call::Delete {
+        KeyCall::Remove(key) => Call::Delete {
             shard: 0,
             key: key_of(key),
         },
-        Ask::Reclaim => Call::Reclaim { shard: 0 },
+        KeyCall::Reclaim => Call::Reclaim { shard: 0 },
     }
 }
 
@@ -150,7 +150,7 @@ fn make(
     rt: &impl Abort,
     shard: &mut OneThreadShard,
     name: &str,
-    ask: Ask,
+    ask: KeyCall,
 ) -> Result<Reply, AllocError> {
     let who = caller_of(ask);
     let call = call_of(ask);
@@ -186,72 +186,72 @@ fn serves_new(
 
 #[rattlefmt::skip]
 const ONE_ENTRY: [Row; 5] = [
-    ("a new key",                    Ask::Put(A, ANY),     Reply::Answer { code: 0 }),
-    ("a present key under NOEXIST",  Ask::Put(A, NOEXIST), Reply::Answer { code: -17 }),
-    ("a new key in a full hash map", Ask::Put(B, ANY),     Reply::Answer { code: -7 }),
-    ("a present key is deleted",     Ask::Remove(A),       Reply::Answer { code: 0 }),
-    ("an absent key is not deleted", Ask::Remove(A),       Reply::Answer { code: -2 }),
+    ("a new key",                    KeyCall::Put(A, ANY),     Reply::Answer { code: 0 }),
+    ("a present key under NOEXIST",  KeyCall::Put(A, NOEXIST), Reply::Answer { code: -17 }),
+    ("a new key in a full hash map", KeyCall::Put(B, ANY),     Reply::Answer { code: -7 }),
+    ("a present key is deleted",     KeyCall::Remove(A),       Reply::Answer { code: 0 }),
+    ("an absent key is not deleted", KeyCall::Remove(A),       Reply::Answer { code: -2 }),
 ];
 
 #[rattlefmt::skip]
 const NO_FREE_CELL: [Row; 8] = [
-    ("the first key",                      Ask::Put(A, ANY),   Reply::Answer { code: 0 }),
-    ("its cell waits for readers",         Ask::Remove(A),     Reply::Answer { code: 0 }),
-    ("the second key",                     Ask::Put(B, ANY),   Reply::Answer { code: 0 }),
-    ("its cell waits as well",             Ask::Remove(B),     Reply::Answer { code: 0 }),
-    ("an absent key under EXIST",          Ask::Put(C, EXIST), Reply::Answer { code: -2 }),
-    ("no cell is free for a new key",      Ask::Put(C, ANY),   Reply::Answer { code: -12 }),
-    ("without readers both are freed",     Ask::Reclaim,       Reply::Freed { count: 2 }),
-    ("then a cell is free for a new key",  Ask::Put(C, ANY),   Reply::Answer { code: 0 }),
+    ("the first key",                      KeyCall::Put(A, ANY),   Reply::Answer { code: 0 }),
+    ("its cell waits for readers",         KeyCall::Remove(A),     Reply::Answer { code: 0 }),
+    ("the second key",                     KeyCall::Put(B, ANY),   Reply::Answer { code: 0 }),
+    ("its cell waits as well",             KeyCall::Remove(B),     Reply::Answer { code: 0 }),
+    ("an absent key under EXIST",          KeyCall::Put(C, EXIST), Reply::Answer { code: -2 }),
+    ("no cell is free for a new key",      KeyCall::Put(C, ANY),   Reply::Answer { code: -12 }),
+    ("without readers both are freed",     KeyCall::Reclaim,       Reply::Freed { count: 2 }),
+    ("then a cell is free for a new key",  KeyCall::Put(C, ANY),   Reply::Answer { code: 0 }),
 ];
 
 #[rattlefmt::skip]
 const HELD_CELL: [Row; 13] = [
-    ("a key",                                Ask::Put(A, ANY),       Reply::Answer { code: 0 }),
-    ("a worker enters",                      Ask::Enter(0),          Reply::Entered),
-    ("it finds the cell",                    Ask::Look(0, A),        Reply::Cell { cell: CellRef { shard: 0, id: 0 } }),
-    ("the key is deleted",                   Ask::Remove(A),         Reply::Answer { code: 0 }),
-    ("the held cell is not freed",           Ask::Reclaim,           Reply::Freed { count: 0 }),
-    ("another worker enters later",          Ask::Enter(1),          Reply::Entered),
-    ("another key gets another cell",        Ask::Put(B, ANY),       Reply::Answer { code: 0 }),
-    ("the held cell keeps its bytes",        Ask::Load(0, 0, 4, 2),  Reply::Word { value: 0x0101 }),
-    ("the deleted key is not found",         Ask::Look(0, A),        Reply::Null),
-    ("the other has the next id",            Ask::Look(1, B),        Reply::Cell { cell: CellRef { shard: 0, id: 1 } }),
-    ("the first worker leaves",              Ask::Leave(0),          Reply::Left),
-    ("who entered later keeps no cell back", Ask::Reclaim,           Reply::Freed { count: 1 }),
-    ("nothing is freed twice",               Ask::Reclaim,           Reply::Freed { count: 0 }),
+    ("a key",                                KeyCall::Put(A, ANY),       Reply::Answer { code: 0 }),
+    ("a worker enters",                      KeyCall::Enter(0),          Reply::Entered),
+    ("it finds the cell",                    KeyCall::Look(0, A),        Reply::Cell { cell: CellRef { shard: 0, id: 0 } }),
+    ("the key is deleted",                   KeyCall::Remove(A),         Reply::Answer { code: 0 }),
+    ("the held cell is not freed",           KeyCall::Reclaim,           Reply::Freed { count: 0 }),
+    ("another worker enters later",          KeyCall::Enter(1),          Reply::Entered),
+    ("another key gets another cell",        KeyCall::Put(B, ANY),       Reply::Answer { code: 0 }),
+    ("the held cell keeps its bytes",        KeyCall::Load(0, 0, 4, 2),  Reply::Word { value: 0x0101 }),
+    ("the deleted key is not found",         KeyCall::Look(0, A),        Reply::Null),
+    ("the other has the next id",            KeyCall::Look(1, B),        Reply::Cell { cell: CellRef { shard: 0, id: 1 } }),
+    ("the first worker leaves",              KeyCall::Leave(0),          Reply::Left),
+    ("who entered later keeps no cell back", KeyCall::Reclaim,           Reply::Freed { count: 1 }),
+    ("nothing is freed twice",               KeyCall::Reclaim,           Reply::Freed { count: 0 }),
 ];
 
 #[rattlefmt::skip]
 const TWO_USED: [Row; 9] = [
-    ("the first key",                          Ask::Put(A, ANY), Reply::Answer { code: 0 }),
-    ("the second key",                         Ask::Put(B, ANY), Reply::Answer { code: 0 }),
-    ("a worker enters",                        Ask::Enter(0),    Reply::Entered),
-    ("a Lookup that finds is a use",           Ask::Look(0, A),  Reply::Cell { cell: CellRef { shard: 0, id: 0 } }),
-    ("an Update that fails is no use",         Ask::Put(B, NOEXIST), Reply::Answer { code: -17 }),
-    ("a third key evicts the one used longest ago", Ask::Put(C, ANY), Reply::Answer { code: 0 }),
-    ("the key that was looked up stays",       Ask::Look(0, A),  Reply::Cell { cell: CellRef { shard: 0, id: 0 } }),
-    ("the new key is there",                   Ask::Look(0, C),  Reply::Cell { cell: CellRef { shard: 0, id: 2 } }),
-    ("the key used longest ago is gone",       Ask::Look(0, B),  Reply::Null),
+    ("the first key",                          KeyCall::Put(A, ANY), Reply::Answer { code: 0 }),
+    ("the second key",                         KeyCall::Put(B, ANY), Reply::Answer { code: 0 }),
+    ("a worker enters",                        KeyCall::Enter(0),    Reply::Entered),
+    ("a Lookup that finds is a use",           KeyCall::Look(0, A),  Reply::Cell { cell: CellRef { shard: 0, id: 0 } }),
+    ("an Update that fails is no use",         KeyCall::Put(B, NOEXIST), Reply::Answer { code: -17 }),
+    ("a third key evicts the one used longest ago", KeyCall::Put(C, ANY), Reply::Answer { code: 0 }),
+    ("the key that was looked up stays",       KeyCall::Look(0, A),  Reply::Cell { cell: CellRef { shard: 0, id: 0 } }),
+    ("the new key is there",                   KeyCall::Look(0, C),  Reply::Cell { cell: CellRef { shard: 0, id: 2 } }),
+    ("the key used longest ago is gone",       KeyCall::Look(0, B),  Reply::Null),
 ];
 
 #[rattlefmt::skip]
 const ARRAY_OF_TWO: [Row; 15] = [
-    ("an index out of range under NOEXIST",  Ask::Put(2, NOEXIST),   Reply::Answer { code: -7 }),
-    ("an index is there under NOEXIST",      Ask::Put(0, NOEXIST),   Reply::Answer { code: -17 }),
-    ("unknown flags",                        Ask::Put(0, 3),         Reply::Answer { code: -22 }),
-    ("an index under EXIST",                 Ask::Put(1, EXIST),     Reply::Answer { code: 0 }),
-    ("an array deletes nothing",             Ask::Remove(0),         Reply::Answer { code: -22 }),
-    ("a worker enters",                      Ask::Enter(0),          Reply::Entered),
-    ("an index out of range is not found",   Ask::Look(0, 2),        Reply::Null),
-    ("index 1 has cell 1",                   Ask::Look(0, 1),        Reply::Cell { cell: CellRef { shard: 0, id: 1 } }),
-    ("a store of two bytes",                 Ask::Store(0, 1, 2, 2, 0xabcd), Reply::Done),
-    ("bytes are little-endian",              Ask::Load(0, 1, 0, 8),  Reply::Word { value: 0x01010101_abcd0101 }),
-    ("a load at no multiple of its size",   Ask::Load(0, 1, 2, 4),  Reply::Word { value: 0x0101abcd }),
-    ("an atomic addition of four bytes",     Ask::Add(0, 1, 4),      Reply::Word { value: 0x01010101 }),
-    ("adds to these four alone",             Ask::Load(0, 1, 0, 8),  Reply::Word { value: 0x01010102_abcd0101 }),
-    ("an atomic addition replies the old number", Ask::Change(0, 1, 0x00, 0xff, 0), Reply::Word { value: 0x01010102_abcd0101 }),
-    ("and adds",                             Ask::Load(0, 1, 0, 8),  Reply::Word { value: 0x01010102_abcd0200 }),
+    ("an index out of range under NOEXIST",  KeyCall::Put(2, NOEXIST),   Reply::Answer { code: -7 }),
+    ("an index is there under NOEXIST",      KeyCall::Put(0, NOEXIST),   Reply::Answer { code: -17 }),
+    ("unknown flags",                        KeyCall::Put(0, 3),         Reply::Answer { code: -22 }),
+    ("an index under EXIST",                 KeyCall::Put(1, EXIST),     Reply::Answer { code: 0 }),
+    ("an array deletes nothing",             KeyCall::Remove(0),         Reply::Answer { code: -22 }),
+    ("a worker enters",                      KeyCall::Enter(0),          Reply::Entered),
+    ("an index out of range is not found",   KeyCall::Look(0, 2),        Reply::Null),
+    ("index 1 has cell 1",                   KeyCall::Look(0, 1),        Reply::Cell { cell: CellRef { shard: 0, id: 1 } }),
+    ("a store of two bytes",                 KeyCall::Store(0, 1, 2, 2, 0xabcd), Reply::Done),
+    ("bytes are little-endian",              KeyCall::Load(0, 1, 0, 8),  Reply::Word { value: 0x01010101_abcd0101 }),
+    ("a load at no multiple of its size",   KeyCall::Load(0, 1, 2, 4),  Reply::Word { value: 0x0101abcd }),
+    ("an atomic addition of four bytes",     KeyCall::Add(0, 1, 4),      Reply::Word { value: 0x01010101 }),
+    ("adds to these four alone",             KeyCall::Load(0, 1, 0, 8),  Reply::Word { value: 0x01010102_abcd0101 }),
+    ("an atomic addition replies the old number", KeyCall::Change(0, 1, 0x00, 0xff, 0), Reply::Word { value: 0x01010102_abcd0101 }),
+    ("and adds",                             KeyCall::Load(0, 1, 0, 8),  Reply::Word { value: 0x01010102_abcd0200 }),
 ];
 
 /// The same, where nothing more is asked of the shard.
@@ -288,11 +288,11 @@ fn array_of_two_entries(rt: HostRuntime) -> Result<(), AllocError> {
     serves_all(&rt, rt.alloc(), plan(MapKind::Array, 2, 64), &ARRAY_OF_TWO)
 }
 
-const A_RUN_ENTERS: [Row; 1] = [("a worker enters", Ask::Enter(0), Reply::Entered)];
+const A_RUN_ENTERS: [Row; 1] = [("a worker enters", KeyCall::Enter(0), Reply::Entered)];
 
-const PAST_THE_END: [Row; 14] = [("an index out of range", Ask::Look(0, 2), Reply::Null); 14];
+const PAST_THE_END: [Row; 14] = [("an index out of range", KeyCall::Look(0, 2), Reply::Null); 14];
 
-const THE_RUN_LEAVES: [Row; 1] = [("the run leaves", Ask::Leave(0), Reply::Left)];
+const THE_RUN_LEAVES: [Row; 1] = [("the run leaves", KeyCall::Leave(0), Reply::Left)];
 
 /// With one run inside and 15 entries, a journal of 16 has room for that run's Leave alone.
 #[test]
@@ -301,43 +301,51 @@ fn journal_of_16_entries(rt: HostRuntime) -> Result<(), AllocError> {
     let mut shard = serves_new(&rt, rt.alloc(), plan, &A_RUN_ENTERS)?;
     serves(&rt, &mut shard, &PAST_THE_END)?;
     same(&rt, "how many entries", &shard.journal().len(), &15);
-    holds(&rt, "a Lookup", shard.is_full(&call_of(Ask::Look(0, 2))));
-    holds(&rt, "another run", shard.is_full(&call_of(Ask::Enter(1))));
+    holds(
+        &rt,
+        "a Lookup",
+        shard.is_full(&call_of(KeyCall::Look(0, 2))),
+    );
+    holds(
+        &rt,
+        "another run",
+        shard.is_full(&call_of(KeyCall::Enter(1))),
+    );
     serves(&rt, &mut shard, &THE_RUN_LEAVES)?;
-    holds(&rt, "a Reclaim", shard.is_full(&call_of(Ask::Reclaim)));
+    holds(&rt, "a Reclaim", shard.is_full(&call_of(KeyCall::Reclaim)));
     Ok(())
 }
 
 #[rattlefmt::skip]
-const NOT_SERVED: [(&str, Ask); 14] = [
-    ("a worker enters once",                   Ask::Enter(0)),
-    ("a worker outside does not leave",        Ask::Leave(1)),
-    ("a worker outside looks nothing up",      Ask::Look(1, 0)),
-    ("a worker that the plan lacks",           Ask::Enter(2)),
-    ("a cell that was not found is not held",  Ask::Load(0, 0, 0, 8)),
-    ("a size of three",                       Ask::Load(0, 1, 0, 3)),
-    ("an atomic addition at no multiple of four", Ask::Add(0, 1, 2)),
-    ("bytes past the value",                   Ask::Load(0, 1, 8, 1)),
-    ("an offset near 2^64",                    Ask::Load(0, 1, 0xffff_ffff_ffff_fff8, 8)),
-    ("a number wider than its bytes",          Ask::Store(0, 1, 0, 1, 0x100)),
-    ("an operation that the table lacks",      Ask::Change(0, 1, 0x02, 1, 0)),
-    ("an expected number without comparison",  Ask::Change(0, 1, 0x00, 1, 1)),
-    ("a cell of an earlier run",               Ask::Load(1, 0, 0, 8)),
-    ("an operation of another instruction",    Ask::Change(0, 1, 0xe0, 1, 0)),
+const NOT_SERVED: [(&str, KeyCall); 14] = [
+    ("a worker enters once",                   KeyCall::Enter(0)),
+    ("a worker outside does not leave",        KeyCall::Leave(1)),
+    ("a worker outside looks nothing up",      KeyCall::Look(1, 0)),
+    ("a worker that the plan lacks",           KeyCall::Enter(2)),
+    ("a cell that was not found is not held",  KeyCall::Load(0, 0, 0, 8)),
+    ("a size of three",                       KeyCall::Load(0, 1, 0, 3)),
+    ("an atomic addition at no multiple of four", KeyCall::Add(0, 1, 2)),
+    ("bytes past the value",                   KeyCall::Load(0, 1, 8, 1)),
+    ("an offset near 2^64",                    KeyCall::Load(0, 1, 0xffff_ffff_ffff_fff8, 8)),
+    ("a number wider than its bytes",          KeyCall::Store(0, 1, 0, 1, 0x100)),
+    ("an operation that the table lacks",      KeyCall::Change(0, 1, 0x02, 1, 0)),
+    ("an expected number without comparison",  KeyCall::Change(0, 1, 0x00, 1, 1)),
+    ("a cell of an earlier run",               KeyCall::Load(1, 0, 0, 8)),
+    ("an operation of another instruction",    KeyCall::Change(0, 1, 0xe0, 1, 0)),
 ];
 
 /// What happened before.
 #[rattlefmt::skip]
 const TWO_RUNS: [Row; 5] = [
-    ("an earlier run enters", Ask::Enter(1),   Reply::Entered),
-    ("it finds cell 0",       Ask::Look(1, 0), Reply::Cell { cell: CellRef { shard: 0, id: 0 } }),
-    ("it leaves",             Ask::Leave(1),   Reply::Left),
-    ("a run enters",          Ask::Enter(0),   Reply::Entered),
-    ("it finds cell 1",       Ask::Look(0, 1), Reply::Cell { cell: CellRef { shard: 0, id: 1 } }),
+    ("an earlier run enters", KeyCall::Enter(1),   Reply::Entered),
+    ("it finds cell 0",       KeyCall::Look(1, 0), Reply::Cell { cell: CellRef { shard: 0, id: 0 } }),
+    ("it leaves",             KeyCall::Leave(1),   Reply::Left),
+    ("a run enters",          KeyCall::Enter(0),   Reply::Entered),
+    ("it finds cell 1",       KeyCall::Look(0, 1), Reply::Cell { cell: CellRef { shard: 0, id: 1 } }),
 ];
 
 /// No caller of the rows may make its call.
-fn serves_none(rt: &impl Abort, shard: &OneThreadShard, rows: &[(&str, Ask)]) {
+fn serves_none(rt: &impl Abort, shard: &OneThreadShard, rows: &[(&str, KeyCall)]) {
     for (name, ask) in rows {
         holds(rt, name, !shard.meets(&caller_of(*ask), &call_of(*ask)));
     }

@@ -22,7 +22,7 @@ use std::test::Fail;
 
 /// A call in one row of a table: map, index, and what else it takes.
 #[derive(Clone, Copy)]
-enum Ask {
+enum PortCall {
     Look(u32, u32),
     /// The first eight bytes of the index's cell.
     Load(u32, u32),
@@ -44,7 +44,7 @@ enum Got {
     Answer(i32),
 }
 
-type Row = (&'static str, Ask, Got);
+type Row = (&'static str, PortCall, Got);
 
 /// An image of two arrays and a hash map.
 fn example_image(alloc: Global) -> Result<Image, Fail>
@@ -194,21 +194,23 @@ fn remove<P: MapPort>(port: &mut P, map: u32, index: u32) -> Result<Got, Journal
 }
 
 /// Makes the call of a row.
-fn answer<P: MapPort>(port: &mut P, ask: Ask) -> Result<Got, JournalFull>
+fn answer<P: MapPort>(port: &mut P, ask: PortCall) -> Result<Got, JournalFull>
     requires { (P.serves port.old).maps ≡ example_maps }
     ensures { OnOk result (P.serves port.new ≡ P.serves port.old) }
 {
     match ask {
-        Ask::Look(map, index) => match look(port, map.min(2), index) {
+        PortCall::Look(map, index) => match look(port, map.min(2), index) {
             Ok(handle) => Ok(Got::Handle(handle)),
             Err(full) => Err(full),
         },
-        Ask::Load(map, index) => load(port, map.min(2), index),
-        Ask::Store(map, index, value) => store(port, map.min(2), index, value),
-        Ask::Add(map, index, value) => add(port, map.min(2), index, value),
-        Ask::Swap(map, index, value, expected) => { swap(port, map.min(2), index, value, expected) }
-        Ask::Put(map, index, byte, flags) => put(port, map.min(2), index, byte, flags),
-        Ask::Remove(map, index) => remove(port, map.min(2), index),
+        PortCall::Load(map, index) => load(port, map.min(2), index),
+        PortCall::Store(map, index, value) => store(port, map.min(2), index, value),
+        PortCall::Add(map, index, value) => add(port, map.min(2), index, value),
+        PortCall::Swap(map, index, value, expected) => {
+            swap(port, map.min(2), index, value, expected)
+        }
+        PortCall::Put(map, index, byte, flags) => put(port, map.min(2), index, byte, flags),
+        PortCall::Remove(map, index) => remove(port, map.min(2), index),
     }
 }
 
@@ -346,9 +348,9 @@ fn session(
 
 #[rattlefmt::skip]
 const ONE_SHARD: [Row; 3] = [
-    ("index 0 has the first handle", Ask::Look(0, 0), Got::Handle(1)),
-    ("it holds zeros",               Ask::Load(0, 0), Got::Number(0)),
-    ("index 1 is none of one",       Ask::Look(0, 1), Got::Handle(0)),
+    ("index 0 has the first handle", PortCall::Look(0, 0), Got::Handle(1)),
+    ("it holds zeros",               PortCall::Load(0, 0), Got::Number(0)),
+    ("index 1 is none of one",       PortCall::Look(0, 1), Got::Handle(0)),
 ];
 
 #[rattlefmt::skip]
@@ -374,10 +376,10 @@ fn one_session_in_one_shard(rt: HostRuntime) -> Result<(), Fail> {
 
 #[rattlefmt::skip]
 const TWO_SHARDS: [Row; 4] = [
-    ("the last index of the second map",   Ask::Look(1, 2), Got::Handle(0x1_0000_0003)),
-    ("the first map's, in between",        Ask::Look(0, 0), Got::Handle(1)),
-    ("the second map's once more",         Ask::Look(1, 0), Got::Handle(0x1_0000_0001)),
-    ("index 3 is none of three",           Ask::Look(1, 3), Got::Handle(0)),
+    ("the last index of the second map",   PortCall::Look(1, 2), Got::Handle(0x1_0000_0003)),
+    ("the first map's, in between",        PortCall::Look(0, 0), Got::Handle(1)),
+    ("the second map's once more",         PortCall::Look(1, 0), Got::Handle(0x1_0000_0001)),
+    ("index 3 is none of three",           PortCall::Look(1, 3), Got::Handle(0)),
 ];
 
 #[rattlefmt::skip]
@@ -406,7 +408,11 @@ fn one_session_in_each_shard(rt: HostRuntime) -> Result<(), Fail> {
     session(&rt, rt.alloc(), 64, &TWO_SHARDS, None, &TWO_SHARDS_SAY)
 }
 
-const FIFTEEN_LOOKUPS: [Row; 15] = [("a lookup", Ask::Look(1, 0), Got::Handle(0x1_0000_0001)); 15];
+const FIFTEEN_LOOKUPS: [Row; 15] = [(
+    "a lookup",
+    PortCall::Look(1, 0),
+    Got::Handle(0x1_0000_0001),
+); 15];
 
 #[rattlefmt::skip]
 const SIXTEEN_ENTERED: [Entered; 3] = [
@@ -435,22 +441,22 @@ fn last_entry_is_the_leave(rt: HostRuntime) -> Result<(), Fail> {
 
 #[rattlefmt::skip]
 const ANSWERS: [Row; 16] = [
-    ("a store",                             Ask::Store(1, 1, 0x0102),      Got::Nothing),
-    ("is read back",                        Ask::Load(1, 1),               Got::Number(0x0102)),
-    ("the cell beside it stays",            Ask::Load(1, 2),               Got::Number(0)),
-    ("the other map's stays",               Ask::Load(0, 0),               Got::Number(0)),
-    ("an addition gives the number before", Ask::Add(1, 1, 0xfe),          Got::Number(0x0102)),
-    ("and adds",                            Ask::Load(1, 1),               Got::Number(0x0200)),
-    ("a comparison that fails",             Ask::Swap(1, 1, 7, 1),         Got::Number(0x0200)),
-    ("changes nothing",                     Ask::Load(1, 1),               Got::Number(0x0200)),
-    ("a comparison that holds",             Ask::Swap(1, 1, 7, 0x0200),    Got::Number(0x0200)),
-    ("exchanges",                           Ask::Load(1, 1),               Got::Number(7)),
-    ("an update",                           Ask::Put(1, 1, 3, 0),          Got::Answer(0)),
-    ("sets all bytes",                      Ask::Load(1, 1),               Got::Number(0x0303_0303_0303_0303)),
-    ("an index is there under NOEXIST",     Ask::Put(1, 1, 9, 1),          Got::Answer(-17)),
-    ("an index out of range",               Ask::Put(1, 3, 9, 0),          Got::Answer(-7)),
-    ("unknown flags",                       Ask::Put(1, 1, 9, 3),          Got::Answer(-22)),
-    ("an array deletes nothing",            Ask::Remove(1, 1),             Got::Answer(-22)),
+    ("a store",                             PortCall::Store(1, 1, 0x0102),      Got::Nothing),
+    ("is read back",                        PortCall::Load(1, 1),               Got::Number(0x0102)),
+    ("the cell beside it stays",            PortCall::Load(1, 2),               Got::Number(0)),
+    ("the other map's stays",               PortCall::Load(0, 0),               Got::Number(0)),
+    ("an addition gives the number before", PortCall::Add(1, 1, 0xfe),          Got::Number(0x0102)),
+    ("and adds",                            PortCall::Load(1, 1),               Got::Number(0x0200)),
+    ("a comparison that fails",             PortCall::Swap(1, 1, 7, 1),         Got::Number(0x0200)),
+    ("changes nothing",                     PortCall::Load(1, 1),               Got::Number(0x0200)),
+    ("a comparison that holds",             PortCall::Swap(1, 1, 7, 0x0200),    Got::Number(0x0200)),
+    ("exchanges",                           PortCall::Load(1, 1),               Got::Number(7)),
+    ("an update",                           PortCall::Put(1, 1, 3, 0),          Got::Answer(0)),
+    ("sets all bytes",                      PortCall::Load(1, 1),               Got::Number(0x0303_0303_0303_0303)),
+    ("an index is there under NOEXIST",     PortCall::Put(1, 1, 9, 1),          Got::Answer(-17)),
+    ("an index out of range",               PortCall::Put(1, 3, 9, 0),          Got::Answer(-7)),
+    ("unknown flags",                       PortCall::Put(1, 1, 9, 3),          Got::Answer(-22)),
+    ("an array deletes nothing",            PortCall::Remove(1, 1),             Got::Answer(-22)),
 ];
 
 #[test]
@@ -460,22 +466,22 @@ fn answers_of_an_array(rt: HostRuntime) -> Result<(), Fail> {
 
 #[rattlefmt::skip]
 const KEYS: [Row; 16] = [
-    ("a key that nobody put",          Ask::Look(2, 7),        Got::Handle(0)),
-    ("none to replace",                Ask::Put(2, 7, 1, 2),   Got::Answer(-2)),
-    ("none to delete",                 Ask::Remove(2, 7),      Got::Answer(-2)),
-    ("is put",                         Ask::Put(2, 7, 1, 0),   Got::Answer(0)),
-    ("the map's first cell",           Ask::Look(2, 7),        Got::Handle(0x2_0000_0001)),
-    ("has the value",                  Ask::Load(2, 7),        Got::Number(0x0101_0101_0101_0101)),
-    ("the key is there under NOEXIST", Ask::Put(2, 7, 9, 1),   Got::Answer(-17)),
-    ("a second key",                   Ask::Put(2, 8, 2, 1),   Got::Answer(0)),
-    ("no room for a third",            Ask::Put(2, 9, 3, 0),   Got::Answer(-7)),
-    ("a number is added",              Ask::Add(2, 8, 1),      Got::Number(0x0202_0202_0202_0202)),
-    ("to that key's value alone",      Ask::Load(2, 7),        Got::Number(0x0101_0101_0101_0101)),
-    ("the first key is deleted",       Ask::Remove(2, 7),      Got::Answer(0)),
-    ("and is gone",                    Ask::Look(2, 7),        Got::Handle(0)),
-    ("the third fits now",             Ask::Put(2, 9, 3, 0),   Got::Answer(0)),
-    ("in a cell of its own",           Ask::Look(2, 9),        Got::Handle(0x2_0000_0003)),
-    ("a key of a hash map is none of the array's", Ask::Look(1, 7), Got::Handle(0)),
+    ("a key that nobody put",          PortCall::Look(2, 7),        Got::Handle(0)),
+    ("none to replace",                PortCall::Put(2, 7, 1, 2),   Got::Answer(-2)),
+    ("none to delete",                 PortCall::Remove(2, 7),      Got::Answer(-2)),
+    ("is put",                         PortCall::Put(2, 7, 1, 0),   Got::Answer(0)),
+    ("the map's first cell",           PortCall::Look(2, 7),        Got::Handle(0x2_0000_0001)),
+    ("has the value",                  PortCall::Load(2, 7),        Got::Number(0x0101_0101_0101_0101)),
+    ("the key is there under NOEXIST", PortCall::Put(2, 7, 9, 1),   Got::Answer(-17)),
+    ("a second key",                   PortCall::Put(2, 8, 2, 1),   Got::Answer(0)),
+    ("no room for a third",            PortCall::Put(2, 9, 3, 0),   Got::Answer(-7)),
+    ("a number is added",              PortCall::Add(2, 8, 1),      Got::Number(0x0202_0202_0202_0202)),
+    ("to that key's value alone",      PortCall::Load(2, 7),        Got::Number(0x0101_0101_0101_0101)),
+    ("the first key is deleted",       PortCall::Remove(2, 7),      Got::Answer(0)),
+    ("and is gone",                    PortCall::Look(2, 7),        Got::Handle(0)),
+    ("the third fits now",             PortCall::Put(2, 9, 3, 0),   Got::Answer(0)),
+    ("in a cell of its own",           PortCall::Look(2, 9),        Got::Handle(0x2_0000_0003)),
+    ("a key of a hash map is none of the array's", PortCall::Look(1, 7), Got::Handle(0)),
 ];
 
 #[test]

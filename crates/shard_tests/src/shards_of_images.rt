@@ -92,28 +92,28 @@ const WORKER: Caller = Caller::Worker { number: 1 };
 
 /// Enters a shard, or looks an index up there.
 #[derive(Clone, Copy)]
-enum Ask {
+enum WorkerCall {
     Enter,
     Look(u32),
 }
 
 /// A call of a shard, its reply, and how many entries the journals of both shards have then.
-type Row = (&'static str, u32, Ask, Reply, [usize; 2]);
+type Row = (&'static str, u32, WorkerCall, Reply, [usize; 2]);
 
 #[rattlefmt::skip]
 const OF_TWO_MAPS: [Row; 6] = [
-    ("a worker enters the first",   0, Ask::Enter,      Reply::Entered,                                      [1, 0]),
-    ("the first's last index",      0, Ask::Look(2),    Reply::Cell { cell: CellRef { shard: 0, id: 2 } },    [2, 0]),
-    ("no index past the first's end", 0, Ask::Look(3),    Reply::Null,                                         [3, 0]),
-    ("the worker enters the other", 1, Ask::Enter,      Reply::Entered,                                      [3, 1]),
-    ("the other's last index",      1, Ask::Look(4095), Reply::Cell { cell: CellRef { shard: 1, id: 4095 } }, [3, 2]),
-    ("no index past the other's end", 1, Ask::Look(4096), Reply::Null,                                         [3, 3]),
+    ("a worker enters the first",   0, WorkerCall::Enter,      Reply::Entered,                                      [1, 0]),
+    ("the first's last index",      0, WorkerCall::Look(2),    Reply::Cell { cell: CellRef { shard: 0, id: 2 } },    [2, 0]),
+    ("no index past the first's end", 0, WorkerCall::Look(3),    Reply::Null,                                         [3, 0]),
+    ("the worker enters the other", 1, WorkerCall::Enter,      Reply::Entered,                                      [3, 1]),
+    ("the other's last index",      1, WorkerCall::Look(4095), Reply::Cell { cell: CellRef { shard: 1, id: 4095 } }, [3, 2]),
+    ("no index past the other's end", 1, WorkerCall::Look(4096), Reply::Null,                                         [3, 3]),
 ];
 
-fn call_of(shard: u32, ask: Ask) -> Call {
+fn call_of(shard: u32, ask: WorkerCall) -> Call {
     match ask {
-        Ask::Enter => Call::Enter { shard },
-        Ask::Look(index) => Call::Lookup {
+        WorkerCall::Enter => Call::Enter { shard },
+        WorkerCall::Look(index) => Call::Lookup {
             shard,
             key: Key::of(&index.to_le_bytes()).unwrap_or(Key::empty()),
         },

@@ -5,7 +5,9 @@ ghost use Rattle.std.specs.Prelude.{◌≡◌};
 
 use super::long_records::{HEADER, LONG_HEAD, RECORD};
 use super::replays::{CUT_TWO, DATAGRAM, IN_A_TUNNEL, IN_THE_OTHER_TUNNEL, SENDS};
-use super::weak_devices::{Call, Left, NEVER, SOUND_FOLDER, Weakness, has_few_failures, left_over};
+use super::weak_devices::{
+    FolderCall, Left, NEVER, SOUND_FOLDER, Weakness, has_few_failures, left_over,
+};
 use super::{Wanted, put, with_image};
 use crate::asserting::{holds_of, same_bytes_of, same_status};
 use folders::{Folder, MemoryFolder};
@@ -29,7 +31,7 @@ struct Files<'a> {
 
 /// How a replay is made: the words for it, and what its folder does not do.
 #[derive(Clone, Copy)]
-struct Way<'a> {
+struct WayRow<'a> {
     name: &'a str,
     words: &'a str,
     opens: bool,
@@ -38,13 +40,13 @@ struct Way<'a> {
 
 /// Ways that are to come to the same, up to the last letter.
 #[rattlefmt::skip]
-const WAYS: [Way<'static>; 3] = [
+const WAYS: [WayRow<'static>; 3] = [
     IN_PIECES,
-    Way { name: "no file is made in pieces",   words: "--exact", opens: true,  begins: false },
-    Way { name: "no file is read in pieces",   words: "--exact", opens: false, begins: true },
+    WayRow { name: "no file is made in pieces",   words: "--exact", opens: true,  begins: false },
+    WayRow { name: "no file is read in pieces",   words: "--exact", opens: false, begins: true },
 ];
 
-const IN_PIECES: Way<'static> = Way {
+const IN_PIECES: WayRow<'static> = WayRow {
     name: "in pieces",
     words: "--exact",
     opens: true,
@@ -52,7 +54,7 @@ const IN_PIECES: Way<'static> = Way {
 };
 
 /// A way whose notes have a summary more.
-const SUMMARY: Way<'static> = Way {
+const SUMMARY: WayRow<'static> = WayRow {
     name: "with a summary",
     words: "--exact --summary",
     opens: true,
@@ -85,7 +87,7 @@ fn left_by<R: Abort + Threads + Wait + Sync>(
     name: &str,
     files: Files<'_>,
     words: &str,
-    way: Way<'_>,
+    way: WayRow<'_>,
 ) -> Left {
     let folder = files_of(rt, alloc, name, files);
     let by = way.words;
@@ -156,7 +158,7 @@ fn compare_ways<R: Abort + Threads + Wait + Sync>(
     words: &str,
     wanted: Wanted<'_>,
     sent: Option<&[u8]>,
-    ways: &[Way<'_>],
+    ways: &[WayRow<'_>],
 ) {
     for way in ways {
         let by = way.name;
@@ -401,7 +403,7 @@ fn cut_records_are_counted(rt: HostRuntime) {
 }
 
 /// What a row shows; the first bytes of a file, how many records behind them, and its last bytes; and what it is refused with.
-type Refused = (
+type RefusedRow = (
     &'static str,
     &'static [u8],
     u16,
@@ -414,7 +416,7 @@ pub(super) const CUT_FRAME: &[u8] = &[1, 0, 0, 0, 2, 0, 0, 0, 14, 0, 0, 0, 14, 0
 
 /// Record 1,030 begins at byte 24 + 1029 * 30.
 #[rattlefmt::skip]
-const REFUSED: [Refused; 4] = [
+const REFUSED: [RefusedRow; 4] = [
     ("an empty file", b"", 0, b"", 
         "fault 4 CutHead record 0\n  at byte 0 of 0\n  a header has 24 bytes, and the file ends after 0 of them\n"),
     ("a cut frame", &HEADER, 1029, CUT_FRAME, 
@@ -442,7 +444,7 @@ pub(super) fn refused_file(
 }
 
 /// Compares what a file that is no capture is refused with: no file is made.
-fn compare_refused<R: Abort + Threads + Wait + Sync>(rt: &R, alloc: Global, row: &Refused) {
+fn compare_refused<R: Abort + Threads + Wait + Sync>(rt: &R, alloc: Global, row: &RefusedRow) {
     let (name, first, count, last, err) = *row;
     let capture = refused_file(alloc, first, count, last).expect(rt, "a file");
     let files = Files {
@@ -498,7 +500,7 @@ fn journals_by<R: Abort + Threads + Wait + Sync>(
     name: &str,
     files: Files<'_>,
     words: &str,
-    way: Way<'_>,
+    way: WayRow<'_>,
 ) -> Vec<u8> {
     let mut left = left_by(rt, alloc, name, files, words, way);
     same_status(rt, name, left.status, 0);
@@ -515,7 +517,7 @@ fn compare_journals<R: Abort + Threads + Wait + Sync>(
     files: Files<'_>,
     words: &str,
     wanted: &[u8],
-    ways: &[Way<'_>],
+    ways: &[WayRow<'_>],
 ) {
     for way in ways {
         let found = journals_by(rt, alloc, name, files, words, *way);
@@ -573,7 +575,7 @@ fn journals_are_those_of_the_whole_way(rt: HostRuntime) {
 type Failing = (
     &'static str,
     &'static str,
-    Call,
+    FolderCall,
     u64,
     u8,
     &'static str,
@@ -591,24 +593,24 @@ const NO_READ: &str = "fault 7 Device\n  capture failed\n";
 /// before each record and one at the end. So the first reading has 70 of these calls.
 #[rattlefmt::skip]
 const FAILING: [Failing; 18] = [
-    ("the first reading is not opened",              "--exact", Call::Open,   0,  1, NO_READ, None),
-    ("the second one is not",                        "--exact", Call::Open,   1,  1, NO_READ, None),
-    ("there is no third one",                        "--exact", Call::Open,   2,  0, "", ALL_SENT),
-    ("the header is not read",                       "--exact", Call::Next,   0,  1, NO_READ, None),
-    ("the end is not read the first time",           "--exact", Call::Next,   69, 1, NO_READ, None),
-    ("the header is not read the second time",       "--exact", Call::Next,   70, 1, NO_READ, None),
-    ("the end is not read the second time",          "--exact", Call::Next,   139, 1, NO_READ, None),
-    ("the sent frames are not begun",                "--exact", Call::Begin,  0,  1, NO_SENT, None),
-    ("their header is not added",                    "--exact", Call::Add,    0,  1, NO_SENT, None),
-    ("those of the first piece are not",             "--exact", Call::Add,    1,  1, NO_SENT, None),
-    ("those of the second piece are not",            "--exact", Call::Add,    2,  1, NO_SENT, None),
-    ("there is no third piece",                      "--exact", Call::Add,    3,  0, "", ALL_SENT),
-    ("they are not finished",                        "--exact", Call::Finish, 0,  1, NO_SENT, None),
-    ("no capture is read whole",                     "--exact", Call::Read,   0,  0, "", ALL_SENT),
-    ("no file is written whole",                     "--exact", Call::Write,  0,  0, "", ALL_SENT),
-    ("a report needs the whole capture",             "--exact --report lines", Call::Read, 0, 1, NO_READ, None),
-    ("records that are skipped need it",             "--exact --skip-long", Call::Read, 0, 1, NO_READ, None),
-    ("and so does a replay with threads",            "--workers 1", Call::Read, 0, 1, NO_READ, None),
+    ("the first reading is not opened",              "--exact", FolderCall::Open,   0,  1, NO_READ, None),
+    ("the second one is not",                        "--exact", FolderCall::Open,   1,  1, NO_READ, None),
+    ("there is no third one",                        "--exact", FolderCall::Open,   2,  0, "", ALL_SENT),
+    ("the header is not read",                       "--exact", FolderCall::Next,   0,  1, NO_READ, None),
+    ("the end is not read the first time",           "--exact", FolderCall::Next,   69, 1, NO_READ, None),
+    ("the header is not read the second time",       "--exact", FolderCall::Next,   70, 1, NO_READ, None),
+    ("the end is not read the second time",          "--exact", FolderCall::Next,   139, 1, NO_READ, None),
+    ("the sent frames are not begun",                "--exact", FolderCall::Begin,  0,  1, NO_SENT, None),
+    ("their header is not added",                    "--exact", FolderCall::Add,    0,  1, NO_SENT, None),
+    ("those of the first piece are not",             "--exact", FolderCall::Add,    1,  1, NO_SENT, None),
+    ("those of the second piece are not",            "--exact", FolderCall::Add,    2,  1, NO_SENT, None),
+    ("there is no third piece",                      "--exact", FolderCall::Add,    3,  0, "", ALL_SENT),
+    ("they are not finished",                        "--exact", FolderCall::Finish, 0,  1, NO_SENT, None),
+    ("no capture is read whole",                     "--exact", FolderCall::Read,   0,  0, "", ALL_SENT),
+    ("no file is written whole",                     "--exact", FolderCall::Write,  0,  0, "", ALL_SENT),
+    ("a report needs the whole capture",             "--exact --report lines", FolderCall::Read, 0, 1, NO_READ, None),
+    ("records that are skipped need it",             "--exact --skip-long", FolderCall::Read, 0, 1, NO_READ, None),
+    ("and so does a replay with threads",            "--workers 1", FolderCall::Read, 0, 1, NO_READ, None),
 ];
 
 /// What a replay leaves in a folder with a call that fails.

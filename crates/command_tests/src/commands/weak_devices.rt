@@ -67,7 +67,7 @@ impl Sink for WeakStream {
 
 /// A call of a folder.
 #[derive(Clone, Copy, PartialEq, Eq)]
-pub(super) enum Call {
+pub(super) enum FolderCall {
     Read,
     ReadFront,
     Write,
@@ -82,7 +82,7 @@ pub(super) enum Call {
 #[derive(Clone, Copy)]
 pub(super) struct Weakness {
     /// The calls that are counted: these alone, or all.
-    pub counts: Option<Call>,
+    pub counts: Option<FolderCall>,
     /// Which of them fails, counted from 0.
     pub fails_at: u64,
     /// Whether it reads files in pieces.
@@ -112,7 +112,7 @@ pub(super) struct WeakFolder<D> {
 
 impl<D: Folder> WeakFolder<D> {
     /// Counts a call, if it is one that is counted, and says whether it is the one that fails.
-    fn is_failing(&mut self, call: Call) -> bool
+    fn is_failing(&mut self, call: FolderCall) -> bool
         ensures files { self.new.files ≡ self.old.files }
         ensures failures { self.new.failures ≡ self.old.failures }
         ensures left { self.new.left ≡ self.old.left }
@@ -169,7 +169,7 @@ impl<D: Folder> Folder for WeakFolder<D> {
     ghost failure_count = { λ folder. folder.failures };
 
     fn read(&mut self, alloc: Global, name: &str) -> Result<Vec<u8>, FolderFault> {
-        if self.is_failing(Call::Read) {
+        if self.is_failing(FolderCall::Read) {
             return Err(self.fail());
         }
         match self.files.read(alloc, name) {
@@ -180,7 +180,7 @@ impl<D: Folder> Folder for WeakFolder<D> {
     }
 
     fn read_front(&mut self, alloc: Global, name: &str, most: usize) -> Result<Front, FolderFault> {
-        if self.is_failing(Call::ReadFront) {
+        if self.is_failing(FolderCall::ReadFront) {
             return Err(self.fail());
         }
         match self.files.read_front(alloc, name, most) {
@@ -191,7 +191,7 @@ impl<D: Folder> Folder for WeakFolder<D> {
     }
 
     fn write(&mut self, alloc: Global, name: &str, bytes: &[u8]) -> Result<(), FolderFault> {
-        if self.is_failing(Call::Write) {
+        if self.is_failing(FolderCall::Write) {
             return Err(self.fail());
         }
         match self.files.write(alloc, name, bytes) {
@@ -203,7 +203,7 @@ impl<D: Folder> Folder for WeakFolder<D> {
 
     fn open(&mut self, alloc: Global, name: &str) -> Result<bool, FolderFault> {
         self.left = 0;
-        if self.is_failing(Call::Open) {
+        if self.is_failing(FolderCall::Open) {
             return Err(self.fail());
         }
         if !self.weakness.opens {
@@ -220,7 +220,7 @@ impl<D: Folder> Folder for WeakFolder<D> {
     }
 
     fn next(&mut self, buffer: &mut [u8]) -> Result<usize, FolderFault> {
-        if self.is_failing(Call::Next) {
+        if self.is_failing(FolderCall::Next) {
             return Err(self.fail());
         }
         match self.files.next(buffer) {
@@ -236,7 +236,7 @@ impl<D: Folder> Folder for WeakFolder<D> {
     }
 
     fn begin(&mut self, alloc: Global, name: &str) -> Result<bool, FolderFault> {
-        if self.is_failing(Call::Begin) {
+        if self.is_failing(FolderCall::Begin) {
             return Err(self.fail_making());
         }
         if !self.weakness.begins {
@@ -251,7 +251,7 @@ impl<D: Folder> Folder for WeakFolder<D> {
     }
 
     fn add(&mut self, bytes: &[u8]) -> Result<(), FolderFault> {
-        if self.is_failing(Call::Add) {
+        if self.is_failing(FolderCall::Add) {
             return Err(self.fail_making());
         }
         match self.files.add(bytes) {
@@ -262,7 +262,7 @@ impl<D: Folder> Folder for WeakFolder<D> {
     }
 
     fn finish(&mut self) -> Result<(), FolderFault> {
-        if self.is_failing(Call::Finish) {
+        if self.is_failing(FolderCall::Finish) {
             return Err(self.fail_making());
         }
         match self.files.finish() {

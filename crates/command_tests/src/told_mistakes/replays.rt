@@ -155,10 +155,10 @@ fn no_journals(rt: HostRuntime) -> Result<(), Fail> {
 }
 
 /// What a row shows, the file, the line of its entry, the number of its map, and what is said.
-type EntryRow = (&'static str, &'static [u8], usize, usize, &'static str);
+type JournalEntryRow = (&'static str, &'static [u8], usize, usize, &'static str);
 
 #[rattlefmt::skip]
-const ENTRIES: [EntryRow; 10] = [
+const ENTRIES: [JournalEntryRow; 10] = [
     ("the second entry", b"XLBJ 1 1 1 16\n0 w0 enter ok\n0 w0 load 0 0 8 word 1\n", 3, 1,
         "  line 3: \"0 w0 load 0 0 8 word 1\"\n  \
          after the entries above it a map on one thread returns another reply, or this caller may not make this call\n"),
@@ -189,7 +189,7 @@ const ENTRIES: [EntryRow; 10] = [
          after the entries above it a map on one thread returns another reply, or this caller may not make this call\n"),
 ];
 
-fn entries_are_said(rt: &impl Abort, alloc: Global, rows: &[EntryRow]) -> Result<(), Fail> {
+fn entries_are_said(rt: &impl Abort, alloc: Global, rows: &[JournalEntryRow]) -> Result<(), Fail> {
     for (name, bytes, line, map, wanted) in rows {
         let said = about_entry(alloc, *bytes, *line, *map, &MAPS)?;
         same_text(rt, *name, said.as_str(), *wanted);

@@ -63,7 +63,7 @@ fn image_of(
 
 /// How a run ended, and the frame that it left.
 #[derive(Drop)]
-pub(super) struct Outcome {
+pub(super) struct EndedRun {
     pub(super) exit: Exit,
     pub(super) frame: Frame,
 }
@@ -74,13 +74,13 @@ pub(super) fn ran(
     verified: &Verified,
     moment: &Moment,
     bytes: &[u8],
-) -> Result<Outcome, Fail>
+) -> Result<EndedRun, Fail>
     requires { moment.now.worker < 8 }
 {
     let mut port = NothingPort::over(verified.image());
     let mut frame = Frame::of(alloc, bytes)?;
     let exit = run(verified, &mut frame, moment, &mut port)?;
-    Ok(Outcome { exit, frame })
+    Ok(EndedRun { exit, frame })
 }
 
 /// The frame has 14 bytes: the number, the lowest byte first, and zeros.

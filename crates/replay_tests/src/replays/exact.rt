@@ -150,16 +150,16 @@ const TURN: [(u16, u8); 5] = [(40001, 1), (40002, 3), (40004, 0), (40005, 1), (4
 
 /// Before which frame backend 1 comes up, and before which backend 0 goes down.
 #[derive(Clone, Copy)]
-pub(super) struct Changes {
+pub(super) struct ChangeFrames {
     pub up: usize,
     pub down: usize,
 }
 
-const LONG: Changes = Changes { up: 137, down: 200 };
+const LONG: ChangeFrames = ChangeFrames { up: 137, down: 200 };
 
 /// Without tracking a frame goes to the owner of its slot: to backend 0 alone, then to backend 1 at slots 0, 3 and 6, and at last to backend 1 alone. The last
 /// byte of its address is one more.
-fn backend_of(number: usize, slot: u8, changes: Changes) -> u8 {
+fn backend_of(number: usize, slot: u8, changes: ChangeFrames) -> u8 {
     let is_of_1 = slot % 3 == 0;
     if number < changes.up || (number < changes.down && !is_of_1) {
         1
@@ -171,7 +171,7 @@ fn backend_of(number: usize, slot: u8, changes: Changes) -> u8 {
 /// The port of each frame, and the last byte of its backend's address.
 pub(super) fn long_frames(
     alloc: Global,
-    changes: Changes,
+    changes: ChangeFrames,
 ) -> Result<(Vec<u16>, Vec<(u16, u8)>), Fail> {
     let mut ports = Vec::new(alloc);
     let mut sent = Vec::new(alloc);
@@ -183,8 +183,8 @@ pub(super) fn long_frames(
 }
 
 /// The script of these changes. Its fourth command, of a backend that is not up, is refused.
-pub(super) fn long_script(alloc: Global, changes: Changes) -> Result<String, Fail> {
-    let Changes { up, down } = changes;
+pub(super) fn long_script(alloc: Global, changes: ChangeFrames) -> Result<String, Fail> {
+    let ChangeFrames { up, down } = changes;
     Ok(format!(in alloc; "{UNTRACKED}{AT_FIRST}{up} down 6\n{up} up 1 192.0.2.2\n{down} down 0\n")?)
 }
 

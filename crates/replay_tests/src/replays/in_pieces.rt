@@ -3,7 +3,7 @@
 ghost use Rattle.std.specs.Prelude.{◌≡◌, ◌<◌, OnOk};
 ghost use Rattle.replay.specs.Pieces.{GoesOn};
 
-use super::exact::{Changes, LONG_REFUSED, Rounds, are_refused, long_frames, long_script};
+use super::exact::{ChangeFrames, LONG_REFUSED, Rounds, are_refused, long_frames, long_script};
 use super::record_ends::{byte_13s, ends_of_byte_13s};
 use super::shipped_program::{first_wrong, segments};
 use super::without_rows::FULL;
@@ -25,7 +25,7 @@ use wire::{CAPTURE_HEADER_LEN, Capture, Sent};
 
 /// What is replayed, and how.
 #[derive(Clone, Copy)]
-struct Setting<'a> {
+struct ReplaySetting<'a> {
     name: &'a str,
     verified: &'a Verified,
     script: &'a Script,
@@ -43,7 +43,7 @@ fn options_of(journal: u32) -> Options {
 }
 
 /// The replay of a capture that is one piece.
-fn whole(alloc: Global, setting: Setting<'_>, capture: &Capture) -> Result<Outcome, Fail> {
+fn whole(alloc: Global, setting: ReplaySetting<'_>, capture: &Capture) -> Result<Outcome, Fail> {
     Ok(replay_in_turn(
         alloc,
         setting.verified,
@@ -92,7 +92,7 @@ fn records_of(alloc: Global, frames: &[Sent]) -> Result<Vec<u8>, Fail> {
 fn take_piece<R: Abort, G: Gate>(
     rt: &R,
     alloc: Global,
-    setting: Setting<'_>,
+    setting: ReplaySetting<'_>,
     records: &[Sent],
     replay: &mut PieceReplay,
     given: &mut HandedOut,
@@ -116,7 +116,7 @@ fn take_piece<R: Abort, G: Gate>(
 fn take_pieces<R: Abort, G: Gate>(
     rt: &R,
     alloc: Global,
-    setting: Setting<'_>,
+    setting: ReplaySetting<'_>,
     records: &[Sent],
     size: usize,
     replay: &mut PieceReplay,
@@ -145,7 +145,7 @@ struct Ended {
 fn in_pieces<R: Abort, G: Gate>(
     rt: &R,
     alloc: Global,
-    setting: Setting<'_>,
+    setting: ReplaySetting<'_>,
     capture: &Capture,
     size: usize,
     gate: &G,
@@ -213,18 +213,18 @@ fn compare<R: Abort>(
 
 /// Of 300 frames: how many a piece has, and before which ones the backends change.
 #[rattlefmt::skip]
-const ROWS: [(&str, usize, Changes); 11] = [
-    ("pieces of one record",                           1,   Changes { up: 137, down: 200 }),
-    ("pieces of 63 records",                           63,  Changes { up: 137, down: 200 }),
-    ("pieces of 64 records",                           64,  Changes { up: 137, down: 200 }),
-    ("pieces of 65 records",                           65,  Changes { up: 137, down: 200 }),
-    ("one piece",                                      300, Changes { up: 137, down: 200 }),
-    ("commands between two pieces of 63",              63,  Changes { up: 63,  down: 126 }),
-    ("commands between two pieces of 64 and a round",  64,  Changes { up: 64,  down: 128 }),
-    ("commands between two pieces of 65",              65,  Changes { up: 65,  down: 130 }),
-    ("before the last record of a piece",              64,  Changes { up: 63,  down: 127 }),
-    ("behind the first record of a piece",             64,  Changes { up: 65,  down: 129 }),
-    ("before the first record, and behind the last",   64,  Changes { up: 0,   down: 300 }),
+const ROWS: [(&str, usize, ChangeFrames); 11] = [
+    ("pieces of one record",                           1,   ChangeFrames { up: 137, down: 200 }),
+    ("pieces of 63 records",                           63,  ChangeFrames { up: 137, down: 200 }),
+    ("pieces of 64 records",                           64,  ChangeFrames { up: 137, down: 200 }),
+    ("pieces of 65 records",                           65,  ChangeFrames { up: 137, down: 200 }),
+    ("one piece",                                      300, ChangeFrames { up: 137, down: 200 }),
+    ("commands between two pieces of 63",              63,  ChangeFrames { up: 63,  down: 126 }),
+    ("commands between two pieces of 64 and a round",  64,  ChangeFrames { up: 64,  down: 128 }),
+    ("commands between two pieces of 65",              65,  ChangeFrames { up: 65,  down: 130 }),
+    ("before the last record of a piece",              64,  ChangeFrames { up: 63,  down: 127 }),
+    ("behind the first record of a piece",             64,  ChangeFrames { up: 65,  down: 129 }),
+    ("before the first record, and behind the last",   64,  ChangeFrames { up: 0,   down: 300 }),
 ];
 
 /// Compares the whole replay of a row with what was worked out.
@@ -242,13 +242,13 @@ fn compare_row<R: Abort>(
     rt: &R,
     alloc: Global,
     verified: &Verified,
-    row: &(&str, usize, Changes),
+    row: &(&str, usize, ChangeFrames),
 ) -> Result<(), Fail> {
     let (name, size, changes) = *row;
     let (ports, want) = long_frames(alloc, changes)?;
     let text = long_script(alloc, changes)?;
     let script = parse_script(alloc, text.as_bytes())?;
-    let setting = Setting {
+    let setting = ReplaySetting {
         name,
         verified,
         script: &script,
@@ -293,7 +293,7 @@ const ROUNDS: [(&str, usize, u64); 7] = [
 fn compare_rounds<R: Abort>(
     rt: &R,
     alloc: Global,
-    setting: Setting<'_>,
+    setting: ReplaySetting<'_>,
     count: usize,
     digits: u64,
 ) -> Result<(), Fail> {
@@ -314,7 +314,7 @@ fn the_gate_counts_the_rounds_over_all_pieces(rt: HostRuntime) -> Result<(), Fai
     let verified = program(alloc, ANSWERS_THE_PORT)?;
     let script = parse_script(alloc, b"")?;
     for (name, count, digits) in ROUNDS {
-        let setting = Setting {
+        let setting = ReplaySetting {
             name,
             verified: &verified,
             script: &script,
@@ -338,7 +338,7 @@ const FLOWS: [(&str, u32, Recording, Counts); 3] = [
 fn compare_flows<R: Abort>(
     rt: &R,
     alloc: Global,
-    setting: Setting<'_>,
+    setting: ReplaySetting<'_>,
     counts: &Counts,
 ) -> Result<(), Fail> {
     let capture = captured(alloc, FORTY_FLOWS.frames)?;
@@ -357,7 +357,7 @@ fn pieces_of_forty_flows(rt: HostRuntime) -> Result<(), Fail> {
     let verified = program(alloc, ANSWERS_THE_PORT)?;
     let script = parse_script(alloc, b"")?;
     for (name, journal, recording, counts) in &FLOWS {
-        let setting = Setting {
+        let setting = ReplaySetting {
             name,
             verified: &verified,
             script: &script,
@@ -373,7 +373,7 @@ fn pieces_of_forty_flows(rt: HostRuntime) -> Result<(), Fail> {
 fn compare_ends<R: Abort>(
     rt: &R,
     alloc: Global,
-    setting: Setting<'_>,
+    setting: ReplaySetting<'_>,
     size: usize,
 ) -> Result<(), Fail> {
     let capture = byte_13s(alloc)?;
@@ -403,7 +403,7 @@ fn ends_are_handed_out_with_their_piece(rt: HostRuntime) -> Result<(), Fail> {
     let alloc = rt.alloc();
     let verified = program(alloc, READS_BYTE_13)?;
     let script = parse_script(alloc, b"")?;
-    let setting = Setting {
+    let setting = ReplaySetting {
         name: "byte 13",
         verified: &verified,
         script: &script,
@@ -426,7 +426,7 @@ const TAKEN: [(usize, usize); 6] = [(0, 0), (1, 1), (63, 64), (0, 64), (65, 129)
 fn compare_taken<R: Abort>(
     rt: &R,
     alloc: Global,
-    setting: Setting<'_>,
+    setting: ReplaySetting<'_>,
     replay: &mut PieceReplay,
 ) -> Result<(), Fail>
     requires goes_on { GoesOn setting.script.now replay.old }
@@ -447,7 +447,7 @@ fn records_are_counted_over_all_pieces(rt: HostRuntime) -> Result<(), Fail> {
     let alloc = rt.alloc();
     let verified = program(alloc, ANSWERS_THE_PORT)?;
     let script = parse_script(alloc, b"")?;
-    let setting = Setting {
+    let setting = ReplaySetting {
         name: "pieces with and without records",
         verified: &verified,
         script: &script,

@@ -29,7 +29,7 @@ const C: Caller = Caller::Controller;
 
 /// A gate that holds actors as a list says, but no longer than its limit of turns.
 #[derive(Drop)]
-struct Order {
+struct HoldingGate {
     holds: &'static [Hold],
     first: AtomicU64,
     second: AtomicU64,
@@ -40,9 +40,9 @@ struct Order {
 
 const LIMIT: u32 = 400_000_000;
 
-impl Order {
-    fn new(holds: &'static [Hold]) -> Order {
-        Order {
+impl HoldingGate {
+    fn new(holds: &'static [Hold]) -> HoldingGate {
+        HoldingGate {
             holds,
             first: AtomicU64::new(0),
             second: AtomicU64::new(0),
@@ -69,7 +69,7 @@ impl Order {
     }
 }
 
-impl Gate for Order {
+impl Gate for HoldingGate {
     fn replied(&self, who: Caller, nth: u64) {
         match who {
             Caller::Worker { number: 0 } => self.first.store(nth, Ordering::SeqCst),
@@ -244,7 +244,7 @@ fn steered<R: Threads + Abort + Wait + Sync>(
     alloc: Global,
     row: &Row,
     verified: &Verified,
-    gate: &Order,
+    gate: &HoldingGate,
 ) -> Result<Outcome, Fail> {
     let script = format!(in alloc; "{}{AT_FIRST}{LATER}", row.service)?;
     let capture = segments(alloc, row.frames)?;
@@ -300,7 +300,7 @@ fn is_steered<R: Threads + Abort + Wait + Sync>(
     row: &Row,
     verified: &Verified,
 ) -> Result<(), Fail> {
-    let gate = Order::new(row.holds);
+    let gate = HoldingGate::new(row.holds);
     let outcome = steered(rt, alloc, row, verified, &gate)?;
     same_fact(
         rt,
@@ -383,7 +383,7 @@ fn is_noted_anew<R: Threads + Abort + Wait + Sync>(rt: &R, alloc: Global) -> Res
     let verified = verify(alloc, shipped(alloc, 7)?)?;
     let script = format!(in alloc; "{SERVICE}{CHANGES}")?;
     let capture = three_datagrams(alloc)?;
-    let gate = Order::new(BETWEEN);
+    let gate = HoldingGate::new(BETWEEN);
     let outcome = gated(rt, alloc, &verified, &capture, &script, 1, 1024, &gate)?;
     let late = gate.late.load(Ordering::SeqCst);
     same_fact(rt, name, "who was late", &late, &0);

@@ -3,7 +3,7 @@
 ghost use Rattle.std.specs.Prelude.{◌≡◌, ◌<◌, ◌%◌};
 ghost use Rattle.semantics.specs.PlanLimits.{IsPlan};
 
-use super::{ANY, Ask, SHARD, call_of, caller_of, cell, entries_of, serves_new};
+use super::{ANY, IndexCall, SHARD, call_of, caller_of, cell, entries_of, serves_new};
 use crate::asserting::holds;
 use ebpf_decode::{MapDef, MapKind};
 use semantics::{Reply, ShardPlan};
@@ -45,12 +45,12 @@ fn plan_of_part(kind: MapKind, part: u32, parts: u32) -> ShardPlan
 }
 
 /// Whether the caller of the call may make it.
-fn may(shard: &Shard, ask: Ask) -> bool {
+fn may(shard: &Shard, ask: IndexCall) -> bool {
     shard.meets(&caller_of(ask), &call_of(ask))
 }
 
 /// The same of a shard in which nothing has happened.
-fn may_at_first(alloc: Global, plan: ShardPlan, ask: Ask) -> Result<bool, AllocError>
+fn may_at_first(alloc: Global, plan: ShardPlan, ask: IndexCall) -> Result<bool, AllocError>
     requires { IsPlan plan }
 {
     let shard = Shard::open(alloc, plan)?;
@@ -83,17 +83,17 @@ fn index_in_its_part(
     let rows = [
         (
             "an index is written",
-            Ask::Put(index, 1, ANY),
+            IndexCall::Put(index, 1, ANY),
             Reply::Answer { code },
         ),
-        ("a worker enters", Ask::Enter(0), Reply::Entered),
-        ("the index", Ask::Look(0, index), found),
+        ("a worker enters", IndexCall::Enter(0), Reply::Entered),
+        ("the index", IndexCall::Look(0, index), found),
     ];
     let shard = serves_new(rt, alloc, plan_of_part(MapKind::Array, part, parts), &rows)?;
     let next = index.wrapping_add(1);
-    let is_looked_up = may(&shard, Ask::Look(0, next));
+    let is_looked_up = may(&shard, IndexCall::Look(0, next));
     holds(rt, "the next index", parts == 1 || !is_looked_up);
-    let is_written = may(&shard, Ask::Put(next, 1, ANY));
+    let is_written = may(&shard, IndexCall::Put(next, 1, ANY));
     holds(rt, "by the controller", parts == 1 || !is_written);
     Ok(())
 }
@@ -121,17 +121,21 @@ fn key_in_its_part(
     remainder: u32,
 ) -> Result<(), AllocError> {
     let rows = [
-        ("a key", Ask::Put(index, 1, ANY), Reply::Answer { code: 0 }),
-        ("a worker enters", Ask::Enter(0), Reply::Entered),
+        (
+            "a key",
+            IndexCall::Put(index, 1, ANY),
+            Reply::Answer { code: 0 },
+        ),
+        ("a worker enters", IndexCall::Enter(0), Reply::Entered),
         (
             "the key",
-            Ask::Look(0, index),
+            IndexCall::Look(0, index),
             Reply::Cell { cell: cell(0) },
         ),
     ];
     let _count = entries_of(rt, alloc, plan_of_part(kind, remainder, parts), &rows)?;
     let next = plan_of_part(kind, remainder.wrapping_add(1), parts);
-    let is_written = may_at_first(alloc, next, Ask::Put(index, 1, ANY))?;
+    let is_written = may_at_first(alloc, next, IndexCall::Put(index, 1, ANY))?;
     holds(rt, "in another part", parts == 1 || !is_written);
     Ok(())
 }

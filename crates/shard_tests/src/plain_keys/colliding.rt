@@ -7,7 +7,7 @@ use crate::asserting::same;
 use plain_maps::HashShard;
 use std::alloc::AllocError;
 
-type Key = [u8; 16];
+type KeyBytes = [u8; 16];
 
 const FACTOR: u64 = 0x9e37_79b9_7f4a_7c15;
 
@@ -15,7 +15,7 @@ const FACTOR: u64 = 0x9e37_79b9_7f4a_7c15;
 const INVERSE: u64 = 0xf1de_83e1_9937_733d;
 
 /// A key of the hash that all of them have: its second word is what the first one's hash has to be mixed with.
-fn colliding_key(first: u64) -> Key {
+fn colliding_key(first: u64) -> KeyBytes {
     let product = (0xcbf2_9ce4_8422_2325 ^ first).wrapping_mul(FACTOR);
     let goal: u64 = 0x0123_4567_89ab_cdef;
     let before = (goal ^ (goal >> 32)).wrapping_mul(INVERSE);
