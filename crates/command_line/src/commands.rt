@@ -4,6 +4,9 @@ use faults::Explanation;
 use map_updates::MapUpdate;
 use semantics::Options;
 
+/// How many slots the lookup table of the shipped program has, where the command line names no number.
+pub const DEFAULT_RING: u32 = 251;
+
 /// A command with its words: names of files as they were given, and numbers.
 #[derive(Debug, Drop)]
 pub enum Settings<'a> {

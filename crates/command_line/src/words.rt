@@ -17,7 +17,7 @@ ghost use Rattle.command_line.specs.Reading.{are_updates_alone, either, has_jour
 ghost use Rattle.command_line.specs.Reading.{word_of, words_of};
 ghost use Rattle.clap.specs.declared.error.kind.ErrorKind.TheVariants.{DisplayHelp, DisplayVersion, OutOfMemory};
 
-use crate::commands::{ReplayFiles, RunFiles, Settings};
+use crate::commands::{DEFAULT_RING, ReplayFiles, RunFiles, Settings};
 use crate::grammar::{
     CAPTURE, EXACT, EXPLAIN, FAULT, FRAME, IMAGE, JOURNAL, JOURNALS, JOURNALS_OUT, NO_JOURNALS,
     NOW, OUT, PROGRAM, REPLAY_IMAGE, REPORT, RING, SCRIPT, SENT, SHARDS, SKIP_LONG, SOURCE,
@@ -287,7 +287,7 @@ fn replay_with<'a>(
     Settings::Replay {
         files: replay_files_of(found),
         options: options_of(found),
-        ring: number_of(found, RING, 251),
+        ring: number_of(found, RING, DEFAULT_RING),
         exact: switch(found, EXACT),
         summary: switch(found, SUMMARY),
         skip_long: switch(found, SKIP_LONG),
@@ -343,7 +343,7 @@ fn shipped_of<'a>(found: &ArgMatches<'a>) -> Settings<'a>
 {
     Settings::Shipped {
         out: word(found, OUT),
-        ring: number_of(found, RING, 251),
+        ring: number_of(found, RING, DEFAULT_RING),
     }
 }
 
@@ -353,7 +353,7 @@ fn table_of<'a>(found: &ArgMatches<'a>) -> Settings<'a>
 {
     Settings::Table {
         script: word(found, TABLE_SCRIPT),
-        ring: number_of(found, RING, 251),
+        ring: number_of(found, RING, DEFAULT_RING),
     }
 }
 

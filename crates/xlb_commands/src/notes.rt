@@ -3,6 +3,7 @@
 use crate::last_table::put_shares;
 use crate::record_report::{is_tx, verdict_in};
 use crate::replays::Asked;
+use command_line::DEFAULT_RING;
 use control::{ControlFault, Script};
 use journals::Journals;
 use replay::{Applied, Outcome, RecordEnd};
@@ -10,9 +11,6 @@ use std::alloc::{AllocError, Global};
 use text_lines::cut;
 use traffic::{LineVerdict, Refused, moved_places, services};
 use wire::Capture;
-
-/// The slots of the shipped program's lookup table, where the command line names no others.
-const RING: u32 = 251;
 
 /// The room that a full journal may still have: no run enters a shard without room for its Leave.
 const LAST: u64 = 1;
@@ -124,7 +122,7 @@ impl Notes<'_> {
     /// A size of the lookup table that is not used.
     fn put_ring(&self, alloc: Global, text: &mut String) -> Result<(), AllocError> {
         let ring = self.ring;
-        if self.image.is_none() || ring == RING {
+        if self.image.is_none() || ring == DEFAULT_RING {
             return Ok(());
         }
         let line = format!(in alloc;
