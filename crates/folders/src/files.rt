@@ -130,7 +130,8 @@ fn read_on<S: Read>(
     }
 }
 
-/// Reads the next bytes of a file of which `given` bytes were read before, and returns how many: none at its end. No more than 2^40 may be read in all.
+/// Reads the next bytes of a file after the `given` bytes that were read before, and returns how many: none at its end. No more than 2^40 may
+/// be read in all.
 fn read_piece<S: Read>(reader: &mut S, buffer: &mut [u8], given: u64) -> Result<usize, Failure>
     requires { given ≤ 2 ^ 40 }
     ensures within { IfOk result (λ count. count ≤ length buffer.new) }

@@ -34,7 +34,7 @@ pub(crate) fn same_at<T: PartialEq + Debug>(
     assert_eq!(rt; *found, *wanted, "{what} {at}");
 }
 
-/// The same of a byte of a frame, of which the message names the place.
+/// The same of a byte of a frame; the message names its place.
 pub(crate) fn same_byte(rt: &impl Abort, name: &str, place: usize, found: u8, wanted: u8) {
     assert_eq!(rt; found, wanted, "{name}: byte {place}");
 }

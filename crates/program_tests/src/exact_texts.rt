@@ -376,7 +376,7 @@ fn first_bad_lines(rt: HostRuntime) {
     are_bad_at(&rt, rt.alloc(), &FIRST_BAD_LINES);
 }
 
-// Texts of images that there are, and the bytes of which they are the text, one number of 64 bits a slot.
+// Texts of images that there are, and the bytes of these images, one number of 64 bits a slot.
 #[rattlefmt::skip]
 const VERSION_2: [(&str, &str, u64, u64); 4] = [
     ("an address in a value",  "ldval r1, 0, 8",           0x1821000000000000, 0x0000000008000000),

@@ -244,8 +244,8 @@ fn is_refused(
     words: &str,
 ) -> Result<(), Fail> {
     same(rt, name, &fault_of(alloc, written), &Some(fault));
-    let told = explain(alloc, written, fault)?;
-    same_text(rt, name, &told, words);
+    let printed = explain(alloc, written, fault)?;
+    same_text(rt, name, &printed, words);
     Ok(())
 }
 
@@ -433,8 +433,8 @@ const SLOTS: [(&str, u32, &str); 7] = [
 /// Compares where the instruction of each slot is.
 fn are_found(rt: &impl Abort, alloc: Global, rows: &[(&str, u32, &str)]) -> Result<(), Fail> {
     for (written, slot, words) in rows {
-        let told = slot_note(alloc, written, *slot)?;
-        same_text(rt, written, &told, words);
+        let printed = slot_note(alloc, written, *slot)?;
+        same_text(rt, written, &printed, words);
     }
     Ok(())
 }

@@ -90,7 +90,7 @@ const ONE_MORE: Kind = Kind::Packet {
     range: 15,
 };
 
-/// The packet's start, of which nothing is known.
+/// The packet's start, with nothing known about the bytes behind it.
 pub(crate) const FORGOTTEN: Kind = Kind::Packet {
     id: 0,
     off: 0,
@@ -154,11 +154,11 @@ static EDGES: [(&str, &[Insn], bool, Register, Kind); 12] = [
     ("taken below the end: one more", &[START, END, PLACE, ADD_14, jump!(Test::Lt, R4, SourceOperand::Reg(R3))], true, R2, ONE_MORE),
     ("the end above a place: one more", &[START, END, PLACE, ADD_14, jump!(Test::Gt, R3, SourceOperand::Reg(R4))], true, R2, ONE_MORE),
     ("the end not below a place: these bytes", &[START, END, PLACE, ADD_14, jump!(Test::Lt, R3, SourceOperand::Reg(R4))], false, R2, COVERED),
-    ("a spilled copy is told too", &[START, END, PLACE, ADD_14, put!(Size::U64, R10, -8, R2), JGT, load!(Size::U64, R6, R10, -8)], false, R6, COVERED),
+    ("a spilled copy is known too", &[START, END, PLACE, ADD_14, put!(Size::U64, R10, -8, R2), JGT, load!(Size::U64, R6, R10, -8)], false, R6, COVERED),
     ("null where equal", &[KEY, KEY_AT, KEY_DOWN, MAP, LOOKUP, JEQ], true, R0, scalar!(0, 0)),
     ("a value where not equal", &[KEY, KEY_AT, KEY_DOWN, MAP, LOOKUP, JEQ], false, R0, VALUE),
     ("a value where jne is taken", &[KEY, KEY_AT, KEY_DOWN, MAP, LOOKUP, jump!(Test::Ne, R0, SourceOperand::Imm(0))], true, R0, VALUE),
-    ("all copies are told", &[KEY, KEY_AT, KEY_DOWN, MAP, LOOKUP, mov!(R6, R0), JEQ], false, R6, VALUE),
+    ("all copies are known", &[KEY, KEY_AT, KEY_DOWN, MAP, LOOKUP, mov!(R6, R0), JEQ], false, R6, VALUE),
     ("a number is cut", &[KEY, load!(Size::U32, R4, R10, -4), jump!(Test::Gt, R4, SourceOperand::Imm(9))], false, R4, scalar!(0, 9)),
 ];
 

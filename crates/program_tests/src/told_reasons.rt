@@ -11,7 +11,7 @@ const LOOKUP: &str =
     "version 1\nmap array 4 8 1\nstw [r10-4], 0\nmov r2, r10\nadd r2, -4\nldmap r1, 0\ncall 1\n";
 
 /// What is printed of the program of a text.
-fn told(alloc: Global, head: &str, code: &str) -> Result<String, Fail> {
+fn explained(alloc: Global, head: &str, code: &str) -> Result<String, Fail> {
     let text = format!(in alloc; "{head}{code}")?;
     let image = assemble(alloc, &text)?;
     Ok(explain(alloc, &image)?)
@@ -156,7 +156,7 @@ fn check_row(
     code: &str,
     want: &str,
 ) -> Result<(), Fail> {
-    let text = told(alloc, head, code)?;
+    let text = explained(alloc, head, code)?;
     assert!(rt; text.starts_with(want), "{code}{text}");
     Ok(())
 }
@@ -190,7 +190,7 @@ fn memory(rt: HostRuntime) -> Result<(), Fail> {
 
 #[test]
 fn accepted_program(rt: HostRuntime) -> Result<(), Fail> {
-    let text = told(
+    let text = explained(
         rt.alloc(),
         "version 1\nmap array 4 8 1\n",
         "ldmap r6, 0\nldxw r7, [r1+16]\nstb [r10-1], 7\nstxdw [r10-16], r6\ncall 8\nexit\n",
@@ -212,7 +212,7 @@ fn largest(alloc: Global) -> Result<String, Fail> {
 #[test]
 fn largest_program(rt: HostRuntime) -> Result<(), Fail> {
     let code = largest(rt.alloc())?;
-    let text = told(rt.alloc(), V1, &code)?;
+    let text = explained(rt.alloc(), V1, &code)?;
     let last = "  slot 4095: exit\n    known: r0 number 2; r1 context; r10 stack r10-0;\n";
     holds(&rt, "the last slot", text.ends_with(last));
     Ok(())

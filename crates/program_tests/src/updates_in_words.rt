@@ -131,7 +131,7 @@ const FITS: [(u32, usize, usize, &str); 7] = [
 ];
 
 /// The text of a misfit.
-fn told(alloc: Global, misfit: Option<Misfit>) -> Result<String, Fail> {
+fn misfit_text(alloc: Global, misfit: Option<Misfit>) -> Result<String, Fail> {
     match misfit {
         Some(misfit) => Ok(misfit.text(alloc)?),
         None => Ok(String::new(alloc)),
@@ -139,8 +139,13 @@ fn told(alloc: Global, misfit: Option<Misfit>) -> Result<String, Fail> {
 }
 
 /// Compares the text of a misfit.
-fn is_told(rt: &impl Abort, alloc: Global, misfit: Option<Misfit>, want: &str) -> Result<(), Fail> {
-    let text = told(alloc, misfit)?;
+fn is_misfit_text(
+    rt: &impl Abort,
+    alloc: Global,
+    misfit: Option<Misfit>,
+    want: &str,
+) -> Result<(), Fail> {
+    let text = misfit_text(alloc, misfit)?;
     same_text(rt, want, &text, want);
     Ok(())
 }
@@ -150,7 +155,7 @@ fn maps_take_updates(rt: HostRuntime) -> Result<(), Fail> {
     let maps = [map(MapKind::Array, 4, 8), map(MapKind::LruHash, 16, 64)];
     for (place, key, value, want) in FITS {
         let misfit = misfit_of(&maps, &update(place, key, value));
-        is_told(&rt, rt.alloc(), misfit, want)?;
+        is_misfit_text(&rt, rt.alloc(), misfit, want)?;
     }
     Ok(())
 }
@@ -163,7 +168,7 @@ fn first_behind(alloc: Global, last: &[MapUpdate]) -> Result<Option<(usize, Misf
 }
 
 #[test]
-fn the_first_misfit_is_told(rt: HostRuntime) -> Result<(), Fail> {
+fn the_first_misfit_is_found(rt: HostRuntime) -> Result<(), Fail> {
     same(&rt, "all fit", &first_behind(rt.alloc(), &[])?, &None);
     let last = [update(1, 4, 8), update(0, 0, 8)];
     let want = Some((100, Misfit::NoMap { map: 1 }));

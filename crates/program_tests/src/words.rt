@@ -254,7 +254,7 @@ const REFUSED: [(&str, u8, &str); 60] = [
 ];
 
 /// The text of a fault, and the status of it.
-fn told(alloc: Global, line: &str) -> Result<(u8, String), Fail> {
+fn refusal_of(alloc: Global, line: &str) -> Result<(u8, String), Fail> {
     let words: Vec<&str> = line.split(' ').collect(alloc)?;
     match settings(alloc, words.as_slice()) {
         Ok(_) => Err(Fail::from("settings")),
@@ -274,9 +274,9 @@ fn is_refused(
     status: u8,
     text: &str,
 ) -> Result<(), Fail> {
-    let (found, told) = told(alloc, line)?;
+    let (found, printed) = refusal_of(alloc, line)?;
     holds_of(rt, line, "status", found == status);
-    holds_of(rt, line, "text", told.starts_with(text));
+    holds_of(rt, line, "text", printed.starts_with(text));
     Ok(())
 }
 

@@ -28,20 +28,20 @@ use std::test::Fail;
 
 /// A gate that keeps how often it was called for a reply, and the last number.
 #[derive(Drop)]
-struct Told {
+struct CountingGate {
     times: Cell<u64>,
     last: Cell<u64>,
 }
 
-impl Gate for Told {
+impl Gate for CountingGate {
     fn replied(&self, _who: Caller, nth: u64) {
         self.times.set(self.times.get().wrapping_add(1));
         self.last.set(nth);
     }
 }
 
-fn nothing_told() -> Told {
-    Told {
+fn new_gate() -> CountingGate {
+    CountingGate {
         times: Cell::new(0),
         last: Cell::new(0),
     }
@@ -70,7 +70,7 @@ struct Row<'a> {
     text: &'a str,
     rounds: usize,
     faults: &'a [u8],
-    told: u64,
+    gate_calls: u64,
     lengths: &'a [usize],
 }
 
@@ -82,7 +82,7 @@ const SMALL: Row<'static> = Row {
     text: "",
     rounds: 0,
     faults: &[],
-    told: 0,
+    gate_calls: 0,
     lengths: &[],
 };
 
@@ -144,7 +144,7 @@ fn applied<B: Naming, R: Abort + Wait>(
     requires { IsNamed B.count B.table B.plan B.order opened }
 {
     let script = parse_script(alloc, row.text.as_bytes())?;
-    let gate = nothing_told();
+    let gate = new_gate();
     let (shards, mut dealer) = opened.share::<B>(alloc)?;
     let pass = dealer.pass(alloc, Caller::Controller)?;
     let size = table_size(shards.maps());
@@ -175,8 +175,14 @@ fn applied<B: Naming, R: Abort + Wait>(
         "the answer of a full map",
         refused_by_a_full_map(&noted),
     );
-    let told = (gate.times.get(), gate.last.get());
-    same_fact(rt, row.name, "what was told", &told, &(row.told, row.told));
+    let called = (gate.times.get(), gate.last.get());
+    same_fact(
+        rt,
+        row.name,
+        "the replies",
+        &called,
+        &(row.gate_calls, row.gate_calls),
+    );
     close(rt, alloc, shards, pass, row)
 }
 
@@ -192,20 +198,20 @@ fn applied_to_new<R: Abort + Wait>(rt: &R, alloc: Global, row: &Row<'_>) -> Resu
 const SCRIPTS: [Row<'static>; 4] = [
     Row {
         name: "up and down", text: "0 up 0 192.0.2.1\n0 down 0\n",
-        faults: &[0, 0], told: 16, lengths: &[0, 0, 14, 2, 0, 0], ..SMALL
+        faults: &[0, 0], gate_calls: 16, lengths: &[0, 0, 14, 2, 0, 0], ..SMALL
     },
     Row {
         name: "up and down over two shards", shards: 2, journal: 64, text: "0 up 1 192.0.2.1\n7 down 1\n",
-        faults: &[0, 0], told: 16, lengths: &[0, 0, 0, 0, 8, 6, 0, 2, 0, 0, 0, 0], ..SMALL
+        faults: &[0, 0], gate_calls: 16, lengths: &[0, 0, 0, 0, 8, 6, 0, 2, 0, 0, 0, 0], ..SMALL
     },
     Row {
         name: "refused commands",
         text: "0 down 3\n0 up 7 10.0.0.1\n0 gateway 10.0.0.9 02:00:00:00:00:0a 02:00:00:00:00:0b\n0 up 0 10.0.0.1\n0 up 0 10.0.0.1\n9 vip 203.0.113.1 80 udp\n",
-        faults: &[91, 91, 0, 0, 92, 0], told: 10, lengths: &[1, 0, 7, 1, 1, 0], ..SMALL
+        faults: &[91, 91, 0, 0, 92, 0], gate_calls: 10, lengths: &[1, 0, 7, 1, 1, 0], ..SMALL
     },
     Row {
         name: "a full journal", text: "0 up 0 192.0.2.1\n0 down 0\n0 up 0 192.0.2.1\n0 down 0\n0 vip 203.0.113.1 80 udp\n",
-        faults: &[0, 0, 94, 94, 94], told: 19, lengths: &[0, 0, 16, 3, 0, 0], ..SMALL
+        faults: &[0, 0, 94, 94, 94], gate_calls: 19, lengths: &[0, 0, 16, 3, 0, 0], ..SMALL
     },
 ];
 
@@ -237,7 +243,7 @@ fn the_65th_service(rt: HostRuntime) -> Result<(), Fail> {
         journal: 66,
         text: &text,
         faults: &faults,
-        told: 65,
+        gate_calls: 65,
         lengths: &[65, 0, 0, 0, 0, 0],
         ..SMALL
     };
@@ -253,7 +259,7 @@ fn reclaimed<B: Naming, R: Abort + Wait>(
 ) -> Result<(), Fail>
     requires { IsNamed B.count B.table B.plan B.order opened }
 {
-    let gate = nothing_told();
+    let gate = new_gate();
     let (shards, mut dealer) = opened.share::<B>(alloc)?;
     let pass = dealer.pass(alloc, Caller::Reclaimer)?;
     let mut reclaiming = Reclaiming::over(rt, &shards, pass, &gate);
@@ -261,7 +267,13 @@ fn reclaimed<B: Naming, R: Abort + Wait>(
         reclaiming.round();
     }
     let pass = reclaiming.finish();
-    same_fact(rt, row.name, "what was told", &gate.times.get(), &row.told);
+    same_fact(
+        rt,
+        row.name,
+        "the replies",
+        &gate.times.get(),
+        &row.gate_calls,
+    );
     close(rt, alloc, shards, pass, row)
 }
 
@@ -274,8 +286,10 @@ fn reclaimed_in_new<R: Abort + Wait>(rt: &R, alloc: Global, row: &Row<'_>) -> Re
 /// A hash and an LRU map are asked, once in each shard; the arrays are not.
 #[rattlefmt::skip]
 const ROUNDS: [Row<'static>; 2] = [
-    Row { name: "three rounds over two shards", shards: 2, rounds: 3, told: 12, lengths: &[3, 3, 3, 3, 0, 0, 0, 0, 0, 0, 0, 0], ..SMALL },
-    Row { name: "rounds over full journals", rounds: 20, told: 32, lengths: &[16, 16, 0, 0, 0, 0], ..SMALL },
+    Row {
+        name: "three rounds over two shards", shards: 2, rounds: 3, gate_calls: 12, lengths: &[3, 3, 3, 3, 0, 0, 0, 0, 0, 0, 0, 0], ..SMALL
+    },
+    Row { name: "rounds over full journals", rounds: 20, gate_calls: 32, lengths: &[16, 16, 0, 0, 0, 0], ..SMALL },
 ];
 
 #[test]

@@ -216,7 +216,11 @@ const FAULTS: [(CaptureFault, u8, &str); 8] = [
 ];
 
 /// Compares the number and the text of each fault.
-fn are_told(rt: &impl Abort, alloc: Global, rows: &[(CaptureFault, u8, &str)]) -> Result<(), Fail> {
+fn compare_texts(
+    rt: &impl Abort,
+    alloc: Global,
+    rows: &[(CaptureFault, u8, &str)],
+) -> Result<(), Fail> {
     for (fault, number, text) in rows {
         same(rt, text, &fault.number(), number);
         prints(rt, alloc, fault, text)?;
@@ -226,7 +230,7 @@ fn are_told(rt: &impl Abort, alloc: Global, rows: &[(CaptureFault, u8, &str)]) -
 
 #[test]
 fn capture_fault_texts(rt: HostRuntime) -> Result<(), Fail> {
-    are_told(&rt, rt.alloc(), &FAULTS)
+    compare_texts(&rt, rt.alloc(), &FAULTS)
 }
 
 /// How many bytes a stream returns in all, and how many of its calls fail.

@@ -154,7 +154,7 @@ fn are_bad(rt: &impl Abort, alloc: Global, rows: &[(&str, &str, usize)]) {
 }
 
 #[test]
-fn the_first_bad_line_is_told(rt: HostRuntime) {
+fn the_first_bad_line_is_named(rt: HostRuntime) {
     are_bad(&rt, rt.alloc(), &BAD_LINES);
     for (name, bytes, line) in NO_TEXTS {
         is_bad_at(&rt, rt.alloc(), name, bytes, line);

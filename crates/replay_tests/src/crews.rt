@@ -284,8 +284,8 @@ const REFUSALS: [RefusalRow; 8] = [
     ("the reclaimer",                   0, 0,   false, true,  52, 250),
 ];
 
-/// Runs 1000 frames by four workers, of which one or an actor is refused memory: the number of the fault, and how many frames that worker was asked to
-/// run.
+/// Runs 1000 frames by four workers, and refuses memory to one of them or to an actor: the number of the fault, and how many frames that
+/// worker was asked to run.
 fn refused<R: Abort + Threads + Wait + Sync>(
     rt: &R,
     alloc: Global,

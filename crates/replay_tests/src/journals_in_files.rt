@@ -400,7 +400,11 @@ const FAULTS: [(FileFault, u8, &str); 3] = [
 ];
 
 /// Compares the number and the text of each fault.
-fn are_told(rt: &impl Abort, alloc: Global, rows: &[(FileFault, u8, &str)]) -> Result<(), Fail> {
+fn compare_texts(
+    rt: &impl Abort,
+    alloc: Global,
+    rows: &[(FileFault, u8, &str)],
+) -> Result<(), Fail> {
     for (fault, number, text) in rows {
         same(rt, text, &fault.number(), number);
         prints(rt, alloc, fault, text)?;
@@ -410,5 +414,5 @@ fn are_told(rt: &impl Abort, alloc: Global, rows: &[(FileFault, u8, &str)]) -> R
 
 #[test]
 fn file_fault_texts(rt: HostRuntime) -> Result<(), Fail> {
-    are_told(&rt, rt.alloc(), &FAULTS)
+    compare_texts(&rt, rt.alloc(), &FAULTS)
 }

@@ -188,7 +188,11 @@ fn more_than_256_backends(rt: HostRuntime) -> Result<(), Fail> {
 }
 
 /// Compares the number and the text of each fault.
-fn are_told(rt: &impl Abort, alloc: Global, rows: &[(RingFault, u8, &str)]) -> Result<(), Fail> {
+fn compare_texts(
+    rt: &impl Abort,
+    alloc: Global,
+    rows: &[(RingFault, u8, &str)],
+) -> Result<(), Fail> {
     for (fault, number, text) in rows {
         same(rt, text, &fault.number(), number);
         prints(rt, alloc, fault, text)?;
@@ -198,7 +202,7 @@ fn are_told(rt: &impl Abort, alloc: Global, rows: &[(RingFault, u8, &str)]) -> R
 
 #[test]
 fn texts_and_numbers_of_faults(rt: HostRuntime) -> Result<(), Fail> {
-    are_told(&rt, rt.alloc(), &FAULTS)
+    compare_texts(&rt, rt.alloc(), &FAULTS)
 }
 
 /// Holds a backend's share of the slots against its bounds.

@@ -241,7 +241,7 @@ const RUNS: [Row; 6] = [
     },
 ];
 
-/// Options that are refused, or the first update of which a map has no place.
+/// Options that are refused, or the first update that a map has no place for.
 #[rattlefmt::skip]
 const REFUSED: [Row; 7] = [
     Row { name: "one element in two parts", program: READS_THE_SECOND, options: Options { shards: 2, ..SMALL }, end: BAD_OPTIONS, ..RUN },
@@ -264,7 +264,7 @@ const REFUSED: [Row; 7] = [
 
 const TWO: UpdateRow = (1, 7, 2);
 
-/// Updates of key 7, and what becomes of a run after them with journals of 16 entries, of which it needs four: after 12 it ends, after 13 its
+/// Updates of key 7, and what becomes of a run after them with journals of 16 entries, where it needs four: after 12 it ends, after 13 its
 /// Load has no room, after 15 its Enter, and the 17th update has none.
 #[rattlefmt::skip]
 const MANY: [Row; 5] = [
@@ -417,7 +417,7 @@ const FAULTS: [(RunFault, u8, &str); 3] = [
 ];
 
 /// Compares a fault's number and its text.
-fn tells<R: Abort>(
+fn compare_text<R: Abort>(
     rt: &R,
     alloc: Global,
     fault: RunFault,
@@ -433,7 +433,7 @@ fn tells<R: Abort>(
 #[test]
 fn fault_texts(rt: HostRuntime) -> Result<(), Fail> {
     for (fault, number, text) in FAULTS {
-        tells(&rt, rt.alloc(), fault, number, text)?;
+        compare_text(&rt, rt.alloc(), fault, number, text)?;
     }
     Ok(())
 }

@@ -230,7 +230,11 @@ const FAULTS: [(IpipFault, u8, &str); 4] = [
 ];
 
 /// Compares the number and the text of each fault.
-fn are_told(rt: &impl Abort, alloc: Global, rows: &[(IpipFault, u8, &str)]) -> Result<(), Fail> {
+fn compare_texts(
+    rt: &impl Abort,
+    alloc: Global,
+    rows: &[(IpipFault, u8, &str)],
+) -> Result<(), Fail> {
     for (fault, number, text) in rows {
         same(rt, text, &fault.number(), number);
         prints(rt, alloc, fault, text)?;
@@ -240,5 +244,5 @@ fn are_told(rt: &impl Abort, alloc: Global, rows: &[(IpipFault, u8, &str)]) -> R
 
 #[test]
 fn fault_texts(rt: HostRuntime) -> Result<(), Fail> {
-    are_told(&rt, rt.alloc(), &FAULTS)
+    compare_texts(&rt, rt.alloc(), &FAULTS)
 }

@@ -185,12 +185,12 @@ const WHY: &str =
 
 /// Holds what an audit says of a row's file against the row.
 fn compare_row<R: Abort + Threads + Wait + Sync>(rt: &R, alloc: Global, row: &Row) {
-    let (name, map, header, entries, told, line) = *row;
+    let (name, map, header, entries, place, line) = *row;
     let text = format!(in alloc; "XLBJ 1 {header}\n{entries}").expect(rt, "a file");
-    let err = format!(in alloc; "fault 53 Illegal shard {told}\n  {line}\n  {WHY}\n").expect(
+    let err = format!(in alloc; "fault 53 Illegal shard {place}\n  {line}\n  {WHY}\n").expect(
         rt, "lines",
     );
-    let wanted = if told.is_empty() {
+    let wanted = if place.is_empty() {
         LEGAL
     } else {
         refused(&err)

@@ -1,4 +1,4 @@
-//! Checks that tell why.
+//! Checks that say why.
 
 use super::{Wanted, compare_begins, with_image};
 use folders::MemoryFolder;

@@ -41,7 +41,7 @@ const ROWS: [Row; 28] = [
         "verdict pass\ninstructions 2\nframe 0000000000000000000000000000\n"),
     ("the receive queue is the worker", "version 1\nldxw r0, [r1+16]\nexit\n", "0000000000000000000000000000", "xlb run image frame --worker 3",
         "verdict tx\ninstructions 2\nframe 0000000000000000000000000000\n"),
-    ("a place that the packet tells",
+    ("a place that the packet names",
         "version 1\nldxw r2, [r1+0]\nldxw r3, [r1+4]\nmov r4, r2\nadd r4, 14\nmov r0, 2\njgt r4, r3, +6\nldxb r5, [r2+13]\nadd r2, r5\nmov r4, r2\n\
          add r4, 1\njgt r4, r3, +1\nldxb r0, [r2+0]\nexit\n", "0000000100000000000000000003", "xlb run image frame",
         "verdict drop\ninstructions 13\nframe 0000000100000000000000000003\n"),

@@ -37,7 +37,7 @@ type Row = (&'static str, &'static str, u8, &'static str, &'static str);
 const ROWS: [Row; 10] = [
     ("no update", "", 0, "verdict aborted\ninstructions 8\nframe 0000000000000000000000000000\n", ""),
     ("another branch", " --update 0 07000000 0300000000000000", 0, "verdict tx\ninstructions 8\nframe 0000000000000000000000000000\n", ""),
-    ("the last one stands", " --update 0 07000000 0300000000000000 --update 0 07000000 0100000000000000", 0,
+    ("the last one counts", " --update 0 07000000 0300000000000000 --update 0 07000000 0100000000000000", 0,
         "verdict drop\ninstructions 8\nframe 0000000000000000000000000000\n", ""),
     ("of another map", " --update 1 01000000 0300000000000000", 0, "verdict aborted\ninstructions 8\nframe 0000000000000000000000000000\n", ""),
     ("no such index", " --update 1 02000000 0300000000000000", 1, "", "fault 93 Refused answer -7\n  update 1 of the command line\n"),
@@ -97,7 +97,7 @@ fn journals_have_the_updates_first(rt: HostRuntime) {
     compare_file(&rt, alloc, "updates", folder, "j", JOURNALS.as_bytes());
 }
 
-/// A run after this many updates of key 7, the last of which sets 3.
+/// A run after this many updates of key 7; the last one sets 3.
 fn many(alloc: Global, count: u32) -> Result<String, AllocError> {
     let mut line = String::from_str(alloc, "xlb run image frame")?;
     for _ in 1..count {
@@ -128,7 +128,7 @@ const REPLAYS: [Row; 9] = [
     ("one worker", " --update 0 07000000 0300000000000000", 0, TWO_TX, ""),
     ("four workers", " --workers 4 --update 0 07000000 0300000000000000", 0, TWO_TX, ""),
     ("exact", " --exact --update 0 07000000 0300000000000000", 0, TWO_TX, ""),
-    ("the last one stands", " --update 0 07000000 0300000000000000 --exact --update 0 07000000 0100000000000000", 0, TWO_DROPPED, ""),
+    ("the last one counts", " --update 0 07000000 0300000000000000 --exact --update 0 07000000 0100000000000000", 0, TWO_DROPPED, ""),
     ("no such index", " --update 0 07000000 0300000000000000 --update 1 02000000 0300000000000000", 1, "",
         "fault 93 Refused answer -7\n  update 2 of the command line\n"),
     ("no such index, exact", " --exact --update 1 02000000 0300000000000000", 1, "", "fault 93 Refused answer -7\n  update 1 of the command line\n"),

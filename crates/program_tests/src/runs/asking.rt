@@ -346,7 +346,7 @@ fn spilled_arguments(rt: HostRuntime) -> Result<(), Fail> {
     Ok(())
 }
 
-/// So is the packet's end: 20 bytes are there, of which the last is written.
+/// So is the packet's end: 20 bytes are there, and the last of them is written.
 #[test]
 fn a_spilled_packet_end(rt: HostRuntime) -> Result<(), Fail> {
     let head = [
@@ -461,7 +461,7 @@ fn deletions(rt: HostRuntime) -> Result<(), Fail> {
     Ok(())
 }
 
-/// The packet's start moves 4 forward, so that 16 bytes are left, of which the first is written.
+/// The packet's start moves 4 forward, so that 16 bytes are left, and the first of them is written.
 #[test]
 fn a_moved_start(rt: HostRuntime) -> Result<(), Fail> {
     let head = [mov!(R6, R1), number!(R2, 4), call!(44), mov!(R1, R6)];

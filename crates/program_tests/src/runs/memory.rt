@@ -15,7 +15,7 @@ use test_support::{lddw, load, number, put, store};
 
 const NUMBER: u64 = 0x1122334455667788;
 
-/// There are this many bytes, of which the first are these.
+/// There are this many bytes, and the first of them are these.
 fn begins_with(rt: &impl Abort, name: &str, bytes: &[u8], length: usize, want: &[u8]) {
     same_fact(rt, name, "the length", &bytes.len(), &length);
     let begins = bytes.get(..want.len());

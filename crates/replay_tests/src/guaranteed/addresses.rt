@@ -86,7 +86,7 @@ const COUNTS: [(&str, i32, u32, u32); 3] = [
 #[rattlefmt::skip]
 const TWO: [MapDef; 2] = [MapDef { max_entries: 4, ..ONE_ENTRY }, MapDef { max_entries: 8, ..ONE_ENTRY }];
 
-/// A count in a map of this many shards, of which this one is asked.
+/// A count that one shard returns, in a map of this many shards.
 fn counts(
     rt: &impl Abort,
     alloc: Global,

@@ -314,7 +314,7 @@ fn controls(outcome: &Outcome, number: usize, place: usize) -> bool {
     place < journal.len() && journal.entry(place).who == Caller::Controller
 }
 
-/// The same journals again, and by four workers each update stands where it stood by one.
+/// The same journals again: by four workers each update is at the place that it has by one.
 #[test]
 fn updates_stand_at_the_same_places(rt: HostRuntime) -> Result<(), Fail> {
     let verified = verify(rt.alloc(), shipped(rt.alloc(), 7)?)?;

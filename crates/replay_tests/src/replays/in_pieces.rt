@@ -274,7 +274,7 @@ fn pieces_are_replayed_as_the_whole(rt: HostRuntime) -> Result<(), Fail> {
     Ok(())
 }
 
-/// The sizes of pieces of which each row below is made.
+/// The sizes of the pieces that each row below is made in.
 const SIZES: [usize; 5] = [1, 63, 64, 65, 200];
 
 /// How many records a capture has, and with which numbers the gate is called for them, as decimal digits. The round behind the last record is not one of them.

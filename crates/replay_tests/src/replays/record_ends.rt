@@ -97,7 +97,7 @@ fn verdicts_and_steps_of_known_frames(rt: HostRuntime) -> Result<(), Fail> {
     )
 }
 
-/// A run takes eighteen instructions, of which two are wide, and six entries of a journal that has room for sixteen: the third run is stopped.
+/// A run takes eighteen instructions, two of them wide, and six entries of a journal that has room for sixteen: the third run is stopped.
 #[test]
 fn a_stopped_run_has_no_steps(rt: HostRuntime) -> Result<(), Fail> {
     let capture = three_frames(rt.alloc())?;

@@ -1,4 +1,4 @@
-//! Rows of which a gate fixes the schedule, or counts the replies.
+//! Replays whose schedule a gate fixes, or whose replies it counts.
 
 use super::{Frames, NONE, Row, SENDS_ALL, has_part, journals_file, replayed};
 use crate::asserting::{holds_of, same_fact};
@@ -82,16 +82,16 @@ impl Gate for Meeting {
 
 /// A gate that counts the replies of worker 0, the controller and the reclaimer, and those that came with another number than the next.
 #[derive(Drop)]
-struct Told {
+struct CountingGate {
     worker: AtomicU64,
     controller: AtomicU64,
     reclaimer: AtomicU64,
     out_of_order: AtomicU64,
 }
 
-impl Told {
-    fn new() -> Told {
-        Told {
+impl CountingGate {
+    fn new() -> CountingGate {
+        CountingGate {
             worker: AtomicU64::new(0),
             controller: AtomicU64::new(0),
             reclaimer: AtomicU64::new(0),
@@ -117,7 +117,7 @@ impl Told {
     }
 }
 
-impl Gate for Told {
+impl Gate for CountingGate {
     fn replied(&self, who: Caller, nth: u64) {
         match who {
             Caller::Worker { number: 0 } => self.count(&self.worker, nth),
@@ -146,15 +146,15 @@ const READS: Row<'static> = Row {
 };
 
 /// For which replies of worker 0, the controller and the reclaimer the gate is called, and how many replies come out of order.
-fn told_so<R: Threads + Abort + Wait + Sync>(
+fn replayed_counting<R: Threads + Abort + Wait + Sync>(
     rt: &R,
     alloc: Global,
     row: &Row<'_>,
-    told: [u64; 4],
+    gate_calls: [u64; 4],
 ) -> Result<Outcome, Fail> {
-    let gate = Told::new();
+    let gate = CountingGate::new();
     let outcome = replayed(rt, alloc, row, &gate)?;
-    same_fact(rt, row.name, "what was told", &gate.counts(), &told);
+    same_fact(rt, row.name, "the replies", &gate.counts(), &gate_calls);
     Ok(outcome)
 }
 
@@ -191,8 +191,8 @@ fn ends_so(text: &[u8], last: &str) -> (usize, bool) {
 
 /// Makes the replay, and compares for what the gate was called and the journal.
 fn fills<R: Threads + Abort + Wait + Sync>(rt: &R, alloc: Global, full: &Full) -> Result<(), Fail> {
-    let (row, told, entries, last) = full;
-    let outcome = told_so(rt, alloc, row, [*told, 0, 0, 0])?;
+    let (row, gate_calls, entries, last) = full;
+    let outcome = replayed_counting(rt, alloc, row, [*gate_calls, 0, 0, 0])?;
     let journals = journals_file(alloc, &outcome)?;
     let end = ends_so(journals.bytes(), last);
     same_fact(
@@ -340,7 +340,7 @@ const COUNTED: Row<'static> = Row {
 
 #[test]
 fn replies_are_counted_over_all_runs(rt: HostRuntime) -> Result<(), Fail> {
-    let _ = told_so(&rt, rt.alloc(), &COUNTED, [400, 0, 2, 0])?;
+    let _ = replayed_counting(&rt, rt.alloc(), &COUNTED, [400, 0, 2, 0])?;
     Ok(())
 }
 
@@ -379,7 +379,7 @@ pub(super) fn are_the_last_two(refused: &[Applied]) -> bool {
 #[test]
 fn a_down_meets_a_full_journal(rt: HostRuntime) -> Result<(), Fail> {
     let name = A_FULL_JOURNAL.name;
-    let outcome = told_so(&rt, rt.alloc(), &A_FULL_JOURNAL, [0, 28, 2, 0])?;
+    let outcome = replayed_counting(&rt, rt.alloc(), &A_FULL_JOURNAL, [0, 28, 2, 0])?;
     holds_of(
         &rt,
         name,

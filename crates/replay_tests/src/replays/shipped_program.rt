@@ -355,7 +355,7 @@ fn to_the_second() -> [u8; 62] {
     frame
 }
 
-/// Compares what was sent, and the notes of the flow: two, of which the last one is of backend 1.
+/// Compares what was sent, and the notes of the flow: two, and the last one is of backend 1.
 fn compare_notes<R: Abort>(
     rt: &R,
     alloc: Global,

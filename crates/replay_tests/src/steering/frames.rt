@@ -31,7 +31,7 @@ fn total(numbers: &mut Numbers) -> u16 {
     total as u16
 }
 
-/// This many bytes, of which the first are random.
+/// This many bytes, the first of them random.
 fn noise(numbers: &mut Numbers, length: usize) -> Drawn {
     let mut bytes = [0; 2048];
     'places: for place in 0..64 {

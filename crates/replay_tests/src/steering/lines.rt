@@ -97,7 +97,7 @@ pub(super) enum Line {
     },
 }
 
-/// What stands in place of a line that is left out: it goes on with the next one.
+/// What replaces a line that is left out: it goes on with the next one.
 pub(super) const LEFT_OUT: Line = Line::Do(Ja { distance: 0 });
 
 impl Block {

@@ -74,7 +74,7 @@ impl Keys {
     }
 }
 
-/// A record of eight bytes under a key of four, of which an array has as many as entries.
+/// A record of eight bytes under a key of four, which is an index of an array.
 fn put_at(map: SteeringMap, index: u32, record: &[u8; 8]) -> Put {
     let mut key = [0; 16];
     key[..4].copy_from_slice(&index_key(index));
@@ -139,7 +139,7 @@ fn state(numbers: &mut Numbers) -> u32 {
     }
 }
 
-/// A service's flags, of which the lowest bit counts.
+/// A service's flags: only the lowest bit counts.
 fn flags(numbers: &mut Numbers) -> u32 {
     match numbers.below(6) {
         0 => 1,
@@ -214,7 +214,7 @@ impl World {
         }
     }
 
-    /// What is put there before a frame with these keys comes, place by place: 17 places, of which the last two may have nothing.
+    /// What is put there before a frame with these keys comes, place by place: 17 places, and the last two may have nothing.
     /// Something is put into each map: a service and a flow that no frame asks for, and a count of no verdict.
     pub(super) fn put(&self, keys: &Keys, place: u32) -> Option<Put> {
         match place {

@@ -32,7 +32,7 @@ fn opened(alloc: Global, journal: u32) -> Result<Opened, Fail>
 }
 
 /// A tally of worker 1, which calls no hook.
-fn untold() -> Tally<'static, NoGate> {
+fn tally_of_worker() -> Tally<'static, NoGate> {
     Tally::new(&NoGate, Caller::Worker { number: 1 }, 0)
 }
 
@@ -46,9 +46,9 @@ fn run<B: Naming, R: Abort + Wait>(
     requires maps { shards.now.maps ≡ example_maps }
     requires worker { IsTrue (is_worker_below shards.now.options.workers pass.old.who) }
 {
-    let mut port = ShardPort::over(rt, shards, pass, untold());
+    let mut port = ShardPort::over(rt, shards, pass, tally_of_worker());
     let refused = answers(rt, &mut port, rows);
-    let _told = port.finish();
+    let _tally = port.finish();
     refused
 }
 
@@ -170,9 +170,9 @@ fn look_once<B: Naming, R: Abort + Wait>(
     requires worker { IsTrue (is_worker_below shards.now.options.workers pass.old.who) }
     ensures who { pass.new.who ≡ pass.old.who }
 {
-    let mut port = ShardPort::over(rt, shards, pass, untold());
+    let mut port = ShardPort::over(rt, shards, pass, tally_of_worker());
     let result = port.lookup(0, &key_of(0));
-    let _told = port.finish();
+    let _tally = port.finish();
     result
 }
 

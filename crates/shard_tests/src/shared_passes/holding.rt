@@ -14,7 +14,7 @@ use std::sync::atomic::{AtomicBool, Ordering};
 use std::test::Fail;
 use std::thread::{Threads, join};
 
-/// What two threads tell each other.
+/// The signals that two threads give each other.
 #[derive(Drop)]
 struct Signals {
     /// The second may call.

@@ -107,7 +107,7 @@ const FAULTS: [(PassFault, &str); 3] = [
 ];
 
 /// Compares what is printed of a fault.
-fn is_told(rt: &impl Abort, alloc: Global, fault: PassFault, want: &str) -> Result<(), Fail> {
+fn is_printed(rt: &impl Abort, alloc: Global, fault: PassFault, want: &str) -> Result<(), Fail> {
     let text = format!(in alloc; "{fault}")?;
     same(rt, want, &text.as_str(), &want);
     Ok(())
@@ -116,7 +116,7 @@ fn is_told(rt: &impl Abort, alloc: Global, fault: PassFault, want: &str) -> Resu
 #[test]
 fn pass_fault_texts(rt: HostRuntime) -> Result<(), Fail> {
     for row in &FAULTS {
-        is_told(&rt, rt.alloc(), row.0, row.1)?;
+        is_printed(&rt, rt.alloc(), row.0, row.1)?;
     }
     Ok(())
 }

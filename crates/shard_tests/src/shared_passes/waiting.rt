@@ -1,4 +1,4 @@
-//! Many callers of one shard, of whom most have to wait: that all are answered shows that no wake is lost.
+//! Many callers of one shard, where most have to wait: that all are answered shows that no wake is lost.
 
 ghost use Rattle.shards.specs.NewShards.{IsNamed};
 
