@@ -250,7 +250,7 @@ fn sign_extension(rt: HostRuntime) {
 #[rattlefmt::skip]
 static SWAPS: [(&str, ByteOrder, SwapWidth, Ends, Ends); 6] = [
     ("swap16 of a single number",           ByteOrder::Swapped,  SwapWidth::Swap16, (0x1122, 0x1122),         (0x2211, 0x2211)),
-    ("be64 of one",                         ByteOrder::ToBig,    SwapWidth::Swap64, (1, 1),                   (0x0100000000000000, 0x0100000000000000)),
+    ("be64 of one", ByteOrder::ToBig, SwapWidth::Swap64, (1, 1), (0x0100000000000000, 0x0100000000000000)),
     ("le32 cuts a single number",           ByteOrder::ToLittle, SwapWidth::Swap32, (PAST32 + 7, PAST32 + 7), (7, 7)),
     ("be16 of an interval",                 ByteOrder::ToBig,    SwapWidth::Swap16, (1, 2),                   (0, 0xffff)),
     ("be32 of an interval",                 ByteOrder::ToBig,    SwapWidth::Swap32, (1, 2),                   (0, TOP32)),

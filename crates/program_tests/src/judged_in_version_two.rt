@@ -32,11 +32,11 @@ static ADDRESSES: [(&str, MapKind, &[Insn], Result<bool, Reject>); 9] = [
     ("a load alone only reads",                MapKind::Array,   &[address!(0, 0), FIRST, EXIT],                    Ok(true)),
     ("an address in the middle",               MapKind::Array,   &[address!(0, 4), MIDDLE, EXIT],                   Ok(true)),
     ("past the middle, at a distance",         MapKind::Array,   &[address!(0, 0), SECOND, EXIT],                   Ok(true)),
-    ("the end may be named, not loaded from",  MapKind::Array,   &[address!(0, 8), FIRST, EXIT],                    Err(Reject::ValueBounds { slot: 2 })),
-    ("past the end",                           MapKind::Array,   &[address!(0, 9), FIRST, EXIT],                    Err(Reject::ValueBounds { slot: 0 })),
-    ("no such map",                            MapKind::Array,   &[address!(1, 0), FIRST, EXIT],                    Err(Reject::UnknownMap { slot: 0 })),
-    ("a map that is no array",                 MapKind::Hash,    &[address!(0, 9), FIRST, EXIT],                    Err(Reject::NotArrayMap { slot: 0 })),
-    ("R10 before the map",                     MapKind::LruHash, &[FRAME_POINTER, FIRST, EXIT],                    Err(Reject::ReadOnlyFp { slot: 0 })),
+    ("the end may be named, not loaded from",  MapKind::Array,   &[address!(0, 8), FIRST, EXIT],      Err(Reject::ValueBounds { slot: 2 })),
+    ("past the end",                           MapKind::Array,   &[address!(0, 9), FIRST, EXIT],      Err(Reject::ValueBounds { slot: 0 })),
+    ("no such map",                            MapKind::Array,   &[address!(1, 0), FIRST, EXIT],      Err(Reject::UnknownMap { slot: 0 })),
+    ("a map that is no array",                 MapKind::Hash,    &[address!(0, 9), FIRST, EXIT],      Err(Reject::NotArrayMap { slot: 0 })),
+    ("R10 before the map",                     MapKind::LruHash, &[FRAME_POINTER, FIRST, EXIT],       Err(Reject::ReadOnlyFp { slot: 0 })),
 ];
 
 /// A map with one value.
@@ -91,15 +91,18 @@ const READ: Insn = load!(Size::U8, R0, R6, 0);
 
 #[rattlefmt::skip]
 static INTERVALS: [(&str, &[Insn], Result<bool, Reject>); 6] = [
-    ("a byte at any of 256",            &[address!(0, 0), START, END, PLACE, ADD_14, PASS, JGT_4, BYTE, ADD_BYTE, STORE_1, READ, EXIT],            Ok(false)),
+    ("a byte at any of 256",
+        &[address!(0, 0), START, END, PLACE, ADD_14, PASS, JGT_4, BYTE, ADD_BYTE, STORE_1, READ, EXIT], Ok(false)),
     ("two bytes may end past the value", &[address!(0, 0), START, END, PLACE, ADD_14, PASS, JGT_4, BYTE, ADD_BYTE, STORE_2, READ, EXIT],
         Err(Reject::ValueBounds { slot: 10 })),
-    ("two bytes at any of 254",         &[address!(0, 0), START, END, PLACE, ADD_14, PASS, JGT_5, BYTE, AND_254, ADD_BYTE, STORE_2, READ, EXIT],   Ok(false)),
+    ("two bytes at any of 254",
+        &[address!(0, 0), START, END, PLACE, ADD_14, PASS, JGT_5, BYTE, AND_254, ADD_BYTE, STORE_2, READ, EXIT], Ok(false)),
     ("a count may end past the value", &[address!(0, 0), START, END, PLACE, ADD_14, PASS, JGT_4, BYTE, ADD_BYTE, ADD_SHORT, READ, EXIT],
         Err(Reject::ValueBounds { slot: 10 })),
     ("and at any of 254 too", &[address!(0, 0), START, END, PLACE, ADD_14, PASS, JGT_5, BYTE, AND_254, ADD_BYTE, ADD_SHORT, READ, EXIT],
         Err(Reject::ValueBounds { slot: 11 })),
-    ("a count at no single offset", &[address!(0, 0), START, END, PLACE, ADD_14, PASS, JGT_5, BYTE, AND_252, ADD_BYTE, ADD_SHORT, READ, EXIT],
+    ("a count at no single offset",
+        &[address!(0, 0), START, END, PLACE, ADD_14, PASS, JGT_5, BYTE, AND_252, ADD_BYTE, ADD_SHORT, READ, EXIT],
         Err(Reject::Misaligned { slot: 11 })),
 ];
 
@@ -123,13 +126,15 @@ const SUB_BYTE: Insn = alu!(AluOp::Sub, R6, SourceOperand::Reg(R5));
 static ADDITIONS: [(&str, &[Insn], Result<bool, Reject>); 5] = [
     ("past the end", &[address!(0, 0), START, END, PLACE, ADD_14, PASS, JGT_4, BYTE, ADD_BYTE, STORE_1, READ, EXIT],
         Err(Reject::ValueBounds { slot: 9 })),
-    ("to the end, where no byte is stored", &[address!(0, 0), START, END, PLACE, ADD_14, PASS, JGT_5, BYTE, AND_248, ADD_BYTE, STORE_1, READ, EXIT],
+    ("to the end, where no byte is stored",
+        &[address!(0, 0), START, END, PLACE, ADD_14, PASS, JGT_5, BYTE, AND_248, ADD_BYTE, STORE_1, READ, EXIT],
         Err(Reject::ValueBounds { slot: 11 })),
     ("from 1, past the end", &[address!(0, 1), START, END, PLACE, ADD_14, PASS, JGT_5, BYTE, AND_248, ADD_BYTE, STORE_1, READ, EXIT],
         Err(Reject::ValueBounds { slot: 10 })),
     ("to the last two bytes", &[address!(0, 246), START, END, PLACE, ADD_14, PASS, JGT_5, BYTE, AND_1, ADD_BYTE, STORE_1, READ, EXIT],
         Ok(false)),
-    ("a byte is not taken from an address", &[address!(0, 248), START, END, PLACE, ADD_14, PASS, JGT_5, BYTE, AND_248, SUB_BYTE, STORE_1, READ, EXIT],
+    ("a byte is not taken from an address",
+        &[address!(0, 248), START, END, PLACE, ADD_14, PASS, JGT_5, BYTE, AND_248, SUB_BYTE, STORE_1, READ, EXIT],
         Err(Reject::WrongKind { slot: 10, register: 5 })),
 ];
 

@@ -135,7 +135,8 @@ static KNOWN: [(&str, &[Insn], Register, Kind); 13] = [
     ("a spilled context comes back", &[put!(Size::U64, R10, -8, R1), load!(Size::U64, R4, R10, -8)], R4, Kind::Ctx),
     ("a spilled number keeps its value", &[store!(Size::U64, R10, -8, 5), load!(Size::U64, R4, R10, -8)], R4, scalar!(5, 5)),
     ("a part of it is any number of its size", &[store!(Size::U64, R10, -8, 5), load!(Size::U16, R4, R10, -6)], R4, scalar!(0, 65535)),
-    ("a sign-extending load is any number", &[store!(Size::U64, R10, -8, 5), Insn::Ldxs { extension: Extension::I8, dst: R5, src: R10, offset: -1 }], R5, ANY),
+    ("a sign-extending load is any number",
+        &[store!(Size::U64, R10, -8, 5), Insn::Ldxs { extension: Extension::I8, dst: R5, src: R10, offset: -1 }], R5, ANY),
     ("helper 8 answers below 8", &[Insn::CallHelper { helper: 8 }], R0, scalar!(0, 7)),
 ];
 
@@ -153,8 +154,10 @@ static EDGES: [(&str, &[Insn], bool, Register, Kind); 12] = [
     ("before the end: one more", &[START, END, PLACE, ADD_14, jump!(Test::Ge, R4, SourceOperand::Reg(R3))], false, R2, ONE_MORE),
     ("taken below the end: one more", &[START, END, PLACE, ADD_14, jump!(Test::Lt, R4, SourceOperand::Reg(R3))], true, R2, ONE_MORE),
     ("the end above a place: one more", &[START, END, PLACE, ADD_14, jump!(Test::Gt, R3, SourceOperand::Reg(R4))], true, R2, ONE_MORE),
-    ("the end not below a place: these bytes", &[START, END, PLACE, ADD_14, jump!(Test::Lt, R3, SourceOperand::Reg(R4))], false, R2, COVERED),
-    ("a spilled copy is known too", &[START, END, PLACE, ADD_14, put!(Size::U64, R10, -8, R2), JGT, load!(Size::U64, R6, R10, -8)], false, R6, COVERED),
+    ("the end not below a place: these bytes",
+        &[START, END, PLACE, ADD_14, jump!(Test::Lt, R3, SourceOperand::Reg(R4))], false, R2, COVERED),
+    ("a spilled copy is known too",
+        &[START, END, PLACE, ADD_14, put!(Size::U64, R10, -8, R2), JGT, load!(Size::U64, R6, R10, -8)], false, R6, COVERED),
     ("null where equal", &[KEY, KEY_AT, KEY_DOWN, MAP, LOOKUP, JEQ], true, R0, scalar!(0, 0)),
     ("a value where not equal", &[KEY, KEY_AT, KEY_DOWN, MAP, LOOKUP, JEQ], false, R0, VALUE),
     ("a value where jne is taken", &[KEY, KEY_AT, KEY_DOWN, MAP, LOOKUP, jump!(Test::Ne, R0, SourceOperand::Imm(0))], true, R0, VALUE),
@@ -201,8 +204,8 @@ static BROKEN: [(&str, &[Insn], BrokenRule); 27] = [
     ("no map 1", &[Insn::Ldmap { dst: R1, map: 1 }], BrokenRule::UnknownMap),
     ("two pointers added", &[alu!(AluOp::Add, R1, SourceOperand::Reg(R10))], BrokenRule::WrongKind(R1)),
     ("a stack pointer past the frame pointer", &[mov!(R2, R10), add!(R2, 1)], BrokenRule::StackBounds),
-    ("the least number taken from a stack pointer", &[mov!(R2, R10), lddw!(R3, 0x8000_0000_0000_0000), alu!(AluOp::Sub, R2, SourceOperand::Reg(R3))],
-        BrokenRule::StackBounds),
+    ("the least number taken from a stack pointer",
+        &[mov!(R2, R10), lddw!(R3, 0x8000_0000_0000_0000), alu!(AluOp::Sub, R2, SourceOperand::Reg(R3))], BrokenRule::StackBounds),
 ];
 
 #[test]
@@ -216,10 +219,12 @@ fn first_broken_rules(rt: HostRuntime) {
 // source would do, else the destination.
 #[rattlefmt::skip]
 static WRONG_KINDS: [(&str, &[Insn], Register); 20] = [
-    ("an unknown number added to a stack pointer", &[load!(Size::U32, R3, R1, 16), mov!(R2, R10), alu!(AluOp::Add, R2, SourceOperand::Reg(R3))], R3),
+    ("an unknown number added to a stack pointer",
+        &[load!(Size::U32, R3, R1, 16), mov!(R2, R10), alu!(AluOp::Add, R2, SourceOperand::Reg(R3))], R3),
     ("taken from a packet pointer", &[load!(Size::U32, R3, R1, 16), START, alu!(AluOp::Sub, R2, SourceOperand::Reg(R3))], R3),
     ("added to an address in a value, in version 1",
-        &[mov!(R6, R1), KEY, KEY_AT, KEY_DOWN, MAP, LOOKUP, JEQ, load!(Size::U32, R3, R6, 16), alu!(AluOp::Add, R0, SourceOperand::Reg(R3))], R3),
+        &[mov!(R6, R1), KEY, KEY_AT, KEY_DOWN, MAP, LOOKUP, JEQ, load!(Size::U32, R3, R6, 16),
+            alu!(AluOp::Add, R0, SourceOperand::Reg(R3))], R3),
     ("two stack pointers added", &[mov!(R2, R10), alu!(AluOp::Add, R2, SourceOperand::Reg(R10))], R10),
     ("two packet pointers subtracted", &[START, mov!(R3, R2), alu!(AluOp::Sub, R2, SourceOperand::Reg(R3))], R3),
     ("a pointer added to a number", &[number!(R0, 2), alu!(AluOp::Add, R0, SourceOperand::Reg(R1))], R1),
@@ -228,7 +233,8 @@ static WRONG_KINDS: [(&str, &[Insn], Register); 20] = [
     ("the context moved", &[add!(R1, 4)], R1),
     ("the packet's end moved", &[END, add!(R3, -1)], R3),
     ("a pointer multiplied", &[mov!(R2, R10), alu!(AluOp::Mul, R2, SourceOperand::Imm(2))], R2),
-    ("a stack pointer moved on 32 bits", &[mov!(R2, R10), Insn::Alu { width: Width::Bits32, op: AluOp::Add, dst: R2, source: SourceOperand::Imm(-4) }], R2),
+    ("a stack pointer moved on 32 bits",
+        &[mov!(R2, R10), Insn::Alu { width: Width::Bits32, op: AluOp::Add, dst: R2, source: SourceOperand::Imm(-4) }], R2),
     ("a pointer negated", &[Insn::Neg { width: Width::Bits64, dst: R1 }], R1),
     ("a number compared with a pointer", &[number!(R0, 2), jump!(Test::Eq, R0, SourceOperand::Reg(R1))], R1),
     ("a packet pointer compared with a number", &[START, number!(R5, 1), jump!(Test::Gt, R2, SourceOperand::Reg(R5))], R5),
@@ -237,7 +243,8 @@ static WRONG_KINDS: [(&str, &[Insn], Register); 20] = [
     ("a packet pointer compared for equality", &[START, END, jump!(Test::Eq, R2, SourceOperand::Reg(R3))], R2),
     ("a packet pointer compared on 32 bits",
         &[START, END, Insn::JumpIf { width: Width::Bits32, test: Test::Gt, dst: R2, source: SourceOperand::Reg(R3), distance: 0 }], R2),
-    ("a null test against a register", &[KEY, KEY_AT, KEY_DOWN, MAP, LOOKUP, number!(R6, 0), jump!(Test::Eq, R0, SourceOperand::Reg(R6))], R0),
+    ("a null test against a register",
+        &[KEY, KEY_AT, KEY_DOWN, MAP, LOOKUP, number!(R6, 0), jump!(Test::Eq, R0, SourceOperand::Reg(R6))], R0),
 ];
 
 #[test]
@@ -256,7 +263,8 @@ static JOINS: [(&str, Kind, Kind, Kind); 8] = [
     ("places of the stack differ", Kind::Stack(504), Kind::Stack(496), Kind::Unset),
     ("of two ranges the smaller", FAR, NEAR, NEAR),
     ("packet pointers of two bases", NEAR, Kind::Packet { id: 4, off: 2, range: 10 }, Kind::Unset),
-    ("a value is no value or null", Kind::Value { map: 0, id: 4, off: Offsets { low: 0, high: 0 } }, Kind::ValueOrNull { map: 0, id: 4 }, Kind::Unset),
+    ("a value is no value or null",
+        Kind::Value { map: 0, id: 4, off: Offsets { low: 0, high: 0 } }, Kind::ValueOrNull { map: 0, id: 4 }, Kind::Unset),
     ("two lookups", Kind::ValueOrNull { map: 0, id: 4 }, Kind::ValueOrNull { map: 0, id: 5 }, Kind::Unset),
 ];
 
@@ -279,7 +287,7 @@ static JOINED_OFFSETS: [(&str, Version, Kind, Kind, Kind); 6] = [
         Kind::Value { map: 0, id: 4, off: Offsets { low: 4, high: 9 } }, Kind::Value { map: 0, id: 4, off: Offsets { low: 4, high: 16 } }),
     ("version 2: one inside the other", Version::V2, Kind::Value { map: 0, id: 4, off: Offsets { low: 0, high: 16 } },
         Kind::Value { map: 0, id: 4, off: Offsets { low: 4, high: 9 } }, Kind::Value { map: 0, id: 4, off: Offsets { low: 0, high: 16 } }),
-    ("version 2: of two lookups",        Version::V2, Kind::Value { map: 0, id: 4, off: Offsets { low: 0, high: 8 } },  OTHER,        Kind::Unset),
+    ("version 2: of two lookups", Version::V2, Kind::Value { map: 0, id: 4, off: Offsets { low: 0, high: 8 } }, OTHER, Kind::Unset),
 ];
 
 /// In version 2 two addresses in one value give the interval of both; in version 1 they disagree.

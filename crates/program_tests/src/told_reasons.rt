@@ -36,7 +36,8 @@ const STRUCTURE: [Row; 5] = [
 #[rattlefmt::skip]
 const KINDS: [Row; 18] = [
     (V1, "exit\n", "  slot 0: exit\n  r0: unset\n  nothing is written to the register on a path that leads here from slot 0\n"),
-    (V1, "mov r2, 1\nmov r0, r2\nadd r0, r7\nexit\n", "  slot 2: add r0, r7\n  r0: number 1\n  r7: unset\n  nothing is written to the register on a path"),
+    (V1, "mov r2, 1\nmov r0, r2\nadd r0, r7\nexit\n",
+        "  slot 2: add r0, r7\n  r0: number 1\n  r7: unset\n  nothing is written to the register on a path"),
     (V1, "mov r2, 1\ncall 5\nmov r3, 1\nmov r0, r2\nexit\n",
         "  slot 3: mov r0, r2\n  r2: unset\n  slot 1: a call leaves r1 to r5 unset, and helper 44 every pointer into the packet\n  \
          remedy: keep what is needed later in r6 to r9 or on the stack; after helper 44 load the packet and its end again, and test anew\n"),
@@ -83,7 +84,8 @@ const PACKETS: [Row; 9] = [
         "  slot 1: ldxb r0, [r2-1]\n  r2: packet +0, 0 bytes known\n  the access begins before"),
     (V1, "ldxw r2, [r1+0]\nadd r2, 65536\nmov r0, 2\nexit\n",
         "  slot 1: add r2, 65536\n  r2: packet +0, 0 bytes known\n  a packet pointer's offset stays from 0 to 65535\n"),
-    (V1, "ldxw r2, [r1+0]\nldxw r3, [r1+0]\nmov r0, 2\ncall 5\nexit\n", "  slot 0: ldxw r2, [r1+0]\n    known: r1 context; r10 stack r10-0;\n"),
+    (V1, "ldxw r2, [r1+0]\nldxw r3, [r1+0]\nmov r0, 2\ncall 5\nexit\n",
+        "  slot 0: ldxw r2, [r1+0]\n    known: r1 context; r10 stack r10-0;\n"),
     (V1, "ldxw r6, [r1+0]\ncall 5\nadd r6, r0\nmov r0, 2\nexit\n",
         "  slot 2: add r6, r0\n  r6: packet +0, 0 bytes known\n  r0: number 0..18446744073709551615\n  \
          the number may be up to 18446744073709551615: a number that is added"),
@@ -121,7 +123,8 @@ const MEMORY: [Row; 19] = [
         "  slot 5: aaddw [r6+0], r5\n  r6: value of map 0 from slot 2 +0..4\n  r5: number 0..4\n  an atomic operation wants a single known offset"),
     (V1, "stw [r1+0], 0\nmov r0, 2\nexit\n", "  slot 0: stw [r1+0], 0\n  r1: context\n  the context is only read\n"),
     (V1, "ldxw r0, [r1+8]\nexit\n", "  slot 0: ldxw r0, [r1+8]\n  r1: context\n  the context has words of four bytes"),
-    (V1, "stw [r10-4], 0\nmov r2, r10\nadd r2, -4\ncall 1\nexit\n", "  slot 3: call 1\n  r1: context\n  r2: stack r10-4\n  r1 of this helper is a map\n"),
+    (V1, "stw [r10-4], 0\nmov r2, r10\nadd r2, -4\ncall 1\nexit\n",
+        "  slot 3: call 1\n  r1: context\n  r2: stack r10-4\n  r1 of this helper is a map\n"),
     ("version 1\nmap array 4 8 1\n", "mov r2, 5\nldmap r1, 0\ncall 1\nexit\n",
         "  slot 3: call 1\n  r1: map 0\n  r2: number 5\n  keys and values are passed on the stack\n"),
     (V1, "mov r2, r1\ncall 44\nexit\n",
@@ -129,7 +132,8 @@ const MEMORY: [Row; 19] = [
          remedy: put a number into the register (flags: 0 any, 1 new key, 2 old key)\n"),
     (V1, "stxdw [r10-8], r1\nldxw r2, [r10-8]\nmov r0, 2\nexit\n",
         "  slot 1: ldxw r2, [r10-8]\n  r10: stack r10-0\n  stack r10-8: spilled context\n  a pointer is stored and loaded only as a whole"),
-    ("version 2\nmap hash 4 8 1\n", "ldval r6, 0, 0\nmov r0, 2\nexit\n", "  slot 0: ldval r6, 0, 0\n  an address in a value is loaded from arrays alone\n"),
+    ("version 2\nmap hash 4 8 1\n", "ldval r6, 0, 0\nmov r0, 2\nexit\n",
+        "  slot 0: ldval r6, 0, 0\n  an address in a value is loaded from arrays alone\n"),
 ];
 
 const PROGRAM: &str = "  slot 0: ldmap r6, 0

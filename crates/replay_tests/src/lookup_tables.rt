@@ -46,19 +46,23 @@ const REFUSED_TURNS: [(&str, &[Given], u32, RingFault); 6] = [
     ("a number twice goes before too many",         &[(4, 0, 1), (5, 1, 1), (4, 1, 1)], 2, RingFault::Twice),
     ("one offset and skip for two is no fault",     &[(4, 0, 1), (5, 0, 1)],            5, RingFault::BadSize),
     ("too many goes before a bad size",             &[(0, 0, 1), (1, 1, 1), (2, 0, 1)], 2, RingFault::TooMany),
-    ("more backends than slots", &[(0, 0, 1), (1, 0, 1), (2, 0, 1), (3, 0, 1), (4, 0, 1), (5, 0, 1), (6, 0, 1), (7, 0, 1)], 7, RingFault::TooMany),
+    ("more backends than slots",
+        &[(0, 0, 1), (1, 0, 1), (2, 0, 1), (3, 0, 1), (4, 0, 1), (5, 0, 1), (6, 0, 1), (7, 0, 1)], 7, RingFault::TooMany),
     ("a size that is prime and not served",         &[(0, 0, 1)],                      13, RingFault::BadSize),
 ];
 
 #[rattlefmt::skip]
 const REFUSED_BUILDS: [(&str, &[Backend], u32, RingFault); 5] = [
     ("no backend goes before a bad size", &[], 0, RingFault::NoBackend),
-    ("a number twice", &[Backend { number: 3, address: Ipv4Address([1, 2, 3, 4]) }, Backend { number: 3, address: Ipv4Address([1, 2, 3, 5]) }], 7,
+    ("a number twice",
+        &[Backend { number: 3, address: Ipv4Address([1, 2, 3, 4]) }, Backend { number: 3, address: Ipv4Address([1, 2, 3, 5]) }], 7,
         RingFault::Twice),
-    ("an address twice", &[Backend { number: 3, address: Ipv4Address([1, 2, 3, 4]) }, Backend { number: 4, address: Ipv4Address([1, 2, 3, 4]) }], 7,
+    ("an address twice",
+        &[Backend { number: 3, address: Ipv4Address([1, 2, 3, 4]) }, Backend { number: 4, address: Ipv4Address([1, 2, 3, 4]) }], 7,
         RingFault::Twice),
     ("twice goes before a bad size",
-        &[Backend { number: 3, address: Ipv4Address([1, 2, 3, 4]) }, Backend { number: 3, address: Ipv4Address([1, 2, 3, 4]) }], 1, RingFault::Twice),
+        &[Backend { number: 3, address: Ipv4Address([1, 2, 3, 4]) }, Backend { number: 3, address: Ipv4Address([1, 2, 3, 4]) }],
+        1, RingFault::Twice),
     ("a bad size",                        &[Backend { number: 3, address: Ipv4Address([1, 2, 3, 4]) }], 65536, RingFault::BadSize),
 ];
 

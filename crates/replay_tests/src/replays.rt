@@ -346,10 +346,10 @@ fn a_record_of_13_bytes_is_short(rt: HostRuntime) -> Result<(), Fail> {
 /// Scripts, how many commands are refused, and the first entry of the list of backends, if it has one.
 #[rattlefmt::skip]
 const SCRIPTS: [(&str, &str, usize, Option<&str>); 4] = [
-    ("a service and its backend",    SERVICE,                                  0, Some("3 c update 00000000 c000020101000000 0 answer 0\n")),
-    ("no such backend",              "0 down 3\n",                             1, None),
-    ("the backend is up",            "0 up 0 10.0.0.1\n0 up 0 10.0.0.1\n",     1, Some("3 c update 00000000 0a00000101000000 0 answer 0\n")),
-    ("after the last frame",         "9 up 0 10.0.0.1\n",                      0, Some("3 c update 00000000 0a00000101000000 0 answer 0\n")),
+    ("a service and its backend",    SERVICE,                                 0, Some("3 c update 00000000 c000020101000000 0 answer 0\n")),
+    ("no such backend",              "0 down 3\n",                            1, None),
+    ("the backend is up",            "0 up 0 10.0.0.1\n0 up 0 10.0.0.1\n",    1, Some("3 c update 00000000 0a00000101000000 0 answer 0\n")),
+    ("after the last frame",         "9 up 0 10.0.0.1\n",                     0, Some("3 c update 00000000 0a00000101000000 0 answer 0\n")),
 ];
 
 /// Whether the journals have this entry, or, where there is none, none of the controller on the list of backends.

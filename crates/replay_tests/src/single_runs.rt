@@ -232,7 +232,8 @@ const RUNS: [Row; 6] = [
         end: Ok(Ok(Exit { verdict: Verdict::Drop, steps: 18 })), ..RUN
     },
     Row {
-        name: "updates before the run", options: Options { workers: 2, ..SMALL }, worker: 1, updates: &[(1, 9, 1), (1, 7, 1), (0, 1, 255), (1, 7, 3)],
+        name: "updates before the run", options: Options { workers: 2, ..SMALL }, worker: 1,
+        updates: &[(1, 9, 1), (1, 7, 1), (0, 1, 255), (1, 7, 3)],
         end: Ok(Ok(Exit { verdict: Verdict::Tx, steps: 8 })), journals: Some(SET_BEFORE), ..RUN
     },
     Row {
@@ -247,7 +248,9 @@ const REFUSED: [Row; 7] = [
     Row { name: "one element in two parts", program: READS_THE_SECOND, options: Options { shards: 2, ..SMALL }, end: BAD_OPTIONS, ..RUN },
     Row { name: "a journal of 15", program: READS_THE_SECOND, options: Options { journal: 15, ..SMALL }, end: BAD_OPTIONS, ..RUN },
     Row { name: "nine workers", program: READS_THE_SECOND, options: Options { workers: 9, ..SMALL }, end: BAD_OPTIONS, ..RUN },
-    Row { name: "no worker 2 of two", program: READS_THE_SECOND, options: Options { workers: 2, ..SMALL }, worker: 2, end: BAD_OPTIONS, ..RUN },
+    Row {
+        name: "no worker 2 of two", program: READS_THE_SECOND, options: Options { workers: 2, ..SMALL }, worker: 2, end: BAD_OPTIONS, ..RUN
+    },
     Row {
         name: "no index 2 of an array of two", updates: &[(0, 0, 0), (0, 2, 0), (0, 3, 0)],
         end: Err(RunFault::Refused { place: 1, answer: -7 }), ..RUN

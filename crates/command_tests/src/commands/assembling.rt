@@ -26,7 +26,8 @@ const ROWS: [Row; 15] = [
     ("lines that end as on Windows", b"version 1\r\nexit\r\n",
         "fault 21 BadLine line 1\n  \
          a carriage return ends the line, as on Windows: 'xlb asm --source' reads such lines, and tr -d '\\r' < TEXT > NEW takes it away\n"),
-    ("no last line feed", b"version 1\nexit", "fault 21 BadLine line 2\n  TEXT is in the source form: 'xlb asm --source' makes an image of it\n"),
+    ("no last line feed", b"version 1\nexit",
+        "fault 21 BadLine line 2\n  TEXT is in the source form: 'xlb asm --source' makes an image of it\n"),
     ("no text", b"",
         "fault 21 BadLine line 1\n  expected version 1 or version 2 on the first line, then map KIND KEY-BYTES VALUE-BYTES ENTRIES (hash, array or \
          lru) before the instructions\n"),

@@ -48,10 +48,12 @@ const RUNS: [Row; 20] = [
          0 w0 lookup 07000000 null\n0 w0 lookup 07000000 null\n0 w0 lookup 07000000 null\n0 w0 lookup 07000000 null\n0 w0 lookup 07000000 null\n\
          0 w0 lookup 07000000 null\n0 w0 lookup 07000000 null\n0 w0 lookup 07000000 null\n0 w0 lookup 07000000 null\n0 w0 lookup 07000000 null\n\
          0 w0 lookup 07000000 null\n", "0 place 15", "line 17: \"0 w0 lookup 07000000 null\""),
-    ("a load in no run",              "hash 4 8 1",  "1 1 16", "0 w0 load 0 0 8 word 0\n", "0 place 0", "line 2: \"0 w0 load 0 0 8 word 0\""),
+    ("a load in no run",              "hash 4 8 1",  "1 1 16", "0 w0 load 0 0 8 word 0\n", "0 place 0",
+        "line 2: \"0 w0 load 0 0 8 word 0\""),
     ("worker 3 of two",               "hash 4 8 1",  "2 1 16", "0 w3 enter ok\n", "0 place 0", "line 2: \"0 w3 enter ok\""),
     ("worker 1 of two",               "hash 4 8 1",  "2 1 16", "0 w1 enter ok\n", "", ""),
-    ("a lookup in no run",            "hash 4 8 1",  "1 1 16", "0 w0 lookup 07000000 null\n", "0 place 0", "line 2: \"0 w0 lookup 07000000 null\""),
+    ("a lookup in no run",            "hash 4 8 1",  "1 1 16", "0 w0 lookup 07000000 null\n", "0 place 0",
+        "line 2: \"0 w0 lookup 07000000 null\""),
     ("an update in no run", "hash 4 8 1", "1 1 16", "0 w0 update 07000000 0200000000000000 0 answer 0\n", "0 place 0",
         "line 2: \"0 w0 update 07000000 0200000000000000 0 ...\""),
     ("a leave in no run",             "hash 4 8 1",  "1 1 16", "0 w0 leave ok\n", "0 place 0", "line 2: \"0 w0 leave ok\""),
@@ -59,7 +61,8 @@ const RUNS: [Row; 20] = [
     ("after a leave", "hash 4 8 1", "1 1 16", "0 w0 enter ok\n0 w0 leave ok\n0 w0 lookup 07000000 null\n", "0 place 2",
         "line 4: \"0 w0 lookup 07000000 null\""),
     ("the controller enters",         "hash 4 8 1",  "1 1 16", "0 c enter ok\n", "0 place 0", "line 2: \"0 c enter ok\""),
-    ("the controller looks up",       "hash 4 8 1",  "1 1 16", "0 c lookup 07000000 null\n", "0 place 0", "line 2: \"0 c lookup 07000000 null\""),
+    ("the controller looks up",       "hash 4 8 1",  "1 1 16", "0 c lookup 07000000 null\n", "0 place 0",
+        "line 2: \"0 c lookup 07000000 null\""),
     ("the reclaimer updates", "hash 4 8 1", "1 1 16", "0 r update 07000000 0200000000000000 0 answer 0\n", "0 place 0",
         "line 2: \"0 r update 07000000 0200000000000000 0 a...\""),
     ("the controller reclaims",       "hash 4 8 1",  "1 1 16", "0 c reclaim freed 0\n", "0 place 0", "line 2: \"0 c reclaim freed 0\""),
@@ -72,7 +75,8 @@ const CELLS: [Row; 20] = [
         "0 c update 01000000 0200000000000000 0 answer 0\n0 c update 01000000 0200000000000000 1 answer -17\n\
          0 c update 02000000 0200000000000000 0 answer -7\n0 c update 02000000 0200000000000000 2 answer -2\n\
          0 c update 02000000 0200000000000000 3 answer -22\n0 c delete 01000000 answer 0\n0 c delete 01000000 answer -2\n", "", ""),
-    ("another answer", "hash 4 8 1", "1 1 16", "0 c update 01000000 0200000000000000 0 answer 0\n0 c update 01000000 0200000000000000 1 answer 0\n",
+    ("another answer", "hash 4 8 1", "1 1 16",
+        "0 c update 01000000 0200000000000000 0 answer 0\n0 c update 01000000 0200000000000000 1 answer 0\n",
         "0 place 1", "line 3: \"0 c update 01000000 0200000000000000 1 a...\""),
     ("cells run out", "hash 4 8 1", "1 1 16",
         "0 c update 01000000 0200000000000000 0 answer 0\n0 c delete 01000000 answer 0\n0 c update 02000000 0200000000000000 0 answer 0\n\
@@ -106,7 +110,8 @@ const CELLS: [Row; 20] = [
     ("a key that is gone", "hash 4 8 1", "1 1 16",
         "0 c update 01000000 0900000000000000 0 answer 0\n0 c delete 01000000 answer 0\n0 w0 enter ok\n0 w0 lookup 01000000 cell 0\n", "0 place 3",
         "line 5: \"0 w0 lookup 01000000 cell 0\""),
-    ("a key that is missed", "hash 4 8 1", "1 1 16", "0 c update 01000000 0900000000000000 0 answer 0\n0 w0 enter ok\n0 w0 lookup 01000000 null\n",
+    ("a key that is missed", "hash 4 8 1", "1 1 16",
+        "0 c update 01000000 0900000000000000 0 answer 0\n0 w0 enter ok\n0 w0 lookup 01000000 null\n",
         "0 place 2", "line 4: \"0 w0 lookup 01000000 null\""),
     ("the oldest use is the victim", "lru 4 8 2", "1 1 16",
         "0 c update 01000000 0900000000000000 0 answer 0\n0 c update 02000000 0900000000000000 0 answer 0\n0 w0 enter ok\n\
@@ -123,7 +128,8 @@ const CELLS: [Row; 20] = [
     ("a cell of an earlier run", "array 4 8 2", "1 1 16",
         "0 w0 enter ok\n0 w0 lookup 01000000 cell 1\n0 w0 leave ok\n0 w0 enter ok\n0 w0 load 1 0 8 word 0\n", "0 place 4",
         "line 6: \"0 w0 load 1 0 8 word 0\""),
-    ("a cell that another looked up", "array 4 8 2", "2 1 16", "0 w0 enter ok\n0 w1 enter ok\n0 w0 lookup 01000000 cell 1\n0 w1 load 1 0 8 word 0\n",
+    ("a cell that another looked up", "array 4 8 2", "2 1 16",
+        "0 w0 enter ok\n0 w1 enter ok\n0 w0 lookup 01000000 cell 1\n0 w1 load 1 0 8 word 0\n",
         "0 place 3", "line 5: \"0 w1 load 1 0 8 word 0\""),
     ("another cell", "array 4 8 2", "1 1 16", "0 w0 enter ok\n0 w0 lookup 01000000 cell 1\n0 w0 load 0 0 8 word 0\n", "0 place 2",
         "line 4: \"0 w0 load 0 0 8 word 0\""),
@@ -134,7 +140,8 @@ const CELLS: [Row; 20] = [
 /// Numbers of the right form that no map serves, and shards of a map in parts.
 #[rattlefmt::skip]
 const NUMBERS: [Row; 15] = [
-    ("a load off its alignment",      "array 4 8 1", "1 1 16", "0 w0 enter ok\n0 w0 lookup 00000000 cell 0\n0 w0 load 0 3 4 word 0\n", "", ""),
+    ("a load off its alignment",      "array 4 8 1", "1 1 16",
+        "0 w0 enter ok\n0 w0 lookup 00000000 cell 0\n0 w0 load 0 3 4 word 0\n", "", ""),
     ("three bytes", "array 4 8 1", "1 1 16", "0 w0 enter ok\n0 w0 lookup 00000000 cell 0\n0 w0 load 0 0 3 word 0\n", "0 place 2",
         "line 4: \"0 w0 load 0 0 3 word 0\""),
     ("past the value", "array 4 8 1", "1 1 16", "0 w0 enter ok\n0 w0 lookup 00000000 cell 0\n0 w0 load 0 5 4 word 0\n", "0 place 2",
@@ -143,8 +150,8 @@ const NUMBERS: [Row; 15] = [
         "0 place 2", "line 4: \"0 w0 load 0 18446744073709551615 8 word ...\""),
     ("too much for a byte", "array 4 8 1", "1 1 16", "0 w0 enter ok\n0 w0 lookup 00000000 cell 0\n0 w0 store 0 0 1 256 ok\n", "0 place 2",
         "line 4: \"0 w0 store 0 0 1 256 ok\""),
-    ("an unknown operation", "array 4 8 1", "1 1 16", "0 w0 enter ok\n0 w0 lookup 00000000 cell 0\n0 w0 atomic 0 0 8 99 1 0 word 0\n", "0 place 2",
-        "line 4: \"0 w0 atomic 0 0 8 99 1 0 word 0\""),
+    ("an unknown operation", "array 4 8 1", "1 1 16", "0 w0 enter ok\n0 w0 lookup 00000000 cell 0\n0 w0 atomic 0 0 8 99 1 0 word 0\n",
+        "0 place 2", "line 4: \"0 w0 atomic 0 0 8 99 1 0 word 0\""),
     ("an atomic off its alignment", "array 4 8 1", "1 1 16", "0 w0 enter ok\n0 w0 lookup 00000000 cell 0\n0 w0 atomic 0 2 4 0 1 0 word 0\n",
         "0 place 2", "line 4: \"0 w0 atomic 0 2 4 0 1 0 word 0\""),
     ("an addition that compares", "array 4 8 1", "1 1 16", "0 w0 enter ok\n0 w0 lookup 00000000 cell 0\n0 w0 atomic 0 0 8 0 1 1 word 0\n",
@@ -154,15 +161,18 @@ const NUMBERS: [Row; 15] = [
         "", ""),
     ("a cell far away", "array 4 8 1", "1 1 16", "0 w0 enter ok\n0 w0 lookup 00000000 cell 18446744073709551615\n", "0 place 1",
         "line 3: \"0 w0 lookup 00000000 cell 18446744073709...\""),
-    ("two parts", "array 4 8 2", "1 2 16", "0 w0 enter ok\n0 w0 lookup 00000000 cell 0\n1 w0 enter ok\n1 w0 lookup 01000000 cell 0\n", "", ""),
-    ("a key of the other part", "array 4 8 2", "1 2 16", "0 w0 enter ok\n0 w0 lookup 00000000 cell 0\n1 w0 enter ok\n1 w0 lookup 00000000 cell 0\n",
+    ("two parts", "array 4 8 2", "1 2 16",
+        "0 w0 enter ok\n0 w0 lookup 00000000 cell 0\n1 w0 enter ok\n1 w0 lookup 01000000 cell 0\n", "", ""),
+    ("a key of the other part", "array 4 8 2", "1 2 16",
+        "0 w0 enter ok\n0 w0 lookup 00000000 cell 0\n1 w0 enter ok\n1 w0 lookup 00000000 cell 0\n",
         "1 place 1", "line 5: \"1 w0 lookup 00000000 cell 0\""),
     ("the second shard's first",      "array 4 8 2", "1 2 16", "1 w0 leave ok\n", "1 place 0", "line 2: \"1 w0 leave ok\""),
     ("the most journals",
         "hash 4 8 8\nmap hash 4 8 8\nmap hash 4 8 8\nmap hash 4 8 8\nmap hash 4 8 8\nmap hash 4 8 8\nmap hash 4 8 8\nmap hash 4 8 8\n\
          map hash 4 8 8\nmap hash 4 8 8\nmap hash 4 8 8\nmap hash 4 8 8\nmap hash 4 8 8\nmap hash 4 8 8\nmap hash 4 8 8\nmap hash 4 8 8", "1 8 16",
         "127 w0 enter ok\n", "", ""),
-    ("the first shard's goes before", "array 4 8 2", "1 2 16", "0 w0 enter ok\n0 w0 enter ok\n1 w0 leave ok\n", "0 place 1", "line 3: \"0 w0 enter ok\""),
+    ("the first shard's goes before", "array 4 8 2", "1 2 16", "0 w0 enter ok\n0 w0 enter ok\n1 w0 leave ok\n", "0 place 1",
+        "line 3: \"0 w0 enter ok\""),
 ];
 
 /// Holds what an audit says of a file, of the map of an image whose program may not run, against what it is to say.

@@ -274,7 +274,7 @@ const STEERED: [Steered; 6] = [
     ("behind the last record",                       "1030 down 0\n1030 up 1 192.0.2.2\n", 1030, 1030, 0, ALL_1030, ""),
     ("behind the last record of a whole piece",      "1024 down 0\n1024 up 1 192.0.2.2\n", 1024, 1024, 0,
         "frames 1024\nshort 0\nstopped 0\naborted 0\ndrop 0\npass 0\ntx 1024\n", ""),
-    ("refused between two pieces",                   "1024 down 7\n1025 down 0\n1025 up 1 192.0.2.2\n", 1030, 1025, 1, FOURTH_REFUSED, UNKNOWN),
+    ("refused between two pieces", "1024 down 7\n1025 down 0\n1025 up 1 192.0.2.2\n", 1030, 1025, 1, FOURTH_REFUSED, UNKNOWN),
 ];
 
 /// Compares the replay of a row.

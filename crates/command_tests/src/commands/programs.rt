@@ -52,7 +52,8 @@ const ROWS: [Row; 32] = [
     ("no field of the context", "version 1\nldxw r0, [r1+8]\nexit\n", 1, "", "fault 42 ContextAccess slot 0\n"),
     ("the frame pointer is written", "version 1\nmov r10, 1\nexit\n", 1, "", "fault 43 ReadOnlyFp slot 0\n"),
     ("no such helper", "version 1\ncall 99\nexit\n", 1, "", "fault 44 UnknownHelper slot 0\n"),
-    ("a wrong argument", "version 1\nstw [r10-4], 0\nmov r2, r10\nadd r2, -4\ncall 1\nexit\n", 1, "", "fault 45 BadArgument slot 3 register 1\n"),
+    ("a wrong argument", "version 1\nstw [r10-4], 0\nmov r2, r10\nadd r2, -4\ncall 1\nexit\n", 1, "",
+        "fault 45 BadArgument slot 3 register 1\n"),
     ("a pointer as a verdict", "version 1\nmov r0, r1\nexit\n", 1, "", "fault 46 PointerLeak slot 1\n"),
     ("no such map", "version 1\nldmap r1, 0\nmov r0, 2\nexit\n", 1, "", "fault 47 UnknownMap slot 0\n"),
 ];

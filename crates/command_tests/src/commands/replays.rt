@@ -215,7 +215,8 @@ const ROWS: [Row; 18] = [
     ("a backend twice", "", "0 up 0 10.0.0.1\n0 up 0 10.0.0.1\n", HEAD, "--script script", 1,
         "frames 0\nshort 0\nstopped 0\naborted 0\ndrop 0\npass 0\ntx 0\ncommand 2 refused 92\n",
         "  line 2 of the script, 0 up 0 10.0.0.1: this number or this address is up\n", HEAD),
-    ("a down and a full journal", "", "0 up 0 10.0.0.1\n0 up 1 10.0.0.2\n0 down 0\n0 up 2 10.0.0.3\n", HEAD, "--script script --journal 400", 1,
+    ("a down and a full journal", "", "0 up 0 10.0.0.1\n0 up 1 10.0.0.2\n0 down 0\n0 up 2 10.0.0.3\n", HEAD,
+        "--script script --journal 400", 1,
         "frames 0\nshort 0\nstopped 0\naborted 0\ndrop 0\npass 0\ntx 0\ncommand 3 refused 94\ncommand 4 refused 94\n",
         "  line 3 of the script, 0 down 0: a journal is full: --journal N, at most 1048576, --shards N, at most 8, and --no-journals make more room\n  \
          line 4 of the script, 0 up 2 10.0.0.3: a journal is full: --journal N, at most 1048576, --shards N, at most 8, \
@@ -231,7 +232,8 @@ const ROWS: [Row; 18] = [
     ("a cut third record",       SENDS, "", CUT_ZEROS, "--image image", 1, "", 
         "fault 5 CutFrame record 3\n  at byte 84 of 101\n  \
          the record keeps 14 bytes by its head, and the file has 1 of them, 13 too few\n", ""),
-    ("nine workers",             SENDS, "", ZEROS_14, "--image image --workers 9", 1, "", "fault 51 BadOptions\n  --workers 9\n  expected 1 to 8\n", ""),
+    ("nine workers",             SENDS, "", ZEROS_14, "--image image --workers 9", 1, "",
+        "fault 51 BadOptions\n  --workers 9\n  expected 1 to 8\n", ""),
     ("a script without its maps", SENDS, "0 down 3\n", ZEROS_14, "--program image --script script", 1, "", NO_MAPS, ""),
 ];
 

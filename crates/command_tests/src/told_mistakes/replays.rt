@@ -36,8 +36,10 @@ const OPTIONS: [OptionsRow; 11] = [
     ("sixteen shards",         8, 16,     16, "  --shards 16\n  expected 1, 2, 4 or 8\n"),
     ("a journal of 15",        1, 1,      15, "  --journal 15\n  expected 16 to 1048576\n"),
     ("a journal above 2^20",   1, 1, 1048577, "  --journal 1048577\n  expected 16 to 1048576\n"),
-    ("6 entries in 4 parts",   1, 4,      16, "  --shards 4: map 1 has 6 entries\n  expected a number of shards that divides the entries of each map\n"),
-    ("and in 8",               1, 8, 1048576, "  --shards 8: map 1 has 6 entries\n  expected a number of shards that divides the entries of each map\n"),
+    ("6 entries in 4 parts",   1, 4,      16,
+        "  --shards 4: map 1 has 6 entries\n  expected a number of shards that divides the entries of each map\n"),
+    ("and in 8",               1, 8, 1048576,
+        "  --shards 8: map 1 has 6 entries\n  expected a number of shards that divides the entries of each map\n"),
     ("the first that is wrong", 9, 3,      0, "  --workers 9\n  expected 1 to 8\n"),
     ("options that are right", 8, 2,      16,
         "  --script: the program has other maps than those that a script's commands change\n  \
@@ -78,10 +80,14 @@ fn no_such_worker(rt: HostRuntime) -> Result<(), Fail> {
 #[rattlefmt::skip]
 const RINGS: [(&str, u32, &str); 5] = [
     ("no slot", 0, "  --ring 0\n  expected the number of slots of a lookup table: 7, 251, 4093 or 65537\n  the next larger one is 7\n"),
-    ("between two sizes", 8, "  --ring 8\n  expected the number of slots of a lookup table: 7, 251, 4093 or 65537\n  the next larger one is 251\n"),
-    ("one more than a size", 252, "  --ring 252\n  expected the number of slots of a lookup table: 7, 251, 4093 or 65537\n  the next larger one is 4093\n"),
-    ("2^16", 65536, "  --ring 65536\n  expected the number of slots of a lookup table: 7, 251, 4093 or 65537\n  the next larger one is 65537\n"),
-    ("above all", u32::MAX, "  --ring 4294967295\n  expected the number of slots of a lookup table: 7, 251, 4093 or 65537\n  the largest one is 65537\n"),
+    ("between two sizes", 8,
+        "  --ring 8\n  expected the number of slots of a lookup table: 7, 251, 4093 or 65537\n  the next larger one is 251\n"),
+    ("one more than a size", 252,
+        "  --ring 252\n  expected the number of slots of a lookup table: 7, 251, 4093 or 65537\n  the next larger one is 4093\n"),
+    ("2^16", 65536,
+        "  --ring 65536\n  expected the number of slots of a lookup table: 7, 251, 4093 or 65537\n  the next larger one is 65537\n"),
+    ("above all", u32::MAX,
+        "  --ring 4294967295\n  expected the number of slots of a lookup table: 7, 251, 4093 or 65537\n  the largest one is 65537\n"),
 ];
 
 #[test]

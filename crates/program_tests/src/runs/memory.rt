@@ -46,11 +46,16 @@ fn passes(
 
 #[rattlefmt::skip]
 static STORES: [(&str, Size, i16, [u8; 16]); 5] = [
-    ("a byte",               Size::U8,  0, [0x88, 0xaa, 0xaa, 0xaa, 0xaa, 0xaa, 0xaa, 0xaa, 0xaa, 0xaa, 0xaa, 0xaa, 0xaa, 0xaa, 0xaa, 0xaa]),
-    ("two bytes",            Size::U16, 3, [0xaa, 0xaa, 0xaa, 0x88, 0x77, 0xaa, 0xaa, 0xaa, 0xaa, 0xaa, 0xaa, 0xaa, 0xaa, 0xaa, 0xaa, 0xaa]),
-    ("four bytes",           Size::U32, 5, [0xaa, 0xaa, 0xaa, 0xaa, 0xaa, 0x88, 0x77, 0x66, 0x55, 0xaa, 0xaa, 0xaa, 0xaa, 0xaa, 0xaa, 0xaa]),
-    ("eight bytes",          Size::U64, 1, [0xaa, 0x88, 0x77, 0x66, 0x55, 0x44, 0x33, 0x22, 0x11, 0xaa, 0xaa, 0xaa, 0xaa, 0xaa, 0xaa, 0xaa]),
-    ("the last eight bytes", Size::U64, 8, [0xaa, 0xaa, 0xaa, 0xaa, 0xaa, 0xaa, 0xaa, 0xaa, 0x88, 0x77, 0x66, 0x55, 0x44, 0x33, 0x22, 0x11]),
+    ("a byte",
+        Size::U8,  0, [0x88, 0xaa, 0xaa, 0xaa, 0xaa, 0xaa, 0xaa, 0xaa, 0xaa, 0xaa, 0xaa, 0xaa, 0xaa, 0xaa, 0xaa, 0xaa]),
+    ("two bytes",
+        Size::U16, 3, [0xaa, 0xaa, 0xaa, 0x88, 0x77, 0xaa, 0xaa, 0xaa, 0xaa, 0xaa, 0xaa, 0xaa, 0xaa, 0xaa, 0xaa, 0xaa]),
+    ("four bytes",
+        Size::U32, 5, [0xaa, 0xaa, 0xaa, 0xaa, 0xaa, 0x88, 0x77, 0x66, 0x55, 0xaa, 0xaa, 0xaa, 0xaa, 0xaa, 0xaa, 0xaa]),
+    ("eight bytes",
+        Size::U64, 1, [0xaa, 0x88, 0x77, 0x66, 0x55, 0x44, 0x33, 0x22, 0x11, 0xaa, 0xaa, 0xaa, 0xaa, 0xaa, 0xaa, 0xaa]),
+    ("the last eight bytes",
+        Size::U64, 8, [0xaa, 0xaa, 0xaa, 0xaa, 0xaa, 0xaa, 0xaa, 0xaa, 0x88, 0x77, 0x66, 0x55, 0x44, 0x33, 0x22, 0x11]),
 ];
 
 /// The low bytes of a register, the lowest first; the bytes beside them stay.
@@ -94,14 +99,19 @@ static LOADS: [(&str, Insn, u64); 11] = [
     ("a byte",                      Insn::Ldx { size: Size::U8, dst: Register::R5, src: Register::R2, offset: 8 },             0x80),
     ("two bytes",                   Insn::Ldx { size: Size::U16, dst: Register::R5, src: Register::R2, offset: 8 },            0x8180),
     ("four bytes",                  Insn::Ldx { size: Size::U32, dst: Register::R5, src: Register::R2, offset: 8 },            0xf37f8180),
-    ("eight bytes",                 Insn::Ldx { size: Size::U64, dst: Register::R5, src: Register::R2, offset: 8 },            0x80000000f37f8180),
-    ("a negative byte",             Insn::Ldxs { extension: Extension::I8, dst: Register::R5, src: Register::R2, offset: 8 },  0xffffffffffffff80),
+    ("eight bytes",
+        Insn::Ldx { size: Size::U64, dst: Register::R5, src: Register::R2, offset: 8 },            0x80000000f37f8180),
+    ("a negative byte",
+        Insn::Ldxs { extension: Extension::I8, dst: Register::R5, src: Register::R2, offset: 8 },  0xffffffffffffff80),
     ("a byte that is not negative", Insn::Ldxs { extension: Extension::I8, dst: Register::R5, src: Register::R2, offset: 10 }, 0x7f),
-    ("two negative bytes",          Insn::Ldxs { extension: Extension::I16, dst: Register::R5, src: Register::R2, offset: 8 }, 0xffffffffffff8180),
+    ("two negative bytes",
+        Insn::Ldxs { extension: Extension::I16, dst: Register::R5, src: Register::R2, offset: 8 }, 0xffffffffffff8180),
     ("two that are not negative",   Insn::Ldxs { extension: Extension::I16, dst: Register::R5, src: Register::R2, offset: 9 }, 0x7f81),
-    ("four negative bytes",         Insn::Ldxs { extension: Extension::I32, dst: Register::R5, src: Register::R2, offset: 8 }, 0xfffffffff37f8180),
+    ("four negative bytes",
+        Insn::Ldxs { extension: Extension::I32, dst: Register::R5, src: Register::R2, offset: 8 }, 0xfffffffff37f8180),
     ("four that are not negative",  Insn::Ldxs { extension: Extension::I32, dst: Register::R5, src: Register::R2, offset: 9 }, 0xf37f81),
-    ("the least of four bytes",     Insn::Ldxs { extension: Extension::I32, dst: Register::R5, src: Register::R2, offset: 12 }, 0xffffffff80000000),
+    ("the least of four bytes",
+        Insn::Ldxs { extension: Extension::I32, dst: Register::R5, src: Register::R2, offset: 12 }, 0xffffffff80000000),
 ];
 
 #[test]
@@ -117,15 +127,20 @@ fn loads_from_the_packet(rt: HostRuntime) -> Result<(), Fail> {
 
 #[rattlefmt::skip]
 static STACK_LOADS: [(&str, i16, Insn, u64); 9] = [
-    ("a byte",                      -8,   Insn::Ldx { size: Size::U8, dst: Register::R5, src: Register::R10, offset: -8 },             0x80),
-    ("the byte above it",           -8,   Insn::Ldx { size: Size::U8, dst: Register::R5, src: Register::R10, offset: -7 },             0x81),
-    ("two bytes",                   -8,   Insn::Ldx { size: Size::U16, dst: Register::R5, src: Register::R10, offset: -6 },            0xf37f),
-    ("four bytes",                  -8,   Insn::Ldx { size: Size::U32, dst: Register::R5, src: Register::R10, offset: -4 },            0x80000000),
-    ("eight bytes",                 -8,   Insn::Ldx { size: Size::U64, dst: Register::R5, src: Register::R10, offset: -8 },            0x80000000f37f8180),
-    ("a negative byte",             -8,   Insn::Ldxs { extension: Extension::I8, dst: Register::R5, src: Register::R10, offset: -8 },  0xffffffffffffff80),
-    ("two negative bytes",          -8,   Insn::Ldxs { extension: Extension::I16, dst: Register::R5, src: Register::R10, offset: -6 }, 0xfffffffffffff37f),
-    ("four negative bytes",         -8,   Insn::Ldxs { extension: Extension::I32, dst: Register::R5, src: Register::R10, offset: -4 }, 0xffffffff80000000),
-    ("the lowest word",             -512, Insn::Ldx { size: Size::U64, dst: Register::R5, src: Register::R10, offset: -512 },          0x80000000f37f8180),
+    ("a byte",              -8,   Insn::Ldx { size: Size::U8, dst: Register::R5, src: Register::R10, offset: -8 },             0x80),
+    ("the byte above it",   -8,   Insn::Ldx { size: Size::U8, dst: Register::R5, src: Register::R10, offset: -7 },             0x81),
+    ("two bytes",           -8,   Insn::Ldx { size: Size::U16, dst: Register::R5, src: Register::R10, offset: -6 },            0xf37f),
+    ("four bytes",          -8,   Insn::Ldx { size: Size::U32, dst: Register::R5, src: Register::R10, offset: -4 },            0x80000000),
+    ("eight bytes",
+        -8,   Insn::Ldx { size: Size::U64, dst: Register::R5, src: Register::R10, offset: -8 },            0x80000000f37f8180),
+    ("a negative byte",
+        -8,   Insn::Ldxs { extension: Extension::I8, dst: Register::R5, src: Register::R10, offset: -8 },  0xffffffffffffff80),
+    ("two negative bytes",
+        -8,   Insn::Ldxs { extension: Extension::I16, dst: Register::R5, src: Register::R10, offset: -6 }, 0xfffffffffffff37f),
+    ("four negative bytes",
+        -8,   Insn::Ldxs { extension: Extension::I32, dst: Register::R5, src: Register::R10, offset: -4 }, 0xffffffff80000000),
+    ("the lowest word",
+        -512, Insn::Ldx { size: Size::U64, dst: Register::R5, src: Register::R10, offset: -512 },          0x80000000f37f8180),
 ];
 
 #[test]

@@ -164,7 +164,10 @@ type Full = (Row<'static>, u64, usize, &'static str);
 #[rattlefmt::skip]
 const FULL: [Full; 3] = [
     (
-        Row { name: "room for all", frames: Frames::Rounds { first: 40000, flows: 1, rounds: 3 }, journal: 16, counts: Counts { pass: 3, ..NONE }, ..READS },
+        Row {
+            name: "room for all", frames: Frames::Rounds { first: 40000, flows: 1, rounds: 3 }, journal: 16,
+            counts: Counts { pass: 3, ..NONE }, ..READS
+        },
         6, 12, "0 w0 load 0 0 8 word 0\n0 w0 leave ok\n",
     ),
     (
@@ -229,13 +232,15 @@ struct Held {
 const MEET: [Held; 2] = [
     Held {
         row: Row {
-            name: "two workers", frames: Frames::Rounds { first: 40000, flows: 2, rounds: 1 }, workers: 2, counts: Counts { pass: 2, ..NONE }, ..READS
+            name: "two workers", frames: Frames::Rounds { first: 40000, flows: 2, rounds: 1 }, workers: 2,
+            counts: Counts { pass: 2, ..NONE }, ..READS
         },
         held: 1, wanted: 2, limit: 10_000_000, counts: [2, 0],
     },
     Held {
         row: Row {
-            name: "eight workers", frames: Frames::Rounds { first: 40192, flows: 8, rounds: 1 }, workers: 8, counts: Counts { pass: 8, ..NONE }, ..READS
+            name: "eight workers", frames: Frames::Rounds { first: 40192, flows: 8, rounds: 1 }, workers: 8,
+            counts: Counts { pass: 8, ..NONE }, ..READS
         },
         held: 8, wanted: 8, limit: 10_000_000, counts: [8, 0],
     },
@@ -244,7 +249,9 @@ const MEET: [Held; 2] = [
 /// The worker's first reply is held up to the limit, while the dispatcher finds its queue of 64 jobs full.
 #[rattlefmt::skip]
 const LATE: Held = Held {
-    row: Row { name: "a held worker", frames: Frames::Rounds { first: 40000, flows: 1, rounds: 100 }, counts: Counts { pass: 100, ..NONE }, ..READS },
+    row: Row {
+        name: "a held worker", frames: Frames::Rounds { first: 40000, flows: 1, rounds: 100 }, counts: Counts { pass: 100, ..NONE }, ..READS
+    },
     held: 1, wanted: 2, limit: 1_000_000, counts: [1, 1],
 };
 

@@ -35,11 +35,11 @@ pub(super) const FULL: Counts = Counts {
 
 #[rattlefmt::skip]
 const ROWS: [Row; 5] = [
-    Row { name: "rows are kept",                       exact: false, workers: 1, recording: Recording::Rows,   entries: 16,  is_filled: true },
-    Row { name: "rows are kept, in turn",              exact: true,  workers: 1, recording: Recording::Rows,   entries: 16,  is_filled: true },
-    Row { name: "no rows are kept",                    exact: false, workers: 1, recording: Recording::NoRows, entries: 800, is_filled: false },
-    Row { name: "no rows are kept, by four workers",   exact: false, workers: 4, recording: Recording::NoRows, entries: 800, is_filled: false },
-    Row { name: "no rows are kept, in turn",           exact: true,  workers: 4, recording: Recording::NoRows, entries: 800, is_filled: false },
+    Row { name: "rows are kept",                   exact: false, workers: 1, recording: Recording::Rows,   entries: 16,  is_filled: true },
+    Row { name: "rows are kept, in turn",          exact: true,  workers: 1, recording: Recording::Rows,   entries: 16,  is_filled: true },
+    Row { name: "no rows are kept",                exact: false, workers: 1, recording: Recording::NoRows, entries: 800, is_filled: false },
+    Row { name: "no rows are kept, four workers",  exact: false, workers: 4, recording: Recording::NoRows, entries: 800, is_filled: false },
+    Row { name: "no rows are kept, in turn",       exact: true,  workers: 4, recording: Recording::NoRows, entries: 800, is_filled: false },
 ];
 
 fn outcome_of<R: Threads + Abort + Wait + Sync>(

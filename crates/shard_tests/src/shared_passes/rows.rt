@@ -180,7 +180,8 @@ const TWO_WORKERS: [Row; 13] = [
     ("it leaves, and holds nothing",           W0,         Asked::Leave,          Some(Reply::Left),                   false, false),
     ("the other stays inside",                 W1,         Asked::Nothing,        None,                                true,  false),
     ("the first enters again with no cell",    W0,         Asked::Enter,          Some(Reply::Entered),                true,  false),
-    ("it finds another index",                 W0,         Asked::Look { key: 1 }, Some(Reply::Cell { cell: CellRef { shard: 0, id: 1 } }), true, false),
+    ("it finds another index",
+        W0,         Asked::Look { key: 1 }, Some(Reply::Cell { cell: CellRef { shard: 0, id: 1 } }), true, false),
     ("and the first one after it",             W0,         Asked::Look { key: 0 }, Some(Reply::Cell { cell: FIRST }),  true,  true),
     ("the controller holds nothing",           CONTROLLER, Asked::Nothing,        None,                                false, false),
     ("nor does the reclaimer",                 RECLAIMER,  Asked::Nothing,        None,                                false, false),
@@ -194,15 +195,24 @@ fn a_worker_holds_what_it_found_until_it_leaves(rt: HostRuntime) -> Result<(), F
 
 #[rattlefmt::skip]
 const HELD_AND_DELETED: [Row; 9] = [
-    ("a key is set",                              CONTROLLER, Asked::Update { key: 10, value: 7, flags: 0 }, Some(Reply::Answer { code: 0 }),   false, false),
-    ("a worker enters",                           W0,         Asked::Enter,                                  Some(Reply::Entered),              true,  false),
-    ("and finds it",                              W0,         Asked::Look { key: 10 },                       Some(Reply::Cell { cell: FIRST }), true,  true),
-    ("it is deleted",                             CONTROLLER, Asked::Delete { key: 10 },                     Some(Reply::Answer { code: 0 }),   false, false),
-    ("its cell is not freed while it is held",    RECLAIMER,  Asked::Reclaim,                                Some(Reply::Freed { count: 0 }),   false, false),
-    ("another key gets another cell",             CONTROLLER, Asked::Update { key: 11, value: 9, flags: 0 }, Some(Reply::Answer { code: 0 }),   false, false),
-    ("the held one is as it was",                 W0,         Asked::Load { id: 0 },                         Some(Reply::Word { value: 7 }),    true,  true),
-    ("the worker leaves",                         W0,         Asked::Leave,                                  Some(Reply::Left),                 false, false),
-    ("now the cell is freed",                     RECLAIMER,  Asked::Reclaim,                                Some(Reply::Freed { count: 1 }),   false, false),
+    ("a key is set",
+        CONTROLLER, Asked::Update { key: 10, value: 7, flags: 0 }, Some(Reply::Answer { code: 0 }),   false, false),
+    ("a worker enters",
+        W0,         Asked::Enter,                                  Some(Reply::Entered),              true,  false),
+    ("and finds it",
+        W0,         Asked::Look { key: 10 },                       Some(Reply::Cell { cell: FIRST }), true,  true),
+    ("it is deleted",
+        CONTROLLER, Asked::Delete { key: 10 },                     Some(Reply::Answer { code: 0 }),   false, false),
+    ("its cell is not freed while it is held",
+        RECLAIMER,  Asked::Reclaim,                                Some(Reply::Freed { count: 0 }),   false, false),
+    ("another key gets another cell",
+        CONTROLLER, Asked::Update { key: 11, value: 9, flags: 0 }, Some(Reply::Answer { code: 0 }),   false, false),
+    ("the held one is as it was",
+        W0,         Asked::Load { id: 0 },                         Some(Reply::Word { value: 7 }),    true,  true),
+    ("the worker leaves",
+        W0,         Asked::Leave,                                  Some(Reply::Left),                 false, false),
+    ("now the cell is freed",
+        RECLAIMER,  Asked::Reclaim,                                Some(Reply::Freed { count: 1 }),   false, false),
 ];
 
 #[test]
@@ -212,11 +222,16 @@ fn a_held_cell_outlives_its_key(rt: HostRuntime) -> Result<(), Fail> {
 
 #[rattlefmt::skip]
 const OF_AN_ARRAY: [Row; 5] = [
-    ("an index past the end is too big",          CONTROLLER, Asked::Update { key: 2, value: 1, flags: 1 }, Some(Reply::Answer { code: -7 }),  false, false),
-    ("an index below it exists",                  CONTROLLER, Asked::Update { key: 0, value: 1, flags: 1 }, Some(Reply::Answer { code: -17 }), false, false),
-    ("flags that there are not",                  CONTROLLER, Asked::Update { key: 0, value: 1, flags: 3 }, Some(Reply::Answer { code: -22 }), false, false),
-    ("an index that exists is set",               CONTROLLER, Asked::Update { key: 0, value: 1, flags: 2 }, Some(Reply::Answer { code: 0 }),   false, false),
-    ("no index is deleted",                       CONTROLLER, Asked::Delete { key: 0 },                     Some(Reply::Answer { code: -22 }), false, false),
+    ("an index past the end is too big",
+        CONTROLLER, Asked::Update { key: 2, value: 1, flags: 1 }, Some(Reply::Answer { code: -7 }),  false, false),
+    ("an index below it exists",
+        CONTROLLER, Asked::Update { key: 0, value: 1, flags: 1 }, Some(Reply::Answer { code: -17 }), false, false),
+    ("flags that there are not",
+        CONTROLLER, Asked::Update { key: 0, value: 1, flags: 3 }, Some(Reply::Answer { code: -22 }), false, false),
+    ("an index that exists is set",
+        CONTROLLER, Asked::Update { key: 0, value: 1, flags: 2 }, Some(Reply::Answer { code: 0 }),   false, false),
+    ("no index is deleted",
+        CONTROLLER, Asked::Delete { key: 0 },                     Some(Reply::Answer { code: -22 }), false, false),
 ];
 
 #[test]
