@@ -103,8 +103,8 @@ status is 2 if the command line is wrong, and 0 if the command was done.
 The file - is the standard input, or where a file is written the standard
 output; what the command prints goes to the standard error then.";
 
-// What a command's help says at its end. These are functions, since a literal of this length in a function that says what the command takes would be part
-// of each of its goals.
+// What a command's help says at its end. These are functions, since a literal of this length in a function that says what the command takes
+// would be part of each of its goals.
 fn after_check<'a>() -> &'a str {
     "\
 IMAGE may be a source, as asm --source reads it, in place of an image: a file

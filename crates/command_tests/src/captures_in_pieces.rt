@@ -15,7 +15,8 @@ const HEADER: [u8; 24] = [
 /// How many records a long capture has. They fill more than one window.
 const MANY: u8 = 40;
 
-/// What a row shows, what comes behind the header, how many records are read, and what comes then: `true` at the end of the file, or a fault.
+/// What a row shows, what comes behind the header, how many records are read, and what comes then: `true` at the end of the file, or a
+/// fault.
 type Row = (&'static str, &'static [u8], u64, Result<bool, CaptureFault>);
 
 #[rattlefmt::skip]

@@ -18,8 +18,8 @@ use wire::{
     record_of,
 };
 
-/// Reads a capture file (pcap 2.4, little-endian, microseconds, Ethernet) record by record. It has a buffer of 64 KiB and what it counts; the file is the
-/// one that its folder reads in pieces.
+/// Reads a capture file (pcap 2.4, little-endian, microseconds, Ethernet) record by record. It has a buffer of 64 KiB and what it counts;
+/// the file is the one that its folder reads in pieces.
 #[derive(Drop)]
 pub struct CaptureReader {
     window: Window,
@@ -49,8 +49,8 @@ fn is_cut(bytes: &[u8], kept: usize) -> bool
 impl CaptureReader {
     /// Opens a capture file and reads its header. None where the folder can only read the file whole.
     ///
-    /// Refused with 4 where the file ends in its header (record 0), with 1, 2 and 3 for its magic number, its version and its link type, in this order;
-    /// with 7 where the file cannot be opened or read; with 8 for lack of memory.
+    /// Refused with 4 where the file ends in its header (record 0), with 1, 2 and 3 for its magic number, its version and its link type, in
+    /// this order; with 7 where the file cannot be opened or read; with 8 for lack of memory.
     pub fn open<D: Folder>(
         alloc: Global,
         folder: &mut D,
@@ -163,10 +163,11 @@ impl CaptureReader {
         }
     }
 
-    /// The next records, at most `most`. Fewer come only at the end of the file, and then these and those before them are all of its records.
+    /// The next records, at most `most`. Fewer come only at the end of the file, and then these and those before them are all of its
+    /// records.
     ///
-    /// Refused with 4 and 5 where the file ends in a record, with 6 where one keeps more than 2048 bytes, with 7 where the file cannot be read on, and with
-    /// 8 for lack of memory. After a fault the reader is of no more use.
+    /// Refused with 4 and 5 where the file ends in a record, with 6 where one keeps more than 2048 bytes, with 7 where the file cannot be
+    /// read on, and with 8 for lack of memory. After a fault the reader is of no more use.
     pub fn next<D: Folder>(
         &mut self,
         alloc: Global,

@@ -16,8 +16,8 @@ use wire::MOST_GIVEN;
 /// The most bytes that are read of a device, a pipe or the standard input: one with more bytes may have no end.
 const MOST_OF_STREAM: u64 = 1 << 30;
 
-/// How many bytes more than its front a device or a pipe is said to have, if it has more: as many as a slot has, so that an image that is read no
-/// further has whole slots.
+/// How many bytes more than its front a device or a pipe is said to have, if it has more: as many as a slot has, so that an image that is
+/// read no further has whole slots.
 const MORE: u64 = 8;
 
 /// The longest name that the system takes.
@@ -52,8 +52,8 @@ pub const STANDARD_INPUT: &str = "/dev/stdin";
 /// The name of the program's standard output.
 pub const STANDARD_OUTPUT: &str = "/dev/stdout";
 
-/// The system's files, whose bytes no contract knows. Two names are not opened: what is read of `/dev/stdin` comes from the standard input, and what is
-/// written to `/dev/stdout` goes to the standard output, behind what was written there before.
+/// The system's files, whose bytes no contract knows. Two names are not opened: what is read of `/dev/stdin` comes from the standard input,
+/// and what is written to `/dev/stdout` goes to the standard output, behind what was written there before.
 #[derive(Drop)]
 pub struct FileFolder<'a, R: Files, I, O> {
     rt: &'a R,
@@ -130,8 +130,8 @@ fn read_on<S: Read>(
     }
 }
 
-/// Reads the next bytes of a file after the `given` bytes that were read before, and returns how many: none at its end. No more than 2^40 may
-/// be read in all.
+/// Reads the next bytes of a file after the `given` bytes that were read before, and returns how many: none at its end. No more than 2^40
+/// may be read in all.
 fn read_piece<S: Read>(reader: &mut S, buffer: &mut [u8], given: u64) -> Result<usize, Failure>
     requires { given ≤ 2 ^ 40 }
     ensures within { IfOk result (λ count. count ≤ length buffer.new) }
@@ -319,8 +319,8 @@ fn unfinished_name<'a>(room: &'a mut [u8; LONGEST_NAME], name: &str) -> Option<&
     str::from_utf8(&room[..end + UNFINISHED.len()]).ok()
 }
 
-/// A new file beside this name, and the name that it has until it is finished. None where the name is no ordinary file's or no new file can be made
-/// beside it: then the bytes are written under the name itself.
+/// A new file beside this name, and the name that it has until it is finished. None where the name is no ordinary file's or no new file can
+/// be made beside it: then the bytes are written under the name itself.
 fn beside<'a, R: Files>(
     rt: &R,
     room: &'a mut [u8; LONGEST_NAME],
@@ -348,8 +348,8 @@ fn fill<R: Files>(
     named(rt, unfinished, name)
 }
 
-/// Makes a file of the bytes: beside its name, so that whoever finds the name finds all bytes; or under its name, where that is no ordinary file's or no
-/// new file can be made beside it. Takes no memory.
+/// Makes a file of the bytes: beside its name, so that whoever finds the name finds all bytes; or under its name, where that is no ordinary
+/// file's or no new file can be made beside it. Takes no memory.
 fn make<R: Files>(rt: &R, name: &str, bytes: &[u8]) -> Result<(), Failure> {
     let mut room = [0; LONGEST_NAME];
     match beside(rt, &mut room, name) {
@@ -489,8 +489,8 @@ impl<R: Files, I: Read, O: Write> FileFolder<'_, R, I, O> {
         Ok(self.front(alloc, name, usize::MAX)?.bytes)
     }
 
-    /// A file that can be read in pieces; none where it can only be read whole. A device or a pipe is not opened: what was read of it is lost when
-    /// it is closed.
+    /// A file that can be read in pieces; none where it can only be read whole. A device or a pipe is not opened: what was read of it is
+    /// lost when it is closed.
     fn ordinary(&self, name: &str) -> Result<Option<R::File>, Failure> {
         if name == STANDARD_INPUT {
             return Ok(None);

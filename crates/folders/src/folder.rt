@@ -56,8 +56,8 @@ impl Front {
 
 /// Files by their names: in memory, or the system's.
 ///
-/// A file is read and written whole, or in pieces: `open` and then `next` until nothing more comes; `begin`, `add` and then `finish`, before which no file
-/// of the name is changed. At most one file is read in pieces at a time, and one made.
+/// A file is read and written whole, or in pieces: `open` and then `next` until nothing more comes; `begin`, `add` and then `finish`,
+/// before which no file of the name is changed. At most one file is read in pieces at a time, and one made.
 pub trait Folder {
     /// The file of a name has these bytes; anything may where the type does not say it.
     ghost holds: { Self → List ℕ → List ℕ → Type 0 };
@@ -86,9 +86,9 @@ pub trait Folder {
         ensures device { IsErrOf result FolderFault.Device ↔ (failure_count self.new ≡ failure_count self.old + 1) }
         ensures no_device { IsErrOf result FolderFault.Memory → failure_count self.new ≡ failure_count self.old };
 
-    /// The first bytes of a file, at most `most`, and how many it has. It takes no memory for more, however long the file is. A device or a pipe has
-    /// no length: the front of one that has more counts as 8 bytes longer than what is returned, and `read` of the same name, if nothing else is read
-    /// before, returns the front and the rest.
+    /// The first bytes of a file, at most `most`, and how many it has. It takes no memory for more, however long the file is. A device or a
+    /// pipe has no length: the front of one that has more counts as 8 bytes longer than what is returned, and `read` of the same name, if
+    /// nothing else is read before, returns the front and the rest.
     fn read_front(&mut self, alloc: Global, name: &str, most: usize) -> Result<Front, FolderFault>
         requires { failure_count self.old < 2 ^ 64 - 1 }
         ensures front { IfOk result (HasFront (holds self.old name.now) most) }
@@ -106,8 +106,8 @@ pub trait Folder {
         ensures device { IsErrOf result FolderFault.Device ↔ (failure_count self.new ≡ failure_count self.old + 1) }
         ensures no_device { IsErrOf result FolderFault.Memory → failure_count self.new ≡ failure_count self.old };
 
-    /// Begins to read a file in pieces, in place of one that was read so before. `false` where it can only be read whole: the standard input, a pipe, a
-    /// device. Then, and after a fault, nothing is left to read in pieces.
+    /// Begins to read a file in pieces, in place of one that was read so before. `false` where it can only be read whole: the standard
+    /// input, a pipe, a device. Then, and after a fault, nothing is left to read in pieces.
     fn open(&mut self, alloc: Global, name: &str) -> Result<bool, FolderFault>
         requires { failure_count self.old < 2 ^ 64 - 1 }
         ensures opened { IfOk result (λ in_pieces. IsTrue in_pieces → IsOpened (holds self.old name.now) (is_left self.new)) }
@@ -118,7 +118,8 @@ pub trait Folder {
         ensures device { IsErrOf result FolderFault.Device ↔ (failure_count self.new ≡ failure_count self.old + 1) }
         ensures no_device { IsErrOf result FolderFault.Memory → failure_count self.new ≡ failure_count self.old };
 
-    /// Fills a front of the buffer with the next bytes of the file that is read in pieces, and says how many: none at the end, nor where none is read.
+    /// Fills a front of the buffer with the next bytes of the file that is read in pieces, and says how many: none at the end, nor where
+    /// none is read.
     ///
     /// Refused with 7, where the file cannot be read on or has more than 2^40 bytes.
     fn next(&mut self, buffer: &mut [u8]) -> Result<usize, FolderFault>
@@ -133,8 +134,8 @@ pub trait Folder {
         ensures only_device { IfErr result (λ fault. fault ≡ FolderFault.Device) }
         ensures counted { OnErr result (failure_count self.new ≡ failure_count self.old + 1) };
 
-    /// Begins to make a file in pieces, in place of one that was begun before, which is removed. `false` where it can only be written whole: a device,
-    /// a link, the standard output, and wherever the type needs to. Then, and after a fault, no file is begun.
+    /// Begins to make a file in pieces, in place of one that was begun before, which is removed. `false` where it can only be written
+    /// whole: a device, a link, the standard output, and wherever the type needs to. Then, and after a fault, no file is begun.
     fn begin(&mut self, alloc: Global, name: &str) -> Result<bool, FolderFault>
         requires { failure_count self.old < 2 ^ 64 - 1 }
         ensures begun { IfOk result (λ in_pieces. IsTrue in_pieces → is_begun self.new name.now []) }
@@ -157,8 +158,8 @@ pub trait Folder {
         ensures device { IsErrOf result FolderFault.Device ↔ (failure_count self.new ≡ failure_count self.old + 1) }
         ensures no_device { IsErrOf result FolderFault.Memory → failure_count self.new ≡ failure_count self.old };
 
-    /// Renames the file that is made in pieces to its name, in place of a file that has the name already. After a fault it is removed, and that file is as
-    /// it was. Refused with 7 where no file is begun.
+    /// Renames the file that is made in pieces to its name, in place of a file that has the name already. After a fault it is removed, and
+    /// that file is as it was. Refused with 7 where no file is begun.
     fn finish(&mut self) -> Result<(), FolderFault>
         requires { failure_count self.old < 2 ^ 64 - 1 }
         ensures written { OnOk result ((name bytes : List ℕ) → is_begun self.old name bytes → holds self.new name bytes) }

@@ -37,7 +37,8 @@ impl Model for Window {
         (window.at ≤ window.end) × (window.end ≤ length window.bytes.items) × (2064 ≤ length window.bytes.items) };
 }
 
-/// Reads on into the buffer, which has `end` bytes, until a whole record must be there or the file has ended, and says how many bytes are there then.
+/// Reads on into the buffer, which has `end` bytes, until a whole record must be there or the file has ended, and says how many bytes are
+/// there then.
 fn read_on<D: Folder>(folder: &mut D, bytes: &mut [u8], end: usize) -> Result<usize, FolderFault>
     requires failures { D.failure_count folder.old < 2 ^ 64 - 1 }
     requires room { (end ≤ length bytes.old) × (2064 ≤ length bytes.old) }

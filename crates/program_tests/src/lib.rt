@@ -1,5 +1,5 @@
-//! Tests of the public calls of `faults`, `isa`, `ebpf_decode`, `disasm`, `source_form`, `abstract_scalar`, `abstract_state`, `image_shape`,
-//! `verifier`, `reasons`, `map_updates`, `helpers`, `machine` and `command_line`.
+//! Tests of the public calls of `faults`, `isa`, `ebpf_decode`, `disasm`, `source_form`, `abstract_scalar`, `abstract_state`,
+//! `image_shape`, `verifier`, `reasons`, `map_updates`, `helpers`, `machine` and `command_line`.
 #![tactic(auto)]
 
 #[cfg(test)]

@@ -60,8 +60,8 @@ fn opened(alloc: Global, row: &Row<'_>) -> Result<Opened, Fail> {
     Ok(Opened::open(alloc, &image, options)?)
 }
 
-/// A script over new shards, or this many rounds of the reclaimer: the number of each command's fault (0: none), for how many answers the gate
-/// was called, and how many entries each shard's journal has.
+/// A script over new shards, or this many rounds of the reclaimer: the number of each command's fault (0: none), for how many answers the
+/// gate was called, and how many entries each shard's journal has.
 #[derive(Clone, Copy)]
 struct Row<'a> {
     name: &'a str,
@@ -192,8 +192,9 @@ fn applied_to_new<R: Abort + Wait>(rt: &R, alloc: Global, row: &Row<'_>) -> Resu
     applied::<Brand, R>(rt, alloc, opened, row)
 }
 
-/// Slots 0, 2, 4 and 6 are one shard's, the odd ones the other's. A refused command asks nothing, and the gate is not called for it; later ones
-/// go on. In the last row the third table meets a full journal at its third slot: the record and two slots remain, and every later command is refused.
+/// Slots 0, 2, 4 and 6 are one shard's, the odd ones the other's. A refused command asks nothing, and the gate is not called for it; later
+/// ones go on. In the last row the third table meets a full journal at its third slot: the record and two slots remain, and every later
+/// command is refused.
 #[rattlefmt::skip]
 const SCRIPTS: [Row<'static>; 4] = [
     Row {

@@ -267,9 +267,9 @@ fn each_record_is_run_once(rt: HostRuntime) -> Result<(), Fail> {
     Ok(())
 }
 
-/// Which worker is refused memory at which of its runs (0: at none), whether the controller and the reclaimer are, the fault (0: none), and how many
-/// frames that worker is asked to run. Of 1000 frames by four workers the first one runs 250, so that its queue is full several times after it was
-/// refused.
+/// Which worker is refused memory at which of its runs (0: at none), whether the controller and the reclaimer are, the fault (0: none), and
+/// how many frames that worker is asked to run. Of 1000 frames by four workers the first one runs 250, so that its queue is full several
+/// times after it was refused.
 type RefusalRow = (&'static str, u8, u64, bool, bool, u8, u64);
 
 #[rattlefmt::skip]

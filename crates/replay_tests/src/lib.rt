@@ -1,4 +1,5 @@
-//! Tests of the public calls of `wire`, `journals`, `runs`, `rx_queues`, `maglev`, `ipip`, `conntrack`, `control`, `steer`, `replay` and `guarantees`.
+//! Tests of the public calls of `wire`, `journals`, `runs`, `rx_queues`, `maglev`, `ipip`, `conntrack`, `control`, `steer`, `replay` and
+//! `guarantees`.
 #![tactic(auto)]
 
 #[cfg(test)]

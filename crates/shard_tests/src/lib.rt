@@ -1,5 +1,5 @@
-//! Tests of the public calls of `test_support`, `epochs`, `map_cells`, `plain_maps`, `lru_maps`, `journal`, `shard_core`, `journals`, `audit`,
-//! `shards` and `shard_port`.
+//! Tests of the public calls of `test_support`, `epochs`, `map_cells`, `plain_maps`, `lru_maps`, `journal`, `shard_core`, `journals`,
+//! `audit`, `shards` and `shard_port`.
 #![tactic(auto)]
 
 #[cfg(test)]

@@ -1,4 +1,5 @@
-//! What the tests of several crates use: the definitions of a map, run; instructions and programs; scripts and journals. The program runs none of it.
+//! What the tests of several crates use: the definitions of a map, run; instructions and programs; scripts and journals. The program runs
+//! none of it.
 #![tactic(auto)]
 
 pub mod files;

@@ -46,8 +46,8 @@ fn unread<R: Eprint>(rt: &R, error: &io::Error) -> u8 {
     BAD_WORDS
 }
 
-/// Prints why words are no command, or the help or the version that they ask for. Returns the status of the words, whatever the standard error takes;
-/// where the standard output does not take the help or the version, that is fault 7.
+/// Prints why words are no command, or the help or the version that they ask for. Returns the status of the words, whatever the standard
+/// error takes; where the standard output does not take the help or the version, that is fault 7.
 fn tell<R: Print + Eprint>(rt: &R, fault: &WordsFault<'_>) -> u8 {
     if lacks_memory(fault) {
         let _ = eprintln!(rt; "{NO_MEMORY}");
@@ -92,7 +92,8 @@ fn read<'a>(rt: &HostRuntime, words: &'a [String]) -> Result<Settings<'a>, u8> {
     }
 }
 
-/// Reads the command line and does what it says. Where a file of the command is the standard output, what the command prints goes to the standard error.
+/// Reads the command line and does what it says. Where a file of the command is the standard output, what the command prints goes to the
+/// standard error.
 fn main(rt: HostRuntime) -> io::Result<ExitCode> {
     let alloc = rt.alloc();
     let words = match words_of(&rt) {

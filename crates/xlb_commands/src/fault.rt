@@ -46,7 +46,8 @@ pub enum Fault {
     Script(ControlFault),
     /// 1 to 8: bytes that are no capture.
     Capture(CaptureFault),
-    /// 51, 52 or 56: a replay that was given up. 93 or 94: an update before its first frame that its map refused, or whose journal was full.
+    /// 51, 52 or 56: a replay that was given up. 93 or 94: an update before its first frame that its map refused, or whose journal was
+    /// full.
     Replay(ReplayFault),
     /// 7: what was to be printed could not be.
     Output,

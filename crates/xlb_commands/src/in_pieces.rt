@@ -1,9 +1,9 @@
-//! An exact replay whose capture is read, and whose sent frames are written, in pieces: its memory does not grow with the capture, unless the journals
-//! keep their rows.
+//! An exact replay whose capture is read, and whose sent frames are written, in pieces: its memory does not grow with the capture, unless
+//! the journals keep their rows.
 //!
-//! The capture is read twice: once to see that it is one, before anything is run, and once while its frames are run. Where it cannot be read in pieces, or
-//! the file of the sent frames cannot be made in pieces, or the capture is none or was changed in between, nothing was written, and the replay is
-//! made with the whole capture in memory, which also says what is wrong with it.
+//! The capture is read twice: once to see that it is one, before anything is run, and once while its frames are run. Where it cannot be
+//! read in pieces, or the file of the sent frames cannot be made in pieces, or the capture is none or was changed in between, nothing was
+//! written, and the replay is made with the whole capture in memory, which also says what is wrong with it.
 
 ghost use Rattle.std.specs.Prelude.{◌≡◌, ◌≢◌, ◌↔◌, ◌⊎◌, ◌+◌, ◌*◌, ◌++◌, ◌-◌, ◌<◌, ◌≤◌, ◌^◌};
 ghost use Rattle.std.specs.Prelude.{ℕ, [], true, false};
@@ -600,7 +600,8 @@ fn finish_sent<D: Folder>(alloc: Global, folder: &mut D, name: &str) -> Result<(
     }
 }
 
-/// Makes the replay in pieces. None where the folder does not read or make the files so, or where the file is no capture: then no file is changed.
+/// Makes the replay in pieces. None where the folder does not read or make the files so, or where the file is no capture: then no file is
+/// changed.
 pub(crate) fn replay_in_pieces<D: Folder, P: Progress + Sync>(
     alloc: Global,
     folder: &mut D,

@@ -59,7 +59,8 @@ fn elements_of(
     Ok(elements)
 }
 
-/// The line of each backend that has slots of the lookup table at the end, if the maps are those of steering and the rows of the journals are kept.
+/// The line of each backend that has slots of the lookup table at the end, if the maps are those of steering and the rows of the journals
+/// are kept.
 pub(crate) fn put_shares(
     alloc: Global,
     text: &mut String,

@@ -1,4 +1,5 @@
-//! What each command of `xlb` does: images of eBPF programs checked, run on a frame, printed and assembled, captures replayed, journals audited.
+//! What each command of `xlb` does: images of eBPF programs checked, run on a frame, printed and assembled, captures replayed, journals
+//! audited.
 #![tactic(auto)]
 
 mod clashes;

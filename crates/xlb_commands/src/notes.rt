@@ -91,7 +91,8 @@ impl Notes<'_> {
         Ok(text)
     }
 
-    /// What the capture has, where its frames went, why others were not sent, and which frames went elsewhere than the frame of their flow before.
+    /// What the capture has, where its frames went, why others were not sent, and which frames went elsewhere than the frame of their flow
+    /// before.
     fn put_summary(
         &self,
         alloc: Global,

@@ -450,8 +450,8 @@ struct Leavings {
     report: Report,
 }
 
-/// What a replay of a capture leaves, with these notes. The bytes of the journals and the lines of the records are made where a file is named for
-/// them.
+/// What a replay of a capture leaves, with these notes. The bytes of the journals and the lines of the records are made where a file is
+/// named for them.
 fn left_of(
     alloc: Global,
     files: &ReplayFiles<'_>,
@@ -650,10 +650,10 @@ fn replay_once<R: Threads + Wait + Sync, D: Folder, P: Progress + Sync>(
     }
 }
 
-/// Runs the frames of a capture, and writes those that are sent, and the journals and a line for each record where files are named for them. All
-/// input is read and checked before anything starts: the image, the script, the capture, then the options. Before the first frame the controller makes the
-/// updates; ones that the image's maps do not take are a mistake of the command line, and then neither script nor capture is read. No file is made where
-/// one is refused, nor where memory is refused for anything that is written or printed.
+/// Runs the frames of a capture, and writes those that are sent, and the journals and a line for each record where files are named for
+/// them. All input is read and checked before anything starts: the image, the script, the capture, then the options. Before the first frame
+/// the controller makes the updates; ones that the image's maps do not take are a mistake of the command line, and then neither script nor
+/// capture is read. No file is made where one is refused, nor where memory is refused for anything that is written or printed.
 pub fn replay_files<R: Threads + Wait + Sync, D: Folder, P: Progress + Sync>(
     rt: &R,
     alloc: Global,

@@ -202,7 +202,8 @@ fn print_below<E: Sink>(err: &mut E, text: &[u8])
     print(err, &text[1..]);
 }
 
-/// Prints the notes of a report as lines that each begin with two blanks: those below an empty line. Without memory for them nothing is printed.
+/// Prints the notes of a report as lines that each begin with two blanks: those below an empty line. Without memory for them nothing is
+/// printed.
 fn print_notes<E: Sink>(alloc: Global, report: &Report, err: &mut E)
     requires { E.failure_count err.old < 2 ^ 64 - 1 }
     ensures { AreNotesPrinted (stream (E.held err.old) (E.failure_count err.old)) (stream (E.held err.new) (E.failure_count err.new)) }
@@ -277,12 +278,12 @@ fn status_of(is_refused: bool) -> u8
     if is_refused { REFUSED } else { DONE }
 }
 
-/// Does what the settings say, over the files of a folder: prints what the command prints and returns 0; or prints the line of the first fault
-/// of what the command reads on `err`, with notes for people below it, and returns 1. The fault is 7 where what the command prints could not be
-/// printed; the line is that of fault 8 where there was no memory for it. Where commands of a replay's script were refused, the report is printed
-/// and names them, and the status is 1. Where the image's maps do not take an update of a run or a replay, or a file that is to be written is
-/// another one of the command's, that is printed on `err`, and the status is 2, as of other mistakes in the command's words. After the report of
-/// a run, of a replay, or of tables, lines for people may follow on `err`.
+/// Does what the settings say, over the files of a folder: prints what the command prints and returns 0; or prints the line of the first
+/// fault of what the command reads on `err`, with notes for people below it, and returns 1. The fault is 7 where what the command prints
+/// could not be printed; the line is that of fault 8 where there was no memory for it. Where commands of a replay's script were refused,
+/// the report is printed and names them, and the status is 1. Where the image's maps do not take an update of a run or a replay, or a file
+/// that is to be written is another one of the command's, that is printed on `err`, and the status is 2, as of other mistakes in the
+/// command's words. After the report of a run, of a replay, or of tables, lines for people may follow on `err`.
 pub fn serve<R: Threads + Wait + Sync, D: Folder, P: Progress + Sync, O: Sink, E: Sink>(
     rt: &R,
     alloc: Global,

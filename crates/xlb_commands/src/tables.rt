@@ -48,8 +48,8 @@ fn shown(alloc: Global, script: &Script, ring: u32) -> Result<Report, AllocError
     })
 }
 
-/// Prints the lookup table of `ring` slots after each command of a script's file. Refused with 73 where no table has the size, then 7 or 8 where the file is
-/// not read, 90 or 95 where it is no script; and 8 where memory is refused for the lines. No file changes.
+/// Prints the lookup table of `ring` slots after each command of a script's file. Refused with 73 where no table has the size, then 7 or 8
+/// where the file is not read, 90 or 95 where it is no script; and 8 where memory is refused for the lines. No file changes.
 pub fn table_file<D: Folder>(
     alloc: Global,
     folder: &mut D,

@@ -8,8 +8,8 @@ use std::process::Abort;
 use std::sync::Wait;
 use std::thread::Threads;
 
-/// What a row shows, the image's map, the header's numbers, the entries, and what is printed: the entry that is not legal, and its line; nothing where
-/// all are.
+/// What a row shows, the image's map, the header's numbers, the entries, and what is printed: the entry that is not legal, and its line;
+/// nothing where all are.
 type Row = (
     &'static str,
     &'static str,

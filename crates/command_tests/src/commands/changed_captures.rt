@@ -1,4 +1,5 @@
-//! Exact replays of a capture that changes between the two times that it is read: while its frames are run it is another one, or none any more.
+//! Exact replays of a capture that changes between the two times that it is read: while its frames are run it is another one, or none any
+//! more.
 
 ghost use Rattle.std.specs.Prelude.{◌≡◌};
 
@@ -111,8 +112,8 @@ impl Folder for ChangingFolder {
     }
 }
 
-/// What a row shows; how many records the capture has at first; the first bytes of the file that it is later, how many records behind them, and its
-/// last bytes; the status, and what is printed on both streams. What is sent is the later capture; nothing where it is none.
+/// What a row shows; how many records the capture has at first; the first bytes of the file that it is later, how many records behind them,
+/// and its last bytes; the status, and what is printed on both streams. What is sent is the later capture; nothing where it is none.
 type Row = (
     &'static str,
     u16,

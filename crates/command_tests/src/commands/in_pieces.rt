@@ -1,5 +1,5 @@
-//! Exact replays, whose captures are read in pieces of 1,024 records, and whose sent frames are written in pieces: they come to what the replay of a
-//! whole capture in memory comes to, and to what was worked out.
+//! Exact replays, whose captures are read in pieces of 1,024 records, and whose sent frames are written in pieces: they come to what the
+//! replay of a whole capture in memory comes to, and to what was worked out.
 
 ghost use Rattle.std.specs.Prelude.{◌≡◌};
 
@@ -244,8 +244,8 @@ fn put_times<R: Abort>(rt: &R, alloc: Global, bytes: &mut Vec<u8>, digits: &str,
 const SERVED: &str =
     "0 gateway 10.0.0.9 02:00:00:00:00:0a 02:00:00:00:00:0b\n0 vip 203.0.113.1 80 udp\n0 up 0 192.0.2.1\n";
 
-/// What a row shows; the script behind `SERVED`; how many datagrams of one flow are captured, how many of them go to the first backend, before the others go
-/// to the second one; the status, and what is printed on both streams.
+/// What a row shows; the script behind `SERVED`; how many datagrams of one flow are captured, how many of them go to the first backend,
+/// before the others go to the second one; the status, and what is printed on both streams.
 type Steered = (
     &'static str,
     &'static str,
@@ -570,8 +570,8 @@ fn journals_are_those_of_the_whole_way(rt: HostRuntime) {
     compare_steered_journals(&rt, rt.alloc(), "steered", 1030);
 }
 
-/// What a row shows, the words for a replay of 1,025 records, which call fails and its number from 0, the status, what is printed on the error stream,
-/// and how many bytes the sent file has, none where it isn't made.
+/// What a row shows, the words for a replay of 1,025 records, which call fails and its number from 0, the status, what is printed on the
+/// error stream, and how many bytes the sent file has, none where it isn't made.
 type Failing = (
     &'static str,
     &'static str,
@@ -589,8 +589,8 @@ const NO_SENT: &str = "fault 7 Device\n  sent failed\n";
 
 const NO_READ: &str = "fault 7 Device\n  capture failed\n";
 
-/// The whole capture has room in the reader's buffer: it takes one call of `next`, and from record 957 on, where fewer than 2,064 bytes are unread, one more
-/// before each record and one at the end. So the first reading has 70 of these calls.
+/// The whole capture has room in the reader's buffer: it takes one call of `next`, and from record 957 on, where fewer than 2,064 bytes are
+/// unread, one more before each record and one at the end. So the first reading has 70 of these calls.
 #[rattlefmt::skip]
 const FAILING: [Failing; 18] = [
     ("the first reading is not opened",              "--exact", FolderCall::Open,   0,  1, NO_READ, None),
@@ -636,7 +636,8 @@ fn left_in_failing<R: Abort + Threads + Wait + Sync>(
     left_over(rt, alloc, folder, &line, weakness, NEVER, NEVER)
 }
 
-/// Compares a replay of a row, in a folder that has a file of the name that the sent frames are to have: where it isn't made, the file stays as it was.
+/// Compares a replay of a row, in a folder that has a file of the name that the sent frames are to have: where it isn't made, the file
+/// stays as it was.
 fn compare_failing<R: Abort + Threads + Wait + Sync>(rt: &R, alloc: Global, row: &Failing) {
     let (name, _words, _call, _fails_at, status, err, sent) = *row;
     let folder = put(rt, alloc, MemoryFolder::new(alloc), "sent", b"old");

@@ -41,8 +41,8 @@ fn capture(alloc: Global, bytes_of_last: usize) -> Result<Vec<u8>, AllocError> {
     Ok(bytes)
 }
 
-/// What a row shows; how many bytes of the last record there are; the words after the files; what it comes to: its status, its report and its fault, or
-/// its notes; and the digits of the sent file, nothing where there is no such file.
+/// What a row shows; how many bytes of the last record there are; the words after the files; what it comes to: its status, its report and
+/// its fault, or its notes; and the digits of the sent file, nothing where there is no such file.
 type Row = (
     &'static str,
     usize,

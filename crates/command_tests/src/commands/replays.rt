@@ -178,8 +178,9 @@ const TWO_BACKENDS: &str = "0 up 2 192.0.2.3\n0 up 0 192.0.2.1\n0 up 6 192.0.2.4
 
 const NO_TUNNEL: &str = "0 vip 203.0.113.1 80 udp\n0 up 0 192.0.2.1\n";
 
-/// What a row shows; what a replay is given: the image's text (none: the shipped program), the script, the digits of the capture, and the words
-/// after its files; and what it comes to: its status, its report, its fault, and the digits of the sent file, nothing where there is no such file.
+/// What a row shows; what a replay is given: the image's text (none: the shipped program), the script, the digits of the capture, and the
+/// words after its files; and what it comes to: its status, its report, its fault, and the digits of the sent file, nothing where there is
+/// no such file.
 type Row = (
     &'static str,
     &'static str,

@@ -11,8 +11,8 @@ const HEADER: [u8; 24] = [
     0xd4, 0xc3, 0xb2, 0xa1, 2, 0, 4, 0, 0, 0, 0, 0, 0, 0, 0, 0, 0, 0, 4, 0, 1, 0, 0, 0,
 ];
 
-/// What a row shows; how many bytes each of three records keeps, and whether it stays; how many bytes of the file are missing at its end; and how many
-/// records are left out.
+/// What a row shows; how many bytes each of three records keeps, and whether it stays; how many bytes of the file are missing at its end;
+/// and how many records are left out.
 type Row = (&'static str, u16, bool, u16, bool, u16, bool, usize, u64);
 
 #[rattlefmt::skip]

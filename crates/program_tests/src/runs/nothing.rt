@@ -7,7 +7,8 @@ use isa::AtomicOp;
 use map_port::MapPort;
 use semantics::{JournalFull, Key, Value};
 
-/// The port of an image's maps, one shard each: lookups are refused, and updates and deletions are answered by -22. It would read 0 from any cell.
+/// The port of an image's maps, one shard each: lookups are refused, and updates and deletions are answered by -22. It would read 0 from
+/// any cell.
 #[derive(Drop)]
 pub(super) struct NothingPort<'a> {
     image: &'a Image,

@@ -24,7 +24,8 @@ pub(super) fn exit(verdict: Verdict, steps: u64) -> Exit {
     Exit { verdict, steps }
 }
 
-/// A run of worker 2, what it comes to, and the entries that it leaves in the journal of one shard, each as what was asked and what was replied.
+/// A run of worker 2, what it comes to, and the entries that it leaves in the journal of one shard, each as what was asked and what was
+/// replied.
 #[derive(Clone, Copy)]
 pub(super) struct Run<'a> {
     pub(super) name: &'a str,

@@ -157,8 +157,8 @@ pub(super) struct ChangeFrames {
 
 const LONG: ChangeFrames = ChangeFrames { up: 137, down: 200 };
 
-/// Without tracking a frame goes to the owner of its slot: to backend 0 alone, then to backend 1 at slots 0, 3 and 6, and at last to backend 1 alone. The last
-/// byte of its address is one more.
+/// Without tracking a frame goes to the owner of its slot: to backend 0 alone, then to backend 1 at slots 0, 3 and 6, and at last to
+/// backend 1 alone. The last byte of its address is one more.
 fn backend_of(number: usize, slot: u8, changes: ChangeFrames) -> u8 {
     let is_of_1 = slot % 3 == 0;
     if number < changes.up || (number < changes.down && !is_of_1) {

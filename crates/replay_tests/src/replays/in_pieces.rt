@@ -277,7 +277,8 @@ fn pieces_are_replayed_as_the_whole(rt: HostRuntime) -> Result<(), Fail> {
 /// The sizes of the pieces that each row below is made in.
 const SIZES: [usize; 5] = [1, 63, 64, 65, 200];
 
-/// How many records a capture has, and with which numbers the gate is called for them, as decimal digits. The round behind the last record is not one of them.
+/// How many records a capture has, and with which numbers the gate is called for them, as decimal digits. The round behind the last record
+/// is not one of them.
 #[rattlefmt::skip]
 const ROUNDS: [(&str, usize, u64); 7] = [
     ("no record",    0,   0),

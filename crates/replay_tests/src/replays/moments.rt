@@ -25,8 +25,8 @@ const FIRST_RUN: u64 = 14;
 
 const LIMIT: u32 = 400_000_000;
 
-/// A gate that holds the worker at its first reply until the command of frame 65 came, but no longer than its limit of turns, and looks after a
-/// while whether a later one came.
+/// A gate that holds the worker at its first reply until the command of frame 65 came, but no longer than its limit of turns, and looks
+/// after a while whether a later one came.
 #[derive(Drop)]
 struct Held {
     worker: AtomicU64,
@@ -87,8 +87,8 @@ impl Gate for Held {
     }
 }
 
-/// A hundred frames of one flow by one worker, which is held at its first frame. Then the queue takes 64 frames more: so 65 were handed out, and no
-/// more. The command of frame 65 comes then, that of frame 66 only when the first frame is done.
+/// A hundred frames of one flow by one worker, which is held at its first frame. Then the queue takes 64 frames more: so 65 were handed
+/// out, and no more. The command of frame 65 comes then, that of frame 66 only when the first frame is done.
 fn compare_held<R: Threads + Abort + Wait + Sync>(rt: &R, alloc: Global) -> Result<(), Fail> {
     let name = "a worker that is held at the first frame";
     let verified = verify(alloc, shipped(alloc, 7)?)?;

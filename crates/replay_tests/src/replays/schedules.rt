@@ -13,8 +13,8 @@ use std::test::Fail;
 use std::thread::Threads;
 use test_support::programs::{COUNTS_TO_THREE, READS_ONE};
 
-/// How often the processor pauses in a turn of a gate that waits. Ten million turns take about a second: on a loaded machine a thread may have to wait long
-/// for a processor.
+/// How often the processor pauses in a turn of a gate that waits. Ten million turns take about a second: on a loaded machine a thread may
+/// have to wait long for a processor.
 const PAUSES: u32 = 40;
 
 /// What a gate that waits does between two looks.
@@ -24,7 +24,8 @@ fn pause() {
     }
 }
 
-/// A gate that holds each worker below a number, at its first reply, until this many workers have had one, but no longer than its limit of turns.
+/// A gate that holds each worker below a number, at its first reply, until this many workers have had one, but no longer than its limit of
+/// turns.
 #[derive(Drop)]
 struct Meeting {
     held: u8,
@@ -216,8 +217,8 @@ fn journals_that_are_full(rt: HostRuntime) -> Result<(), Fail> {
     Ok(())
 }
 
-/// A replay with a gate that holds the workers below a number until this many have had a reply, or up to its limit: how many have had one at the end, and
-/// how many were held up to the limit.
+/// A replay with a gate that holds the workers below a number until this many have had a reply, or up to its limit: how many have had one
+/// at the end, and how many were held up to the limit.
 #[derive(Clone, Copy)]
 struct Held {
     row: Row<'static>,

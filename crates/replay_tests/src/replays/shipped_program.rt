@@ -101,8 +101,9 @@ pub(super) const LATER: &str = "2 vip 203.0.113.1 81 tcp
 10 down 0
 ";
 
-/// A replay for a lookup table of seven slots. By Maglev's population backend 1 takes slots 0, 3 and 6 from backend 0, and leaves it 1, 2, 4 and 5. The flow of
-/// port 40001 has slot 1, 40002 3, 40003 3, 40004 0, 40005 1, 40007 0 and 40008 4; of two workers the second one has the odd ports.
+/// A replay for a lookup table of seven slots. By Maglev's population backend 1 takes slots 0, 3 and 6 from backend 0, and leaves it 1, 2,
+/// 4 and 5. The flow of port 40001 has slot 1, 40002 3, 40003 3, 40004 0, 40005 1, 40007 0 and 40008 4; of two workers the second one has
+/// the odd ports.
 #[derive(Clone, Copy)]
 struct Row {
     name: &'static str,
@@ -146,8 +147,8 @@ pub(super) const FEW_KEPT: &[(u16, u8)] = &[
     (40002, 1), (40003, 1), (40002, 1), (40003, 1), (40004, 2), (40002, 2), (40003, 2),
 ];
 
-/// A new flow has 14 replies, a noted backend that is up 12, one that is not up 17, and a frame of a service without tracking 12. Backend 1 comes up with 4
-/// replies, backend 0 goes down and comes up with 5 each.
+/// A new flow has 14 replies, a noted backend that is up 12, one that is not up 17, and a frame of a service without tracking 12. Backend 1
+/// comes up with 4 replies, backend 0 goes down and comes up with 5 each.
 #[rattlefmt::skip]
 const ROWS: [Row; 3] = [
     Row {
@@ -188,8 +189,8 @@ const ROWS: [Row; 3] = [
     },
 ];
 
-/// The Ethernet header of a sent frame, and its outer header: a packet of 60 bytes from 10.0.0.9 to 192.0.2.0, without the backend's part of checksum
-/// and address.
+/// The Ethernet header of a sent frame, and its outer header: a packet of 60 bytes from 10.0.0.9 to 192.0.2.0, without the backend's part
+/// of checksum and address.
 #[rattlefmt::skip]
 const HEAD: [u8; 34] = [
     2, 0, 0, 0, 0, 0x0b, 2, 0, 0, 0, 0, 0x0a, 8, 0,
@@ -321,7 +322,8 @@ fn backends_change_between_frames(rt: HostRuntime) -> Result<(), Fail> {
     Ok(())
 }
 
-/// Between the first two of three frames backend 1 comes up and takes the flow's slot, which is 0; between the last two backend 0 goes down.
+/// Between the first two of three frames backend 1 comes up and takes the flow's slot, which is 0; between the last two backend 0 goes
+/// down.
 const CHANGES: &str = "1 vip 203.0.113.1 81 tcp
 1 up 1 192.0.2.2
 2 vip 203.0.113.1 81 tcp

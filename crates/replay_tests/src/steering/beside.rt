@@ -1,5 +1,5 @@
-//! The shipped program beside the rule in plain Rust, on generated frames and records; and programs that are wrong in one place, which have to
-//! differ from it.
+//! The shipped program beside the rule in plain Rust, on generated frames and records; and programs that are wrong in one place, which have
+//! to differ from it.
 
 ghost use Rattle.std.specs.Prelude.{◌≡◌, ◌<◌, length};
 ghost use Rattle.semantics.specs.ShardPlan.{AreOptions};

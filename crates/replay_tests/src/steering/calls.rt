@@ -36,8 +36,8 @@ const NONE_UP: [[u8; 8]; 2] = [[192, 0, 2, 1, 0, 0, 0, 0], [192, 0, 2, 2, 0, 0, 
 #[rattlefmt::skip]
 const TUNNEL: [u8; 24] = [10, 0, 0, 9, 2, 0, 0, 0, 0, 10, 2, 0, 0, 0, 0, 11, 1, 0, 0, 0, 0, 0, 0, 0];
 
-/// What a row shows, which byte of the frame is another one, the service, what was noted, the first two backends, the verdict, and the number
-/// of calls.
+/// What a row shows, which byte of the frame is another one, the service, what was noted, the first two backends, the verdict, and the
+/// number of calls.
 type Row = (
     &'static str,
     usize,
@@ -49,8 +49,9 @@ type Row = (
     u64,
 );
 
-// The sums: the service's calls, the tunnel's, the flows', the ring's, the backends', the count's. Every map that is asked at all costs an Enter
-// and a Leave; a record that is there, a Lookup and a Load, but three Loads the tunnel's; a note, an Update; the count, a Lookup and an Atomic.
+// The sums: the service's calls, the tunnel's, the flows', the ring's, the backends', the count's. Every map that is asked at all costs an
+// Enter and a Leave; a record that is there, a Lookup and a Load, but three Loads the tunnel's; a note, an Update; the count, a Lookup and
+// an Atomic.
 #[rattlefmt::skip]
 const ROWS: [Row; 12] = [
     ("no flow",                                      14, 0x46, TRACKED, None,   BOTH_UP,  Verdict::Pass, 4),

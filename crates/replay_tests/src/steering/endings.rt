@@ -243,7 +243,8 @@ impl Ending {
         }
     }
 
-    /// How many calls a run makes that ends here, with Enter and Leave: of each map each record is looked up once, and loaded in words of eight bytes.
+    /// How many calls a run makes that ends here, with Enter and Leave: of each map each record is looked up once, and loaded in words of
+    /// eight bytes.
     pub(super) fn calls(self) -> u64 {
         match self {
             // The service's Enter, Lookup, Leave; the count's Enter, Lookup, Atomic, Leave.

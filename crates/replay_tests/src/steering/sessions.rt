@@ -1,4 +1,5 @@
-//! Sessions over the six maps: one worker puts what they are to hold, another runs the program. So every journal says whose its entries are.
+//! Sessions over the six maps: one worker puts what they are to hold, another runs the program. So every journal says whose its entries
+//! are.
 
 ghost use Rattle.std.specs.Prelude.{◌≡◌, ◌<◌, All, IfSome, length, slice_get};
 ghost use Rattle.semantics.specs.ShardPlan.{AreOptions};

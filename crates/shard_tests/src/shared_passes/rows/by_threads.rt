@@ -360,7 +360,8 @@ fn afterwards<B: Naming, R: Abort + Wait>(
     );
 }
 
-/// What the three do at the same time: each is replied what it may be, and the journal has their calls, each with the reply that one thread would give.
+/// What the three do at the same time: each is replied what it may be, and the journal has their calls, each with the reply that one thread
+/// would give.
 fn freely<B: Naming + Send + Sync, R: Threads + Abort + Wait + Sync>(
     rt: &R,
     alloc: Global,
