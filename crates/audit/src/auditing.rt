@@ -20,7 +20,8 @@ use semantics::{Entry, ShardPlan};
 use shard_core::Shard;
 use std::alloc::{AllocError, Global};
 
-/// Makes the entry's call on the shard, if its caller may make it and the journal has room for it, and says whether the reply is the entry's.
+/// Makes the entry's call on the shard, if its caller may make it and the journal has room for it, and says whether the reply is the
+/// entry's.
 fn is_made_again(shard: &mut Shard, held: &HeldSoFar, entry: &Entry) -> bool
     requires { AreHeld held.now (reverse shard.old.journal) }
     ensures legal { IsLegalJournal shard.old.plan shard.old.journal }
@@ -62,8 +63,8 @@ fn first_illegal(
 /// Whether each journal, whose rows are kept, is legal: whether each entry is one step of the one-thread map, by a caller that may make the
 /// call, with the reply that the map returns, and none came past a full journal.
 ///
-/// Refused with 53 and the first shard and the least place, counted from 0, such that the beginning of this shard's journal that ends with this
-/// entry is not legal; with 52 where memory is. It takes the memory of one shard at a time.
+/// Refused with 53 and the first shard and the least place, counted from 0, such that the beginning of this shard's journal that ends with
+/// this entry is not legal; with 52 where memory is. It takes the memory of one shard at a time.
 pub fn audit(alloc: Global, journals: &Journals) -> Result<(), AuditFault>
     requires { KeepsRows journals.now.options.journal }
     ensures legal { OnOk result (AreLegal journals.now) }

@@ -1,4 +1,5 @@
-//! Measures single parts of xlb for `bench/run`: `bench_parts PART` prints the rows of a part. Without the name of a part it prints nothing.
+//! Measures single parts of xlb for `bench/run`: `bench_parts PART` prints the rows of a part. Without the name of a part it prints
+//! nothing.
 #![tactic(auto)]
 
 mod audit_times;

@@ -68,8 +68,8 @@ impl Choice {
         }
     }
 
-    /// What is put into the map of flows where the choice is of a frame of this flow: the flow's key and the record of the chosen backend, where that is
-    /// to be noted.
+    /// What is put into the map of flows where the choice is of a frame of this flow: the flow's key and the record of the chosen backend,
+    /// where that is to be noted.
     pub fn flow_update(&self, flow: &FlowKey) -> Option<([u8; 16], [u8; 8])>
         ensures { (frame : List ℕ) → flow_key_bytes flow.now ≡ flow_bytes_of frame → result ≡ flow_update frame self.now }
     {

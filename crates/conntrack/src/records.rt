@@ -1,4 +1,5 @@
-//! The records of the maps. Each is made of its bytes by `of`, whatever they are, and gives them by `bytes`; `of` gives back what `bytes` made.
+//! The records of the maps. Each is made of its bytes by `of`, whatever they are, and gives them by `bytes`; `of` gives back what `bytes`
+//! made.
 
 ghost use Rattle.std.specs.Prelude.{◌≡◌, ◌<◌, ◌^◌, ◌+◌, IfSome};
 ghost use Rattle.conntrack.specs.Layouts.{padded_word, flag_number, owner_word, vip_bytes, flow_bytes, ring_bytes, backend_bytes};

@@ -7,8 +7,8 @@ use crate::choosing::{Choice, Records, choose};
 use ipip::encapsulate;
 use wire::Frame;
 
-/// Decides what becomes of a frame whose records are these, and does it: where a backend is chosen, the frame is in the tunnel to that backend
-/// afterwards; else it is as it came. Cannot fail: a packet that the rule sends fits through the tunnel. Takes no memory.
+/// Decides what becomes of a frame whose records are these, and does it: where a backend is chosen, the frame is in the tunnel to that
+/// backend afterwards; else it is as it came. Cannot fail: a packet that the rule sends fits through the tunnel. Takes no memory.
 ///
 /// The caller owes 20 bytes of headroom, which a frame has when it comes in.
 pub fn steer(frame: &mut Frame, records: &Records) -> Choice

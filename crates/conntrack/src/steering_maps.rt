@@ -103,8 +103,8 @@ fn are_for(maps: &[MapDef], size: u32) -> bool
     true
 }
 
-/// The definitions of the six maps, for a lookup table of `size` slots. Refused with 73 exactly where that is none of Maglev's sizes here (7, 251, 4093,
-/// 65537), and with 74 without memory.
+/// The definitions of the six maps, for a lookup table of `size` slots. Refused with 73 exactly where that is none of Maglev's sizes here
+/// (7, 251, 4093, 65537), and with 74 without memory.
 pub fn maps(alloc: Global, size: u32) -> Result<Vec<MapDef>, SteerFault>
     ensures maps { IfOk result (λ maps. maps.items ≡ steering_maps size) }
     ensures bad_size { IsErrOf result BadSize ↔ ¬ IsRingSize size }

@@ -69,8 +69,8 @@ fn is_taken(up: &[Backend], number: u32, address: Ipv4Address) -> bool
 }
 
 impl Controller {
-    /// A controller for a lookup table of `size` slots, with no backend up. Refused with 73 exactly where that is none of Maglev's sizes here
-    /// (7, 251, 4093, 65537). It takes no memory before its first command.
+    /// A controller for a lookup table of `size` slots, with no backend up. Refused with 73 exactly where that is none of Maglev's sizes
+    /// here (7, 251, 4093, 65537). It takes no memory before its first command.
     pub fn open(alloc: Global, size: u32) -> Result<Controller, ControlFault>
         ensures opened { IfOk result (λ controller. controller ≡ record { size = size; up = []; owners = []; is_full = false }) }
         ensures bad_size { IsErrOf result faults.BadSize ↔ ¬ IsRingSize size }
@@ -247,13 +247,13 @@ impl Controller {
         self.change_up(alloc, Update::Backend { number, backend }, up, port)
     }
 
-    /// Carries a command out: exactly its updates, in this order: the record first (of the service, the backend or the tunnel), then each slot of
-    /// the lookup table whose owner changes, rising. The ring is built from the backends that are up, by rising number; with none up no slot has
-    /// an owner. The port serves the six maps of steering for the controller's size.
+    /// Carries a command out: exactly its updates, in this order: the record first (of the service, the backend or the tunnel), then each
+    /// slot of the lookup table whose owner changes, rising. The ring is built from the backends that are up, by rising number; with none
+    /// up no slot has an owner. The port serves the six maps of steering for the controller's size.
     ///
     /// Refused, and nothing is changed, with 94 after an earlier 94, whatever else is wrong; else with 91 (`down` of a backend that is not
-    /// up, `up` of a number not below 256 and the size), 92 (`up` of a number or an address that is up), 95 (memory is refused). Refused with 93
-    /// where the map of services answers a service with another number than 0: only that update was made. Refused with 94 where an
+    /// up, `up` of a number not below 256 and the size), 92 (`up` of a number or an address that is up), 95 (memory is refused). Refused
+    /// with 93 where the map of services answers a service with another number than 0: only that update was made. Refused with 94 where an
     /// update meets a full journal: those before it remain, and every later command is refused with 94.
     pub fn apply<U: UpdatePort>(
         &mut self,
@@ -292,8 +292,8 @@ impl Controller {
         }
     }
 
-    /// The law of the ring: it is a function of the backends that are up alone. Two controllers of one size with the same backends up have one table, so
-    /// that both choose alike for a flow without a note.
+    /// The law of the ring: it is a function of the backends that are up alone. Two controllers of one size with the same backends up have
+    /// one table, so that both choose alike for a flow without a note.
     pub fn same_ring(&self, other: &Controller)
         ensures { self.now.size ≡ other.now.size → self.now.up ≡ other.now.up → self.now.owners ≡ other.now.owners }
     {

@@ -89,8 +89,8 @@ fn script_of(alloc: Global, text: &str) -> Result<Script, ControlFault>
 /// The script of a text: the commands that `Script::text` prints so. An empty text is the script without commands.
 ///
 /// Refused with 90 and the first line, counted from 1, that is no command's in its one spelling, or whose frame is below the one before
-/// (what comes after the last line feed is such a line; where the bytes are no UTF-8, it is the line of the first byte that is not); with 95
-/// if memory is refused. Nothing is left behind.
+/// (what comes after the last line feed is such a line; where the bytes are no UTF-8, it is the line of the first byte that is not); with
+/// 95 if memory is refused. Nothing is left behind.
 pub fn parse_script(alloc: Global, bytes: &[u8]) -> Result<Script, ControlFault>
     // What is accepted prints back to the same bytes.
     ensures found { IfOk result (λ script. IsScriptText bytes.now script) }

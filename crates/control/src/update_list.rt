@@ -25,8 +25,9 @@ pub struct MadeUpdate {
     pub is_new: bool,
 }
 
-/// Maps in memory, as the list of the updates that they were asked: for tests, and to see what a command asks. An array takes each index that it
-/// has, a hash map as many keys as it has entries, an LRU map every key; what is not taken is answered -7. Contracts see the maps, the room, and the list.
+/// Maps in memory, as the list of the updates that they were asked: for tests, and to see what a command asks. An array takes each index
+/// that it has, a hash map as many keys as it has entries, an LRU map every key; what is not taken is answered -7. Contracts see the maps,
+/// the room, and the list.
 #[derive(Debug, Drop)]
 pub struct UpdateList {
     maps: Vec<MapDef>,

@@ -1,5 +1,5 @@
--- One order of all callers' deeds makes one list of events: by induction on the order, in which each deed is one event of its caller, after the
--- instructions that its worker does before it. Other workers stay where they are.
+-- One order of all callers' deeds makes one list of events: by induction on the order, in which each deed is one event of its caller, after
+-- the instructions that its worker does before it. Other workers stay where they are.
 use Rattle.std.proofs.Common.{◌≡◌, ◌≢◌, ◌⊎◌, ℕ, zero, suc, ◌*◌, ◌/◌, ◌%◌, ◌<◌, ◌≤◌, ◌==◌, ◌&&◌, Bool, true, false, cond, List, [], ◌∷◌, ◌++◌, length, reverse, Option, Some, None, refl, sym, ◌∙◌, ap, subst, arith, append_assoc, append-nil, ⊎_elim}
 use Rattle.std.specs.Prelude.{filter, IsTrue, slice_index_or, slice_get, if◌then◌else◌}
 use Rattle.std.specs.List.{AllByRecursion}

@@ -5,8 +5,8 @@
 //! `headline` comes first. Its statement is in twelve files, about 1,400 lines, to be read in this order: `specs/Headline.antt` here;
 //! `specs/Merging.antt` (its first half), `specs/ReplayMoves.antt`, `specs/SystemRuns.antt` and `specs/Steps.antt` here (one list of all
 //! events, the moves of a worker, runs and steps of the system); `Safety`, `System`, `RunTrace` and `History` of crates/semantics/specs;
-//! `specs/Deeds.antt` of crates/shards, `specs/FrameRuns.antt` of crates/runs and `specs/Accounted.antt` of crates/replay. Each file says by
-//! its imports where the smaller definitions are that it cites: shares, counts and passes of replay, and there what the controller and
+//! `specs/Deeds.antt` of crates/shards, `specs/FrameRuns.antt` of crates/runs and `specs/Accounted.antt` of crates/replay. Each file says
+//! by its imports where the smaller definitions are that it cites: shares, counts and passes of replay, and there what the controller and
 //! the reclaimer did (`Parts`, `Commands`, `Rounds`), sessions of shard_port, own entries of semantics.
 //!
 //! The other laws of this page say what these definitions come to. The laws of `step_laws` show that they are not empty, those of
@@ -46,14 +46,14 @@ use verifier::laws::accepted_is_safe;
 /// that. So each worker has one list of steps for the whole replay, and each shard alone agrees with it: what the list wrote there is what
 /// the shard's journal has of this worker, in the journal's order.
 ///
-/// All callers at once: the steps of all workers, with what the controller and the reclaimer did, are one list of events of the system. These
-/// can all happen, one after the other, from the opening on; each worker's are in its own order in the list; after it each shard's history is
-/// its journal, and every worker is idle. For what all callers did on all shards is one order (`IsAccounted`), and such an order is one list
-/// of events (`one_order_is_one_list`).
+/// All callers at once: the steps of all workers, with what the controller and the reclaimer did, are one list of events of the system.
+/// These can all happen, one after the other, from the opening on; each worker's are in its own order in the list; after it each shard's
+/// history is its journal, and every worker is idle. For what all callers did on all shards is one order (`IsAccounted`), and such an order
+/// is one list of events (`one_order_is_one_list`).
 ///
 /// The order fits each shard and each caller: shard by shard it is the journal; of each worker it has what its runs did, of the controller
-/// the updates before the first record and those of the script's commands, each with its answer, and of the reclaimer its rounds, looks at full
-/// journals among them, each in the caller's own order over all shards.
+/// the updates before the first record and those of the script's commands, each with its answer, and of the reclaimer its rounds, looks at
+/// full journals among them, each in the caller's own order over all shards.
 pub fn headline(verified: &Verified)
     ensures { ReplaysKeepIt verified.now }
 {
@@ -101,9 +101,9 @@ pub fn entries_are_answered()
 {}
 
 /// One order of what all callers did makes one list of events. If a list of entries, and of looks at full journals, is shard by shard the
-/// shard's legal journal and worker by worker what that worker did, each look met a full journal, and each worker's own steps lead from idle
-/// to idle, then one list of events of the system can all happen from the opening on; it has each worker's own events in their order; after it
-/// the histories are the journals, and every worker is idle. A look by the controller or the reclaimer is no event.
+/// shard's legal journal and worker by worker what that worker did, each look met a full journal, and each worker's own steps lead from
+/// idle to idle, then one list of events of the system can all happen from the opening on; it has each worker's own events in their order;
+/// after it the histories are the journals, and every worker is idle. A look by the controller or the reclaimer is no event.
 pub fn one_order_is_one_list()
     ensures { OneOrderIsOneList }
 {}

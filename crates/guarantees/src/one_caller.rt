@@ -32,8 +32,8 @@ pub fn stopped_runs_are_beginnings()
     finish_leaves();
 }
 
-/// Shards as `PlainShards::open` returns them serve their maps, their journals are legal, and nobody is inside: so what is said of runs holds
-/// from the first one on.
+/// Shards as `PlainShards::open` returns them serve their maps, their journals are legal, and nobody is inside: so what is said of runs
+/// holds from the first one on.
 pub fn opened_shards_are_ready()
     ensures { OpenedShardsAreReady }
 {

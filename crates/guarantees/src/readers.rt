@@ -33,8 +33,8 @@ pub fn quiet_shards_are_as_opened()
     ensures { QuietShardsAreAsOpened }
 {}
 
-/// What a replay of an accepted program that only reads sends, where there is no update before it, no command, and no run was stopped: frame by frame what the
-/// program's run over maps in which nothing has happened sends. So it is the same for every number of workers.
+/// What a replay of an accepted program that only reads sends, where there is no update before it, no command, and no run was stopped:
+/// frame by frame what the program's run over maps in which nothing has happened sends. So it is the same for every number of workers.
 pub fn readers_send_as_at_opening(verified: &Verified)
     requires reads { IsReader verified.now.code verified.now.states }
     ensures { SendsAsAtOpening verified.now.maps verified.now.code }

@@ -15,8 +15,8 @@ use shards::PlainShards;
 use verifier::Verified;
 use wire::Frame;
 
-/// One run of a worker over shards that it is not inside of. It shows that what the guarantees on runs ask for is what the calls ensure: the
-/// run is the meaning of its program on the replies in the journals, or, where it stopped (60), a beginning of that. The
+/// One run of a worker over shards that it is not inside of. It shows that what the guarantees on runs ask for is what the calls ensure:
+/// the run is the meaning of its program on the replies in the journals, or, where it stopped (60), a beginning of that. The
 /// shards serve the maps as before, for the next run. Takes no memory.
 pub fn worker_run(
     verified: &Verified,

@@ -22,8 +22,8 @@ pub(crate) enum AllKept {
 }
 
 /// The journals of all shards of an image's maps, by the shards' numbers: map after map. The maps are ones that an image may have, the
-/// options are ones that shards of these maps are opened with, and there is one journal for each shard. Where the options are those of shards that keep
-/// no rows, the entries are known to proofs alone, and no call returns them.
+/// options are ones that shards of these maps are opened with, and there is one journal for each shard. Where the options are those of
+/// shards that keep no rows, the entries are known to proofs alone, and no call returns them.
 #[derive(Drop)]
 pub struct Journals {
     maps: Vec<MapDef>,

@@ -30,8 +30,8 @@ impl EntryRow {
     }
 }
 
-/// Entries of any calls, also of ones that no map serves. An entry takes 96 bytes, and those of its key and value. Contracts see the list of
-/// entries, in the order in which they came.
+/// Entries of any calls, also of ones that no map serves. An entry takes 96 bytes, and those of its key and value. Contracts see the list
+/// of entries, in the order in which they came.
 #[derive(Drop)]
 pub struct EntryList {
     rows: Vec<EntryRow>,

@@ -55,7 +55,8 @@ pub fn write_journals<K: Sink>(
 /// Refused with 7 where the device failed, once: the call stops there. Refused with 52 where memory is. Refused with 55 and the first line,
 /// counted from 1, that cannot be there: a first line that is no header with options which open shards of these maps; a line that is no
 /// entry's in its one spelling, with a key and a value of its map's lengths; one of a shard before that of the line above it; and what
-/// comes after the last line feed. Where the bytes are no UTF-8, it is the line of the first byte that is not. After a fault nothing is kept.
+/// comes after the last line feed. Where the bytes are no UTF-8, it is the line of the first byte that is not. After a fault nothing is
+/// kept.
 pub fn read_journals<S: Source>(
     alloc: Global,
     source: &mut S,

@@ -1,5 +1,5 @@
-//! The journals of all shards of an image's maps, as whoever closes the shards gets them and an audit reads them; and as files: the text of a header and
-//! of a line for each entry, written to a device and read from one.
+//! The journals of all shards of an image's maps, as whoever closes the shards gets them and an audit reads them; and as files: the text of
+//! a header and of a line for each entry, written to a device and read from one.
 #![tactic(auto)]
 
 mod all;

@@ -100,7 +100,8 @@ fn finish(
     Ok(())
 }
 
-/// Puts the present list behind those of the shards that are done, and empty ones behind it, until the next shard is the one of this number.
+/// Puts the present list behind those of the shards that are done, and empty ones behind it, until the next shard is the one of this
+/// number.
 fn finish_before(
     alloc: Global,
     done: &mut Vec<EntryList>,

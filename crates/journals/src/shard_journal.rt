@@ -17,8 +17,8 @@ pub(crate) enum ShardEntries<'a> {
     Listed { entries: &'a EntryList },
 }
 
-/// The journal of one shard, whose entries can be read: as the shard wrote it, or a list of entries from elsewhere. Contracts see the list of entries,
-/// the oldest first.
+/// The journal of one shard, whose entries can be read: as the shard wrote it, or a list of entries from elsewhere. Contracts see the list
+/// of entries, the oldest first.
 #[derive(Drop)]
 pub struct ShardJournal<'a> {
     kept: ShardEntries<'a>,

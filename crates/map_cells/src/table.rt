@@ -246,7 +246,8 @@ fn put_number(
     }
 }
 
-/// The same for any count. It stays out of its callers: inlined there, the counts would be one jump through a table, which takes longer than the write.
+/// The same for any count. It stays out of its callers: inlined there, the counts would be one jump through a table, which takes longer
+/// than the write.
 #[inline(never)]
 fn put_short_number(
     bytes: &mut Vec<u8>,

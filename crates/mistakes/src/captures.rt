@@ -89,8 +89,8 @@ fn about_unknown(alloc: Global, bytes: &[u8]) -> Result<String, AllocError>
     notes_of(alloc, begun.as_str(), WANTED, "")
 }
 
-/// Lines for people on a file whose header is none of a capture that this program reads (faults 1, 2 and 3): what the file is, and the command
-/// that makes such a capture of it.
+/// Lines for people on a file whose header is none of a capture that this program reads (faults 1, 2 and 3): what the file is, and the
+/// command that makes such a capture of it.
 ///
 /// At most three lines, each with two spaces at its beginning and a line feed at its end. It can fail only for lack of memory.
 pub fn about_capture(alloc: Global, bytes: &[u8]) -> Result<String, AllocError>

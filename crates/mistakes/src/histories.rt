@@ -117,8 +117,8 @@ fn about_bytes(alloc: Global, line: usize) -> Result<String, AllocError>
     notes_of(alloc, wrong.as_str(), "expected plain ASCII text", "")
 }
 
-/// Lines for people on a file of journals that was refused at a line (fault 55), counted from 1: what the file is, if it is another one; else the
-/// line, and what was expected.
+/// Lines for people on a file of journals that was refused at a line (fault 55), counted from 1: what the file is, if it is another one;
+/// else the line, and what was expected.
 ///
 /// At most three lines, each with two spaces at its beginning and a line feed at its end. It can fail only for lack of memory.
 pub fn about_journals(alloc: Global, bytes: &[u8], line: usize) -> Result<String, AllocError>
@@ -205,8 +205,8 @@ fn about_other_map(
     )
 }
 
-/// Lines for people on a file of journals that has an entry on this line, counted from 1, that is not legal (fault 53). The entry is one of the map of
-/// this number, counted from 0, in the list of maps.
+/// Lines for people on a file of journals that has an entry on this line, counted from 1, that is not legal (fault 53). The entry is one of
+/// the map of this number, counted from 0, in the list of maps.
 ///
 /// At most three lines, each with two spaces at its beginning and a line feed at its end. It can fail only for lack of memory.
 pub fn about_entry(

@@ -1,4 +1,5 @@
-//! What is wrong with a file, or with options, that a command refused, in lines for people: where, what was expected, and what to write in its place.
+//! What is wrong with a file, or with options, that a command refused, in lines for people: where, what was expected, and what to write in
+//! its place.
 #![tactic(auto)]
 
 mod captures;

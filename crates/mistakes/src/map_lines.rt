@@ -53,8 +53,8 @@ fn kind_number(name: &str) -> u32 {
     }
 }
 
-/// Lines for people on a text or a source with a map that no image may have (fault 11), by the map's number, counted from 0: the line, which of its
-/// numbers is wrong, and what is allowed.
+/// Lines for people on a text or a source with a map that no image may have (fault 11), by the map's number, counted from 0: the line,
+/// which of its numbers is wrong, and what is allowed.
 ///
 /// At most three lines, each with two spaces at its beginning and a line feed at its end. It can fail only for lack of memory.
 pub fn about_map_line(alloc: Global, text: &str, map: u32) -> Result<String, AllocError>

@@ -53,8 +53,8 @@ fn about_maps(alloc: Global, shards: u32, maps: &[MapDef]) -> Result<String, All
     )
 }
 
-/// Lines for people on options with which a replay over these maps was refused (fault 51): the first option that is wrong, and what it may be. Where
-/// none is, the maps are not those that the commands of a script change.
+/// Lines for people on options with which a replay over these maps was refused (fault 51): the first option that is wrong, and what it may
+/// be. Where none is, the maps are not those that the commands of a script change.
 ///
 /// At most three lines, each with two spaces at its beginning and a line feed at its end. It can fail only for lack of memory.
 pub fn about_options(alloc: Global, options: Options, maps: &[MapDef]) -> Result<String, AllocError>

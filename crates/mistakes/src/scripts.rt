@@ -146,8 +146,8 @@ fn about_bytes(alloc: Global, bytes: &[u8], line: usize) -> Result<String, Alloc
     notes_of(alloc, wrong.as_str(), "expected plain ASCII text", "")
 }
 
-/// Lines for people on a script that was refused at a line (fault 90), counted from 1: the piece of the line that is wrong and its column, what
-/// was expected, and a line that is right. Nothing of a line that is not there, nor of one that is right.
+/// Lines for people on a script that was refused at a line (fault 90), counted from 1: the piece of the line that is wrong and its column,
+/// what was expected, and a line that is right. Nothing of a line that is not there, nor of one that is right.
 ///
 /// At most three lines, each with two spaces at its beginning and a line feed at its end. It can fail only for lack of memory.
 pub fn about_script(alloc: Global, bytes: &[u8], line: usize) -> Result<String, AllocError>

@@ -62,8 +62,8 @@ fn rank_of(index: u64, parts: u32) -> u64
     }
 }
 
-/// The same among several parts. It is a function of its own, since from four cases on they would be one jump through a table, which takes longer than
-/// a lookup's other steps.
+/// The same among several parts. It is a function of its own, since from four cases on they would be one jump through a table, which takes
+/// longer than a lookup's other steps.
 #[inline(never)]
 fn rank_among(index: u64, parts: u32) -> u64
     requires { 0 < parts }

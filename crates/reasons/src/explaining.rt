@@ -16,9 +16,9 @@ use image_shape::check_shape;
 use std::alloc::{AllocError, Global};
 use verifier::{Broken, Survey, survey_of};
 
-/// Of a program that the verifier refuses: the instruction that breaks a rule, what is known of the registers and the words of the stack that
-/// it uses, the rule, and the usual remedy. Of one that it accepts: each instruction with what is known before it, and why the program is
-/// no reader. Each line begins with two spaces. It can fail only for lack of memory.
+/// Of a program that the verifier refuses: the instruction that breaks a rule, what is known of the registers and the words of the stack
+/// that it uses, the rule, and the usual remedy. Of one that it accepts: each instruction with what is known before it, and why the program
+/// is no reader. Each line begins with two spaces. It can fail only for lack of memory.
 pub fn explain(alloc: Global, image: &Image) -> Result<String, AllocError>
     ensures { IfOk result (λ text. IsExplanation image.now.version image.now.maps image.now.code (string_bytes text)) }
 {

@@ -1,4 +1,5 @@
-//! Why a register is unset where it is read: nothing was written to it, an instruction left it so, or the paths that meet somewhere disagree.
+//! Why a register is unset where it is read: nothing was written to it, an instruction left it so, or the paths that meet somewhere
+//! disagree.
 
 ghost use Rattle.std.specs.Prelude.{◌≡◌, ◌<◌, IfSome, IsTrue, None, length};
 ghost use Rattle.ebpf_decode.specs.InstructionEncoding.{total_slots};

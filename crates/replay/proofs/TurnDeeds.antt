@@ -1,4 +1,5 @@
--- One order of all deeds, the shards and the callers' passes as it leaves them, and what some deeds of one caller on one shard make of these.
+-- One order of all deeds, the shards and the callers' passes as it leaves them, and what some deeds of one caller on one shard make of
+-- these.
 use Rattle.std.proofs.Common.{◌≡◌, ◌≢◌, ⊎_elim, ℕ, ◌<◌, ◌==◌, Bool, true, false, cond, List, [], ◌∷◌, ◌++◌, length, reverse, Some, refl, sym, ap, ◌∙◌, subst, append_assoc, eq-eqb, ne_eqb}
 use Rattle.std.specs.Prelude.{slice_get, slice_set}
 use Rattle.std.specs.List.{AllByRecursion}

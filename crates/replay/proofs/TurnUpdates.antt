@@ -1,4 +1,5 @@
--- The updates of a controller in turn, in the words of the port's code: its fields, what contracts see of it, and what the calls before said.
+-- The updates of a controller in turn, in the words of the port's code: its fields, what contracts see of it, and what the calls before
+-- said.
 use Rattle.std.proofs.Common.{◌≡◌, ℕ, ◌<◌, List, [], ◌∷◌, length, Some, inl, inr, refl, sym, ap, ◌∙◌, subst}
 use Rattle.std.specs.Prelude.{All, IsTrue, slice_get, ℤ, Result, Ok, Err, IfOk, OnErr}
 use Rattle.std.specs.Coded.{Coded-set, coded_bool}

@@ -29,7 +29,8 @@ use std::marker::Model;
 use std::sync::Wait;
 
 /// The controller of a replay: it applies commands of a script to shards that it shares with others, and notes what came of each.
-/// Contracts see what was made before the script, the script, what was noted, the controller and its port; what the type keeps is `has_account`.
+/// Contracts see what was made before the script, the script, what was noted, the controller and its port; what the type keeps is
+/// `has_account`.
 #[derive(Drop)]
 pub struct Commander<'a, B: Naming, W: Wait, G: Gate> {
     updates: &'a [MapUpdate],
@@ -51,10 +52,11 @@ impl<'a, B: Naming, W: Wait, G: Gate> Model for Commander<'a, B, W, G> {
 }
 
 impl<'a, B: Naming, W: Wait, G: Gate> Commander<'a, B, W, G> {
-    /// The controller of a script that has applied nothing, with a pass that had seen nothing and has made these updates, one after the other: for
-    /// a lookup table of `size` slots, which the shards' maps have, or for an empty script. Each answer goes through the gate.
+    /// The controller of a script that has applied nothing, with a pass that had seen nothing and has made these updates, one after the
+    /// other: for a lookup table of `size` slots, which the shards' maps have, or for an empty script. Each answer goes through the gate.
     ///
-    /// Refused with 93 for the first update that a map refused, and with 94 for the first for which a journal was full. Those before it are made.
+    /// Refused with 93 for the first update that a map refused, and with 94 for the first for which a journal was full. Those before it are
+    /// made.
     pub fn over(
         alloc: Global,
         rt: &'a W,

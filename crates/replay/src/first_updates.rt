@@ -21,8 +21,8 @@ use std::sync::Wait;
 
 /// Makes the updates, one after the other, each whether or not its key is there. No memory is taken.
 ///
-/// The first that is refused ends it: 93 where its map's answer is no 0, and 94 where the journal of its shard has no room for it. Those before it
-/// are made.
+/// The first that is refused ends it: 93 where its map's answer is no 0, and 94 where the journal of its shard has no room for it. Those
+/// before it are made.
 pub(crate) fn set_all<U: UpdatePort>(port: &mut U, updates: &[MapUpdate]) -> Result<(), ReplayFault>
     requires fit { AreFitting (U.serves port.old) updates.now }
     ensures set { OnOk result (AreSet U.gives port.old updates.now port.new) }

@@ -35,8 +35,9 @@ use wire::Capture;
 /// A capture has fewer records than this, over all pieces.
 const MOST_RECORDS: usize = 1 << 63;
 
-/// An exact replay between two pieces of its capture. It keeps the shards, what came of the script's commands, and the counts. What was sent and what became
-/// of each record is handed out with the piece, so that a longer capture needs no more memory, except for cells that are created and rows that journals keep.
+/// An exact replay between two pieces of its capture. It keeps the shards, what came of the script's commands, and the counts. What was
+/// sent and what became of each record is handed out with the piece, so that a longer capture needs no more memory, except for cells that
+/// are created and rows that journals keep.
 #[derive(Drop)]
 pub struct PieceReplay {
     turns: Turns,
@@ -78,8 +79,8 @@ impl PieceReplay {
     /// Makes these updates, one after the other, as the controller, each whether or not its key is there. Then the first piece can come.
     ///
     /// Refused with 51 where no shards of the image's maps can be opened with the options, or where there are commands and the image's maps
-    /// are not those of steering; with 52 for lack of memory; with 93 for the first update that a map refused, and with 94 for the first for
-    /// which a journal was full. Then nothing is left.
+    /// are not those of steering; with 52 for lack of memory; with 93 for the first update that a map refused, and with 94 for the first
+    /// for which a journal was full. Then nothing is left.
     pub fn open(
         alloc: Global,
         verified: &Verified,
@@ -126,9 +127,9 @@ impl PieceReplay {
         self.taken < MOST_RECORDS && piece.records.len() < MOST_RECORDS - self.taken
     }
 
-    /// Takes the turns of the next records of the capture: before each record the commands that are due then, then the record, and after every 64
-    /// records of the capture a round, whichever pieces they are in. Returns what was sent and what became of the records, and keeps nothing of
-    /// it. Where the pieces are cut makes no difference to the replay.
+    /// Takes the turns of the next records of the capture: before each record the commands that are due then, then the record, and after
+    /// every 64 records of the capture a round, whichever pieces they are in. Returns what was sent and what became of the records, and
+    /// keeps nothing of it. Where the pieces are cut makes no difference to the replay.
     ///
     /// The gate is called after each of the rounds, as for a reply of the reclaimer, with the number of such rounds in all pieces so far.
     ///
@@ -163,7 +164,8 @@ impl PieceReplay {
         Ok(self.turns.hand_out(alloc))
     }
 
-    /// Takes the turns behind the last record: the commands that are left, and one more round. The updates are those that it was opened with.
+    /// Takes the turns behind the last record: the commands that are left, and one more round. The updates are those that it was opened
+    /// with.
     ///
     /// The outcome has no sent frames and no ends, since these were handed out. With them it is the outcome of an exact replay of the whole
     /// capture, and is accounted for as what a replay on threads returns, also where no rows of journals are kept.

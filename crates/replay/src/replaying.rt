@@ -129,10 +129,10 @@ fn replay_over<'x, B: Naming + Send + Sync, R: Threads + Wait + Sync, G: Gate + 
 }
 
 /// Runs the program of an accepted image on the frames of a capture, by as many workers on threads as the options say, over shared maps
-/// in which nothing has happened. Before the first record a controller makes these updates, one after the other, each whether or not its key is there.
-/// On a thread of its own it applies the commands of a script: those at frame 0 before the first record, behind the updates, and each other one when as
-/// many records as its frame number were dispatched, no later than after the last; and a reclaimer frees what no run can hold, in a round after every
-/// 64 records and one after the workers' end.
+/// in which nothing has happened. Before the first record a controller makes these updates, one after the other, each whether or not its
+/// key is there. On a thread of its own it applies the commands of a script: those at frame 0 before the first record, behind the updates,
+/// and each other one when as many records as its frame number were dispatched, no later than after the last; and a reclaimer frees what no
+/// run can hold, in a round after every 64 records and one after the workers' end.
 ///
 /// Each record is counted once: as short where it has fewer than 14 bytes, and else by its run, which the worker of its flow makes, in
 /// the capture's order. Verdict and frame of a run are the program's own on the replies that are among its worker's entries; these
@@ -141,17 +141,19 @@ fn replay_over<'x, B: Naming + Send + Sync, R: Threads + Wait + Sync, G: Gate + 
 /// answered 0, and those of the script's commands, and the reclaimer's are those of its rounds. What is sent is in the capture's order.
 ///
 /// What all callers did on all shards is one order: shard by shard it is the journal, and of each caller it has what the caller did, looks
-/// at full journals among it: of a worker its runs, of the controller the first updates and the commands' in the script's order, of the reclaimer a round
-/// after the other, each from the lowest shard up.
+/// at full journals among it: of a worker its runs, of the controller the first updates and the commands' in the script's order, of the
+/// reclaimer a round after the other, each from the lowest shard up.
 ///
-/// Each reply to a run, to the controller and to the reclaimer goes through the gate: the actor that has it calls the gate, and holds no lock then.
+/// Each reply to a run, to the controller and to the reclaimer goes through the gate: the actor that has it calls the gate, and holds no
+/// lock then.
 ///
-/// Where no rows of journals are kept, no journal is full before 134,217,728 calls, and all of this holds of journals that proofs alone know.
+/// Where no rows of journals are kept, no journal is full before 134,217,728 calls, and all of this holds of journals that proofs alone
+/// know.
 ///
 /// Refused with 51 where no shards of the image's maps can be opened with the options, or where there are commands and the image's maps
-/// are not those of steering; with 52 for lack of memory; with 93 for the first update that a map refused, and with 94 for the first for which a
-/// journal was full, before any thread is started; with 56 where a thread could not be started. Then nothing is left, and every thread that was
-/// started has ended.
+/// are not those of steering; with 52 for lack of memory; with 93 for the first update that a map refused, and with 94 for the first for
+/// which a journal was full, before any thread is started; with 56 where a thread could not be started. Then nothing is left, and every
+/// thread that was started has ended.
 pub fn replay<R: Threads + Wait + Sync, G: Gate + Sync>(
     rt: &R,
     alloc: Global,

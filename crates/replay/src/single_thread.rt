@@ -156,8 +156,8 @@ impl Turns {
         }
     }
 
-    /// The turn of the record at a place of a piece, whichever number it has in the capture. Fails only for lack of memory; then the replay cannot
-    /// go on.
+    /// The turn of the record at a place of a piece, whichever number it has in the capture. Fails only for lack of memory; then the replay
+    /// cannot go on.
     fn record(
         &mut self,
         alloc: Global,
@@ -253,8 +253,8 @@ impl Turns {
         Ok(())
     }
 
-    /// The turns from one record to the next: the commands that are due, the record, and a round, if it is its time. The record is at a place of
-    /// a piece, and has a number in the capture. Returns which command is next.
+    /// The turns from one record to the next: the commands that are due, the record, and a round, if it is its time. The record is at a
+    /// place of a piece, and has a number in the capture. Returns which command is next.
     fn record_turns(
         &mut self,
         alloc: Global,
@@ -410,8 +410,9 @@ fn show<G: Gate>(gate: &G, number: usize) {
     }
 }
 
-/// The shards of an accepted image's maps, on which nothing was done but these updates. Refused with 51 where none are opened with these options, with 52
-/// for lack of memory, with 93 for the first update that a map refused, and with 94 for the first for which a journal was full.
+/// The shards of an accepted image's maps, on which nothing was done but these updates. Refused with 51 where none are opened with these
+/// options, with 52 for lack of memory, with 93 for the first update that a map refused, and with 94 for the first for which a journal was
+/// full.
 pub(crate) fn begun(
     alloc: Global,
     verified: &Verified,
@@ -482,20 +483,20 @@ fn with_records(rest: Outcome, done: PieceOutcome) -> Outcome
     }
 }
 
-/// Runs the program of an accepted image on the frames of a capture, on the calling thread: one turn after the other, each over the maps as the one
-/// before it left them. First come these updates, one after the other, as the controller, each whether or not its key is there. Before each record
-/// come the commands that are due then, in the script's order; then the record is run, by the worker
-/// of its flow, if it has 14 bytes; and after every 64 records the reclaimer makes a round. Behind the last record come the commands that are
-/// left, and one more round. So a command finds what the runs of all frames before it left, and what it sets is found by every later
-/// one. Two such replays of the same input give the same outcome, unless memory was refused to a command (no law says so). What is returned is
-/// accounted for as what a replay on threads returns, also where no rows of journals are kept.
+/// Runs the program of an accepted image on the frames of a capture, on the calling thread: one turn after the other, each over the maps as
+/// the one before it left them. First come these updates, one after the other, as the controller, each whether or not its key is there.
+/// Before each record come the commands that are due then, in the script's order; then the record is run, by the worker
+/// of its flow, if it has 14 bytes; and after every 64 records the reclaimer makes a round. Behind the last record come the commands that
+/// are left, and one more round. So a command finds what the runs of all frames before it left, and what it sets is found by every later
+/// one. Two such replays of the same input give the same outcome, unless memory was refused to a command (no law says so). What is returned
+/// is accounted for as what a replay on threads returns, also where no rows of journals are kept.
 ///
 /// The gate is called after each round that follows a record, as for a reply of the reclaimer, with the number of such rounds: it shows how
 /// far the replay is.
 ///
 /// Refused with 51 where no shards of the image's maps can be opened with the options, or where there are commands and the image's maps
-/// are not those of steering; with 52 for lack of memory; with 93 for the first update that a map refused, and with 94 for the first for which a
-/// journal was full. Then nothing was run, and nothing is left.
+/// are not those of steering; with 52 for lack of memory; with 93 for the first update that a map refused, and with 94 for the first for
+/// which a journal was full. Then nothing was run, and nothing is left.
 pub fn replay_in_turn<G: Gate>(
     alloc: Global,
     verified: &Verified,

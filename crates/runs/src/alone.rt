@@ -29,18 +29,18 @@ pub struct SingleRun {
     pub journals: Journals,
 }
 
-/// Runs the program of an accepted image on a frame, as a worker of the moment's number, over shards that are opened for it: an array has zeros, the other
-/// maps no keys, except what these updates set before the run, one after the other, as the controller. It takes the memory of the shards, which it frees
-/// except the journals.
+/// Runs the program of an accepted image on a frame, as a worker of the moment's number, over shards that are opened for it: an array has
+/// zeros, the other maps no keys, except what these updates set before the run, one after the other, as the controller. It takes the memory
+/// of the shards, which it frees except the journals.
 ///
-/// Verdict, frame and number of steps are the program's own on replies that are in the journals: on each shard that it called, Enter, its calls there
-/// with these replies, and Leave. The journals have the updates before that, and nothing else, and are legal: so each reply is that of the one-thread map
-/// with these values. Stop 60 where a journal was full for a call: the calls before it are in the journals in the same way, and the frame is as the run
-/// has made it by then.
+/// Verdict, frame and number of steps are the program's own on replies that are in the journals: on each shard that it called, Enter, its
+/// calls there with these replies, and Leave. The journals have the updates before that, and nothing else, and are legal: so each reply is
+/// that of the one-thread map with these values. Stop 60 where a journal was full for a call: the calls before it are in the journals in
+/// the same way, and the frame is as the run has made it by then.
 ///
-/// Refused with 51 where no shards of the image's maps can be opened with the options, or have no worker of that number, with 52 for lack of
-/// memory, with 93 for the first update that a map refused, and with 94 for the first for which a journal was full. Then nothing was run, and the frame
-/// is as it was.
+/// Refused with 51 where no shards of the image's maps can be opened with the options, or have no worker of that number, with 52 for lack
+/// of memory, with 93 for the first update that a map refused, and with 94 for the first for which a journal was full. Then nothing was
+/// run, and the frame is as it was.
 pub fn run_alone(
     alloc: Global,
     verified: &Verified,

@@ -1,5 +1,5 @@
-//! Runs of accepted images over shards: of a worker's frame over shards that many share (`run_frame`), over those of a single caller (`plain_run`), and
-//! of one frame over shards of its own, after updates of their maps (`run_alone`).
+//! Runs of accepted images over shards: of a worker's frame over shards that many share (`run_frame`), over those of a single caller
+//! (`plain_run`), and of one frame over shards of its own, after updates of their maps (`run_alone`).
 #![tactic(auto)]
 
 mod alone;

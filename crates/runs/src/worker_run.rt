@@ -57,7 +57,8 @@ fn run_at<B: Naming, W: Wait, G: Gate>(
     run(verified, frame, moment, port)
 }
 
-/// Runs the program of an accepted image on a frame, over shards that other threads may call, by a worker's pass that is outside all of them.
+/// Runs the program of an accepted image on a frame, over shards that other threads may call, by a worker's pass that is outside all of
+/// them.
 ///
 /// Verdict, frame and number of steps are the program's own on replies that are among the worker's own entries: on each shard that it
 /// called, Enter, its calls there with these replies, and Leave, in the order in which it made them. Each reply is the one-thread map's at
@@ -66,8 +67,8 @@ fn run_at<B: Naming, W: Wait, G: Gate>(
 /// Stop 60 where a shard's journal was full for a call, or for the Enter before it: the calls before are those that the program makes
 /// first; they are between Enter and Leave in the same way. The frame is as the run has made it by then, not to be sent.
 ///
-/// Either way the worker is outside every shard again. The gate was called for each reply, while the worker held no lock, as one of the worker
-/// of `moment`, and of nothing else; `replies` counts its calls for this worker, and has grown by the run's replies.
+/// Either way the worker is outside every shard again. The gate was called for each reply, while the worker held no lock, as one of the
+/// worker of `moment`, and of nothing else; `replies` counts its calls for this worker, and has grown by the run's replies.
 pub fn run_frame<B: Naming, W: Wait, G: Gate>(
     rt: &W,
     verified: &Verified,

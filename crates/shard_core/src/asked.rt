@@ -30,8 +30,8 @@ impl Shard {
         Readable { shard: self }.holds(worker, cell)
     }
 
-    /// Whether the caller may make this call now, which a shard that keeps no rows cannot say: it says no. Reads the journal only for a Load, a Store
-    /// or an Atomic, back to the worker's Enter.
+    /// Whether the caller may make this call now, which a shard that keeps no rows cannot say: it says no. Reads the journal only for a
+    /// Load, a Store or an Atomic, back to the worker's Enter.
     pub fn meets(&self, who: &Caller, call: &Call) -> bool
         ensures may { result ≡ true → Meets self.now.plan (reverse self.now.journal) who.now call.now }
         ensures exact { KeepsRows self.now.plan.reserve → result ≡ meets self.now.plan (reverse self.now.journal) who.now call.now }

@@ -64,8 +64,8 @@ pub(crate) fn put_value(
     }
 }
 
-/// Writes the value of a key into the cell that the key has, or into a new one. In a full LRU shard another key goes first, whose cell waits
-/// for its readers from this place of the journal on.
+/// Writes the value of a key into the cell that the key has, or into a new one. In a full LRU shard another key goes first, whose cell
+/// waits for its readers from this place of the journal on.
 fn write_value(cells: &mut Cells, keys: &mut KeyTable, key: &[u8], value: &[u8], place: u64)
     requires size { IsAskedSize keys.old (length key.now) }
     requires value { length value.now ≡ cells.old.value_size }

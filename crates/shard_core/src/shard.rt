@@ -1,20 +1,22 @@
 //! One shard of a map: a part of the map's keys, and the journal of all calls on it.
 //!
-//! It consists of its *plan* (which map, which part of it, and the limits), the *journal* of all calls that were served, the *cells*, each with the bytes
-//! of one value, the *keys*, each with its cell, and for each worker inside the place of its Enter in the journal.
+//! It consists of its *plan* (which map, which part of it, and the limits), the *journal* of all calls that were served, the *cells*, each
+//! with the bytes of one value, the *keys*, each with its cell, and for each worker inside the place of its Enter in the journal.
 //!
-//! Each call is one step and one entry. First it asks whether the journal has room for its entry beside one for the Leave of each worker inside; if not,
-//! the call is refused, and nothing is changed. A Leave need not ask, since its Enter left it room. Then it changes cells and keys as the one-thread
-//! shard of `semantics` would, and appends an entry with the caller, the call and the reply.
+//! Each call is one step and one entry. First it asks whether the journal has room for its entry beside one for the Leave of each worker
+//! inside; if not, the call is refused, and nothing is changed. A Leave need not ask, since its Enter left it room. Then it changes cells
+//! and keys as the one-thread shard of `semantics` would, and appends an entry with the caller, the call and the reply.
 //!
-//! A key that is deleted, or evicted for a new one, has its cell *retired*: no Lookup finds the cell any more, and no new key gets it, but its bytes are
-//! kept, with the place of that entry in the journal as its stamp. Who may still hold it is each worker that found it since its last Enter and has not
-//! left: it goes on reading and writing these bytes. A Reclaim frees a retired cell exactly where every run inside began after the retirement, and so
-//! cannot have found it. Epochs count that (`epochs::places`), and here the epochs are the journal's own places: the stamp is below the *floor*, the
-//! lowest place of an Enter of a worker inside, or the journal's length where nobody is inside. A freed cell serves a new key, under a new id.
+//! A key that is deleted, or evicted for a new one, has its cell *retired*: no Lookup finds the cell any more, and no new key gets it, but
+//! its bytes are kept, with the place of that entry in the journal as its stamp. Who may still hold it is each worker that found it since
+//! its last Enter and has not left: it goes on reading and writing these bytes. A Reclaim frees a retired cell exactly where every run
+//! inside began after the retirement, and so cannot have found it. Epochs count that (`epochs::places`), and here the epochs are the
+//! journal's own places: the stamp is below the *floor*, the lowest place of an Enter of a worker inside, or the journal's length where
+//! nobody is inside. A freed cell serves a new key, under a new id.
 //!
-//! No call takes memory: `open` takes all that the shard will ever need, which is the journal's room, the keys' tables, and one cell for each index of an
-//! array or two for each key of the other maps. Where all cells have a key or wait, a new key is answered -12 until a Reclaim.
+//! No call takes memory: `open` takes all that the shard will ever need, which is the journal's room, the keys' tables, and one cell for
+//! each index of an array or two for each key of the other maps. Where all cells have a key or wait, a new key is answered -12 until a
+//! Reclaim.
 
 ghost use Rattle.std.specs.Prelude.{◌≡◌, ◌+◌, ◌<◌, ◌↔◌, IsErr, IfOk, IfErr, OnErr, OnOk, reverse, length, nat_lt};
 ghost use Rattle.semantics.specs.declared.call.Reply.TheVariants.{Entered, Left, Word, Done, Answer, Freed};
@@ -240,8 +242,8 @@ impl Shard {
         Ok(())
     }
 
-    /// Changes the number in some bytes of a held cell in one step, and returns what it was. Refused where the journal is full; then nothing
-    /// is changed.
+    /// Changes the number in some bytes of a held cell in one step, and returns what it was. Refused where the journal is full; then
+    /// nothing is changed.
     #[inline(always)]
     pub fn atomic(
         &mut self,
@@ -340,8 +342,8 @@ impl Shard {
         Ok(code)
     }
 
-    /// Frees the retired cells that no run inside can hold, since each entered after they were retired, and says how many they were. Refused
-    /// where the journal is full; then nothing is changed.
+    /// Frees the retired cells that no run inside can hold, since each entered after they were retired, and says how many they were.
+    /// Refused where the journal is full; then nothing is changed.
     pub fn reclaim(&mut self, who: Caller) -> Result<u64, JournalFull>
         requires { MayCall self.old who (reclaim_call self.old) }
         ensures replied { IfOk result (λ count. Freed count ≡ sequential_reply self.old (reclaim_call self.old)) }

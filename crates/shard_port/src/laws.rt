@@ -47,8 +47,8 @@ pub fn calls_keep_serving()
     ensures { CallsKeepServing }
 {}
 
-/// From a pass whose worker is outside the shards: what a run asked of each shard and what it was answered is, between an Enter and a Leave,
-/// what the worker's own entries have more once the port is finished.
+/// From a pass whose worker is outside the shards: what a run asked of each shard and what it was answered is, between an Enter and a
+/// Leave, what the worker's own entries have more once the port is finished.
 pub fn own_entries_are_sessions()
     ensures { WritesOwnSessions }
 {}

@@ -20,8 +20,8 @@ use shards::{Ask, Changes, Deletes, Loads, Looks, Naming, Pass, Shards, Stopped,
 use std::sync::Wait;
 
 /// A worker's port over shared shards: one run. It enters a shard before its first call there, and has to be finished, which leaves the
-/// shards that it entered. It waits for locks, and no call takes memory. A gate is called for each reply, while no lock is held: not of an Enter, a Leave
-/// or a refused call.
+/// shards that it entered. It waits for locks, and no call takes memory. A gate is called for each reply, while no lock is held: not of an
+/// Enter, a Leave or a refused call.
 ///
 /// A cell's handle is `shard * 2^32 + id + 1`: its shard's number above its id.
 pub struct ShardPort<'a, B: Naming, W: Wait, G: Gate> {
@@ -91,8 +91,8 @@ impl<'a, B: Naming, W: Wait, G: Gate> ShardPort<'a, B, W, G> {
         asked
     }
 
-    /// The worker leaves all shards that it is inside of, the lowest number first. A Leave is never refused. Returns how many replies the schedule
-    /// hook was called for.
+    /// The worker leaves all shards that it is inside of, the lowest number first. A Leave is never refused. Returns how many replies the
+    /// schedule hook was called for.
     pub fn finish(self) -> u64
         ensures left { IsFinishedBy B.plan B.count self.entry.pass.now self.exit.0.now }
         ensures told { result ≡ self.entry.tally.count }

@@ -7,8 +7,8 @@ use semantics::Caller;
 
 /// What is called for each reply of an actor, and may hold it: for tests that fix a schedule.
 pub trait Gate {
-    /// The actor has had its `nth` reply, counted from 1 within the replay: to a map's call, to an update or to a Reclaim. It holds no lock. Neither
-    /// an Enter, a Leave nor a refusal counts.
+    /// The actor has had its `nth` reply, counted from 1 within the replay: to a map's call, to an update or to a Reclaim. It holds no
+    /// lock. Neither an Enter, a Leave nor a refusal counts.
     fn replied(&self, who: Caller, nth: u64);
 }
 

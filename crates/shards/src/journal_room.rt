@@ -9,7 +9,8 @@ use std::marker::PhantomData;
 
 /// An empty list with room for a journal of each shard. It is taken when the shards are opened, so that `close` takes no memory.
 ///
-/// `Shards` keeps it in a `Mutex`, which no thread ever locks: a journal may be sent to another thread and not shared, and `Shards` is shared.
+/// `Shards` keeps it in a `Mutex`, which no thread ever locks: a journal may be sent to another thread and not shared, and `Shards` is
+/// shared.
 #[derive(Drop)]
 pub(crate) struct JournalRoom<B: Naming> {
     journals: Vec<Journal>,

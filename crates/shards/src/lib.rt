@@ -1,5 +1,5 @@
-//! The shards of an image's maps: those of a single caller (`PlainShards`), and those that many threads call, behind a lock each, with passes, which
-//! know what their callers did and saw.
+//! The shards of an image's maps: those of a single caller (`PlainShards`), and those that many threads call, behind a lock each, with
+//! passes, which know what their callers did and saw.
 #![tactic(auto)]
 
 mod asks;

@@ -19,8 +19,8 @@ use semantics::{Call, Caller, JournalFull};
 use std::hint;
 use std::sync::Wait;
 
-/// How often a caller that finds the shard taken looks again before it sleeps, with longer pauses from look to look. Sleeping and being woken cost
-/// each side microseconds, where a call has the shard for some 50 ns.
+/// How often a caller that finds the shard taken looks again before it sleeps, with longer pauses from look to look. Sleeping and being
+/// woken cost each side microseconds, where a call has the shard for some 50 ns.
 const LOOKS: u32 = 12;
 
 /// Which of the table's words it is: what is before it and behind it keeps all else off its cache lines.
@@ -55,8 +55,8 @@ pub(crate) fn take(rt: &impl Wait, lock: &Lock, seat: &mut LockSeat)
     unreachable!()
 }
 
-/// Pauses before the next look: twice as long from look to look, and 64 times as long at most. Meanwhile who has the shard may give it back and
-/// take it again, with all of it in its own caches.
+/// Pauses before the next look: twice as long from look to look, and 64 times as long at most. Meanwhile who has the shard may give it back
+/// and take it again, with all of it in its own caches.
 fn pause(looks: u32) {
     'pauses: for _ in 0..1u32 << looks.min(6) {
         hint::spin_loop();

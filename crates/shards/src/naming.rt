@@ -2,8 +2,8 @@
 
 use std::marker::Brand;
 
-/// How many shards there are, and which word and which plan the shard of a number has, and which order all deeds are in. A program picks them
-/// once, where it makes its shards known to a function that is generic in them (`std::marker::Brand`).
+/// How many shards there are, and which word and which plan the shard of a number has, and which order all deeds are in. A program picks
+/// them once, where it makes its shards known to a function that is generic in them (`std::marker::Brand`).
 pub trait Naming {
     ghost use Rattle.std.specs.Prelude.{ℕ};
     ghost use Rattle.atomic_table.specs.Seated.{TableId};

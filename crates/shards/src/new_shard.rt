@@ -21,7 +21,8 @@ use shard_core::Shard;
 use std::alloc::{AllocError, Global};
 use std::marker::Model;
 
-/// The words of a table: the one that is used, with two cache lines of nothing before it and behind it, so that nothing else is on its lines.
+/// The words of a table: the one that is used, with two cache lines of nothing before it and behind it, so that nothing else is on its
+/// lines.
 const LINES: [u64; 32] = [0; 32];
 
 /// A shard in which nothing has happened. Contracts see its plan, the name of its word, and how many seats wait.

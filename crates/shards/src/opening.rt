@@ -61,8 +61,8 @@ impl Model for Opened {
 }
 
 impl Opened {
-    /// Opens the shards of the image's maps, with journals whose rows are kept. Takes all memory that they will ever need, but what `share` and `pass`
-    /// say. Refused with 51 where the options are none that are served, and with 52 for lack of memory; then nothing is left.
+    /// Opens the shards of the image's maps, with journals whose rows are kept. Takes all memory that they will ever need, but what `share`
+    /// and `pass` say. Refused with 51 where the options are none that are served, and with 52 for lack of memory; then nothing is left.
     pub fn open(alloc: Global, image: &Image, options: Options) -> Result<Self, OpenFault>
         ensures maps { IfOk result (λ opened. opened.maps ≡ image.now.maps) }
         ensures options { IfOk result (λ opened. opened.options ≡ options) }
@@ -71,8 +71,8 @@ impl Opened {
         Opened::open_with(alloc, image, options, Recording::Rows)
     }
 
-    /// The same, with journals whose rows are kept or not. Without rows the room of a journal does not depend on the options, which are refused all the
-    /// same.
+    /// The same, with journals whose rows are kept or not. Without rows the room of a journal does not depend on the options, which are
+    /// refused all the same.
     pub fn open_with(
         alloc: Global,
         image: &Image,

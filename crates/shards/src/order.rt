@@ -21,8 +21,8 @@ use std::mem;
 /// The words of the table, as many as fit into a cache line. The first is read, and none is ever written.
 const LINE: [u64; 8] = [0; 8];
 
-/// Adds a deed to the order: to the account of its shard, whose seat rests in a place, and to that of its caller. The shard, the caller, the call
-/// and whether it was served are for the proof alone, which picks the deed by them.
+/// Adds a deed to the order: to the account of its shard, whose seat rests in a place, and to that of its caller. The shard, the caller,
+/// the call and whether it was served are for the proof alone, which picks the deed by them.
 pub(crate) fn note<D: Item, C: Ask>(
     order: &Order,
     place: &mut OrderPlace,

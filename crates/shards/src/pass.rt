@@ -26,7 +26,8 @@ use std::marker::{Model, PhantomData};
 use std::sync::Wait;
 
 /// A caller's right to call the shards. Contracts see, for each shard, a beginning of its history that the caller has seen, and in it the
-/// entries of the caller's own calls, which are all that this caller ever made there; and over all shards what the caller did, in its order.
+/// entries of the caller's own calls, which are all that this caller ever made there; and over all shards what the caller did, in its
+/// order.
 #[derive(Drop)]
 pub struct Pass<B: Naming> {
     pub(crate) who: Caller,
@@ -52,8 +53,8 @@ impl<B: Naming> Model for Pass<B> {
 }
 
 impl<B: Naming> Pass<B> {
-    /// On each shard the caller's own entries are all of its entries in what it has seen, and what it has seen is legal. The function does nothing:
-    /// it brings this fact into a proof.
+    /// On each shard the caller's own entries are all of its entries in what it has seen, and what it has seen is legal. The function does
+    /// nothing: it brings this fact into a proof.
     pub fn knows(&self, shard: u32)
         requires { shard < B.count }
         ensures own { KnowsItsOwn shard self.now }

@@ -34,8 +34,8 @@ impl Model for PlainShards {
 impl PlainShards {
     ghost use Rattle.shards.specs.Lending.{LendsShard};
 
-    /// The shards of the image's maps, in which nothing has happened, with journals whose rows are kept. Takes all memory that they will ever need.
-    /// Refused with 51 where the maps can't be opened with these options, and with 52 without memory.
+    /// The shards of the image's maps, in which nothing has happened, with journals whose rows are kept. Takes all memory that they will
+    /// ever need. Refused with 51 where the maps can't be opened with these options, and with 52 without memory.
     pub fn open(alloc: Global, image: &Image, options: Options) -> Result<Self, OpenFault>
         ensures opened { IfOk result (λ shards. AreOpened image.now.maps options shards) }
         ensures options { OnOk result (AreServedOptions image.now.maps options) }
@@ -44,8 +44,8 @@ impl PlainShards {
         PlainShards::open_with(alloc, image, options, Recording::Rows)
     }
 
-    /// The same, with journals whose rows are kept or not. Without rows the room of a journal does not depend on the options, which are refused all the
-    /// same.
+    /// The same, with journals whose rows are kept or not. Without rows the room of a journal does not depend on the options, which are
+    /// refused all the same.
     pub fn open_with(
         alloc: Global,
         image: &Image,

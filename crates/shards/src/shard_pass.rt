@@ -30,8 +30,8 @@ use std::marker::Model;
 use std::mem;
 use std::sync::Wait;
 
-/// A caller's right to call one shard. Contracts see which shard and which caller it is, what the caller has seen of the history, and its own entries
-/// in it, whether it has the shard or not.
+/// A caller's right to call one shard. Contracts see which shard and which caller it is, what the caller has seen of the history, and its
+/// own entries in it, whether it has the shard or not.
 #[derive(Drop)]
 pub struct ShardPass {
     seat: LockSeat,
@@ -66,8 +66,8 @@ impl ShardPass {
         }
     }
 
-    /// Its own entries are all of its caller's in what it has seen, and what it has seen is legal. The function does nothing: it brings this fact
-    /// into a proof.
+    /// Its own entries are all of its caller's in what it has seen, and what it has seen is legal. The function does nothing: it brings
+    /// this fact into a proof.
     pub(crate) fn knows(&self)
         ensures own { self.now.view.own ≡ own_entries self.now.who self.now.view.seen }
         ensures legal { IsLegalHistory self.now.key.plan self.now.view.seen }

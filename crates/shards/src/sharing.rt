@@ -2,56 +2,61 @@
 //!
 //! # One word a shard
 //!
-//! A shard is in the slot of an atomic table with one word that is used. The word is four times the number of the journal's entries, plus the *phase* of
-//! the lock: 0 free, 1 taken, 2 taken while others may sleep, 3 closed for good. Whoever takes the lock takes the shard out of its slot: from then on it
-//! is plain memory, which only that caller reads and writes. Whoever gives the shard back puts the new length into the word in the same step.
+//! A shard is in the slot of an atomic table with one word that is used. The word is four times the number of the journal's entries, plus
+//! the *phase* of the lock: 0 free, 1 taken, 2 taken while others may sleep, 3 closed for good. Whoever takes the lock takes the shard out
+//! of its slot: from then on it is plain memory, which only that caller reads and writes. Whoever gives the shard back puts the new length
+//! into the word in the same step.
 //!
 //! A call is three steps (`lock`):
 //!
-//! - *Take*: read the word; if the phase is 0, a compare-exchange makes it 1. Where it is not, or another was faster: look again, or *wait*.
+//! - *Take*: read the word; if the phase is 0, a compare-exchange makes it 1. Where it is not, or another was faster: look again, or
+//! *wait*.
 //! - The call itself, on plain memory, without an atomic step.
 //! - *Give*: one swap writes four times the new length. If the word found had phase 2, one sleeper is woken.
 //!
-//! Whoever finds the phase other than 0 looks a dozen times more, with longer and longer pauses, since a call has the shard for some 50 ns; then it
-//! *waits*. To *wait* is to *mark* the word, a compare-exchange from phase 1 to phase 2, and then to sleep until the word changes. Who has waited takes the
-//! lock with phase 2 and not 1: others may still sleep, and its give wakes the next of them. So a wake is never lost: whoever sleeps has seen phase 2,
-//! and each give that finds phase 2 wakes one.
+//! Whoever finds the phase other than 0 looks a dozen times more, with longer and longer pauses, since a call has the shard for some 50 ns;
+//! then it
+//! *waits*. To *wait* is to *mark* the word, a compare-exchange from phase 1 to phase 2, and then to sleep until the word changes. Who has
+//! waited takes the lock with phase 2 and not 1: others may still sleep, and its give wakes the next of them. So a wake is never lost:
+//! whoever sleeps has seen phase 2, and each give that finds phase 2 wakes one.
 //!
-//! An Enter and the call behind it are made under one hold (`enter_then`), and one swap counts both: a give may bring any number of entries, if one caller
-//! made them all.
+//! An Enter and the call behind it are made under one hold (`enter_then`), and one swap counts both: a give may bring any number of
+//! entries, if one caller made them all.
 //!
 //! # Who knows what
 //!
-//! A *seat* is a right to make steps on the word, together with what its owner knows (`Known`). It has no bytes. A caller's seat is in its pass: it
-//! knows all entries that the caller ever made in the shard, and a beginning of the history that the caller has seen. Between two calls other
-//! callers append entries, so a pass knows a beginning and not all of it. The rule of the word (`rule`, `specs/LockRule`) says what each
-//! step may change, and each step is proved to keep it (`proofs/Moves`):
+//! A *seat* is a right to make steps on the word, together with what its owner knows (`Known`). It has no bytes. A caller's seat is in its
+//! pass: it knows all entries that the caller ever made in the shard, and a beginning of the history that the caller has seen. Between two
+//! calls other callers append entries, so a pass knows a beginning and not all of it. The rule of the word (`rule`, `specs/LockRule`) says
+//! what each step may change, and each step is proved to keep it (`proofs/Moves`):
 //!
 //! - `Deals`: a seat for a caller that has none. Each caller gets one, once (`dealer`), so that its own entries are all in one place.
-//! - `Takes`: the lock was free, so the shard was in its slot, and its journal was the whole history. The seat has the shard now, and learns that its own
-//!   entries are all of its caller's in that history, and that what it saw is a beginning of it.
+//! - `Takes`: the lock was free, so the shard was in its slot, and its journal was the whole history. The seat has the shard now, and
+//! learns that its own   entries are all of its caller's in that history, and that what it saw is a beginning of it.
 //! - `Marks`: the phase alone changes.
-//! - `Gives`: the journal has grown by entries of this caller alone, since nobody else had the shard. They are the end of the history now, and the seat
-//!   has seen all of it. The other callers' own entries are the same as before, and what they saw is still a beginning.
+//! - `Gives`: the journal has grown by entries of this caller alone, since nobody else had the shard. They are the end of the history now,
+//! and the seat   has seen all of it. The other callers' own entries are the same as before, and what they saw is still a beginning.
 //!
 //! That own entries are *all* of the caller's is what lets a caller know by itself, without a lock, whether it is inside and what it holds.
 //!
 //! # The one order
 //!
-//! All that callers do on all shards has one order: a list of *deeds* that no memory has. A deed is an entry, or a call that met a full journal. Each
-//! shard and each caller has one *account*, which is all of its deeds in the order, and one seat has it (`order_rule`, `specs/OrderRule`): that of a shard
-//! lies beside the shard in its slot, that of a caller is in its pass. So who has taken a shard has both. It puts them together, makes one step, and
-//! parts them again (`order`):
+//! All that callers do on all shards has one order: a list of *deeds* that no memory has. A deed is an entry, or a call that met a full
+//! journal. Each shard and each caller has one *account*, which is all of its deeds in the order, and one seat has it (`order_rule`,
+//! `specs/OrderRule`): that of a shard lies beside the shard in its slot, that of a caller is in its pass. So who has taken a shard has
+//! both. It puts them together, makes one step, and parts them again (`order`):
 //!
-//! - `Adds`: a deed is added to the order, and to each account of the seat. Nobody else has these accounts, so shard by shard the entries of the order are
-//!   the journal, and caller by caller the deeds are what it did over all shards, each in the order in which they happened.
+//! - `Adds`: a deed is added to the order, and to each account of the seat. Nobody else has these accounts, so shard by shard the entries
+//! of the order are   the journal, and caller by caller the deeds are what it did over all shards, each in the order in which they
+//! happened.
 //!
 //! # Visitors
 //!
-//! `hold`, `meet` and `close` make no call. They take the shard by a *visitor's* seat, which anyone gets (`Comes`), and which waits like every other. A
-//! visitor that has the shard can show a caller its history (`showing`): the two seats become one (`Both`), a load shows that the caller's own entries are
-//! all of its entries in that history (`Sees`), and they part again. `close` shows each shard to each pass that was handed in, puts the shard back for
-//! good (`Ends`, phase 3), and takes the table apart: the shard is in its slot then, with the history that the passes were shown.
+//! `hold`, `meet` and `close` make no call. They take the shard by a *visitor's* seat, which anyone gets (`Comes`), and which waits like
+//! every other. A visitor that has the shard can show a caller its history (`showing`): the two seats become one (`Both`), a load shows
+//! that the caller's own entries are all of its entries in that history (`Sees`), and they part again. `close` shows each shard to each
+//! pass that was handed in, puts the shard back for good (`Ends`, phase 3), and takes the table apart: the shard is in its slot then, with
+//! the history that the passes were shown.
 
 ghost use Rattle.std.specs.Prelude.{◌≡◌, ◌<◌, ◌∷◌, ◌++◌, true, false, IfOk, IfErr, OnErr};
 ghost use Rattle.semantics.specs.declared.call.Call.TheVariants.{Enter};
@@ -81,8 +86,8 @@ use semantics::{Call, JournalFull, Options, Reply};
 use std::marker::{Model, PhantomData};
 use std::sync::{Mutex, Wait};
 
-/// The shards of an image's maps, map after map, behind a lock each. Threads share them by reference. Contracts see the maps and the options
-/// that they were opened with.
+/// The shards of an image's maps, map after map, behind a lock each. Threads share them by reference. Contracts see the maps and the
+/// options that they were opened with.
 #[derive(Drop)]
 pub struct Shards<B: Naming> {
     pub(crate) locks: Vec<Lock>,
@@ -167,8 +172,8 @@ impl<B: Naming> Shards<B> {
     /// Enters the shard, and makes a call there at once: two steps and two entries, next to each other, under one hold of the lock. Takes
     /// no memory.
     ///
-    /// Refused where the journal has no room for the Enter, and then nothing was changed; or none for the call, and then the Enter is served.
-    /// Either way the pass has seen the history whose journal is full.
+    /// Refused where the journal has no room for the Enter, and then nothing was changed; or none for the call, and then the Enter is
+    /// served. Either way the pass has seen the history whose journal is full.
     pub fn enter_then<C: Ask>(
         &self,
         rt: &impl Wait,
@@ -211,8 +216,8 @@ impl<B: Naming> Shards<B> {
     }
 
     /// Whether the pass's caller may make the call now; the pass has then seen the shard's history. Waits for the shard's lock, takes no
-    /// memory, and may read the whole journal: it is for callers that cannot know it by what they did. Where no rows are kept it cannot say, and returns
-    /// false.
+    /// memory, and may read the whole journal: it is for callers that cannot know it by what they did. Where no rows are kept it cannot
+    /// say, and returns false.
     pub fn may_call(&self, rt: &impl Wait, pass: &mut Pass<B>, call: &Call) -> bool
         requires shard { shard_of_call call.now < B.count }
         ensures elsewhere { IsElsewhereSame (shard_of_call call.now) pass.old pass.new }
@@ -242,8 +247,8 @@ impl<B: Naming> Shards<B> {
         result
     }
 
-    /// Lets two callers see the same history of a shard: afterwards each has seen all that both did there. Waits for the shard's lock, changes nothing,
-    /// takes no memory.
+    /// Lets two callers see the same history of a shard: afterwards each has seen all that both did there. Waits for the shard's lock,
+    /// changes nothing, takes no memory.
     pub fn meet(&self, rt: &impl Wait, shard: u32, one: &mut Pass<B>, other: &mut Pass<B>)
         requires shard { shard < B.count }
         ensures elsewhere_one { IsElsewhereSame shard one.old one.new }

@@ -23,7 +23,8 @@ fn goes_into(in_comment: bool, byte: u8) -> bool
     if in_comment { byte != 10 } else { byte == 35 }
 }
 
-/// Whether a file begins as a source does: behind blanks and comments comes the word `version`. An image never does, nor any other file that the program reads.
+/// Whether a file begins as a source does: behind blanks and comments comes the word `version`. An image never does, nor any other file
+/// that the program reads.
 pub fn begins_as_source(text: &[u8]) -> bool
     ensures { result ≡ begins_as_source text.now }
 {

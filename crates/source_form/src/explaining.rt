@@ -336,9 +336,9 @@ fn line_note(
     }
 }
 
-/// The line for people below the fault's own: two spaces, the token of the source that is wrong and what was expected, or where every line is right
-/// the first line that no image has, with a line feed; or nothing where there is no more to print. An exact text is a source too. It can fail only for
-/// lack of memory.
+/// The line for people below the fault's own: two spaces, the token of the source that is wrong and what was expected, or where every line
+/// is right the first line that no image has, with a line feed; or nothing where there is no more to print. An exact text is a source too.
+/// It can fail only for lack of memory.
 pub fn explain(alloc: Global, source: &str, fault: SourceFault) -> Result<String, AllocError> {
     let statements = statements_of(alloc, source)?;
     let note = match fault {

@@ -112,8 +112,8 @@ pub(crate) fn text_of_lines(alloc: Global, statements: &[&str]) -> Result<String
     Ok(out)
 }
 
-/// The exact text that a source means. Else 21 with the first line, counted from 1, that has no meaning, and what is wrong with it; or 23 where
-/// memory is refused.
+/// The exact text that a source means. Else 21 with the first line, counted from 1, that has no meaning, and what is wrong with it; or 23
+/// where memory is refused.
 pub fn exact_text(alloc: Global, source: &str) -> Result<String, SourceFault>
     ensures means { IfOk result (λ text. source_meaning source.now ≡ Ok (string_bytes text)) }
     ensures refused { IfErr result (λ fault. IsToldOf (source_meaning source.now) fault) }

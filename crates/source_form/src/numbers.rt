@@ -128,7 +128,8 @@ fn is_upper_word(value: u64) -> bool
     WORDS / 2 <= value && value < WORDS
 }
 
-/// An operand where a signed number of 32 bits may be: one that is too large for that, and has 32 bits, is the negative number of the same bits.
+/// An operand where a signed number of 32 bits may be: one that is too large for that, and has 32 bits, is the negative number of the same
+/// bits.
 pub(crate) fn immediate_text(alloc: Global, operand: &str) -> Result<String, LineFault>
     ensures ok { IfOk result (λ text. immediate_meaning operand.now ≡ Ok (string_bytes text)) }
     ensures err { IfErr result (λ fault. IsToldBy (immediate_meaning operand.now) fault) }

@@ -122,8 +122,8 @@ fn printed(alloc: Global, image: &Image, exact: &str) -> Result<String, AllocErr
     Ok(out)
 }
 
-/// A source of an image. It is read again before it is answered; if it did not mean the image's text, that text would be answered in its place.
-/// It can fail only for lack of memory.
+/// A source of an image. It is read again before it is answered; if it did not mean the image's text, that text would be answered in its
+/// place. It can fail only for lack of memory.
 pub fn source(alloc: Global, image: &Image) -> Result<String, AllocError>
     ensures { IfOk result (λ source. IsSource (string_bytes source) image.now) }
 {

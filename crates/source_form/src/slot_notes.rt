@@ -66,8 +66,8 @@ fn label_text(alloc: Global, label: &str) -> Result<String, AllocError>
     Ok(out)
 }
 
-/// The line for people below the fault of a slot: two spaces, the line of the source on which the slot's instruction is, and the label above it, with a line
-/// feed. It can fail only for lack of memory.
+/// The line for people below the fault of a slot: two spaces, the line of the source on which the slot's instruction is, and the label
+/// above it, with a line feed. It can fail only for lack of memory.
 pub fn slot_note(alloc: Global, source: &str, slot: u32) -> Result<String, AllocError>
     ensures { IfOk result (λ text. string_bytes text ≡ slot_note source.now slot) }
 {

@@ -89,8 +89,8 @@ pub(crate) const LEAST_PACKET: i32 = 28;
 pub(crate) const MOST_PACKET: i32 = 2034;
 /// The bytes of an Ethernet header.
 pub(crate) const ETHERNET_HEADER: i32 = 14;
-/// "More fragments" and the offset: all bits of flags and offset except the reserved one and "don't fragment", as a number whose low byte is
-/// the frame's first.
+/// "More fragments" and the offset: all bits of flags and offset except the reserved one and "don't fragment", as a number whose low byte
+/// is the frame's first.
 pub(crate) const FRAGMENT_BITS: i32 = 65343;
 /// The protocol TCP.
 pub(crate) const TCP: i32 = 6;

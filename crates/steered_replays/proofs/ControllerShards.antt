@@ -1,4 +1,5 @@
--- The commands of a script put nothing into the shards of counts: their updates are of the services, the lookup table, the backends and the tunnel.
+-- The commands of a script put nothing into the shards of counts: their updates are of the services, the lookup table, the backends and the
+-- tunnel.
 use Rattle.std.proofs.Common.{◌≡◌, inl, inr, ℕ, ◌*◌, ◌%◌, ◌<◌, ◌≤◌, ◌==◌, Bool, false, List, [], ◌∷◌, refl, sym, ◌∙◌, ap, subst, arith}
 use Rattle.std.specs.Prelude.{Option, Some, None, if◌then◌else◌}
 use Rattle.std.specs.List.{AllByRecursion}

@@ -42,9 +42,10 @@ pub(crate) fn all_are_of_capture(capture: &Capture)
     }
 }
 
-/// `replay` of the shipped program for a lookup table of `size` slots, with what holds of this program besides. Each run of a worker follows
-/// the steering rule, on the replies that are among the worker's entries; and where no run was stopped, the counts in the maps are those
-/// of the outcome. It shows that what `replays_are_steered` and `totals_are_exact` ask for is what `replay` gives. Refused as `replay` is.
+/// `replay` of the shipped program for a lookup table of `size` slots, with what holds of this program besides. Each run of a worker
+/// follows the steering rule, on the replies that are among the worker's entries; and where no run was stopped, the counts in the maps are
+/// those of the outcome. It shows that what `replays_are_steered` and `totals_are_exact` ask for is what `replay` gives. Refused as
+/// `replay` is.
 pub fn shipped_replay<R: Threads + Wait + Sync, G: Gate + Sync>(
     rt: &R,
     alloc: Global,

@@ -57,9 +57,10 @@ fn header_and_rest(bytes: &[u8]) -> (&[u8], &[u8])
     bytes.split_at(CAPTURE_HEADER_LEN.min(bytes.len()))
 }
 
-/// The bytes of a capture file without the records that keep more than 2048 bytes, and how many of these there were. A record is left out only if all its
-/// bytes are there: from the first record on that is cut short everything stays, and the header stays whatever it says. So `read_capture` finds the same
-/// fault as in the whole file, unless that is the fault of a record that was left out. It can fail only for lack of memory.
+/// The bytes of a capture file without the records that keep more than 2048 bytes, and how many of these there were. A record is left out
+/// only if all its bytes are there: from the first record on that is cut short everything stays, and the header stays whatever it says. So
+/// `read_capture` finds the same fault as in the whole file, unless that is the fault of a record that was left out. It can fail only for
+/// lack of memory.
 pub fn without_long_records(alloc: Global, bytes: &[u8]) -> Result<ShortenedCapture, AllocError>
     ensures { IfOk result (IsShortened bytes.now) }
 {

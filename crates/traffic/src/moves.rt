@@ -104,8 +104,8 @@ fn put_place(places: &mut Vec<usize>, is_moved: bool, place: usize) -> Result<()
     Ok(())
 }
 
-/// The places, counted from 0, of the frames that went through a tunnel to another address than the last frame of their flow before them. It fails only
-/// for lack of memory.
+/// The places, counted from 0, of the frames that went through a tunnel to another address than the last frame of their flow before them.
+/// It fails only for lack of memory.
 pub fn moved_places(alloc: Global, frames: &[Sent]) -> Result<Vec<usize>, AllocError>
     ensures { IfOk result (λ places. places.items ≡ moved_places frames.now) }
 {

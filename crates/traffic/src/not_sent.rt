@@ -217,8 +217,8 @@ fn put_services(
     Ok(())
 }
 
-/// How many of the captured frames are for each service of the script, in its order, and how many frames of flows were not sent for which reason, by the
-/// verdicts of their records: a line for each service and each reason that has a frame. It fails only for lack of memory.
+/// How many of the captured frames are for each service of the script, in its order, and how many frames of flows were not sent for which
+/// reason, by the verdicts of their records: a line for each service and each reason that has a frame. It fails only for lack of memory.
 pub fn services(
     alloc: Global,
     frames: &[Sent],

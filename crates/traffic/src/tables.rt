@@ -248,9 +248,9 @@ fn opened(alloc: Global, size: u32) -> Controller
     }
 }
 
-/// What is printed of a script: for each command, in its order, how many slots of the lookup table change hands, beside the fewest that have to, and the share
-/// of each backend that is up then; or that it was refused, with the fault's number. The controller is that of a replay, over new maps and without journals,
-/// so no command meets a full one (94). It fails only for lack of memory.
+/// What is printed of a script: for each command, in its order, how many slots of the lookup table change hands, beside the fewest that
+/// have to, and the share of each backend that is up then; or that it was refused, with the fault's number. The controller is that of a
+/// replay, over new maps and without journals, so no command meets a full one (94). It fails only for lack of memory.
 pub fn tables_of(alloc: Global, script: &Script, size: u32) -> Result<Tables, AllocError>
     requires { IsRingSize size }
     ensures { IfOk result (λ tables. AreTables size script.now (string_bytes tables.text) tables.refused.items) }

@@ -11,8 +11,8 @@ use semantics::{Errno, JournalFull, Key, Value};
 use std::alloc::{AllocError, Global};
 use std::marker::Model;
 
-/// New maps of steering for a lookup table of a size, as a controller writes them: the table's words, the backends' records, and the services' keys. They
-/// answer as those of a replay do, except that no journal is ever full. Contracts see these parts.
+/// New maps of steering for a lookup table of a size, as a controller writes them: the table's words, the backends' records, and the
+/// services' keys. They answer as those of a replay do, except that no journal is ever full. Contracts see these parts.
 #[derive(Debug, Drop)]
 pub(crate) struct WrittenMaps {
     size: u32,

@@ -1,5 +1,5 @@
--- A journal that is full for a call stays full for it, whatever is called later: an entry takes room for good, and only its Leave gives back the
--- room that an Enter kept for it.
+-- A journal that is full for a call stays full for it, whatever is called later: an entry takes room for good, and only its Leave gives
+-- back the room that an Enter kept for it.
 use Rattle.std.proofs.Common.{◌≡◌, ℕ, ◌+◌, ◌≤◌, Bool, true, false, cond, not, List, [], ◌∷◌, ◌++◌, length, arith, refl, sym, ap, subst}
 use Rattle.std.specs.Prelude.{◌==◌, ◌&&◌, count_by, IsTrue}
 use Rattle.std.specs.List.{list_all}
