@@ -22,18 +22,15 @@ use folders::Folder;
 use machine::Moment;
 use map_updates::{MapUpdate, Misfit, first_misfit};
 use runs::{RunFault, SingleRun, run_alone};
-use semantics::Options;
+use semantics::{MOST_WORKERS, Options};
 use shards::OpenFault;
 use std::alloc::{AllocError, Global};
 use verifier::Verified;
 use wire::Frame;
 
-/// How many workers a run is opened with.
-const WORKERS: u32 = 8;
-
 /// How the maps of a run are opened.
 const OPTIONS: Options = Options {
-    workers: WORKERS,
+    workers: MOST_WORKERS,
     shards: 1,
     journal: 65_536,
 };
@@ -45,7 +42,7 @@ fn moment_of(now: u64, worker: u32) -> Result<Moment, Fault>
     ensures above { IsErrOf result (Fault.Options OpenFault.BadOptions) ↔ (8 ≤ worker) }
     ensures only { IfErr result (λ fault. (fault ≡ Fault.Options OpenFault.BadOptions) × (8 ≤ worker)) }
 {
-    if worker >= WORKERS {
+    if worker >= MOST_WORKERS {
         return Err(Fault::Options(OpenFault::BadOptions));
     }
     Ok(Moment {

@@ -64,10 +64,7 @@ use steered_replays::exact::exact_shipped_replay;
 use steered_replays::replays::shipped_replay;
 use traffic::without_long_records;
 use verifier::Verified;
-use wire::{Capture, MemorySink, MemorySource, Sent, read_capture, write_capture};
-
-/// The most bytes that a capture is read from.
-const MOST: u64 = 1 << 40;
+use wire::{Capture, MOST_GIVEN, MemorySink, MemorySource, Sent, read_capture, write_capture};
 
 /// The program of a replay: a file's, if the verifier accepts it, or the shipped one.
 fn program_of<D: Folder>(
@@ -157,7 +154,7 @@ fn records_of(alloc: Global, bytes: &[u8]) -> Result<Capture, Refusal>
     ensures records { IfOk result (λ capture. IsCaptureFile bytes.now capture.records.items) }
     ensures refused { IfErr result (λ refusal. IsNoCapture bytes.now refusal.fault) }
 {
-    if bytes.len() as u64 > MOST {
+    if bytes.len() as u64 > MOST_GIVEN {
         return Err(Refusal::from(Fault::Memory));
     }
     match read_capture(alloc, &mut MemorySource::new(bytes)) {
