@@ -234,7 +234,7 @@ pub fn about_entry(
     notes_of(
         alloc,
         wrong.as_str(),
-        "after the entries above it a map on one thread returns another reply, or this caller may not make this call",
+        "after the entries above it the journal is full, a map on one thread returns another reply, or this caller may not make this call",
         "",
     )
 }

@@ -22,7 +22,7 @@ fn remedy_of(kind: FileKind) -> &'static str {
         FileKind::Gzip => "unpack it first: gzip -d FILE",
         FileKind::Capture | FileKind::BigEndianCapture | FileKind::NanosecondCapture | FileKind::Pcapng
         | FileKind::Journals | FileKind::Script | FileKind::Frame | FileKind::HexDigits
-            => "the image comes first on the command line: are two names swapped?",
+            => "are two names on the command line swapped?",
         FileKind::Empty | FileKind::Image | FileKind::Unknown => "",
     }
 }

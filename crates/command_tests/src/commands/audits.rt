@@ -191,7 +191,7 @@ fn compare_audit<R: Abort + Threads + Wait + Sync>(
 
 /// What is said of each entry that is not legal.
 const WHY: &str =
-    "after the entries above it a map on one thread returns another reply, or this caller may not make this call";
+    "after the entries above it the journal is full, a map on one thread returns another reply, or this caller may not make this call";
 
 /// Holds what an audit says of a row's file against the row.
 fn compare_row<R: Abort + Threads + Wait + Sync>(rt: &R, alloc: Global, row: &Row) {
@@ -313,7 +313,7 @@ const NOT_THERE: [(&str, &str); 3] = [
     (
         "xlb audit journals nosuch",
         "fault 10 BadHead\n  the file has journals\n  expected an image, which begins with 58 4c 42 50 (XLBP)\n  \
-         the image comes first on the command line: are two names swapped?\n",
+         are two names on the command line swapped?\n",
     ),
     (
         "xlb audit image nosuch",

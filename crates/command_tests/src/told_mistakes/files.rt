@@ -18,10 +18,10 @@ const IMAGES: [Row; 17] = [
          SOURCE IMAGE\n"),
     ("a capture", b"\xd4\xc3\xb2\xa1\x02\x00\x04\x00",
         "  the file is a capture\n  expected an image, which begins with 58 4c 42 50 (XLBP)\n  \
-         the image comes first on the command line: are two names swapped?\n"),
+         are two names on the command line swapped?\n"),
     ("a newer capture", b"\x0a\x0d\x0d\x0a\x1c\x00\x00\x00",
         "  the file is a pcapng capture\n  expected an image, which begins with 58 4c 42 50 (XLBP)\n  \
-         the image comes first on the command line: are two names swapped?\n"),
+         are two names on the command line swapped?\n"),
     ("a text of an image", b"version 2\nexit\n",
         "  the file is the text of an image\n  expected an image, which begins with 58 4c 42 50 (XLBP)\n  \
          make an image of it with xlb asm TEXT IMAGE, or, where it has comments or labels, with xlb asm --source TEXT IMAGE\n"),
@@ -30,13 +30,13 @@ const IMAGES: [Row; 17] = [
          an image is made of a text with xlb asm --source TEXT IMAGE; a text begins with version 1 or version 2\n"),
     ("a script", b"0 down 3\n",
         "  the file is a script of commands\n  expected an image, which begins with 58 4c 42 50 (XLBP)\n  \
-         the image comes first on the command line: are two names swapped?\n"),
+         are two names on the command line swapped?\n"),
     ("journals", b"XLBJ 1 2 1 65536\n",
         "  the file has journals\n  expected an image, which begins with 58 4c 42 50 (XLBP)\n  \
-         the image comes first on the command line: are two names swapped?\n"),
+         are two names on the command line swapped?\n"),
     ("a frame", b"\x02\x00\x00\x00\x00\x01\x02\x00\x00\x00\x00\x02\x08\x00\x45\x00",
         "  the file is an Ethernet frame\n  expected an image, which begins with 58 4c 42 50 (XLBP)\n  \
-         the image comes first on the command line: are two names swapped?\n"),
+         are two names on the command line swapped?\n"),
     ("a packed file", b"\x1f\x8b\x08\x00",
         "  the file is compressed with gzip\n  expected an image, which begins with 58 4c 42 50 (XLBP)\n  unpack it first: gzip -d FILE\n"),
     ("anything", b"\x00\x01\x02\xff\x10\x11\x12\x13\x14",

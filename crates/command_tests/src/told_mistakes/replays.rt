@@ -167,7 +167,7 @@ type JournalEntryRow = (&'static str, &'static [u8], usize, usize, &'static str)
 const ENTRIES: [JournalEntryRow; 10] = [
     ("the second entry", b"XLBJ 1 1 1 16\n0 w0 enter ok\n0 w0 load 0 0 8 word 1\n", 3, 1,
         "  line 3: \"0 w0 load 0 0 8 word 1\"\n  \
-         after the entries above it a map on one thread returns another reply, or this caller may not make this call\n"),
+         after the entries above it the journal is full, a map on one thread returns another reply, or this caller may not make this call\n"),
     ("a line that is not there", b"XLBJ 1 1 1 16\n", 2, 1, ""),
     ("no text", b"\xff\n", 1, 1, ""),
     ("the element behind the last one", b"1 c update 06000000 0100000000000000 0 answer 0\n", 1, 1,
@@ -180,19 +180,19 @@ const ENTRIES: [JournalEntryRow; 10] = [
          expected the image that was run: xlb shipped --ring N OUT writes the shipped program for a lookup table of N slots\n"),
     ("the last element", b"1 w0 lookup 05000000 null\n", 1, 1,
         "  line 1: \"1 w0 lookup 05000000 null\"\n  \
-         after the entries above it a map on one thread returns another reply, or this caller may not make this call\n"),
+         after the entries above it the journal is full, a map on one thread returns another reply, or this caller may not make this call\n"),
     ("a key of a hash map", b"0 w0 lookup ffffffff cell 1\n", 1, 0,
         "  line 1: \"0 w0 lookup ffffffff cell 1\"\n  \
-         after the entries above it a map on one thread returns another reply, or this caller may not make this call\n"),
+         after the entries above it the journal is full, a map on one thread returns another reply, or this caller may not make this call\n"),
     ("a map that is not there", b"2 w0 lookup ffffffff cell 1\n", 1, 2,
         "  line 1: \"2 w0 lookup ffffffff cell 1\"\n  \
-         after the entries above it a map on one thread returns another reply, or this caller may not make this call\n"),
+         after the entries above it the journal is full, a map on one thread returns another reply, or this caller may not make this call\n"),
     ("a key of eight bytes", b"1 w0 lookup ffffffffffffffff cell 1\n", 1, 1,
         "  line 1: \"1 w0 lookup ffffffffffffffff cell 1\"\n  \
-         after the entries above it a map on one thread returns another reply, or this caller may not make this call\n"),
+         after the entries above it the journal is full, a map on one thread returns another reply, or this caller may not make this call\n"),
     ("a store of many cells", b"1 w0 store ffffffff 0 8 1 ok\n", 1, 1,
         "  line 1: \"1 w0 store ffffffff 0 8 1 ok\"\n  \
-         after the entries above it a map on one thread returns another reply, or this caller may not make this call\n"),
+         after the entries above it the journal is full, a map on one thread returns another reply, or this caller may not make this call\n"),
 ];
 
 fn entries_are_said(rt: &impl Abort, alloc: Global, rows: &[JournalEntryRow]) -> Result<(), Fail> {
