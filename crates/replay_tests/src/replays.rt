@@ -16,10 +16,9 @@ use disasm::assemble;
 use journals::write_journals;
 use replay::{Counts, Gate, NoGate, Outcome, replay};
 use semantics::{Options, Recording};
-use std::alloc::Global;
+use std::alloc::{AllocError, Global};
 use std::process::Abort;
 use std::sync::Wait;
-use std::test::Fail;
 use std::thread::Threads;
 use test_support::files::{COUNTED_TO_THREE, SERVICE};
 use test_support::programs::{COUNTS_TO_THREE, READS_BYTE_13, READS_ONE};
@@ -91,8 +90,9 @@ const NONE: Counts = Counts {
 };
 
 /// The accepted image of a text.
-fn program(alloc: Global, text: &str) -> Result<Verified, Fail> {
-    Ok(verify(alloc, assemble(alloc, text)?)?)
+fn program<R: Abort>(rt: &R, alloc: Global, text: &str) -> Verified {
+    let image = assemble(alloc, text).expect(rt, "an image");
+    verify(alloc, image).expect(rt, "an accepted program")
 }
 
 /// A TCP segment without data from this port of 198.51.100.7 to port 80 of 203.0.113.1.
@@ -106,7 +106,7 @@ pub(crate) fn segment(source_port: u16) -> [u8; 54] {
 }
 
 /// A record of these bytes, one microsecond after the one before it.
-pub(crate) fn one_record(alloc: Global, number: u32, bytes: &[u8]) -> Result<Sent, Fail> {
+pub(crate) fn one_record(alloc: Global, number: u32, bytes: &[u8]) -> Result<Sent, AllocError> {
     let bytes = if bytes.len() <= 2048 { bytes } else { &[] };
     Ok(Sent {
         seconds: 7,
@@ -116,47 +116,50 @@ pub(crate) fn one_record(alloc: Global, number: u32, bytes: &[u8]) -> Result<Sen
 }
 
 /// These records as a file.
-pub(crate) fn capture_file(alloc: Global, records: &[Sent]) -> Result<MemorySink, Fail> {
+pub(crate) fn capture_file<R: Abort>(rt: &R, alloc: Global, records: &[Sent]) -> MemorySink {
     let mut file = MemorySink::new(alloc);
-    write_capture(&mut file, records)?;
-    Ok(file)
+    write_capture(&mut file, records).expect(rt, "a file");
+    file
 }
 
 /// The capture of these records.
-pub(crate) fn capture(alloc: Global, records: &[Sent]) -> Result<Capture, Fail> {
-    let file = capture_file(alloc, records)?;
+pub(crate) fn capture<R: Abort>(rt: &R, alloc: Global, records: &[Sent]) -> Capture {
+    let file = capture_file(rt, alloc, records);
     let bytes = file.bytes();
     let bytes = if bytes.len() <= 1_000_000 { bytes } else { &[] };
-    Ok(read_capture(alloc, &mut MemorySource::new(bytes))?)
+    read_capture(alloc, &mut MemorySource::new(bytes)).expect(rt, "a capture")
 }
 
 /// This many rounds of a segment of each flow, whose ports begin with this one.
-fn rounds(alloc: Global, first: u16, flows: u16, rounds: u32) -> Result<Capture, Fail> {
+fn rounds<R: Abort>(rt: &R, alloc: Global, first: u16, flows: u16, rounds: u32) -> Capture {
     let mut records = Vec::new(alloc);
     for round in 0..rounds {
         for flow in 0..flows {
             let bytes = segment(first.wrapping_add(flow));
-            records.push(one_record(alloc, round, &bytes)?)?;
+            records
+                .push(one_record(alloc, round, &bytes).expect(rt, "a record"))
+                .expect(rt, "room");
         }
     }
-    capture(alloc, &records)
+    capture(rt, alloc, &records)
 }
 
 /// The capture of one frame of this many zeros.
-fn zeros(alloc: Global, count: usize) -> Result<Capture, Fail> {
+fn zeros<R: Abort>(rt: &R, alloc: Global, count: usize) -> Capture {
+    let record = one_record(alloc, 1, &[0; 14][..count.min(14)]).expect(rt, "a record");
     let mut records = Vec::new(alloc);
-    records.push(one_record(alloc, 1, &[0; 14][..count.min(14)])?)?;
-    capture(alloc, &records)
+    records.push(record).expect(rt, "room");
+    capture(rt, alloc, &records)
 }
 
-fn captured(alloc: Global, frames: Frames) -> Result<Capture, Fail> {
+fn captured<R: Abort>(rt: &R, alloc: Global, frames: Frames) -> Capture {
     match frames {
-        Frames::Zeros(count) => zeros(alloc, count),
+        Frames::Zeros(count) => zeros(rt, alloc, count),
         Frames::Rounds {
             first,
             flows,
             rounds: count,
-        } => rounds(alloc, first, flows, count),
+        } => rounds(rt, alloc, first, flows, count),
     }
 }
 
@@ -170,14 +173,14 @@ fn gated<R: Threads + Abort + Wait + Sync, G: Gate + Sync>(
     workers: u32,
     journal: u32,
     gate: &G,
-) -> Result<Outcome, Fail> {
-    let script = parse_script(alloc, script.as_bytes())?;
+) -> Outcome {
+    let script = parse_script(alloc, script.as_bytes()).expect(rt, "a script");
     let options = Options {
         workers,
         shards: 1,
         journal,
     };
-    Ok(replay(
+    let outcome = replay(
         rt,
         alloc,
         verified,
@@ -187,7 +190,8 @@ fn gated<R: Threads + Abort + Wait + Sync, G: Gate + Sync>(
         options,
         Recording::Rows,
         gate,
-    )?)
+    );
+    outcome.expect(rt, "an outcome")
 }
 
 /// The replay of a row's program on a capture.
@@ -197,8 +201,8 @@ fn replayed_on<R: Threads + Abort + Wait + Sync, G: Gate + Sync>(
     row: &Row<'_>,
     capture: &Capture,
     gate: &G,
-) -> Result<Outcome, Fail> {
-    let verified = program(alloc, row.program)?;
+) -> Outcome {
+    let verified = program(rt, alloc, row.program);
     gated(
         rt,
         alloc,
@@ -217,25 +221,25 @@ fn replayed<R: Threads + Abort + Wait + Sync, G: Gate + Sync>(
     alloc: Global,
     row: &Row<'_>,
     gate: &G,
-) -> Result<Outcome, Fail> {
-    let capture = captured(alloc, row.frames)?;
-    let outcome = replayed_on(rt, alloc, row, &capture, gate)?;
+) -> Outcome {
+    let capture = captured(rt, alloc, row.frames);
+    let outcome = replayed_on(rt, alloc, row, &capture, gate);
     same_fact(rt, row.name, "the counts", &outcome.counts, &row.counts);
-    Ok(outcome)
+    outcome
 }
 
 /// SENT as a file.
-fn sent_file(alloc: Global, outcome: &Outcome) -> Result<MemorySink, Fail> {
-    capture_file(alloc, &outcome.sent)
+fn sent_file<R: Abort>(rt: &R, alloc: Global, outcome: &Outcome) -> MemorySink {
+    capture_file(rt, alloc, &outcome.sent)
 }
 
 /// The journals as a file.
-fn journals_file(alloc: Global, outcome: &Outcome) -> Result<MemorySink, Fail> {
+fn journals_file<R: Abort>(rt: &R, alloc: Global, outcome: &Outcome) -> MemorySink {
     let mut file = MemorySink::new(alloc);
     if outcome.journals.keeps_rows() {
-        write_journals(alloc, &mut file, &outcome.journals)?;
+        write_journals(alloc, &mut file, &outcome.journals).expect(rt, "the journals");
     }
-    Ok(file)
+    file
 }
 
 /// Whether the text has this part, which has a letter at least.
@@ -255,9 +259,9 @@ const ONE_FRAME: Row<'static> = Row {
 };
 
 #[test]
-fn one_frame_is_sent(rt: HostRuntime) -> Result<(), Fail> {
-    let outcome = replayed(&rt, rt.alloc(), &ONE_FRAME, &NoGate)?;
-    let sent = sent_file(rt.alloc(), &outcome)?;
+fn one_frame_is_sent(rt: HostRuntime) {
+    let outcome = replayed(&rt, rt.alloc(), &ONE_FRAME, &NoGate);
+    let sent = sent_file(&rt, rt.alloc(), &outcome);
     same_fact(
         &rt,
         "one frame",
@@ -265,7 +269,7 @@ fn one_frame_is_sent(rt: HostRuntime) -> Result<(), Fail> {
         &sent.bytes().len(),
         &54,
     );
-    let journals = journals_file(rt.alloc(), &outcome)?;
+    let journals = journals_file(&rt, rt.alloc(), &outcome);
     same_bytes_of(
         &rt,
         "one frame",
@@ -273,7 +277,6 @@ fn one_frame_is_sent(rt: HostRuntime) -> Result<(), Fail> {
         journals.bytes(),
         COUNTED_TO_THREE.as_bytes(),
     );
-    Ok(())
 }
 
 /// What forty flows of five frames each come to.
@@ -306,25 +309,23 @@ fn forty_flows_send<R: Threads + Abort + Wait + Sync>(
     alloc: Global,
     workers: u32,
     wanted: &[u8],
-) -> Result<(), Fail> {
+) {
     let row = Row {
         workers,
         ..FORTY_FLOWS
     };
-    let outcome = replayed(rt, alloc, &row, &NoGate)?;
-    let sent = sent_file(alloc, &outcome)?;
+    let outcome = replayed(rt, alloc, &row, &NoGate);
+    let sent = sent_file(rt, alloc, &outcome);
     same_bytes_of(rt, row.name, "what is sent", sent.bytes(), wanted);
-    Ok(())
 }
 
 #[test]
-fn forty_flows_by_1_2_4_and_8_workers(rt: HostRuntime) -> Result<(), Fail> {
-    let outcome = replayed(&rt, rt.alloc(), &FORTY_FLOWS, &NoGate)?;
-    let first = sent_file(rt.alloc(), &outcome)?;
+fn forty_flows_by_1_2_4_and_8_workers(rt: HostRuntime) {
+    let outcome = replayed(&rt, rt.alloc(), &FORTY_FLOWS, &NoGate);
+    let first = sent_file(&rt, rt.alloc(), &outcome);
     for workers in [2, 4, 8] {
-        forty_flows_send(&rt, rt.alloc(), workers, first.bytes())?;
+        forty_flows_send(&rt, rt.alloc(), workers, first.bytes());
     }
-    Ok(())
 }
 
 const SHORT: Row<'static> = Row {
@@ -338,9 +339,8 @@ const SHORT: Row<'static> = Row {
 };
 
 #[test]
-fn a_record_of_13_bytes_is_short(rt: HostRuntime) -> Result<(), Fail> {
-    let _ = replayed(&rt, rt.alloc(), &SHORT, &NoGate)?;
-    Ok(())
+fn a_record_of_13_bytes_is_short(rt: HostRuntime) {
+    let _ = replayed(&rt, rt.alloc(), &SHORT, &NoGate);
 }
 
 /// Scripts, how many commands are refused, and the first entry of the list of backends, if it has one.
@@ -368,7 +368,7 @@ fn scripted<R: Threads + Abort + Wait + Sync>(
     script: &str,
     refused: usize,
     entry: Option<&str>,
-) -> Result<(), Fail> {
+) {
     let row = Row {
         name,
         program: SENDS_ALL,
@@ -377,7 +377,7 @@ fn scripted<R: Threads + Abort + Wait + Sync>(
         journal: 64,
         ..ONE_FRAME
     };
-    let outcome = replayed(rt, alloc, &row, &NoGate)?;
+    let outcome = replayed(rt, alloc, &row, &NoGate);
     same_fact(
         rt,
         name,
@@ -385,20 +385,18 @@ fn scripted<R: Threads + Abort + Wait + Sync>(
         &outcome.refused.len(),
         &refused,
     );
-    let journals = journals_file(alloc, &outcome)?;
+    let journals = journals_file(rt, alloc, &outcome);
     holds_of(
         rt,
         name,
         "the entry of the backends",
         has_entry(journals.bytes(), entry),
     );
-    Ok(())
 }
 
 #[test]
-fn scripts_are_applied(rt: HostRuntime) -> Result<(), Fail> {
-    for (name, script, refused, entry) in SCRIPTS {
-        scripted(&rt, rt.alloc(), name, script, refused, entry)?;
+fn scripts_are_applied(rt: HostRuntime) {
+    for (name, script, refused, entry) in &SCRIPTS {
+        scripted(&rt, rt.alloc(), *name, *script, *refused, *entry);
     }
-    Ok(())
 }

@@ -115,8 +115,8 @@ fn counts(
 /// The first part of the map is asked for its element 0.
 #[test]
 fn a_count_at_an_address(rt: HostRuntime) -> Result<(), Fail> {
-    for (name, map, shards, shard) in COUNTS {
-        counts(&rt, rt.alloc(), name, map, shards, shard)?;
+    for (name, map, shards, shard) in &COUNTS {
+        counts(&rt, rt.alloc(), *name, *map, *shards, *shard)?;
     }
     Ok(())
 }

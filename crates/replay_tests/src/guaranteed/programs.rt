@@ -8,7 +8,7 @@ use isa::Size;
 use machine::Moment;
 use semantics::Options;
 use std::alloc::Global;
-use std::test::Fail;
+use std::process::Abort;
 use test_support::{add, call, mov, store};
 use verifier::{Verified, verify};
 
@@ -52,16 +52,17 @@ pub(super) struct Program<'a> {
     pub(super) tail: &'a [Insn],
 }
 
-fn code_of(alloc: Global, program: &Program<'_>) -> Result<Vec<Insn>, Fail> {
+fn code_of(rt: &impl Abort, alloc: Global, program: &Program<'_>) -> Vec<Insn> {
     let mut code = Vec::new(alloc);
-    code.extend_from_slice(program.head)?;
-    code.extend_from_slice(program.tail)?;
-    Ok(code)
+    code.extend_from_slice(program.head).expect(rt, "code");
+    code.extend_from_slice(program.tail).expect(rt, "code");
+    code
 }
 
 /// The accepted image.
-pub(super) fn accepted(alloc: Global, program: &Program<'_>) -> Result<Verified, Fail> {
-    let maps = Vec::from_slice(alloc, program.maps)?;
-    let code = code_of(alloc, program)?;
-    Ok(verify(alloc, Image::of(program.version, maps, code)?)?)
+pub(super) fn accepted(rt: &impl Abort, alloc: Global, program: &Program<'_>) -> Verified {
+    let maps = Vec::from_slice(alloc, program.maps).expect(rt, "maps");
+    let code = code_of(rt, alloc, program);
+    let image = Image::of(program.version, maps, code).expect(rt, "an image");
+    verify(alloc, image).expect(rt, "an accepted program")
 }

@@ -15,7 +15,6 @@ use shard_port::NoGate;
 use std::alloc::Global;
 use std::process::Abort;
 use std::sync::Wait;
-use std::test::Fail;
 use std::thread::Threads;
 use test_support::number;
 use test_support::programs::ARRAY;
@@ -23,18 +22,21 @@ use verifier::Verified;
 use wire::{Capture, Sent};
 
 /// This many records of 40 flows in turn.
-fn records(alloc: Global, count: u32) -> Result<Vec<Sent>, Fail> {
+fn records<R: Abort>(rt: &R, alloc: Global, count: u32) -> Vec<Sent> {
     let mut records = Vec::new(alloc);
     for number in 0..count {
         let bytes = segment(40000 + (number % 40) as u16);
-        records.push(one_record(alloc, number, &bytes)?)?;
+        records
+            .push(one_record(alloc, number, &bytes).expect(rt, "a record"))
+            .expect(rt, "room");
     }
-    Ok(records)
+    records
 }
 
 /// A program that looks a key up, and sends each frame as it is.
-fn sending(alloc: Global) -> Result<Verified, Fail> {
+fn sending<R: Abort>(rt: &R, alloc: Global) -> Verified {
     accepted(
+        rt,
         alloc,
         &Program {
             version: Version::V1,
@@ -52,15 +54,15 @@ fn replayed<R: Threads + Abort + Wait + Sync>(
     verified: &Verified,
     capture: &Capture,
     workers: u32,
-) -> Result<Outcome, Fail> {
-    let script = parse_script(alloc, b"")?;
+) -> Outcome {
+    let script = parse_script(alloc, b"").expect(rt, "a script");
     assert!(rt; verified.is_reader() && script.commands().is_empty());
     let options = Options {
         workers,
         shards: 1,
         journal: 4096,
     };
-    Ok(reader_replay(
+    let outcome = reader_replay(
         rt,
         alloc,
         verified,
@@ -69,7 +71,8 @@ fn replayed<R: Threads + Abort + Wait + Sync>(
         options,
         Recording::Rows,
         &NoGate,
-    )?)
+    );
+    outcome.expect(rt, "an outcome")
 }
 
 /// The program sends all of a capture of these records.
@@ -80,14 +83,13 @@ fn sends<R: Threads + Abort + Wait + Sync>(
     verified: &Verified,
     records: &[Sent],
     workers: u32,
-) -> Result<(), Fail> {
-    let capture = capture(alloc, records)?;
-    let outcome = replayed(rt, alloc, verified, &capture, workers)?;
+) {
+    let capture = capture(rt, alloc, records);
+    let outcome = replayed(rt, alloc, verified, &capture, workers);
     same_fact(rt, name, "the stopped runs", &outcome.counts.stopped, &0);
-    let sent = capture_file(alloc, &outcome.sent)?;
-    let file = capture_file(alloc, records)?;
+    let sent = capture_file(rt, alloc, &outcome.sent);
+    let file = capture_file(rt, alloc, records);
     same_bytes_of(rt, name, "what is sent", sent.bytes(), file.bytes());
-    Ok(())
 }
 
 /// The same of this many records.
@@ -97,10 +99,10 @@ fn sends_all<R: Threads + Abort + Wait + Sync>(
     name: &str,
     count: u32,
     workers: u32,
-) -> Result<(), Fail> {
-    let verified = sending(alloc)?;
-    let records = records(alloc, count)?;
-    sends(rt, alloc, name, &verified, &records, workers)
+) {
+    let verified = sending(rt, alloc);
+    let records = records(rt, alloc, count);
+    sends(rt, alloc, name, &verified, &records, workers);
 }
 
 /// How many frames are replayed, and by how many workers.
@@ -113,9 +115,8 @@ const REPLAYS: [(&str, u32, u32); 5] = [
 ];
 
 #[test]
-fn what_is_sent_is_the_same_by_any_number_of_workers(rt: HostRuntime) -> Result<(), Fail> {
-    for (name, count, workers) in REPLAYS {
-        sends_all(&rt, rt.alloc(), name, count, workers)?;
+fn what_is_sent_is_the_same_by_any_number_of_workers(rt: HostRuntime) {
+    for (name, count, workers) in &REPLAYS {
+        sends_all(&rt, rt.alloc(), *name, *count, *workers);
     }
-    Ok(())
 }

@@ -3,7 +3,7 @@
 ghost use Rattle.std.specs.Prelude.{◌<◌};
 
 use super::programs::{EXIT, MOMENT, OPTIONS, Program, SMALL, accepted, look_up};
-use crate::asserting::{same_bytes_of, same_fact};
+use crate::asserting::{holds_of, same_bytes_of, same_fact};
 use ebpf_decode::{Insn, MapDef, Version, decode};
 use guarantees::opened_shards_are_ready;
 use guarantees::running::worker_run;
@@ -38,7 +38,12 @@ pub(super) struct Run<'a> {
 
 /// Compares the journal.
 fn says(rt: &impl Abort, shards: &mut PlainShards, run: &Run<'_>) {
-    assert!(rt; (run.shard as usize) < shards.count());
+    holds_of(
+        rt,
+        run.name,
+        "its shard",
+        (run.shard as usize) < shards.count(),
+    );
     let journal = shards.shard(run.shard).journal();
     same_fact(
         rt,
@@ -47,7 +52,7 @@ fn says(rt: &impl Abort, shards: &mut PlainShards, run: &Run<'_>) {
         &journal.len(),
         &run.entries.len(),
     );
-    assert!(rt; journal.keeps_rows());
+    holds_of(rt, run.name, "rows", journal.keeps_rows());
     for (place, (call, reply)) in run.entries.iter().enumerate() {
         if place < journal.len() {
             let wanted = Entry {
@@ -127,7 +132,7 @@ pub(super) fn program_leaves(
 ) -> Result<(), Fail>
     requires worker { MOMENT.worker < run.now.options.workers }
 {
-    let verified = accepted(alloc, program)?;
+    let verified = accepted(rt, alloc, program);
     leaves(rt, alloc, &verified, run)
 }
 
@@ -212,8 +217,8 @@ fn loads_a_part(
 
 #[test]
 fn a_part_of_a_value(rt: HostRuntime) -> Result<(), Fail> {
-    for (name, further, offset) in PARTS {
-        loads_a_part(&rt, rt.alloc(), name, further, offset)?;
+    for (name, further, offset) in &PARTS {
+        loads_a_part(&rt, rt.alloc(), *name, *further, *offset)?;
     }
     Ok(())
 }
@@ -358,8 +363,8 @@ fn ends_by_its_last_byte(
 
 #[test]
 fn the_first_image(rt: HostRuntime) -> Result<(), Fail> {
-    for (name, last, verdict) in FIRST_ROWS {
-        ends_by_its_last_byte(&rt, rt.alloc(), name, last, verdict)?;
+    for (name, last, verdict) in &FIRST_ROWS {
+        ends_by_its_last_byte(&rt, rt.alloc(), *name, *last, *verdict)?;
     }
     Ok(())
 }

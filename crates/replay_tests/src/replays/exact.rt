@@ -3,7 +3,7 @@
 use super::schedules::{A_FULL_JOURNAL, are_the_last_two};
 use super::shipped_program::{
     AT_FIRST, FEW_FRAMES, FEW_KEPT, FRAMES, KEPT, LATER, OWNED, TRACKED, UNTRACKED, first_wrong,
-    segments,
+    segments, shipped_for_7,
 };
 use super::{NONE, captured, journals_file, program};
 use crate::asserting::{holds_of, same_bytes_of, same_fact};
@@ -13,13 +13,12 @@ use semantics::{Caller, Options, Recording};
 use std::alloc::Global;
 use std::process::Abort;
 use std::sync::atomic::{AtomicU64, Ordering};
-use std::test::Fail;
-use steer::shipped;
-use verifier::{Verified, verify};
+use verifier::Verified;
 use wire::Capture;
 
 /// An exact replay over shards of one part.
-pub(super) fn exactly<G: Gate>(
+pub(super) fn exactly<R: Abort, G: Gate>(
+    rt: &R,
     alloc: Global,
     verified: &Verified,
     capture: &Capture,
@@ -27,14 +26,14 @@ pub(super) fn exactly<G: Gate>(
     workers: u32,
     journal: u32,
     gate: &G,
-) -> Result<Outcome, Fail> {
-    let script = parse_script(alloc, script.as_bytes())?;
+) -> Outcome {
+    let script = parse_script(alloc, script.as_bytes()).expect(rt, "a script");
     let options = Options {
         workers,
         shards: 1,
         journal,
     };
-    Ok(replay_in_turn(
+    let outcome = replay_in_turn(
         alloc,
         verified,
         capture,
@@ -43,7 +42,8 @@ pub(super) fn exactly<G: Gate>(
         options,
         Recording::Rows,
         gate,
-    )?)
+    );
+    outcome.expect(rt, "an outcome")
 }
 
 /// A script over a service and backend 0, and where each frame goes.
@@ -120,29 +120,24 @@ fn compare<R: Abort>(rt: &R, row: &Row, outcome: &Outcome) {
 }
 
 /// Replays a row by `workers` workers, and compares.
-fn is_exact<R: Abort>(
-    rt: &R,
-    alloc: Global,
-    verified: &Verified,
-    row: &Row,
-    workers: u32,
-) -> Result<(), Fail> {
-    let script = format!(in alloc; "{}{AT_FIRST}{}", row.service, row.later)?;
-    let capture = segments(alloc, row.frames)?;
-    let outcome = exactly(alloc, verified, &capture, &script, workers, 1024, &NoGate)?;
+fn is_exact<R: Abort>(rt: &R, alloc: Global, verified: &Verified, row: &Row, workers: u32) {
+    let script = format!(in alloc; "{}{AT_FIRST}{}", row.service, row.later);
+    let script = script.expect(rt, "a script");
+    let capture = segments(rt, alloc, row.frames);
+    let outcome = exactly(
+        rt, alloc, verified, &capture, &script, workers, 1024, &NoGate,
+    );
     compare(rt, row, &outcome);
-    Ok(())
 }
 
 #[test]
-fn commands_act_between_two_frames(rt: HostRuntime) -> Result<(), Fail> {
-    let verified = verify(rt.alloc(), shipped(rt.alloc(), 7)?)?;
+fn commands_act_between_two_frames(rt: HostRuntime) {
+    let verified = shipped_for_7(&rt, rt.alloc());
     for row in &EXACT {
         for workers in [1, 2, 4, 8] {
-            is_exact(&rt, rt.alloc(), &verified, row, workers)?;
+            is_exact(&rt, rt.alloc(), &verified, row, workers);
         }
     }
-    Ok(())
 }
 
 /// The ports of 300 frames, in turn, and the slots of a table of seven that they have.
@@ -169,23 +164,28 @@ fn backend_of(number: usize, slot: u8, changes: ChangeFrames) -> u8 {
 }
 
 /// The port of each frame, and the last byte of its backend's address.
-pub(super) fn long_frames(
+pub(super) fn long_frames<R: Abort>(
+    rt: &R,
     alloc: Global,
     changes: ChangeFrames,
-) -> Result<(Vec<u16>, Vec<(u16, u8)>), Fail> {
+) -> (Vec<u16>, Vec<(u16, u8)>) {
     let mut ports = Vec::new(alloc);
     let mut sent = Vec::new(alloc);
     for (number, (port, slot)) in (0..300usize).zip(TURN.iter().cycle()) {
-        ports.push(*port)?;
-        sent.push((*port, backend_of(number, *slot, changes)))?;
+        ports.push(*port).expect(rt, "room");
+        sent.push((*port, backend_of(number, *slot, changes)))
+            .expect(rt, "room");
     }
-    Ok((ports, sent))
+    (ports, sent)
 }
 
 /// The script of these changes. Its fourth command, of a backend that is not up, is refused.
-pub(super) fn long_script(alloc: Global, changes: ChangeFrames) -> Result<String, Fail> {
+pub(super) fn long_script<R: Abort>(rt: &R, alloc: Global, changes: ChangeFrames) -> String {
     let ChangeFrames { up, down } = changes;
-    Ok(format!(in alloc; "{UNTRACKED}{AT_FIRST}{up} down 6\n{up} up 1 192.0.2.2\n{down} down 0\n")?)
+    let script = format!(in alloc;
+        "{UNTRACKED}{AT_FIRST}{up} down 6\n{up} up 1 192.0.2.2\n{down} down 0\n"
+    );
+    script.expect(rt, "a script")
 }
 
 /// What is refused of it.
@@ -198,11 +198,11 @@ fn long_replay<R: Abort, G: Gate>(
     verified: &Verified,
     workers: u32,
     gate: &G,
-) -> Result<Outcome, Fail> {
-    let (ports, want) = long_frames(alloc, LONG)?;
-    let script = long_script(alloc, LONG)?;
-    let capture = segments(alloc, &ports)?;
-    let outcome = exactly(alloc, verified, &capture, &script, workers, 65536, gate)?;
+) -> Outcome {
+    let (ports, want) = long_frames(rt, alloc, LONG);
+    let script = long_script(rt, alloc, LONG);
+    let capture = segments(rt, alloc, &ports);
+    let outcome = exactly(rt, alloc, verified, &capture, &script, workers, 65536, gate);
     let wrong = first_wrong(&outcome.sent, &want);
     same_fact(rt, "a long replay", "the first wrong frame", &wrong, &None);
     same_fact(
@@ -212,16 +212,15 @@ fn long_replay<R: Abort, G: Gate>(
         &outcome.sent.len(),
         &300,
     );
-    Ok(outcome)
+    outcome
 }
 
 #[test]
-fn a_long_replay_is_exact(rt: HostRuntime) -> Result<(), Fail> {
-    let verified = verify(rt.alloc(), shipped(rt.alloc(), 7)?)?;
+fn a_long_replay_is_exact(rt: HostRuntime) {
+    let verified = shipped_for_7(&rt, rt.alloc());
     for workers in [1, 2, 4, 8] {
-        let _ = long_replay(&rt, rt.alloc(), &verified, workers, &NoGate)?;
+        let _ = long_replay(&rt, rt.alloc(), &verified, workers, &NoGate);
     }
-    Ok(())
 }
 
 /// Keeps the numbers that the reclaimer is called with, as decimal digits.
@@ -257,21 +256,21 @@ impl Gate for Rounds {
 
 /// The gate is called after each 64 records, and for nobody but the reclaimer.
 #[test]
-fn the_gate_counts_the_rounds(rt: HostRuntime) -> Result<(), Fail> {
-    let verified = verify(rt.alloc(), shipped(rt.alloc(), 7)?)?;
+fn the_gate_counts_the_rounds(rt: HostRuntime) {
+    let verified = shipped_for_7(&rt, rt.alloc());
     let rounds = Rounds::new();
-    let _ = long_replay(&rt, rt.alloc(), &verified, 2, &rounds)?;
+    let _ = long_replay(&rt, rt.alloc(), &verified, 2, &rounds);
     same_fact(&rt, "300 records", "the rounds", &rounds.digits(), &1234);
-    Ok(())
 }
 
 /// A command that meets a full journal leaves the later ones to be refused, and nobody waits for them.
 #[test]
-fn an_exact_down_meets_a_full_journal(rt: HostRuntime) -> Result<(), Fail> {
+fn an_exact_down_meets_a_full_journal(rt: HostRuntime) {
     let row = &A_FULL_JOURNAL;
-    let verified = program(rt.alloc(), row.program)?;
-    let capture = captured(rt.alloc(), row.frames)?;
+    let verified = program(&rt, rt.alloc(), row.program);
+    let capture = captured(&rt, rt.alloc(), row.frames);
     let outcome = exactly(
+        &rt,
         rt.alloc(),
         &verified,
         &capture,
@@ -279,11 +278,10 @@ fn an_exact_down_meets_a_full_journal(rt: HostRuntime) -> Result<(), Fail> {
         2,
         row.journal,
         &NoGate,
-    )?;
+    );
     let refused = are_the_last_two(&outcome.refused);
     holds_of(&rt, row.name, "the refused commands", refused);
     same_fact(&rt, row.name, "the counts", &outcome.counts, &row.counts);
-    Ok(())
 }
 
 /// In how many places of the journals one has an entry of the controller, and the other none.
@@ -316,12 +314,12 @@ fn controls(outcome: &Outcome, number: usize, place: usize) -> bool {
 
 /// The same journals again: by four workers each update is at the place that it has by one.
 #[test]
-fn updates_stand_at_the_same_places(rt: HostRuntime) -> Result<(), Fail> {
-    let verified = verify(rt.alloc(), shipped(rt.alloc(), 7)?)?;
-    let once = long_replay(&rt, rt.alloc(), &verified, 1, &NoGate)?;
-    let again = long_replay(&rt, rt.alloc(), &verified, 1, &NoGate)?;
-    let first = journals_file(rt.alloc(), &once)?;
-    let second = journals_file(rt.alloc(), &again)?;
+fn updates_stand_at_the_same_places(rt: HostRuntime) {
+    let verified = shipped_for_7(&rt, rt.alloc());
+    let once = long_replay(&rt, rt.alloc(), &verified, 1, &NoGate);
+    let again = long_replay(&rt, rt.alloc(), &verified, 1, &NoGate);
+    let first = journals_file(&rt, rt.alloc(), &once);
+    let second = journals_file(&rt, rt.alloc(), &again);
     same_bytes_of(
         &rt,
         "a long replay",
@@ -329,8 +327,7 @@ fn updates_stand_at_the_same_places(rt: HostRuntime) -> Result<(), Fail> {
         second.bytes(),
         first.bytes(),
     );
-    let four = long_replay(&rt, rt.alloc(), &verified, 4, &NoGate)?;
+    let four = long_replay(&rt, rt.alloc(), &verified, 4, &NoGate);
     let apart = controllers_apart(&once, &four);
     same_fact(&rt, "four workers", "updates at other places", &apart, &0);
-    Ok(())
 }

@@ -5,7 +5,7 @@ ghost use Rattle.replay.specs.Pieces.{GoesOn};
 
 use super::exact::{ChangeFrames, LONG_REFUSED, Rounds, are_refused, long_frames, long_script};
 use super::record_ends::{byte_13s, ends_of_byte_13s};
-use super::shipped_program::{first_wrong, segments};
+use super::shipped_program::{first_wrong, segments, shipped_for_7};
 use super::without_rows::FULL;
 use super::{
     ANSWERS_THE_PORT, FORTY_COUNTS, FORTY_FLOWS, NONE, READS_BYTE_13, capture, capture_file,
@@ -13,14 +13,14 @@ use super::{
 };
 use crate::asserting::{holds_of, same_bytes_of, same_fact};
 use control::{Script, parse_script};
-use replay::{Counts, NoGate, Outcome, PieceOutcome, PieceReplay, RecordEnd, replay_in_turn};
+use replay::{
+    Counts, NoGate, Outcome, PieceOutcome, PieceReplay, RecordEnd, ReplayFault, replay_in_turn,
+};
 use semantics::{Options, Recording};
 use shard_port::Gate;
 use std::alloc::{AllocError, Global};
 use std::process::Abort;
-use std::test::Fail;
-use steer::shipped;
-use verifier::{Verified, verify};
+use verifier::Verified;
 use wire::{CAPTURE_HEADER_LEN, Capture, Sent};
 
 /// What is replayed, and how.
@@ -43,8 +43,13 @@ fn options_of(journal: u32) -> Options {
 }
 
 /// The replay of a capture that is one piece.
-fn whole(alloc: Global, setting: ReplaySetting<'_>, capture: &Capture) -> Result<Outcome, Fail> {
-    Ok(replay_in_turn(
+fn whole<R: Abort>(
+    rt: &R,
+    alloc: Global,
+    setting: ReplaySetting<'_>,
+    capture: &Capture,
+) -> Outcome {
+    let outcome = replay_in_turn(
         alloc,
         setting.verified,
         capture,
@@ -53,7 +58,8 @@ fn whole(alloc: Global, setting: ReplaySetting<'_>, capture: &Capture) -> Result
         setting.options,
         setting.recording,
         &NoGate,
-    )?)
+    );
+    outcome.expect(rt, "an outcome")
 }
 
 /// What pieces handed out.
@@ -73,19 +79,18 @@ impl HandedOut {
     }
 
     /// Adds what a piece handed out.
-    fn add(&mut self, alloc: Global, piece: &PieceOutcome) -> Result<(), Fail> {
-        let records = records_of(alloc, &piece.sent)?;
-        self.sent.extend_from_slice(&records)?;
-        self.ends.extend_from_slice(&piece.ends)?;
-        Ok(())
+    fn add<R: Abort>(&mut self, rt: &R, alloc: Global, piece: &PieceOutcome) {
+        let records = records_of(rt, alloc, &piece.sent);
+        self.sent.extend_from_slice(&records).expect(rt, "records");
+        self.ends.extend_from_slice(&piece.ends).expect(rt, "ends");
     }
 }
 
 /// The records of frames, as a file has them behind its header.
-fn records_of(alloc: Global, frames: &[Sent]) -> Result<Vec<u8>, Fail> {
-    let file = capture_file(alloc, frames)?;
+fn records_of<R: Abort>(rt: &R, alloc: Global, frames: &[Sent]) -> Vec<u8> {
+    let file = capture_file(rt, alloc, frames);
     let records = file.bytes().get(CAPTURE_HEADER_LEN..).unwrap_or(b"");
-    Ok(Vec::from_slice(alloc, records)?)
+    Vec::from_slice(alloc, records).expect(rt, "records")
 }
 
 /// Takes these records as the next piece. There is room for it, and each record so far has its end.
@@ -97,16 +102,16 @@ fn take_piece<R: Abort, G: Gate>(
     replay: &mut PieceReplay,
     given: &mut HandedOut,
     gate: &G,
-) -> Result<(), Fail>
+) -> Result<(), AllocError>
     requires goes_on { GoesOn setting.script.now replay.old }
     requires maps { replay.old.turns.all.maps ≡ setting.verified.now.maps }
     ensures goes_on { OnOk result (GoesOn setting.entry.script.now replay.new) }
     ensures maps { OnOk result (replay.new.turns.all.maps ≡ setting.entry.verified.now.maps) }
 {
-    let piece = capture(alloc, records)?;
+    let piece = capture(rt, alloc, records);
     holds_of(rt, setting.name, "room", replay.has_room(&piece));
     let done = replay.go_on(alloc, setting.verified, setting.script, &piece, gate)?;
-    given.add(alloc, &done)?;
+    given.add(rt, alloc, &done);
     let taken = replay.taken();
     same_fact(rt, setting.name, "the ends", &given.ends.len(), &taken);
     Ok(())
@@ -122,7 +127,7 @@ fn take_pieces<R: Abort, G: Gate>(
     replay: &mut PieceReplay,
     given: &mut HandedOut,
     gate: &G,
-) -> Result<(), Fail>
+) -> Result<(), AllocError>
     requires size { 0 < size }
     requires goes_on { GoesOn setting.script.now replay.old }
     requires maps { replay.old.turns.all.maps ≡ setting.verified.now.maps }
@@ -149,7 +154,7 @@ fn in_pieces<R: Abort, G: Gate>(
     capture: &Capture,
     size: usize,
     gate: &G,
-) -> Result<Ended, Fail>
+) -> Result<Ended, ReplayFault>
     requires { 0 < size }
 {
     let mut replay = PieceReplay::open(
@@ -173,18 +178,13 @@ fn in_pieces<R: Abort, G: Gate>(
         gate,
     )?;
     same_fact(rt, setting.name, "taken", &replay.taken(), &records.len());
-    let rest = replay.finish(alloc, &[], setting.script)?;
+    let rest = replay.finish(alloc, &[], setting.script);
+    let rest = rest.expect(rt, "an outcome");
     Ok(Ended { given, rest })
 }
 
 /// Compares what a replay in pieces comes to with the outcome of the whole capture.
-fn compare<R: Abort>(
-    rt: &R,
-    alloc: Global,
-    name: &str,
-    ended: &Ended,
-    wanted: &Outcome,
-) -> Result<(), Fail> {
+fn compare<R: Abort>(rt: &R, alloc: Global, name: &str, ended: &Ended, wanted: &Outcome) {
     let Ended { given, rest } = ended;
     same_fact(rt, name, "the counts", &rest.counts, &wanted.counts);
     same_fact(
@@ -201,14 +201,13 @@ fn compare<R: Abort>(
         &given.ends.as_slice(),
         &wanted.ends.as_slice(),
     );
-    let sent = records_of(alloc, &wanted.sent)?;
+    let sent = records_of(rt, alloc, &wanted.sent);
     same_bytes_of(rt, name, "what is sent", &given.sent, &sent);
-    let found = journals_file(alloc, rest)?;
-    let journals = journals_file(alloc, wanted)?;
+    let found = journals_file(rt, alloc, rest);
+    let journals = journals_file(rt, alloc, wanted);
     same_bytes_of(rt, name, "the journals", found.bytes(), journals.bytes());
     holds_of(rt, name, "none sent at the end", rest.sent.is_empty());
     holds_of(rt, name, "no ends at the end", rest.ends.is_empty());
-    Ok(())
 }
 
 /// Of 300 frames: how many a piece has, and before which ones the backends change.
@@ -243,11 +242,11 @@ fn compare_row<R: Abort>(
     alloc: Global,
     verified: &Verified,
     row: &(&str, usize, ChangeFrames),
-) -> Result<(), Fail> {
+) {
     let (name, size, changes) = *row;
-    let (ports, want) = long_frames(alloc, changes)?;
-    let text = long_script(alloc, changes)?;
-    let script = parse_script(alloc, text.as_bytes())?;
+    let (ports, want) = long_frames(rt, alloc, changes);
+    let text = long_script(rt, alloc, changes);
+    let script = parse_script(alloc, text.as_bytes()).expect(rt, "a script");
     let setting = ReplaySetting {
         name,
         verified,
@@ -255,23 +254,22 @@ fn compare_row<R: Abort>(
         options: options_of(65536),
         recording: Recording::Rows,
     };
-    let capture = segments(alloc, &ports)?;
-    let wanted = whole(alloc, setting, &capture)?;
+    let capture = segments(rt, alloc, &ports);
+    let wanted = whole(rt, alloc, setting, &capture);
     compare_whole(rt, name, &wanted, &want);
     let rounds = Rounds::new();
-    let ended = in_pieces(rt, alloc, setting, &capture, size.max(1), &rounds)?;
-    compare(rt, alloc, name, &ended, &wanted)?;
+    let ended = in_pieces(rt, alloc, setting, &capture, size.max(1), &rounds);
+    let ended = ended.expect(rt, "pieces");
+    compare(rt, alloc, name, &ended, &wanted);
     same_fact(rt, name, "the rounds", &rounds.digits(), &1234);
-    Ok(())
 }
 
 #[test]
-fn pieces_are_replayed_as_the_whole(rt: HostRuntime) -> Result<(), Fail> {
-    let verified = verify(rt.alloc(), shipped(rt.alloc(), 7)?)?;
+fn pieces_are_replayed_as_the_whole(rt: HostRuntime) {
+    let verified = shipped_for_7(&rt, rt.alloc());
     for row in &ROWS {
-        compare_row(&rt, rt.alloc(), &verified, row)?;
+        compare_row(&rt, rt.alloc(), &verified, row);
     }
-    Ok(())
 }
 
 /// The sizes of the pieces that each row below is made in.
@@ -297,24 +295,24 @@ fn compare_rounds<R: Abort>(
     setting: ReplaySetting<'_>,
     count: usize,
     digits: u64,
-) -> Result<(), Fail> {
+) {
     let ports = [40001; 200];
-    let capture = segments(alloc, ports.get(..count).unwrap_or(&ports))?;
+    let capture = segments(rt, alloc, ports.get(..count).unwrap_or(&ports));
     for size in SIZES {
         let rounds = Rounds::new();
-        let ended = in_pieces(rt, alloc, setting, &capture, size.max(1), &rounds)?;
+        let ended = in_pieces(rt, alloc, setting, &capture, size.max(1), &rounds);
+        let ended = ended.expect(rt, "pieces");
         same_fact(rt, setting.name, "taken", &ended.given.ends.len(), &count);
         same_fact(rt, setting.name, "the rounds", &rounds.digits(), &digits);
     }
-    Ok(())
 }
 
 #[test]
-fn the_gate_counts_the_rounds_over_all_pieces(rt: HostRuntime) -> Result<(), Fail> {
+fn the_gate_counts_the_rounds_over_all_pieces(rt: HostRuntime) {
     let alloc = rt.alloc();
-    let verified = program(alloc, ANSWERS_THE_PORT)?;
-    let script = parse_script(alloc, b"")?;
-    for (name, count, digits) in ROUNDS {
+    let verified = program(&rt, alloc, ANSWERS_THE_PORT);
+    let script = parse_script(alloc, b"").expect(&rt, "a script");
+    for (name, count, digits) in &ROUNDS {
         let setting = ReplaySetting {
             name,
             verified: &verified,
@@ -322,9 +320,8 @@ fn the_gate_counts_the_rounds_over_all_pieces(rt: HostRuntime) -> Result<(), Fai
             options: options_of(65536),
             recording: Recording::Rows,
         };
-        compare_rounds(&rt, alloc, setting, count, digits)?;
+        compare_rounds(&rt, alloc, setting, *count, *digits);
     }
-    Ok(())
 }
 
 /// A replay of the forty flows, and what it counts: the room for entries, and whether rows are kept.
@@ -336,27 +333,22 @@ const FLOWS: [(&str, u32, Recording, Counts); 3] = [
 ];
 
 /// Compares a replay of the forty flows, whichever size the pieces have.
-fn compare_flows<R: Abort>(
-    rt: &R,
-    alloc: Global,
-    setting: ReplaySetting<'_>,
-    counts: &Counts,
-) -> Result<(), Fail> {
-    let capture = captured(alloc, FORTY_FLOWS.frames)?;
-    let wanted = whole(alloc, setting, &capture)?;
+fn compare_flows<R: Abort>(rt: &R, alloc: Global, setting: ReplaySetting<'_>, counts: &Counts) {
+    let capture = captured(rt, alloc, FORTY_FLOWS.frames);
+    let wanted = whole(rt, alloc, setting, &capture);
     same_fact(rt, setting.name, "the counts", &wanted.counts, counts);
     for size in SIZES {
-        let ended = in_pieces(rt, alloc, setting, &capture, size.max(1), &NoGate)?;
-        compare(rt, alloc, setting.name, &ended, &wanted)?;
+        let ended = in_pieces(rt, alloc, setting, &capture, size.max(1), &NoGate);
+        let ended = ended.expect(rt, "pieces");
+        compare(rt, alloc, setting.name, &ended, &wanted);
     }
-    Ok(())
 }
 
 #[test]
-fn pieces_of_forty_flows(rt: HostRuntime) -> Result<(), Fail> {
+fn pieces_of_forty_flows(rt: HostRuntime) {
     let alloc = rt.alloc();
-    let verified = program(alloc, ANSWERS_THE_PORT)?;
-    let script = parse_script(alloc, b"")?;
+    let verified = program(&rt, alloc, ANSWERS_THE_PORT);
+    let script = parse_script(alloc, b"").expect(&rt, "a script");
     for (name, journal, recording, counts) in &FLOWS {
         let setting = ReplaySetting {
             name,
@@ -365,20 +357,15 @@ fn pieces_of_forty_flows(rt: HostRuntime) -> Result<(), Fail> {
             options: options_of(*journal),
             recording: *recording,
         };
-        compare_flows(&rt, alloc, setting, counts)?;
+        compare_flows(&rt, alloc, setting, counts);
     }
-    Ok(())
 }
 
 /// Compares the ends that are handed out with those that were worked out, of pieces of this many records.
-fn compare_ends<R: Abort>(
-    rt: &R,
-    alloc: Global,
-    setting: ReplaySetting<'_>,
-    size: usize,
-) -> Result<(), Fail> {
-    let capture = byte_13s(alloc)?;
-    let ended = in_pieces(rt, alloc, setting, &capture, size.max(1), &NoGate)?;
+fn compare_ends<R: Abort>(rt: &R, alloc: Global, setting: ReplaySetting<'_>, size: usize) {
+    let capture = byte_13s(rt, alloc);
+    let ended = in_pieces(rt, alloc, setting, &capture, size.max(1), &NoGate);
+    let ended = ended.expect(rt, "pieces");
     let wanted = ends_of_byte_13s();
     same_fact(
         rt,
@@ -396,14 +383,13 @@ fn compare_ends<R: Abort>(
         ..NONE
     };
     same_fact(rt, setting.name, "the counts", &ended.rest.counts, &counts);
-    Ok(())
 }
 
 #[test]
-fn ends_are_handed_out_with_their_piece(rt: HostRuntime) -> Result<(), Fail> {
+fn ends_are_handed_out_with_their_piece(rt: HostRuntime) {
     let alloc = rt.alloc();
-    let verified = program(alloc, READS_BYTE_13)?;
-    let script = parse_script(alloc, b"")?;
+    let verified = program(&rt, alloc, READS_BYTE_13);
+    let script = parse_script(alloc, b"").expect(&rt, "a script");
     let setting = ReplaySetting {
         name: "byte 13",
         verified: &verified,
@@ -415,9 +401,8 @@ fn ends_are_handed_out_with_their_piece(rt: HostRuntime) -> Result<(), Fail> {
         recording: Recording::Rows,
     };
     for size in [1, 2, 3, 7] {
-        compare_ends(&rt, alloc, setting, size)?;
+        compare_ends(&rt, alloc, setting, size);
     }
-    Ok(())
 }
 
 /// How many records a piece has, and how many were taken behind it.
@@ -428,26 +413,49 @@ fn compare_taken<R: Abort>(
     rt: &R,
     alloc: Global,
     setting: ReplaySetting<'_>,
+    records: &[Sent],
     replay: &mut PieceReplay,
-) -> Result<(), Fail>
+    given: &mut HandedOut,
+) -> Result<(), AllocError>
     requires goes_on { GoesOn setting.script.now replay.old }
     requires maps { replay.old.turns.all.maps ≡ setting.verified.now.maps }
 {
-    let all = segments(alloc, &[40001; 65])?;
-    let mut given = HandedOut::nothing(alloc);
     'pieces: for (count, taken) in TAKEN {
-        let records = all.records.get(..count).unwrap_or(&[]);
-        take_piece(rt, alloc, setting, records, replay, &mut given, &NoGate)?;
+        let piece = records.get(..count).unwrap_or(&[]);
+        take_piece(rt, alloc, setting, piece, replay, given, &NoGate)?;
         same_fact(rt, setting.name, "taken", &replay.taken(), &taken);
     }
     Ok(())
 }
 
+/// Opens a replay, and compares how many records were taken at first and behind each piece.
+fn compare_taken_so_far<R: Abort>(
+    rt: &R,
+    alloc: Global,
+    setting: ReplaySetting<'_>,
+) -> Result<(), ReplayFault> {
+    let mut replay = PieceReplay::open(
+        alloc,
+        setting.verified,
+        &[],
+        setting.script,
+        setting.options,
+        setting.recording,
+    )?;
+    same_fact(rt, setting.name, "taken at first", &replay.taken(), &0);
+    let all = segments(rt, alloc, &[40001; 65]);
+    let mut given = HandedOut::nothing(alloc);
+    let records: &[Sent] = &all.records;
+    let compared = compare_taken(rt, alloc, setting, records, &mut replay, &mut given);
+    compared.expect(rt, "pieces");
+    Ok(())
+}
+
 #[test]
-fn records_are_counted_over_all_pieces(rt: HostRuntime) -> Result<(), Fail> {
+fn records_are_counted_over_all_pieces(rt: HostRuntime) {
     let alloc = rt.alloc();
-    let verified = program(alloc, ANSWERS_THE_PORT)?;
-    let script = parse_script(alloc, b"")?;
+    let verified = program(&rt, alloc, ANSWERS_THE_PORT);
+    let script = parse_script(alloc, b"").expect(&rt, "a script");
     let setting = ReplaySetting {
         name: "pieces with and without records",
         verified: &verified,
@@ -455,14 +463,5 @@ fn records_are_counted_over_all_pieces(rt: HostRuntime) -> Result<(), Fail> {
         options: options_of(65536),
         recording: Recording::Rows,
     };
-    let mut replay = PieceReplay::open(
-        alloc,
-        &verified,
-        &[],
-        &script,
-        setting.options,
-        setting.recording,
-    )?;
-    same_fact(&rt, setting.name, "taken at first", &replay.taken(), &0);
-    compare_taken(&rt, alloc, setting, &mut replay)
+    compare_taken_so_far(&rt, alloc, setting).expect(&rt, "pieces");
 }

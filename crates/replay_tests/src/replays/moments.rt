@@ -1,7 +1,7 @@
 //! When a command is handed over without exact moments: not before as many records as its number were handed out, and no later than needed.
 
 use super::gated;
-use super::shipped_program::{AT_FIRST, segments};
+use super::shipped_program::{AT_FIRST, segments, shipped_for_7};
 use crate::asserting::same_fact;
 use replay::Gate;
 use semantics::Caller;
@@ -10,10 +10,7 @@ use std::hint::spin_loop;
 use std::process::Abort;
 use std::sync::Wait;
 use std::sync::atomic::{AtomicU64, Ordering};
-use std::test::Fail;
 use std::thread::Threads;
-use steer::shipped;
-use verifier::verify;
 
 /// How many replies the controller has had with the command of frame 65, and with that of frame 66.
 const WITH_65: u64 = 11;
@@ -89,15 +86,15 @@ impl Gate for Held {
 
 /// A hundred frames of one flow by one worker, which is held at its first frame. Then the queue takes 64 frames more: so 65 were handed
 /// out, and no more. The command of frame 65 comes then, that of frame 66 only when the first frame is done.
-fn compare_held<R: Threads + Abort + Wait + Sync>(rt: &R, alloc: Global) -> Result<(), Fail> {
+fn compare_held<R: Threads + Abort + Wait + Sync>(rt: &R, alloc: Global) {
     let name = "a worker that is held at the first frame";
-    let verified = verify(alloc, shipped(alloc, 7)?)?;
+    let verified = shipped_for_7(rt, alloc);
     let script = format!(in alloc;
         "0 vip 203.0.113.1 80 tcp\n{AT_FIRST}65 vip 203.0.113.1 81 tcp\n66 vip 203.0.113.1 82 tcp\n"
-    )?;
-    let capture = segments(alloc, &[40001; 100])?;
+    ).expect(rt, "a script");
+    let capture = segments(rt, alloc, &[40001; 100]);
     let gate = Held::new();
-    let outcome = gated(rt, alloc, &verified, &capture, &script, 1, 65536, &gate)?;
+    let outcome = gated(rt, alloc, &verified, &capture, &script, 1, 65536, &gate);
     same_fact(
         rt,
         name,
@@ -129,10 +126,9 @@ fn compare_held<R: Threads + Abort + Wait + Sync>(rt: &R, alloc: Global) -> Resu
         &is_done,
         &true,
     );
-    Ok(())
 }
 
 #[test]
-fn no_command_comes_before_its_number_of_records(rt: HostRuntime) -> Result<(), Fail> {
-    compare_held(&rt, rt.alloc())
+fn no_command_comes_before_its_number_of_records(rt: HostRuntime) {
+    compare_held(&rt, rt.alloc());
 }

@@ -9,7 +9,6 @@ use std::hint::spin_loop;
 use std::process::Abort;
 use std::sync::Wait;
 use std::sync::atomic::{AtomicU64, Ordering};
-use std::test::Fail;
 use std::thread::Threads;
 use test_support::programs::{COUNTS_TO_THREE, READS_ONE};
 
@@ -152,11 +151,11 @@ fn replayed_counting<R: Threads + Abort + Wait + Sync>(
     alloc: Global,
     row: &Row<'_>,
     gate_calls: [u64; 4],
-) -> Result<Outcome, Fail> {
+) -> Outcome {
     let gate = CountingGate::new();
-    let outcome = replayed(rt, alloc, row, &gate)?;
+    let outcome = replayed(rt, alloc, row, &gate);
     same_fact(rt, row.name, "the replies", &gate.counts(), &gate_calls);
-    Ok(outcome)
+    outcome
 }
 
 /// A replay, for which replies of worker 0 the gate is called, how many entries the one journal has, and its last lines.
@@ -194,10 +193,10 @@ fn ends_so(text: &[u8], last: &str) -> (usize, bool) {
 }
 
 /// Makes the replay, and compares for what the gate was called and the journal.
-fn fills<R: Threads + Abort + Wait + Sync>(rt: &R, alloc: Global, full: &Full) -> Result<(), Fail> {
+fn fills<R: Threads + Abort + Wait + Sync>(rt: &R, alloc: Global, full: &Full) {
     let (row, gate_calls, entries, last) = full;
-    let outcome = replayed_counting(rt, alloc, row, [*gate_calls, 0, 0, 0])?;
-    let journals = journals_file(alloc, &outcome)?;
+    let outcome = replayed_counting(rt, alloc, row, [*gate_calls, 0, 0, 0]);
+    let journals = journals_file(rt, alloc, &outcome);
     let end = ends_so(journals.bytes(), last);
     same_fact(
         rt,
@@ -206,15 +205,13 @@ fn fills<R: Threads + Abort + Wait + Sync>(rt: &R, alloc: Global, full: &Full) -
         &end,
         &(*entries, true),
     );
-    Ok(())
 }
 
 #[test]
-fn journals_that_are_full(rt: HostRuntime) -> Result<(), Fail> {
+fn journals_that_are_full(rt: HostRuntime) {
     for full in &FULL {
-        fills(&rt, rt.alloc(), full)?;
+        fills(&rt, rt.alloc(), full);
     }
-    Ok(())
 }
 
 /// A replay with a gate that holds the workers below a number until this many have had a reply, or up to its limit: how many have had one
@@ -257,9 +254,9 @@ const LATE: Held = Held {
 };
 
 /// Makes the replay, and compares how many workers met, and how many were late.
-fn meet<R: Threads + Abort + Wait + Sync>(rt: &R, alloc: Global, held: &Held) -> Result<(), Fail> {
+fn meet<R: Threads + Abort + Wait + Sync>(rt: &R, alloc: Global, held: &Held) {
     let gate = Meeting::new(held.held, held.wanted, held.limit);
-    let _ = replayed(rt, alloc, &held.row, &gate)?;
+    let _ = replayed(rt, alloc, &held.row, &gate);
     same_fact(
         rt,
         held.row.name,
@@ -267,20 +264,18 @@ fn meet<R: Threads + Abort + Wait + Sync>(rt: &R, alloc: Global, held: &Held) ->
         &gate.counts(),
         &held.counts,
     );
-    Ok(())
 }
 
 #[test]
-fn two_workers_meet(rt: HostRuntime) -> Result<(), Fail> {
+fn two_workers_meet(rt: HostRuntime) {
     for held in &MEET {
-        meet(&rt, rt.alloc(), held)?;
+        meet(&rt, rt.alloc(), held);
     }
-    Ok(())
 }
 
 #[test]
-fn a_held_worker_runs_all(rt: HostRuntime) -> Result<(), Fail> {
-    meet(&rt, rt.alloc(), &LATE)
+fn a_held_worker_runs_all(rt: HostRuntime) {
+    meet(&rt, rt.alloc(), &LATE);
 }
 
 const ONE_PASSES: Row<'static> = Row {
@@ -307,9 +302,9 @@ fn enters<R: Threads + Abort + Wait + Sync>(
     row: &Row<'_>,
     runs: &str,
     rests: &str,
-) -> Result<(), Fail> {
-    let outcome = replayed(rt, alloc, row, &NoGate)?;
-    let journals = journals_file(alloc, &outcome)?;
+) {
+    let outcome = replayed(rt, alloc, row, &NoGate);
+    let journals = journals_file(rt, alloc, &outcome);
     holds_of(
         rt,
         row.name,
@@ -322,15 +317,13 @@ fn enters<R: Threads + Abort + Wait + Sync>(
         "the worker that rests",
         !has_part(journals.bytes(), rests),
     );
-    Ok(())
 }
 
 #[test]
-fn flows_have_their_worker(rt: HostRuntime) -> Result<(), Fail> {
+fn flows_have_their_worker(rt: HostRuntime) {
     for (row, runs, rests) in &SPREAD {
-        enters(&rt, rt.alloc(), row, runs, rests)?;
+        enters(&rt, rt.alloc(), row, runs, rests);
     }
-    Ok(())
 }
 
 /// A worker's replies are counted on from run to run, each of an update, a lookup, an atomic operation and a load; and the reclaimer's.
@@ -347,9 +340,8 @@ const COUNTED: Row<'static> = Row {
 };
 
 #[test]
-fn replies_are_counted_over_all_runs(rt: HostRuntime) -> Result<(), Fail> {
-    let _ = replayed_counting(&rt, rt.alloc(), &COUNTED, [400, 0, 2, 0])?;
-    Ok(())
+fn replies_are_counted_over_all_runs(rt: HostRuntime) {
+    let _ = replayed_counting(&rt, rt.alloc(), &COUNTED, [400, 0, 2, 0]);
 }
 
 /// The fourth table meets a full journal after three of its slots. The updates made remain, and each later command is refused.
@@ -385,21 +377,20 @@ pub(super) fn are_the_last_two(refused: &[Applied]) -> bool {
 }
 
 #[test]
-fn a_down_meets_a_full_journal(rt: HostRuntime) -> Result<(), Fail> {
+fn a_down_meets_a_full_journal(rt: HostRuntime) {
     let name = A_FULL_JOURNAL.name;
-    let outcome = replayed_counting(&rt, rt.alloc(), &A_FULL_JOURNAL, [0, 28, 2, 0])?;
+    let outcome = replayed_counting(&rt, rt.alloc(), &A_FULL_JOURNAL, [0, 28, 2, 0]);
     holds_of(
         &rt,
         name,
         "the refused commands",
         are_the_last_two(&outcome.refused),
     );
-    let journals = journals_file(rt.alloc(), &outcome)?;
+    let journals = journals_file(&rt, rt.alloc(), &outcome);
     holds_of(
         &rt,
         name,
         "the fourth table",
         has_part(journals.bytes(), FOURTH),
     );
-    Ok(())
 }

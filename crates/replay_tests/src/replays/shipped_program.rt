@@ -11,7 +11,6 @@ use std::hint::spin_loop;
 use std::process::Abort;
 use std::sync::Wait;
 use std::sync::atomic::{AtomicU64, Ordering};
-use std::test::Fail;
 use std::thread::Threads;
 use steer::shipped;
 use test_support::files::SERVICE;
@@ -222,12 +221,20 @@ pub(super) fn first_wrong(sent: &[Sent], want: &[(u16, u8)]) -> Option<usize> {
 }
 
 /// A segment of each of these ports.
-pub(super) fn segments(alloc: Global, ports: &[u16]) -> Result<Capture, Fail> {
+pub(super) fn segments<R: Abort>(rt: &R, alloc: Global, ports: &[u16]) -> Capture {
     let mut records = Vec::new(alloc);
     for port in ports {
-        records.push(one_record(alloc, 1, &segment(*port))?)?;
+        records
+            .push(one_record(alloc, 1, &segment(*port)).expect(rt, "a record"))
+            .expect(rt, "room");
     }
-    capture(alloc, &records)
+    capture(rt, alloc, &records)
+}
+
+/// The shipped program for seven slots, accepted.
+pub(super) fn shipped_for_7<R: Abort>(rt: &R, alloc: Global) -> Verified {
+    let image = shipped(alloc, 7).expect(rt, "an image");
+    verify(alloc, image).expect(rt, "an accepted program")
 }
 
 /// How often the journals have an update of a flow: the key of one begins with both addresses.
@@ -246,9 +253,9 @@ fn steered<R: Threads + Abort + Wait + Sync>(
     row: &Row,
     verified: &Verified,
     gate: &HoldingGate,
-) -> Result<Outcome, Fail> {
-    let script = format!(in alloc; "{}{AT_FIRST}{LATER}", row.service)?;
-    let capture = segments(alloc, row.frames)?;
+) -> Outcome {
+    let script = format!(in alloc; "{}{AT_FIRST}{LATER}", row.service).expect(rt, "a script");
+    let capture = segments(rt, alloc, row.frames);
     gated(
         rt,
         alloc,
@@ -262,7 +269,7 @@ fn steered<R: Threads + Abort + Wait + Sync>(
 }
 
 /// Compares what was sent, what was counted, and what the journals have. No command is refused.
-fn compare<R: Abort>(rt: &R, alloc: Global, row: &Row, outcome: &Outcome) -> Result<(), Fail> {
+fn compare<R: Abort>(rt: &R, alloc: Global, row: &Row, outcome: &Outcome) {
     same_fact(
         rt,
         row.name,
@@ -283,7 +290,7 @@ fn compare<R: Abort>(rt: &R, alloc: Global, row: &Row, outcome: &Outcome) -> Res
         ..NONE
     };
     same_fact(rt, row.name, "the counts", &outcome.counts, &counts);
-    let journals = journals_file(alloc, outcome)?;
+    let journals = journals_file(rt, alloc, outcome);
     same_fact(
         rt,
         row.name,
@@ -291,7 +298,6 @@ fn compare<R: Abort>(rt: &R, alloc: Global, row: &Row, outcome: &Outcome) -> Res
         &notes_of(journals.bytes()),
         &row.notes,
     );
-    Ok(())
 }
 
 /// Replays a row, and compares. Nobody is held up to the limit.
@@ -300,9 +306,9 @@ fn is_steered<R: Threads + Abort + Wait + Sync>(
     alloc: Global,
     row: &Row,
     verified: &Verified,
-) -> Result<(), Fail> {
+) {
     let gate = HoldingGate::new(row.holds);
-    let outcome = steered(rt, alloc, row, verified, &gate)?;
+    let outcome = steered(rt, alloc, row, verified, &gate);
     same_fact(
         rt,
         row.name,
@@ -310,16 +316,15 @@ fn is_steered<R: Threads + Abort + Wait + Sync>(
         &gate.late.load(Ordering::SeqCst),
         &0,
     );
-    compare(rt, alloc, row, &outcome)
+    compare(rt, alloc, row, &outcome);
 }
 
 #[test]
-fn backends_change_between_frames(rt: HostRuntime) -> Result<(), Fail> {
-    let verified = verify(rt.alloc(), shipped(rt.alloc(), 7)?)?;
+fn backends_change_between_frames(rt: HostRuntime) {
+    let verified = shipped_for_7(&rt, rt.alloc());
     for row in &ROWS {
-        is_steered(&rt, rt.alloc(), row, &verified)?;
+        is_steered(&rt, rt.alloc(), row, &verified);
     }
-    Ok(())
 }
 
 /// Between the first two of three frames backend 1 comes up and takes the flow's slot, which is 0; between the last two backend 0 goes
@@ -341,12 +346,14 @@ const NOTED_ANEW: &str = "1 w0 update c6336407cb0071019c40005011000000 010000000
 ";
 
 /// The datagram, three times.
-fn three_datagrams(alloc: Global) -> Result<Capture, Fail> {
+fn three_datagrams<R: Abort>(rt: &R, alloc: Global) -> Capture {
     let mut records = Vec::new(alloc);
     for _ in 0..3 {
-        records.push(one_record(alloc, 1, &UDP_FRAME)?)?;
+        records
+            .push(one_record(alloc, 1, &UDP_FRAME).expect(rt, "a record"))
+            .expect(rt, "room");
     }
-    capture(alloc, &records)
+    capture(rt, alloc, &records)
 }
 
 /// The datagram as it is sent to backend 1.
@@ -358,12 +365,7 @@ fn to_the_second() -> [u8; 62] {
 }
 
 /// Compares what was sent, and the notes of the flow: two, and the last one is of backend 1.
-fn compare_notes<R: Abort>(
-    rt: &R,
-    alloc: Global,
-    name: &str,
-    outcome: &Outcome,
-) -> Result<(), Fail> {
+fn compare_notes<R: Abort>(rt: &R, alloc: Global, name: &str, outcome: &Outcome) {
     let count = outcome.sent.len();
     same_fact(rt, name, "the frames that are sent", &count, &3);
     let want = [SENT, SENT, to_the_second()];
@@ -371,28 +373,27 @@ fn compare_notes<R: Abort>(
         let found = one.bytes.as_slice();
         same_bytes_of(rt, name, "a sent frame", found, frame.as_slice());
     }
-    let journals = journals_file(alloc, outcome)?;
+    let journals = journals_file(rt, alloc, outcome);
     let notes = notes_of(journals.bytes());
     same_fact(rt, name, "the notes", &notes, &2);
     let is_last = has_part(journals.bytes(), NOTED_ANEW);
     holds_of(rt, name, "the last note", is_last);
-    Ok(())
 }
 
 /// A flow keeps its backend when another one takes its slot, and is noted anew when its own goes down.
-fn is_noted_anew<R: Threads + Abort + Wait + Sync>(rt: &R, alloc: Global) -> Result<(), Fail> {
+fn is_noted_anew<R: Threads + Abort + Wait + Sync>(rt: &R, alloc: Global) {
     let name = "a flow that is noted anew";
-    let verified = verify(alloc, shipped(alloc, 7)?)?;
-    let script = format!(in alloc; "{SERVICE}{CHANGES}")?;
-    let capture = three_datagrams(alloc)?;
+    let verified = shipped_for_7(rt, alloc);
+    let script = format!(in alloc; "{SERVICE}{CHANGES}").expect(rt, "a script");
+    let capture = three_datagrams(rt, alloc);
     let gate = HoldingGate::new(BETWEEN);
-    let outcome = gated(rt, alloc, &verified, &capture, &script, 1, 1024, &gate)?;
+    let outcome = gated(rt, alloc, &verified, &capture, &script, 1, 1024, &gate);
     let late = gate.late.load(Ordering::SeqCst);
     same_fact(rt, name, "who was late", &late, &0);
-    compare_notes(rt, alloc, name, &outcome)
+    compare_notes(rt, alloc, name, &outcome);
 }
 
 #[test]
-fn a_flow_is_noted_anew(rt: HostRuntime) -> Result<(), Fail> {
-    is_noted_anew(&rt, rt.alloc())
+fn a_flow_is_noted_anew(rt: HostRuntime) {
+    is_noted_anew(&rt, rt.alloc());
 }
