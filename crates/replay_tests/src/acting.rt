@@ -14,7 +14,7 @@ use conntrack::{maps, table_size};
 use control::{Command, ControlFault, parse_script};
 use ebpf_decode::{Image, Insn, Version};
 use journals::Journals;
-use replay::{Actor, ActorEnded, Applied, Commanded, Commander, Reclaiming};
+use replay::{Actor, ActorEnded, Applied, Commanded, Commander, Reclaiming, ReplayFault};
 use rx_queues::{Job, OpenFault, Queues, TakePass};
 use semantics::{Caller, Options};
 use shard_port::{Gate, NoGate};
@@ -48,16 +48,17 @@ fn new_gate() -> CountingGate {
 }
 
 /// The six maps of steering, for a lookup table of seven slots.
-fn opened(alloc: Global, row: &Row<'_>) -> Result<Opened, Fail> {
+fn opened<R: Abort>(rt: &R, alloc: Global, row: &Row<'_>) -> Opened {
     let mut code = Vec::new(alloc);
-    code.push(Insn::Exit)?;
-    let image = Image::of(Version::V1, maps(alloc, 7)?, code)?;
+    code.push(Insn::Exit).expect(rt, "code");
+    let maps = maps(alloc, 7).expect(rt, "maps");
+    let image = Image::of(Version::V1, maps, code).expect(rt, "an image");
     let options = Options {
         workers: 1,
         shards: row.shards,
         journal: row.journal,
     };
-    Ok(Opened::open(alloc, &image, options)?)
+    Opened::open(alloc, &image, options).expect(rt, "shards")
 }
 
 /// A script over new shards, or this many rounds of the reclaimer: the number of each command's fault (0: none), for how many answers the
@@ -125,13 +126,12 @@ fn close<B: Naming, R: Abort + Wait>(
     shards: Shards<B>,
     pass: Pass<B>,
     row: &Row<'_>,
-) -> Result<(), Fail> {
-    let mut passes = Vec::with_capacity(alloc, 1)?;
-    passes.push(pass)?;
+) {
+    let mut passes = Vec::with_capacity(alloc, 1).expect(rt, "a list");
+    passes.push(pass).expect(rt, "room");
     let journals = shards.close(rt, passes);
     let are_so = lengths_are(&journals, row.lengths);
     holds_of(rt, row.name, "the lengths of the journals", are_so);
-    Ok(())
 }
 
 /// Applies the row's script, and compares.
@@ -143,16 +143,16 @@ fn applied<B: Naming, R: Abort + Wait>(
 ) -> Result<(), Fail>
     requires { IsNamed B.count B.table B.plan B.order opened }
 {
-    let script = parse_script(alloc, row.text.as_bytes())?;
-    let gate = new_gate();
-    let (shards, mut dealer) = opened.share::<B>(alloc)?;
+    let (shards, mut dealer) = opened.share::<B>(alloc).expect(rt, "shared shards");
     let pass = dealer.pass(alloc, Caller::Controller)?;
+    let script = parse_script(alloc, row.text.as_bytes()).expect(rt, "a script");
+    let gate = new_gate();
     let size = table_size(shards.maps());
     holds_of(rt, row.name, "the size of the table", size.is_some());
     let Some(size) = size else {
         return Ok(());
     };
-    let mut commander = Commander::over(
+    let commander = Commander::over(
         alloc,
         rt,
         &shards,
@@ -161,10 +161,11 @@ fn applied<B: Naming, R: Abort + Wait>(
         &[],
         script.commands(),
         size,
-    )?;
+    );
+    let mut commander = commander.expect(rt, "a commander");
     for number in 0..script.commands().len() {
         if number < commander.script().len() {
-            commander.apply(alloc, number)?;
+            commander.apply(alloc, number).expect(rt, "a note");
         }
     }
     let (pass, noted) = commander.finish();
@@ -183,12 +184,13 @@ fn applied<B: Naming, R: Abort + Wait>(
         &called,
         &(row.gate_calls, row.gate_calls),
     );
-    close(rt, alloc, shards, pass, row)
+    close(rt, alloc, shards, pass, row);
+    Ok(())
 }
 
 /// The same over new shards.
 fn applied_to_new<R: Abort + Wait>(rt: &R, alloc: Global, row: &Row<'_>) -> Result<(), Fail> {
-    let opened = opened(alloc, row)?;
+    let opened = opened(rt, alloc, row);
     applied::<Brand, R>(rt, alloc, opened, row)
 }
 
@@ -225,18 +227,19 @@ fn scripts_are_applied(rt: HostRuntime) -> Result<(), Fail> {
 }
 
 /// A service at each of this many ports.
-fn services(alloc: Global, count: u32) -> Result<String, Fail> {
+fn services<R: Abort>(rt: &R, alloc: Global, count: u32) -> String {
     let mut text = String::new(alloc);
     for port in 0..count {
-        text.push_str(&format!(in alloc; "0 vip 203.0.113.1 {port} udp\n")?)?;
+        let line = format!(in alloc; "0 vip 203.0.113.1 {port} udp\n").expect(rt, "a line");
+        text.push_str(&line).expect(rt, "room");
     }
-    Ok(text)
+    text
 }
 
 /// The map of services has 64 entries: the 65th service is refused with its answer, which is in the journal.
 #[test]
 fn the_65th_service(rt: HostRuntime) -> Result<(), Fail> {
-    let text = services(rt.alloc(), 65)?;
+    let text = services(&rt, rt.alloc(), 65);
     let mut faults = [0; 65];
     faults[64] = 93;
     let row = Row {
@@ -260,9 +263,9 @@ fn reclaimed<B: Naming, R: Abort + Wait>(
 ) -> Result<(), Fail>
     requires { IsNamed B.count B.table B.plan B.order opened }
 {
-    let gate = new_gate();
-    let (shards, mut dealer) = opened.share::<B>(alloc)?;
+    let (shards, mut dealer) = opened.share::<B>(alloc).expect(rt, "shared shards");
     let pass = dealer.pass(alloc, Caller::Reclaimer)?;
+    let gate = new_gate();
     let mut reclaiming = Reclaiming::over(rt, &shards, pass, &gate);
     for _ in 0..row.rounds {
         reclaiming.round();
@@ -275,12 +278,13 @@ fn reclaimed<B: Naming, R: Abort + Wait>(
         &gate.times.get(),
         &row.gate_calls,
     );
-    close(rt, alloc, shards, pass, row)
+    close(rt, alloc, shards, pass, row);
+    Ok(())
 }
 
 /// The same over new shards.
 fn reclaimed_in_new<R: Abort + Wait>(rt: &R, alloc: Global, row: &Row<'_>) -> Result<(), Fail> {
-    let opened = opened(alloc, row)?;
+    let opened = opened(rt, alloc, row);
     reclaimed::<Brand, R>(rt, alloc, opened, row)
 }
 
@@ -339,7 +343,7 @@ fn taken_to_the_end<'a, B: Naming, R: Abort + Wait>(
     pass: Pass<B>,
     commands: &'a [Command],
     size: u32,
-) -> Result<ActorEnded<Commanded<B>>, Fail>
+) -> Result<ActorEnded<Commanded<B>>, ReplayFault>
     requires take { IsTakePassOf queues.now take × (jobs_taken take ≡ []) }
     requires jobs { IsForCommands commands.now queues.now (place_taken_from take) }
     requires who { pass.who ≡ TheController }
@@ -360,9 +364,9 @@ fn commanded<B: Naming, R: Abort + Wait>(
 ) -> Result<(), Fail>
     requires { IsNamed B.count B.table B.plan B.order opened }
 {
-    let script = parse_script(alloc, row.text.as_bytes())?;
-    let (shards, mut dealer) = opened.share::<B>(alloc)?;
+    let (shards, mut dealer) = opened.share::<B>(alloc).expect(rt, "shared shards");
     let pass = dealer.pass(alloc, Caller::Controller)?;
+    let script = parse_script(alloc, row.text.as_bytes()).expect(rt, "a script");
     let size = table_size(shards.maps());
     holds_of(rt, row.name, "the size of the table", size.is_some());
     let Some(size) = size else {
@@ -379,12 +383,12 @@ fn commanded<B: Naming, R: Abort + Wait>(
         pass,
         script.commands(),
         size,
-    )?;
+    );
     let ActorEnded {
         given,
         is_refused,
         ..
-    } = ended;
+    } = ended.expect(rt, "an end");
     let Commanded { pass, noted } = given;
     let are_so = !is_refused && faults_are(&noted, row.faults);
     holds_of(
@@ -393,7 +397,8 @@ fn commanded<B: Naming, R: Abort + Wait>(
         "the faults, with memory for each note",
         are_so,
     );
-    close(rt, alloc, shards, pass, row)
+    close(rt, alloc, shards, pass, row);
+    Ok(())
 }
 
 #[test]
@@ -405,7 +410,7 @@ fn commands_until_their_end(rt: HostRuntime) -> Result<(), Fail> {
         lengths: &[1, 0, 14, 2, 0, 0],
         ..SMALL
     };
-    let opened = opened(rt.alloc(), &row)?;
+    let opened = opened(&rt, rt.alloc(), &row);
     commanded::<Brand, HostRuntime>(&rt, rt.alloc(), opened, &row)
 }
 
@@ -418,12 +423,13 @@ fn asked<B: Naming, R: Abort + Wait>(
 ) -> Result<(), Fail>
     requires { IsNamed B.count B.table B.plan B.order opened }
 {
-    let (shards, mut dealer) = opened.share::<B>(alloc)?;
+    let (shards, mut dealer) = opened.share::<B>(alloc).expect(rt, "shared shards");
     let pass = dealer.pass(alloc, Caller::Reclaimer)?;
     let (queues, take) = filled(rt, alloc, Caller::Reclaimer, 2, row.rounds)?;
     let reclaiming = Reclaiming::over(rt, &shards, pass, &NoGate);
     let ended = reclaiming.until_end(rt, alloc, &queues, take);
-    close(rt, alloc, shards, ended.given, row)
+    close(rt, alloc, shards, ended.given, row);
+    Ok(())
 }
 
 #[test]
@@ -434,6 +440,6 @@ fn rounds_until_their_end(rt: HostRuntime) -> Result<(), Fail> {
         lengths: &[4, 4, 0, 0, 0, 0],
         ..SMALL
     };
-    let opened = opened(rt.alloc(), &row)?;
+    let opened = opened(&rt, rt.alloc(), &row);
     asked::<Brand, HostRuntime>(&rt, rt.alloc(), opened, &row)
 }

@@ -2,10 +2,10 @@
 
 ghost use Rattle.std.specs.Prelude.{◌≡◌, ◌<◌, ◌≤◌};
 
-use crate::asserting::same;
+use crate::asserting::{holds, same};
 use replay::{Actor, ActorEnded, FrameFate, Handled, RunEnd, Runner, Setting, run_all};
 use rx_queues::{Job, Queues, TakePass};
-use std::alloc::Global;
+use std::alloc::{AllocError, Global};
 use std::process::Abort;
 use std::sync::Wait;
 use std::sync::atomic::{AtomicU64, Ordering};
@@ -145,7 +145,7 @@ fn segment(source_port: u16) -> [u8; 54] {
 }
 
 /// A record of these bytes.
-fn one_record(alloc: Global, number: u32, bytes: &[u8]) -> Result<Sent, Fail> {
+fn one_record(alloc: Global, number: u32, bytes: &[u8]) -> Result<Sent, AllocError> {
     let bytes = if bytes.len() <= 2048 { bytes } else { &[] };
     Ok(Sent {
         seconds: 7,
@@ -155,7 +155,7 @@ fn one_record(alloc: Global, number: u32, bytes: &[u8]) -> Result<Sent, Fail> {
 }
 
 /// This many records of 40 flows in turn, each hundredth one of 13 bytes only.
-fn records(alloc: Global, count: u32) -> Result<Vec<Sent>, Fail> {
+fn records<R: Abort>(rt: &R, alloc: Global, count: u32) -> Vec<Sent> {
     let mut records = Vec::new(alloc);
     for number in 0..count {
         let bytes = segment(40000 + (number % 40) as u16);
@@ -164,19 +164,21 @@ fn records(alloc: Global, count: u32) -> Result<Vec<Sent>, Fail> {
         } else {
             bytes.as_slice()
         };
-        records.push(one_record(alloc, number, bytes)?)?;
+        records
+            .push(one_record(alloc, number, bytes).expect(rt, "a record"))
+            .expect(rt, "room");
     }
-    Ok(records)
+    records
 }
 
 /// A capture of these records.
-fn capture(alloc: Global, count: u32) -> Result<Capture, Fail> {
-    let records = records(alloc, count)?;
+fn capture<R: Abort>(rt: &R, alloc: Global, count: u32) -> Capture {
+    let records = records(rt, alloc, count);
     let mut sink = MemorySink::new(alloc);
-    write_capture(&mut sink, &records)?;
+    write_capture(&mut sink, &records).expect(rt, "a file");
     let bytes = sink.bytes();
     let bytes = if bytes.len() <= 1_000_000 { bytes } else { &[] };
-    Ok(read_capture(alloc, &mut MemorySource::new(bytes))?)
+    read_capture(alloc, &mut MemorySource::new(bytes)).expect(rt, "a capture")
 }
 
 /// How many records, over how many workers; how many runs each worker makes, and how many rounds are asked for.
@@ -214,18 +216,18 @@ fn are_runs(rt: &impl Abort, workers: &[Handled<u64>], want: &[u64]) {
 fn run_beside<R: Abort + Threads + Wait + Sync>(
     rt: &R,
     alloc: Global,
-    row: Row<'_>,
+    row: &Row<'_>,
 ) -> Result<(), Fail>
-    requires { (0 < row.workers) × (row.workers ≤ 8) }
+    requires { (0 < row.now.workers) × (row.now.workers ≤ 8) }
 {
-    let capture = capture(alloc, row.records)?;
+    let states = vec![in alloc; 0; row.workers]?;
+    let capture = capture(rt, alloc, row.records);
     let (queues, put, takes) = Queues::open(
         alloc,
         row.workers,
         capture.records.len(),
         STARTS.len(),
     )?;
-    let states = vec![in alloc; 0; row.workers]?;
     let setting = Setting {
         rt,
         alloc,
@@ -242,7 +244,8 @@ fn run_beside<R: Abort + Threads + Wait + Sync>(
         put,
         takes,
         states,
-    )?;
+    );
+    let ended = ended.expect(rt, "an end");
     are_runs(rt, &ended.workers, row.runs);
     same(
         rt,
@@ -260,8 +263,9 @@ fn run_beside<R: Abort + Threads + Wait + Sync>(
 
 #[test]
 fn each_record_is_run_once(rt: HostRuntime) -> Result<(), Fail> {
-    for row in ROWS {
-        prove!(0 < row.workers && row.workers <= 8);
+    for row in &ROWS {
+        holds(&rt, "a worker", 0 < row.workers);
+        holds(&rt, "no more than eight", row.workers <= 8);
         run_beside(&rt, rt.alloc(), row)?;
     }
     Ok(())
@@ -292,9 +296,9 @@ fn refused<R: Abort + Threads + Wait + Sync>(
     refusal: &RefusalRow,
 ) -> Result<(u8, u64), Fail> {
     let (_, worker, run, controller, reclaimer, ..) = *refusal;
-    let capture = capture(alloc, 1000)?;
-    let (queues, put, takes) = Queues::open(alloc, 4, capture.records.len(), STARTS.len())?;
     let states = vec![in alloc; 0; 4]?;
+    let capture = capture(rt, alloc, 1000);
+    let (queues, put, takes) = Queues::open(alloc, 4, capture.records.len(), STARTS.len())?;
     let runner = Refusing {
         worker,
         run,
