@@ -1,5 +1,6 @@
 //! The datagram with which most rows begin.
 
+use crate::asserting::holds_at;
 use std::process::Abort;
 use wire::Frame;
 
@@ -13,7 +14,7 @@ pub(crate) const UDP_FRAME: [u8; 42] = [
 /// The datagram with one byte changed. Ends the test where it has no such byte.
 pub(crate) fn with_byte(rt: &impl Abort, at: usize, byte: u8) -> [u8; 42] {
     let mut bytes = UDP_FRAME;
-    assert!(rt; at < bytes.len(), "the datagram has no byte {at}");
+    holds_at(rt, "the datagram has byte", at as u64, at < bytes.len());
     bytes[at] = byte;
     bytes
 }

@@ -34,8 +34,8 @@ fn is_accepted(rt: &impl Abort, alloc: Global, name: &str, size: u32) -> Result<
 
 #[test]
 fn each_size_is_accepted(rt: HostRuntime) -> Result<(), Fail> {
-    for (name, size) in SIZES {
-        is_accepted(&rt, rt.alloc(), name, size)?;
+    for (name, size) in &SIZES {
+        is_accepted(&rt, rt.alloc(), *name, *size)?;
     }
     Ok(())
 }
@@ -57,8 +57,8 @@ fn is_refused(alloc: Global, size: u32) -> bool {
 
 #[test]
 fn other_sizes_are_refused(rt: HostRuntime) -> Result<(), Fail> {
-    for (name, size) in OTHER_SIZES {
-        holds_of(&rt, name, "the refusal", is_refused(rt.alloc(), size));
+    for (name, size) in &OTHER_SIZES {
+        holds_of(&rt, *name, "the refusal", is_refused(rt.alloc(), *size));
     }
     Ok(())
 }

@@ -12,7 +12,7 @@ use super::numbers::Numbers;
 use super::program_runs::program;
 use super::sessions::options;
 use super::wrong::{WRONG, Wrong, wrong_program};
-use crate::asserting::{holds_of, same_fact};
+use crate::asserting::{holds, holds_of, same_fact};
 use shard_core::Shard;
 use shard_port::laws::opened_serve;
 use shards::PlainShards;
@@ -56,7 +56,7 @@ fn asked(
     seed: u64,
     met: &mut [u32; 28],
 ) -> Result<Found, Fail> {
-    assert!(rt; shards.len() == 6);
+    holds(rt, "six shards", shards.len() == 6);
     let mut numbers = Numbers::from(seed);
     let mut places = [0; 6];
     let mut found = None;
@@ -154,7 +154,7 @@ fn differs_so(
 /// The program with another line differs from the rule, as it should.
 fn is_wrong(rt: &impl Abort, alloc: Global, wrong: &Wrong) -> Result<(), Fail> {
     let (name, _block, _old, _new, want) = wrong;
-    let verified = wrong_program(alloc, wrong)?;
+    let verified = wrong_program(rt, alloc, wrong);
     let differs = differs_so(rt, alloc, &verified, *want)?;
     holds_of(rt, name, "the difference", differs);
     Ok(())

@@ -6,7 +6,7 @@ use super::asked::AllAsked;
 use super::program_runs::{changed, program};
 use super::sessions::{options, put_session, run_session};
 use super::worlds::{Keys, World};
-use crate::asserting::{holds_of, same_fact};
+use crate::asserting::{holds, holds_of, same_fact};
 use semantics::Verdict;
 use shard_core::Shard;
 use shard_port::laws::opened_serve;
@@ -53,7 +53,7 @@ type Row = (
 // Enter and a Leave; a record that is there, a Lookup and a Load, but three Loads the tunnel's; a note, an Update; the count, a Lookup and
 // an Atomic.
 #[rattlefmt::skip]
-const ROWS: [Row; 12] = [
+static ROWS: [Row; 12] = [
     ("no flow",                                      14, 0x46, TRACKED, None,   BOTH_UP,  Verdict::Pass, 4),
     ("no service",                                   0,  2,    None,    None,   BOTH_UP,  Verdict::Pass, 3 + 4),
     ("a time to live of 0",                          22, 0,    TRACKED, None,   BOTH_UP,  Verdict::Drop, 4 + 4),
@@ -105,7 +105,7 @@ fn costs(rt: &impl Abort, alloc: Global, verified: &Verified, row: &Row) -> Resu
     let world = world_of(*vip, *noted, *backends);
     let (found, shards) = visited(rt, alloc, verified, &world, &mut frame)?;
     same_fact(rt, name, "the verdict", &found, verdict);
-    assert!(rt; shards.len() == 6);
+    holds(rt, name, shards.len() == 6);
     let asked = AllAsked::next(&shards, &mut [0; 6]);
     same_fact(rt, name, "the number of calls", &asked.calls(), calls);
     Ok(())

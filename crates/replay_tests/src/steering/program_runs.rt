@@ -3,7 +3,7 @@
 ghost use Rattle.std.specs.Prelude.{◌≡◌};
 
 use super::sessions::{Record, options, records_session, run_session};
-use crate::asserting::{holds_of, same_bytes_of, same_fact};
+use crate::asserting::{holds, holds_of, same_bytes_of, same_fact};
 use crate::steered_frames::SENT;
 use semantics::Verdict;
 use shard_port::laws::opened_serve;
@@ -85,7 +85,7 @@ const ROWS: [Row; 16] = [
 /// The datagram with another byte at a place.
 pub(super) fn changed(rt: &impl Abort, at: usize, byte: u8) -> [u8; 42] {
     let mut bytes = UDP;
-    assert!(rt; at < 42);
+    holds(rt, "a byte of the datagram", at < bytes.len());
     bytes[at] = byte;
     bytes
 }

@@ -17,8 +17,8 @@ use isa::Size::{U32, U64};
 use isa::SourceOperand::{Imm, Reg};
 use isa::Test::{Eq, Gt, Lt, Ne, Set};
 use isa::Width::{Bits32, Bits64};
-use std::alloc::Global;
-use std::test::Fail;
+use std::alloc::{AllocError, Global};
+use std::process::Abort;
 use steer::shipped;
 use verifier::{Verified, verify};
 
@@ -117,7 +117,7 @@ pub(super) const WRONG: [Wrong; 29] = [
 ];
 
 /// The code with another line in the place of the block's last one that is `old`.
-fn changed(alloc: Global, code: &[Insn], wrong: &Wrong) -> Result<Vec<Insn>, Fail> {
+fn changed(alloc: Global, code: &[Insn], wrong: &Wrong) -> Result<Vec<Insn>, AllocError> {
     let (_name, block, old, new, _want) = wrong;
     let mut changed = Vec::from_slice(alloc, code)?;
     if let Some((place, next)) = block.last_place(code, old)
@@ -129,9 +129,10 @@ fn changed(alloc: Global, code: &[Insn], wrong: &Wrong) -> Result<Vec<Insn>, Fai
 }
 
 /// The shipped program for seven slots, with another line in the place of the one that the row names.
-pub(super) fn wrong_program(alloc: Global, wrong: &Wrong) -> Result<Verified, Fail> {
-    let image = shipped(alloc, SLOTS)?;
-    let code = changed(alloc, image.code(), wrong)?;
-    let image = Image::of(Version::V1, maps(alloc, SLOTS)?, code)?;
-    Ok(verify(alloc, image)?)
+pub(super) fn wrong_program(rt: &impl Abort, alloc: Global, wrong: &Wrong) -> Verified {
+    let image = shipped(alloc, SLOTS).expect(rt, "the shipped image");
+    let code = changed(alloc, image.code(), wrong).expect(rt, "code");
+    let maps = maps(alloc, SLOTS).expect(rt, "maps");
+    let image = Image::of(Version::V1, maps, code).expect(rt, "an image");
+    verify(alloc, image).expect(rt, "an accepted program")
 }
