@@ -40,12 +40,19 @@ fn number_of(answer: Result<(), ControlFault>) -> u8 {
 }
 
 /// What a script's commands are answered, and the updates that they ask.
-fn run(alloc: Global, text: &str, room: usize) -> Result<(Vec<u8>, UpdateList), ControlFault> {
-    let script = parse_script(alloc, text.as_bytes())?;
+fn run(
+    rt: &impl Abort,
+    alloc: Global,
+    text: &str,
+    room: usize,
+) -> Result<(Vec<u8>, UpdateList), ControlFault> {
     let (mut controller, mut list) = opened(alloc, room)?;
+    let script = parse_script(alloc, text.as_bytes()).expect(rt, "a script");
     let mut answers = Vec::new(alloc);
     'commands: for command in script.commands() {
-        answers.push(number_of(controller.apply(alloc, command, &mut list)))?;
+        answers
+            .push(number_of(controller.apply(alloc, command, &mut list)))
+            .expect(rt, "room");
     }
     Ok((answers, list))
 }
@@ -64,35 +71,24 @@ const SCRIPTS: [(&str, &str); 9] = [
 ];
 
 /// Reads a script, and compares its text with the one that it was read from, and what comes of it there and back.
-fn is_read_exactly(
-    rt: &impl Abort,
-    alloc: Global,
-    name: &str,
-    text: &str,
-) -> Result<(), ControlFault> {
-    let script = parse_script(alloc, text.as_bytes())?;
-    let printed = script.text(alloc)?;
+fn is_read_exactly(rt: &impl Abort, alloc: Global, name: &str, text: &str) {
+    let script = parse_script(alloc, text.as_bytes()).expect(rt, "a script");
+    let printed = script.text(alloc).expect(rt, "its text");
     same_bytes(rt, name, printed.as_bytes(), text.as_bytes());
-    let again = round_trip(alloc, &script)?;
+    let again = round_trip(alloc, &script).expect(rt, "a script");
     holds(rt, name, again.commands() == script.commands());
-    Ok(())
 }
 
 /// The same of each script.
-fn are_read_exactly(
-    rt: &impl Abort,
-    alloc: Global,
-    rows: &[(&str, &str)],
-) -> Result<(), ControlFault> {
+fn are_read_exactly(rt: &impl Abort, alloc: Global, rows: &[(&str, &str)]) {
     for (name, text) in rows {
-        is_read_exactly(rt, alloc, name, text)?;
+        is_read_exactly(rt, alloc, name, text);
     }
-    Ok(())
 }
 
 #[test]
-fn scripts_are_read_exactly(rt: HostRuntime) -> Result<(), ControlFault> {
-    are_read_exactly(&rt, rt.alloc(), &SCRIPTS)
+fn scripts_are_read_exactly(rt: HostRuntime) {
+    are_read_exactly(&rt, rt.alloc(), &SCRIPTS);
 }
 
 #[rattlefmt::skip]
@@ -156,8 +152,8 @@ fn are_bad(rt: &impl Abort, alloc: Global, rows: &[(&str, &str, usize)]) {
 #[test]
 fn the_first_bad_line_is_named(rt: HostRuntime) {
     are_bad(&rt, rt.alloc(), &BAD_LINES);
-    for (name, bytes, line) in NO_TEXTS {
-        is_bad_at(&rt, rt.alloc(), name, bytes, line);
+    for (name, bytes, line) in &NO_TEXTS {
+        is_bad_at(&rt, rt.alloc(), *name, *bytes, *line);
     }
 }
 
@@ -174,7 +170,7 @@ fn is_answered(
     answers: &[u8],
     made: usize,
 ) -> Result<UpdateList, ControlFault> {
-    let (found, list) = run(alloc, text, room)?;
+    let (found, list) = run(rt, alloc, text, room)?;
     same_bytes(rt, name, &found, answers);
     same_fact(rt, name, "updates", &list.made().len(), &made);
     Ok(list)
@@ -257,32 +253,31 @@ const REFUSED: [(&str, &str, usize, &[u8], usize); 9] = [
 
 #[test]
 fn commands_are_refused(rt: HostRuntime) -> Result<(), ControlFault> {
-    for (name, text, room, answers, made) in REFUSED {
-        is_answered(&rt, rt.alloc(), name, text, room, answers, made)?;
+    for (name, text, room, answers, made) in &REFUSED {
+        is_answered(&rt, rt.alloc(), *name, *text, *room, *answers, *made)?;
     }
     Ok(())
 }
 
 /// Adds a line that sets up a service.
-fn put_service(alloc: Global, text: &mut String, port: u32) -> Result<(), ControlFault> {
-    let line = format!(in alloc; "0 vip 203.0.113.1 {port} udp\n")?;
-    text.push_str(&line)?;
-    Ok(())
+fn put_service(rt: &impl Abort, alloc: Global, text: &mut String, port: u32) {
+    let line = format!(in alloc; "0 vip 203.0.113.1 {port} udp\n").expect(rt, "a line");
+    text.push_str(&line).expect(rt, "room");
 }
 
 /// Services of the ports 0 to 64, and the one of port 7 again.
-fn services(alloc: Global) -> Result<String, ControlFault> {
+fn services(rt: &impl Abort, alloc: Global) -> String {
     let mut text = String::new(alloc);
     for port in 0..65 {
-        put_service(alloc, &mut text, port)?;
+        put_service(rt, alloc, &mut text, port);
     }
-    put_service(alloc, &mut text, 7)?;
-    Ok(text)
+    put_service(rt, alloc, &mut text, 7);
+    text
 }
 
 #[test]
 fn the_65th_service_is_refused(rt: HostRuntime) -> Result<(), ControlFault> {
-    let text = services(rt.alloc())?;
+    let text = services(&rt, rt.alloc());
     let mut answers = [0; 66];
     answers[64] = 93;
     is_answered(&rt, rt.alloc(), "65 services", &text, 99, &answers, 66)?;
@@ -290,9 +285,9 @@ fn the_65th_service_is_refused(rt: HostRuntime) -> Result<(), ControlFault> {
 }
 
 #[test]
-fn a_long_script_is_read_exactly(rt: HostRuntime) -> Result<(), ControlFault> {
-    let text = services(rt.alloc())?;
-    is_read_exactly(&rt, rt.alloc(), "66 services", &text)
+fn a_long_script_is_read_exactly(rt: HostRuntime) {
+    let text = services(&rt, rt.alloc());
+    is_read_exactly(&rt, rt.alloc(), "66 services", &text);
 }
 
 const CHANGED: [Slot; 3] = [
@@ -357,9 +352,9 @@ fn refusal_of(alloc: Global, size: u32) -> u8 {
 }
 
 #[test]
-fn two_controllers_with_the_same_backends(rt: HostRuntime) -> Result<(), ControlFault> {
-    let one = Controller::open(rt.alloc(), 251)?;
-    let other = Controller::open(rt.alloc(), 251)?;
+fn two_controllers_with_the_same_backends(rt: HostRuntime) {
+    let one = Controller::open(rt.alloc(), 251).expect(&rt, "a controller");
+    let other = Controller::open(rt.alloc(), 251).expect(&rt, "a controller");
     one.same_ring(&other);
     same(&rt, "full", &one.is_full(), &false);
     for size in NO_SIZES {
@@ -371,5 +366,4 @@ fn two_controllers_with_the_same_backends(rt: HostRuntime) -> Result<(), Control
             &73,
         );
     }
-    Ok(())
 }

@@ -24,31 +24,37 @@ const DELETED: &str = "XLBJ 1 1 1 16
 ";
 
 /// An image of hash maps with keys of 4 bytes and values of 8, each with room for this many keys.
-fn image(alloc: Global, rooms: &[u32]) -> Result<Image, Fail> {
+fn image(rt: &impl Abort, alloc: Global, rooms: &[u32]) -> Image {
     let mut maps = Vec::new(alloc);
     for room in rooms {
-        maps.push(MapDef {
+        let map = MapDef {
             kind: MapKind::Hash,
             key_size: 4,
             value_size: 8,
             max_entries: *room,
-        })?;
+        };
+        maps.push(map).expect(rt, "room");
     }
     let mut code = Vec::new(alloc);
-    code.push(Insn::Exit)?;
-    Ok(Image::of(Version::V1, maps, code)?)
+    code.push(Insn::Exit).expect(rt, "room");
+    Image::of(Version::V1, maps, code).expect(rt, "an image")
 }
 
 /// What is read of a file; of one of more than 1000 bytes nothing is read.
-fn read(alloc: Global, rooms: &[u32], bytes: &[u8]) -> Result<Result<Journals, FileFault>, Fail> {
-    let image = image(alloc, rooms)?;
+fn read(
+    rt: &impl Abort,
+    alloc: Global,
+    rooms: &[u32],
+    bytes: &[u8],
+) -> Result<Journals, FileFault> {
+    let image = image(rt, alloc, rooms);
     let bytes = if bytes.len() <= 1000 { bytes } else { &[] };
-    Ok(read_journals(alloc, &mut MemorySource::new(bytes), &image))
+    read_journals(alloc, &mut MemorySource::new(bytes), &image)
 }
 
 /// What is wrong with a file, if anything is.
-fn fault_of(alloc: Global, rooms: &[u32], bytes: &[u8]) -> Result<Option<FileFault>, Fail> {
-    Ok(read(alloc, rooms, bytes)?.err())
+fn fault_of(rt: &impl Abort, alloc: Global, rooms: &[u32], bytes: &[u8]) -> Option<FileFault> {
+    read(rt, alloc, rooms, bytes).err()
 }
 
 fn key(bytes: &[u8]) -> Key {
@@ -170,38 +176,32 @@ fn are_lines(rt: &impl Abort, journal: &ShardJournal<'_>, wanted: &[Line]) {
 }
 
 /// Compares the file that is written of journals.
-fn makes_the_file(
-    rt: &impl Abort,
-    alloc: Global,
-    journals: &Journals,
-    text: &str,
-) -> Result<(), Fail> {
+fn makes_the_file(rt: &impl Abort, alloc: Global, journals: &Journals, text: &str) {
     let mut sink = MemorySink::new(alloc);
-    assert!(rt; journals.keeps_rows());
-    write_journals(alloc, &mut sink, journals)?;
+    holds(rt, "rows", journals.keeps_rows());
+    write_journals(alloc, &mut sink, journals).expect(rt, "a file");
     same_bytes(rt, "what is written", sink.bytes(), text.as_bytes());
-    Ok(())
 }
 
 /// Holds what is read of a file against what it says, and what is written then against the file.
-fn compare(rt: &impl Abort, alloc: Global, text: &str, wanted: &[Line]) -> Result<(), Fail> {
-    let journals = read(alloc, &[1], text.as_bytes())??;
+fn compare(rt: &impl Abort, alloc: Global, text: &str, wanted: &[Line]) {
+    let journals = read(rt, alloc, &[1], text.as_bytes()).expect(rt, "journals");
     holds(rt, "one journal", journals.count() == 1);
     same(rt, "workers", &journals.options().workers, &1);
     same(rt, "size of journals", &journals.options().journal, &16);
-    assert!(rt; journals.keeps_rows());
+    holds(rt, "rows", journals.keeps_rows());
     are_lines(rt, &journals.journal(0), wanted);
-    makes_the_file(rt, alloc, &journals, text)
+    makes_the_file(rt, alloc, &journals, text);
 }
 
 #[test]
-fn file_of_an_addition(rt: HostRuntime) -> Result<(), Fail> {
-    compare(&rt, rt.alloc(), COUNTED_TO_THREE, &added())
+fn file_of_an_addition(rt: HostRuntime) {
+    compare(&rt, rt.alloc(), COUNTED_TO_THREE, &added());
 }
 
 #[test]
-fn file_of_a_deletion(rt: HostRuntime) -> Result<(), Fail> {
-    compare(&rt, rt.alloc(), DELETED, &deleted())
+fn file_of_a_deletion(rt: HostRuntime) {
+    compare(&rt, rt.alloc(), DELETED, &deleted());
 }
 
 /// What a row shows, for how many keys each map has room, a file, and the first bad line if there is one.
@@ -303,19 +303,18 @@ fn at_line(bad: Option<usize>) -> Option<FileFault> {
 }
 
 /// Holds the fault of each file against its first bad line.
-fn have_bad_lines(rt: &impl Abort, alloc: Global, rows: &[FileRow]) -> Result<(), Fail> {
+fn have_bad_lines(rt: &impl Abort, alloc: Global, rows: &[FileRow]) {
     for (name, rooms, text, bad) in rows {
-        let got = fault_of(alloc, rooms, text.as_bytes())?;
+        let got = fault_of(rt, alloc, rooms, text.as_bytes());
         same(rt, name, &got, &at_line(*bad));
     }
-    Ok(())
 }
 
 #[test]
-fn files_and_their_bad_lines(rt: HostRuntime) -> Result<(), Fail> {
-    have_bad_lines(&rt, rt.alloc(), &FILES)?;
-    have_bad_lines(&rt, rt.alloc(), &WORDS)?;
-    have_bad_lines(&rt, rt.alloc(), &CALLS)
+fn files_and_their_bad_lines(rt: HostRuntime) {
+    have_bad_lines(&rt, rt.alloc(), &FILES);
+    have_bad_lines(&rt, rt.alloc(), &WORDS);
+    have_bad_lines(&rt, rt.alloc(), &CALLS);
 }
 
 #[rattlefmt::skip]
@@ -326,12 +325,11 @@ const NO_TEXTS: [(&str, &[u8], usize); 3] = [
 ];
 
 #[test]
-fn bytes_that_are_no_text(rt: HostRuntime) -> Result<(), Fail> {
-    for (name, bytes, line) in NO_TEXTS {
-        let got = fault_of(rt.alloc(), &[1], bytes)?;
-        same(&rt, name, &got, &at_line(Some(line)));
+fn bytes_that_are_no_text(rt: HostRuntime) {
+    for (name, bytes, line) in &NO_TEXTS {
+        let got = fault_of(&rt, rt.alloc(), &[1], *bytes);
+        same(&rt, *name, &got, &at_line(Some(*line)));
     }
-    Ok(())
 }
 
 /// A file of one entry.
@@ -348,8 +346,8 @@ fn read_slowly(alloc: Global, image: &Image, fails_at: u64) -> (Result<usize, Fi
 }
 
 #[test]
-fn failing_source(rt: HostRuntime) -> Result<(), Fail> {
-    let image = image(rt.alloc(), &[1])?;
+fn failing_source(rt: HostRuntime) {
+    let image = image(&rt, rt.alloc(), &[1]);
     for fails_at in 1..31 {
         let want = if fails_at <= 29 {
             (Err(FileFault::Device), 1)
@@ -359,13 +357,12 @@ fn failing_source(rt: HostRuntime) -> Result<(), Fail> {
         let got = read_slowly(rt.alloc(), &image, fails_at);
         same_at(&rt, "byte by byte, failing at call", fails_at, &got, &want);
     }
-    Ok(())
 }
 
 /// Writes journals to a sink that takes this many bytes one by one and then fails, and compares what it has then.
 fn write_slowly(rt: &impl Abort, alloc: Global, journals: &Journals, taken: u8) {
     let mut sink = SlowSink::new(alloc, u64::from(taken) + 1);
-    assert!(rt; journals.keeps_rows());
+    holds(rt, "rows", journals.keeps_rows());
     let got = write_journals(alloc, &mut sink, journals);
     let (want, front, failures) = if taken < 28 {
         (Err(FileFault::Device), &ENTERED[..taken as usize], 1)
@@ -384,12 +381,11 @@ fn write_slowly(rt: &impl Abort, alloc: Global, journals: &Journals, taken: u8) 
 }
 
 #[test]
-fn failing_sink(rt: HostRuntime) -> Result<(), Fail> {
-    let journals = read(rt.alloc(), &[1], ENTERED)??;
+fn failing_sink(rt: HostRuntime) {
+    let journals = read(&rt, rt.alloc(), &[1], ENTERED).expect(&rt, "journals");
     for taken in 0..30 {
         write_slowly(&rt, rt.alloc(), &journals, taken);
     }
-    Ok(())
 }
 
 #[rattlefmt::skip]

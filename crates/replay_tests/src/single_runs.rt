@@ -2,7 +2,7 @@
 
 ghost use Rattle.std.specs.Prelude.{◌≡◌, ◌≤◌, ◌<◌, length};
 
-use crate::asserting::{same_bytes_of, same_fact};
+use crate::asserting::{holds_of, same_bytes_of, same_fact};
 use disasm::assemble;
 use journals::{Journals, write_journals};
 use machine::{Exit, Moment, Stop};
@@ -287,18 +287,18 @@ fn update_of(update: UpdateRow) -> MapUpdate {
     }
 }
 
-fn updates_of(alloc: Global, updates: &[UpdateRow]) -> Result<Vec<MapUpdate>, Fail> {
+fn updates_of<R: Abort>(rt: &R, alloc: Global, updates: &[UpdateRow]) -> Vec<MapUpdate> {
     let mut all = Vec::new(alloc);
     for update in updates {
-        all.push(update_of(*update))?;
+        all.push(update_of(*update)).expect(rt, "room");
     }
-    Ok(all)
+    all
 }
 
 /// An accepted program.
-fn program(alloc: Global, text: &str) -> Result<Verified, Fail> {
-    let image = assemble(alloc, text)?;
-    Ok(verify(alloc, image)?)
+fn program<R: Abort>(rt: &R, alloc: Global, text: &str) -> Verified {
+    let image = assemble(alloc, text).expect(rt, "an image");
+    verify(alloc, image).expect(rt, "an accepted program")
 }
 
 /// The run of a row after updates, which the image's maps have to take.
@@ -326,13 +326,13 @@ fn run_after<R: Abort>(
 }
 
 /// Compares the file of a run's journals.
-fn leaves<R: Abort>(rt: &R, alloc: Global, row: &Row, journals: &Journals) -> Result<(), Fail> {
+fn leaves<R: Abort>(rt: &R, alloc: Global, row: &Row, journals: &Journals) {
     let Some(wanted) = row.journals else {
-        return Ok(());
+        return;
     };
     let mut file = MemorySink::new(alloc);
-    assert!(rt; journals.keeps_rows());
-    write_journals(alloc, &mut file, journals)?;
+    holds_of(rt, row.name, "rows", journals.keeps_rows());
+    write_journals(alloc, &mut file, journals).expect(rt, "a file");
     same_bytes_of(
         rt,
         row.name,
@@ -340,25 +340,16 @@ fn leaves<R: Abort>(rt: &R, alloc: Global, row: &Row, journals: &Journals) -> Re
         file.bytes(),
         wanted.as_bytes(),
     );
-    Ok(())
 }
 
 /// Compares what became of a run.
-fn ends_so<R: Abort>(
-    rt: &R,
-    alloc: Global,
-    row: &Row,
-    run: Result<SingleRun, RunFault>,
-) -> Result<(), Fail> {
+fn ends_so<R: Abort>(rt: &R, alloc: Global, row: &Row, run: Result<SingleRun, RunFault>) {
     match run {
         Ok(single) => {
             same_fact(rt, row.name, "the end", &Ok(single.ended), &row.end);
-            leaves(rt, alloc, row, &single.journals)
+            leaves(rt, alloc, row, &single.journals);
         }
-        Err(fault) => {
-            same_fact(rt, row.name, "the end", &Err(fault), &row.end);
-            Ok(())
-        }
+        Err(fault) => same_fact(rt, row.name, "the end", &Err(fault), &row.end),
     }
 }
 
@@ -380,13 +371,14 @@ fn runs_so<R: Abort>(
         &first_byte,
         &Some(row.first_byte),
     );
-    ends_so(rt, alloc, row, run)
+    ends_so(rt, alloc, row, run);
+    Ok(())
 }
 
 /// The same of a program's text.
 fn comes_to<R: Abort>(rt: &R, alloc: Global, row: &Row) -> Result<(), Fail> {
-    let verified = program(alloc, row.program)?;
-    let updates = updates_of(alloc, row.updates)?;
+    let verified = program(rt, alloc, row.program);
+    let updates = updates_of(rt, alloc, row.updates);
     runs_so(rt, alloc, row, &verified, &updates)
 }
 
@@ -435,8 +427,8 @@ fn compare_text<R: Abort>(
 
 #[test]
 fn fault_texts(rt: HostRuntime) -> Result<(), Fail> {
-    for (fault, number, text) in FAULTS {
-        compare_text(&rt, rt.alloc(), fault, number, text)?;
+    for (fault, number, text) in &FAULTS {
+        compare_text(&rt, rt.alloc(), *fault, *number, *text)?;
     }
     Ok(())
 }
