@@ -64,28 +64,22 @@ fn is_the_record(rt: &impl Abort, sent: &Sent) {
 }
 
 /// Compares the file of these records with the capture.
-fn makes_the_capture(rt: &impl Abort, alloc: Global, records: &[Sent]) -> Result<(), Fail> {
+fn makes_the_capture(rt: &impl Abort, alloc: Global, records: &[Sent]) {
     let mut sink = MemorySink::new(alloc);
-    write_capture(&mut sink, records)?;
+    write_capture(&mut sink, records).expect(rt, "a file");
     same_bytes(rt, "what is written", sink.bytes(), &CAPTURE);
-    Ok(())
 }
 
 #[test]
-fn one_frame(rt: HostRuntime) -> Result<(), Fail> {
-    let capture = read(rt.alloc(), &CAPTURE)?;
+fn one_frame(rt: HostRuntime) {
+    let capture = read(rt.alloc(), &CAPTURE).expect(&rt, "a capture");
     same(&rt, "one record", &capture.records.len(), &1);
     for sent in &capture.records {
         is_the_record(&rt, sent);
     }
-    makes_the_capture(&rt, rt.alloc(), &capture.records)?;
-    same(
-        &rt,
-        "a header alone",
-        &count_of(rt.alloc(), &CAPTURE[..24])?,
-        &0,
-    );
-    Ok(())
+    makes_the_capture(&rt, rt.alloc(), &capture.records);
+    let count = count_of(rt.alloc(), &CAPTURE[..24]);
+    same(&rt, "a header alone", &count, &Ok(0));
 }
 
 /// One byte of the capture changed, and what then comes.
@@ -116,9 +110,9 @@ fn with_byte(rt: &impl Abort, at: usize, byte: u8) -> [u8; 82] {
 
 #[test]
 fn changed_bytes(rt: HostRuntime) {
-    for (name, at, byte, want) in CHANGES {
-        let got = fault_of(rt.alloc(), &with_byte(&rt, at, byte));
-        same(&rt, name, &got, &want);
+    for (name, at, byte, want) in &CHANGES {
+        let got = fault_of(rt.alloc(), &with_byte(&rt, *at, *byte));
+        same(&rt, *name, &got, want);
     }
 }
 
@@ -193,14 +187,13 @@ fn write_stream(alloc: Global, records: &[Sent]) -> Result<u64, CaptureFault> {
 }
 
 #[test]
-fn streams(rt: HostRuntime) -> Result<(), Fail> {
+fn streams(rt: HostRuntime) {
     let mut source = StreamSource::new(CAPTURE.as_slice());
-    let capture = read_capture(rt.alloc(), &mut source)?;
+    let capture = read_capture(rt.alloc(), &mut source).expect(&rt, "a capture");
     same(&rt, "one record", &capture.records.len(), &1);
     same(&rt, "failures of the source", &source.failures(), &0);
-    let failures = write_stream(rt.alloc(), &capture.records)?;
-    same(&rt, "failures of the sink", &failures, &0);
-    Ok(())
+    let failures = write_stream(rt.alloc(), &capture.records);
+    same(&rt, "failures of the sink", &failures, &Ok(0));
 }
 
 #[rattlefmt::skip]

@@ -20,8 +20,8 @@ const HASHES: [(&str, &[u8], u64); 3] = [
 
 #[test]
 fn fnv_vectors(rt: HostRuntime) {
-    for (name, bytes, want) in HASHES {
-        same(&rt, name, &fnv1a64(bytes), &want);
+    for (name, bytes, want) in &HASHES {
+        same(&rt, *name, &fnv1a64(*bytes), want);
     }
 }
 
@@ -37,8 +37,8 @@ const SUMS: [(&str, &[u8], u16); 5] = [
 
 #[test]
 fn ones_sums(rt: HostRuntime) {
-    for (name, bytes, want) in SUMS {
-        same(&rt, name, &ones_sum(bytes), &want);
+    for (name, bytes, want) in &SUMS {
+        same(&rt, *name, &ones_sum(*bytes), want);
     }
     let sum = ones_sum(&UDP_FRAME[14..34]);
     same(&rt, "a header with its checksum", &sum, &0xffff);
@@ -93,9 +93,9 @@ fn has_flow_padded(total: u8) -> bool {
 
 #[test]
 fn flow_forms(rt: HostRuntime) {
-    for (name, at, byte, has_flow) in CHANGES {
-        let frame = with_byte(&rt, at, byte);
-        same(&rt, name, &flow_of(&frame).is_some(), &has_flow);
+    for (name, at, byte, has_flow) in &CHANGES {
+        let frame = with_byte(&rt, *at, *byte);
+        same(&rt, *name, &flow_of(&frame).is_some(), has_flow);
     }
     holds(
         &rt,
@@ -146,8 +146,8 @@ fn is_made(
 
 #[test]
 fn frame_sizes(rt: HostRuntime) -> Result<(), Fail> {
-    for (size, fault) in FRAME_SIZES {
-        is_made(&rt, rt.alloc(), size, fault)?;
+    for (size, fault) in &FRAME_SIZES {
+        is_made(&rt, rt.alloc(), *size, *fault)?;
     }
     Ok(())
 }

@@ -4,7 +4,7 @@ ghost use Rattle.std.specs.Prelude.{◌<◌, ℕ, All, IsTrue};
 
 use crate::asserting::{holds, holds_at, prints, same, same_at};
 use maglev::{Backend, Ring, RingFault};
-use std::alloc::{AllocError, Global};
+use std::alloc::Global;
 use std::process::Abort;
 use std::test::Fail;
 use std::time::Instant;
@@ -13,7 +13,7 @@ use wire::Ipv4Address;
 type Given = (u32, u32, u32);
 
 #[rattlefmt::skip]
-const TURNS: [(&str, &[Given], [u32; 7]); 3] = [
+static TURNS: [(&str, &[Given], [u32; 7]); 3] = [
     ("three backends take turns",                     &[(0, 3, 4), (1, 0, 2), (2, 3, 1)], [1, 0, 1, 0, 2, 2, 0]),
     ("without the second the others fill its slots",  &[(0, 3, 4), (2, 3, 1)],            [0, 0, 0, 0, 2, 2, 2]),
     ("one backend owns every slot",                   &[(9, 6, 6)],                       [9, 9, 9, 9, 9, 9, 9]),
@@ -129,18 +129,18 @@ fn take_turns(
 
 #[test]
 fn owners_by_turns(rt: HostRuntime) -> Result<(), Fail> {
-    for (name, given, want) in TURNS {
-        take_turns(&rt, rt.alloc(), name, given, &want)?;
+    for (name, given, want) in &TURNS {
+        take_turns(&rt, rt.alloc(), *name, *given, want)?;
     }
     Ok(())
 }
 
 #[test]
 fn owners_by_addresses(rt: HostRuntime) -> Result<(), Fail> {
-    for (name, size, want) in BUILT {
-        let ring = Ring::build(rt.alloc(), &THREE, size)?;
-        same(&rt, name, &ring.size(), &size);
-        are_owners(&rt, name, &ring, want);
+    for (name, size, want) in &BUILT {
+        let ring = Ring::build(rt.alloc(), &THREE, *size)?;
+        same(&rt, *name, &ring.size(), size);
+        are_owners(&rt, *name, &ring, *want);
     }
     Ok(())
 }
@@ -173,22 +173,17 @@ fn refusals_in_their_order(rt: HostRuntime) {
 }
 
 /// Why this many backends make no ring of 4093 slots.
-fn refused_count(alloc: Global, count: u32) -> Result<Option<RingFault>, AllocError> {
-    let backends = hundreds(alloc, count)?;
-    Ok(refused_build(alloc, &backends, 4093))
+fn refused_count(rt: &impl Abort, alloc: Global, count: u32) -> Option<RingFault> {
+    let backends = hundreds(rt, alloc, count);
+    refused_build(alloc, &backends, 4093)
 }
 
 #[test]
-fn more_than_256_backends(rt: HostRuntime) -> Result<(), Fail> {
-    same(&rt, "256 backends", &refused_count(rt.alloc(), 256)?, &None);
-    let fault = Some(RingFault::TooMany);
-    same(
-        &rt,
-        "257 backends",
-        &refused_count(rt.alloc(), 257)?,
-        &fault,
-    );
-    Ok(())
+fn more_than_256_backends(rt: HostRuntime) {
+    let found = refused_count(&rt, rt.alloc(), 256);
+    same(&rt, "256 backends", &found, &None);
+    let found = refused_count(&rt, rt.alloc(), 257);
+    same(&rt, "257 backends", &found, &Some(RingFault::TooMany));
 }
 
 /// Compares the number and the text of each fault.
@@ -234,7 +229,7 @@ fn timed(rt: &HostRuntime, backends: &[Backend]) -> Result<(Ring, u128), Fail> {
 #[test]
 fn shares_of_large_rings(rt: HostRuntime) -> Result<(), Fail> {
     for (count, least, most) in SHARES {
-        let backends = hundreds(rt.alloc(), count)?;
+        let backends = hundreds(&rt, rt.alloc(), count);
         let (ring, time) = timed(&rt, &backends)?;
         println!(rt; "{count} backends on 65537 slots: {time} microseconds")?;
         have_shares(&rt, &ring, &backends, least, most);
@@ -243,16 +238,17 @@ fn shares_of_large_rings(rt: HostRuntime) -> Result<(), Fail> {
 }
 
 /// Backends 0, 1 and so on, at 10.0.0.0 and the addresses after it.
-fn hundreds(alloc: Global, count: u32) -> Result<Vec<Backend>, AllocError> {
+fn hundreds(rt: &impl Abort, alloc: Global, count: u32) -> Vec<Backend> {
     let mut backends = Vec::new(alloc);
     for number in 0..count {
         let [_, high, middle, low] = number.to_be_bytes();
-        backends.push(Backend {
+        let backend = Backend {
             number,
             address: Ipv4Address([10, high, middle, low]),
-        })?;
+        };
+        backends.push(backend).expect(rt, "room");
     }
-    Ok(backends)
+    backends
 }
 
 /// How many slots the backend owns.

@@ -184,18 +184,13 @@ fn with_total(total: u16) -> [u8; 1500] {
 #[test]
 fn frames_that_cannot_be_steered(rt: HostRuntime) -> Result<(), FrameFault> {
     let records = WITH_BACKEND_UP;
-    for (name, at, byte, want) in CHANGES {
-        is_chosen(
-            &rt,
-            rt.alloc(),
-            name,
-            &with_byte(&rt, at, byte),
-            &records,
-            want,
-        )?;
+    for (name, at, byte, want) in &CHANGES {
+        let bytes = with_byte(&rt, *at, *byte);
+        is_chosen(&rt, rt.alloc(), *name, &bytes, &records, *want)?;
     }
-    for (name, total, want) in TOTALS {
-        is_chosen(&rt, rt.alloc(), name, &with_total(total), &records, want)?;
+    for (name, total, want) in &TOTALS {
+        let bytes = with_total(*total);
+        is_chosen(&rt, rt.alloc(), *name, &bytes, &records, *want)?;
     }
     Ok(())
 }
@@ -405,8 +400,8 @@ fn refusal_of(alloc: Global, size: u32) -> u8 {
 
 #[test]
 fn six_maps_for_each_size(rt: HostRuntime) -> Result<(), SteerFault> {
-    for (size, ring) in SIZES {
-        are_six_maps(&rt, rt.alloc(), size, ring)?;
+    for (size, ring) in &SIZES {
+        are_six_maps(&rt, rt.alloc(), *size, *ring)?;
     }
     for size in NO_SIZES {
         same_at(
