@@ -313,20 +313,20 @@ fn are_changed(
     first: &Ring,
     second: &Ring,
     want: &[Slot],
-) -> Result<(), RingFault>
+)
     requires { length first.now ≡ length second.now }
 {
-    let slots = ring_updates(alloc, first, second)?;
+    let slots = ring_updates(alloc, first, second).expect(rt, "slots");
     holds(rt, name, slots.as_slice() == want);
-    Ok(())
 }
 
 #[test]
 fn slots_that_change_hands(rt: HostRuntime) -> Result<(), RingFault> {
     let first = Ring::turns(rt.alloc(), &[(0, 3, 4), (1, 0, 2), (2, 3, 1)], 7)?;
     let second = Ring::turns(rt.alloc(), &[(0, 3, 4), (2, 3, 1)], 7)?;
-    are_changed(&rt, rt.alloc(), "without one", &first, &second, &CHANGED)?;
-    are_changed(&rt, rt.alloc(), "the same ring", &first, &first, &[])
+    are_changed(&rt, rt.alloc(), "without one", &first, &second, &CHANGED);
+    are_changed(&rt, rt.alloc(), "the same ring", &first, &first, &[]);
+    Ok(())
 }
 
 /// Of two backends on 65,537 slots the second one has 32,768, which go back to the first.
@@ -334,7 +334,7 @@ fn slots_that_change_hands(rt: HostRuntime) -> Result<(), RingFault> {
 fn slots_of_a_large_ring_change_hands(rt: HostRuntime) -> Result<(), RingFault> {
     let first = Ring::turns(rt.alloc(), &[(0, 3, 4), (1, 0, 2)], 65537)?;
     let second = Ring::turns(rt.alloc(), &[(0, 3, 4)], 65537)?;
-    let slots = ring_updates(rt.alloc(), &first, &second)?;
+    let slots = ring_updates(rt.alloc(), &first, &second).expect(&rt, "slots");
     same(&rt, "slots that change", &slots.len(), &32_768);
     let are_of_the_first = slots.iter().all(|slot| slot.owner == Some(0));
     holds(&rt, "they are the first one's", are_of_the_first);

@@ -231,7 +231,8 @@ fn shares_of_large_rings(rt: HostRuntime) -> Result<(), Fail> {
     for (count, least, most) in SHARES {
         let backends = hundreds(&rt, rt.alloc(), count);
         let (ring, time) = timed(&rt, &backends)?;
-        println!(rt; "{count} backends on 65537 slots: {time} microseconds")?;
+        let printed = println!(rt; "{count} backends on 65537 slots: {time} microseconds");
+        printed.expect(&rt, "what is printed");
         have_shares(&rt, &ring, &backends, least, most);
     }
     Ok(())

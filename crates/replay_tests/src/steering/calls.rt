@@ -94,7 +94,7 @@ fn visited(
     let keys = Keys::of(frame.bytes());
     let is_put = put_session(verified.image(), &mut shards, world, &keys);
     holds_of(rt, "a world", "the records", is_put == Ok(true));
-    let exit = run_session(verified, &mut shards, frame)?;
+    let exit = run_session(verified, &mut shards, frame).expect(rt, "an end");
     Ok((exit.verdict, shards.into_list()))
 }
 

@@ -89,7 +89,7 @@ impl Case {
         let choice = steer(&mut wanted, &self.world.records(&self.keys()));
         let is_put = put_session(verified.image(), shards, &self.world, &self.keys());
         holds_of(rt, "a case", "the records", is_put == Ok(true));
-        let exit = run_session(verified, shards, &mut frame)?;
+        let exit = run_session(verified, shards, &mut frame).expect(rt, "an end");
         Ok(if exit.verdict != choice.verdict() {
             Some(Difference::Verdict)
         } else if frame.bytes() != wanted.bytes() {

@@ -116,7 +116,7 @@ fn steered(
         "the records",
         slots == Ok(true) && others == Ok(true),
     );
-    let exit = run_session(verified, &mut shards, frame)?;
+    let exit = run_session(verified, &mut shards, frame).expect(rt, "an end");
     Ok(exit.verdict)
 }
 

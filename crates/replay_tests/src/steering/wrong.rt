@@ -26,7 +26,7 @@ use verifier::{Verified, verify};
 pub(super) type Wrong = (&'static str, Block, Line, Line, Difference);
 
 #[rattlefmt::skip]
-pub(super) const WRONG: [Wrong; 29] = [
+pub(super) static WRONG: [Wrong; 29] = [
     ("any type has a flow", Block::Flow,
         JumpIf { width: Bits64, test: Ne, dst: R3, source: Imm(IPV4), to: Block::Pass },
         LEFT_OUT, Difference::Verdict),
