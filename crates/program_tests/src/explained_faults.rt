@@ -4,31 +4,32 @@ use crate::asserting::{same, same_bytes, same_text};
 use faults::{Explanation, refusal_text};
 use std::alloc::Global;
 use std::process::Abort;
-use std::test::Fail;
 
 #[test]
-fn printed_paragraph(rt: HostRuntime) -> Result<(), Fail> {
-    let Some(row) = Explanation::of(33) else {
-        return Err(Fail::from("no row"));
-    };
-    let text = row.text(rt.alloc())?;
+fn printed_paragraph(rt: HostRuntime) {
+    let row = Explanation::of(33).expect(&rt, "a row");
+    let text = row.text(rt.alloc()).expect(&rt, "memory");
     let want = "fault 33 FallsOff
 The last instruction goes on past the end.
 Usual causes: The program does not end with `exit`.
 For example: `mov r0, 2` as the whole program.
 ";
     same_text(&rt, "fault 33", &text, want);
-    Ok(())
 }
 
 const NO_FAULTS: [u32; 8] = [0, 24, 57, 61, 96, 255, 256, 4294967295];
 
+/// No row explains these numbers.
+fn are_none(rt: &impl Abort, numbers: &[u32]) {
+    for number in numbers {
+        let explained = Explanation::of(*number).map(|row| row.number);
+        same(rt, "no row", &explained, &None);
+    }
+}
+
 #[test]
 fn numbers_that_are_none(rt: HostRuntime) {
-    for number in NO_FAULTS {
-        let explained = Explanation::of(number).map(|row| row.number);
-        same(&rt, "no row", &explained, &None);
-    }
+    are_none(&rt, &NO_FAULTS);
 }
 
 /// A fault, notes, and the text.
@@ -55,39 +56,35 @@ const REFUSALS: [(&str, &str, &str); 7] = [
 ];
 
 /// Compares the text of a refusal.
-fn is_printed(
-    rt: &impl Abort,
-    alloc: Global,
-    fault: &str,
-    notes: &str,
-    want: &str,
-) -> Result<(), Fail> {
-    let text = refusal_text(alloc, fault, notes)?;
+fn is_printed(rt: &impl Abort, alloc: Global, fault: &str, notes: &str, want: &str) {
+    let text = refusal_text(alloc, fault, notes).expect(rt, "memory");
     same_bytes(rt, want, &text, want.as_bytes());
-    Ok(())
+}
+
+/// The same of each row.
+fn are_printed(rt: &impl Abort, alloc: Global, rows: &[(&str, &str, &str)]) {
+    for (fault, notes, want) in rows {
+        is_printed(rt, alloc, fault, notes, want);
+    }
 }
 
 #[test]
-fn printed_refusals(rt: HostRuntime) -> Result<(), Fail> {
-    for (fault, notes, want) in REFUSALS {
-        is_printed(&rt, rt.alloc(), fault, notes, want)?;
-    }
-    Ok(())
+fn printed_refusals(rt: HostRuntime) {
+    are_printed(&rt, rt.alloc(), &REFUSALS);
 }
 
 /// This many lines of two letters.
-fn long_notes(alloc: Global, count: u32) -> Result<String, Fail> {
+fn long_notes(rt: &impl Abort, alloc: Global, count: u32) -> String {
     let mut notes = String::new(alloc);
     for _ in 0..count {
-        notes.push_str("ab\n")?;
+        notes.push_str("ab\n").expect(rt, "memory");
     }
-    Ok(notes)
+    notes
 }
 
 #[test]
-fn printed_long_refusal(rt: HostRuntime) -> Result<(), Fail> {
-    let notes = long_notes(rt.alloc(), 30_000)?;
-    let text = refusal_text(rt.alloc(), "fault", &notes)?;
+fn printed_long_refusal(rt: HostRuntime) {
+    let notes = long_notes(&rt, rt.alloc(), 30_000);
+    let text = refusal_text(rt.alloc(), "fault", &notes).expect(&rt, "memory");
     same(&rt, "length", &text.len(), &(6 + 30_000 * 5));
-    Ok(())
 }
