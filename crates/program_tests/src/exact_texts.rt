@@ -3,7 +3,7 @@
 use crate::asserting::{prints, same, same_bytes, same_text};
 use disasm::{AsmFault, assemble, line, round_trip, text};
 use ebpf_decode::{DecodeFault, Insn, decode, encode};
-use std::alloc::{AllocError, Global};
+use std::alloc::Global;
 use std::process::Abort;
 use std::test::Fail;
 use test_support::programs::{FIRST_RUN, FIRST_RUN_IMAGE};
@@ -11,56 +11,42 @@ use test_support::programs::{FIRST_RUN, FIRST_RUN_IMAGE};
 const HEAD: [u8; 8] = [0x58, 0x4c, 0x42, 0x50, 1, 0, 0, 0];
 
 /// The text of an image.
-fn text_of(alloc: Global, bytes: &[u8]) -> Result<String, Fail> {
-    let image = decode(alloc, bytes)?;
-    Ok(text(alloc, &image)?)
+fn text_of(rt: &impl Abort, alloc: Global, bytes: &[u8]) -> String {
+    let image = decode(alloc, bytes).expect(rt, "an image");
+    text(alloc, &image).expect(rt, "memory")
 }
 
 /// The image of a text.
-fn bytes_of(alloc: Global, given: &str) -> Result<Vec<u8>, Fail> {
-    let image = assemble(alloc, given)?;
-    Ok(encode(alloc, &image)?)
+fn bytes_of(rt: &impl Abort, alloc: Global, given: &str) -> Vec<u8> {
+    let image = assemble(alloc, given).expect(rt, "a text");
+    encode(alloc, &image).expect(rt, "memory")
 }
 
 /// Compares the text of an image.
-fn is_text_of(
-    rt: &impl Abort,
-    alloc: Global,
-    name: &str,
-    bytes: &[u8],
-    want: &str,
-) -> Result<(), Fail> {
-    let printed = text_of(alloc, bytes)?;
+fn is_text_of(rt: &impl Abort, alloc: Global, name: &str, bytes: &[u8], want: &str) {
+    let printed = text_of(rt, alloc, bytes);
     same_text(rt, name, &printed, want);
-    Ok(())
 }
 
 /// Compares the image of a text.
-fn is_image_of(
-    rt: &impl Abort,
-    alloc: Global,
-    name: &str,
-    given: &str,
-    want: &[u8],
-) -> Result<(), Fail> {
-    let encoded = bytes_of(alloc, given)?;
+fn is_image_of(rt: &impl Abort, alloc: Global, name: &str, given: &str, want: &[u8]) {
+    let encoded = bytes_of(rt, alloc, given);
     same_bytes(rt, name, &encoded, want);
-    Ok(())
 }
 
 /// How many instructions an image has that went through its text.
-fn count_there_and_back(alloc: Global, bytes: &[u8]) -> Result<usize, Fail> {
-    let image = decode(alloc, bytes)?;
-    Ok(round_trip(alloc, &image)?.code().len())
+fn count_there_and_back(rt: &impl Abort, alloc: Global, bytes: &[u8]) -> usize {
+    let image = decode(alloc, bytes).expect(rt, "an image");
+    let again = round_trip(alloc, &image).expect(rt, "memory");
+    again.code().len()
 }
 
 #[test]
-fn first_run(rt: HostRuntime) -> Result<(), Fail> {
-    is_text_of(&rt, rt.alloc(), "text", &FIRST_RUN_IMAGE, FIRST_RUN)?;
-    is_image_of(&rt, rt.alloc(), "image", FIRST_RUN, &FIRST_RUN_IMAGE)?;
-    let count = count_there_and_back(rt.alloc(), &FIRST_RUN_IMAGE)?;
+fn first_run(rt: HostRuntime) {
+    is_text_of(&rt, rt.alloc(), "text", &FIRST_RUN_IMAGE, FIRST_RUN);
+    is_image_of(&rt, rt.alloc(), "image", FIRST_RUN, &FIRST_RUN_IMAGE);
+    let count = count_there_and_back(&rt, rt.alloc(), &FIRST_RUN_IMAGE);
     same(&rt, "instructions", &count, &17);
-    Ok(())
 }
 
 // Each slot as its eight bytes are, by the opcodes of RFC 9669.
@@ -232,43 +218,45 @@ fn is_spelled(
     version: u8,
     spelling: &str,
     bytes: &[u8],
-) -> Result<(), Fail> {
-    let given = format!(in alloc; "version {version}\n{spelling}\n")?;
-    is_text_of(rt, alloc, name, bytes, &given)?;
-    is_image_of(rt, alloc, name, &given, bytes)
+) {
+    let given = format!(in alloc; "version {version}\n{spelling}\n").expect(rt, "memory");
+    is_text_of(rt, alloc, name, bytes, &given);
+    is_image_of(rt, alloc, name, &given, bytes);
 }
 
 /// Holds each line against its slot.
-fn are_spelled(rt: &impl Abort, alloc: Global, rows: &[(&'static str, u64)]) -> Result<(), Fail> {
+fn are_spelled(rt: &impl Abort, alloc: Global, rows: &[(&'static str, u64)]) {
     for (spelling, slot) in rows {
-        is_spelled(rt, alloc, spelling, 1, spelling, &image_of(*slot))?;
+        is_spelled(rt, alloc, spelling, 1, spelling, &image_of(*slot));
     }
-    Ok(())
 }
 
 #[test]
-fn every_spelling(rt: HostRuntime) -> Result<(), Fail> {
-    are_spelled(&rt, rt.alloc(), &ARITHMETIC)?;
-    are_spelled(&rt, rt.alloc(), &UNARY)?;
-    are_spelled(&rt, rt.alloc(), &JUMPS)?;
-    are_spelled(&rt, rt.alloc(), &MEMORY)?;
-    are_spelled(&rt, rt.alloc(), &ATOMICS)
+fn every_spelling(rt: HostRuntime) {
+    are_spelled(&rt, rt.alloc(), &ARITHMETIC);
+    are_spelled(&rt, rt.alloc(), &UNARY);
+    are_spelled(&rt, rt.alloc(), &JUMPS);
+    are_spelled(&rt, rt.alloc(), &MEMORY);
+    are_spelled(&rt, rt.alloc(), &ATOMICS);
 }
 
-#[test]
-fn wide_spellings(rt: HostRuntime) -> Result<(), Fail> {
-    for (spelling, first, second) in WIDE {
-        let bytes = wide_image_of(1, first, second);
-        is_spelled(&rt, rt.alloc(), spelling, 1, spelling, &bytes)?;
+/// Holds each wide line against its two slots.
+fn are_wide(rt: &impl Abort, alloc: Global, rows: &[(&str, u64, u64)]) {
+    for (spelling, first, second) in rows {
+        let bytes = wide_image_of(1, *first, *second);
+        is_spelled(rt, alloc, spelling, 1, spelling, &bytes);
     }
-    Ok(())
 }
 
 #[test]
-fn one_line(rt: HostRuntime) -> Result<(), Fail> {
-    let printed = line(rt.alloc(), Insn::Ja32 { distance: -1 })?;
+fn wide_spellings(rt: HostRuntime) {
+    are_wide(&rt, rt.alloc(), &WIDE);
+}
+
+#[test]
+fn one_line(rt: HostRuntime) {
+    let printed = line(rt.alloc(), Insn::Ja32 { distance: -1 }).expect(&rt, "memory");
     same_text(&rt, "a jump back", &printed, "ja32 -1");
-    Ok(())
 }
 
 // Each is line 2, after `version 1`.
@@ -323,22 +311,21 @@ fn bad_line(alloc: Global, given: &str) -> usize {
 }
 
 /// The bad line of a text with this line 2, or 0.
-fn bad_line_at(alloc: Global, spelling: &str) -> Result<usize, Fail> {
-    let given = format!(in alloc; "version 1\n{spelling}\nexit\n")?;
-    Ok(bad_line(alloc, &given))
+fn bad_line_at(rt: &impl Abort, alloc: Global, spelling: &str) -> usize {
+    let given = format!(in alloc; "version 1\n{spelling}\nexit\n").expect(rt, "memory");
+    bad_line(alloc, &given)
 }
 
 /// Each of these lines is bad as line 2 of a text.
-fn are_bad(rt: &impl Abort, alloc: Global, rows: &[(&str, &str)]) -> Result<(), Fail> {
+fn are_bad(rt: &impl Abort, alloc: Global, rows: &[(&str, &str)]) {
     for (name, spelling) in rows {
-        same(rt, name, &bad_line_at(alloc, spelling)?, &2);
+        same(rt, name, &bad_line_at(rt, alloc, spelling), &2);
     }
-    Ok(())
 }
 
 #[test]
-fn bad_lines(rt: HostRuntime) -> Result<(), Fail> {
-    are_bad(&rt, rt.alloc(), &BAD_LINES)
+fn bad_lines(rt: HostRuntime) {
+    are_bad(&rt, rt.alloc(), &BAD_LINES);
 }
 
 #[rattlefmt::skip]
@@ -385,13 +372,17 @@ const VERSION_2: [(&str, &str, u64, u64); 4] = [
     ("a map",                  "ldmap r1, 0",              0x1811000000000000, 0x0000000000000000),
 ];
 
-#[test]
-fn version_2(rt: HostRuntime) -> Result<(), Fail> {
-    for (name, spelling, first, second) in VERSION_2 {
-        let bytes = wide_image_of(2, first, second);
-        is_spelled(&rt, rt.alloc(), name, 2, spelling, &bytes)?;
+/// Holds each text of version 2 against its two slots.
+fn are_of_version_2(rt: &impl Abort, alloc: Global, rows: &[(&str, &str, u64, u64)]) {
+    for (name, spelling, first, second) in rows {
+        let bytes = wide_image_of(2, *first, *second);
+        is_spelled(rt, alloc, name, 2, spelling, &bytes);
     }
-    Ok(())
+}
+
+#[test]
+fn version_2(rt: HostRuntime) {
+    are_of_version_2(&rt, rt.alloc(), &VERSION_2);
 }
 
 // The line of a map of each kind with the line after it, and bpf(2)'s number of the map's type.
@@ -412,13 +403,17 @@ fn one_map_image(number: u8) -> [u8; 32] {
     ]
 }
 
-#[test]
-fn one_map_of_each_kind(rt: HostRuntime) -> Result<(), Fail> {
-    for (spelling, number) in KINDS {
-        let bytes = one_map_image(number);
-        is_spelled(&rt, rt.alloc(), spelling, 1, spelling, &bytes)?;
+/// Holds each text of one map against its image.
+fn are_of_kinds(rt: &impl Abort, alloc: Global, rows: &[(&str, u8)]) {
+    for (spelling, number) in rows {
+        let bytes = one_map_image(*number);
+        is_spelled(rt, alloc, spelling, 1, spelling, &bytes);
     }
-    Ok(())
+}
+
+#[test]
+fn one_map_of_each_kind(rt: HostRuntime) {
+    are_of_kinds(&rt, rt.alloc(), &KINDS);
 }
 
 // Texts with maps of each kind, read and printed again.
@@ -432,17 +427,21 @@ const MAPS: [&str; 5] = [
 ];
 
 /// Compares a text with the one of its image.
-fn comes_back(rt: &impl Abort, alloc: Global, given: &str) -> Result<(), Fail> {
-    let bytes = bytes_of(alloc, given)?;
-    is_text_of(rt, alloc, given, &bytes, given)
+fn comes_back(rt: &impl Abort, alloc: Global, given: &str) {
+    let bytes = bytes_of(rt, alloc, given);
+    is_text_of(rt, alloc, given, &bytes, given);
+}
+
+/// The same of each text.
+fn come_back(rt: &impl Abort, alloc: Global, texts: &[&str]) {
+    for given in texts {
+        comes_back(rt, alloc, given);
+    }
 }
 
 #[test]
-fn maps_of_each_kind(rt: HostRuntime) -> Result<(), Fail> {
-    for given in MAPS {
-        comes_back(&rt, rt.alloc(), given)?;
-    }
-    Ok(())
+fn maps_of_each_kind(rt: HostRuntime) {
+    come_back(&rt, rt.alloc(), &MAPS);
 }
 
 const SIXTEEN_MAPS: &str = "map array 4 8 1
@@ -485,80 +484,74 @@ fn count_of(alloc: Global, given: &str) -> Result<usize, AsmFault> {
 
 /// The same of a text behind its version.
 fn count_of_version(
+    rt: &impl Abort,
     alloc: Global,
     version: &str,
     given: &str,
-) -> Result<Result<usize, AsmFault>, Fail> {
-    let given = format!(in alloc; "version {version}\n{given}")?;
-    Ok(count_of(alloc, &given))
+) -> Result<usize, AsmFault> {
+    let given = format!(in alloc; "version {version}\n{given}").expect(rt, "memory");
+    count_of(alloc, &given)
 }
 
 /// The same of a text of sixteen maps and these lines.
-fn count_behind_maps(alloc: Global, lines: &str) -> Result<Result<usize, AsmFault>, Fail> {
-    let given = format!(in alloc; "version 1\n{SIXTEEN_MAPS}{lines}")?;
-    Ok(count_of(alloc, &given))
+fn count_behind_maps(rt: &impl Abort, alloc: Global, lines: &str) -> Result<usize, AsmFault> {
+    let given = format!(in alloc; "version 1\n{SIXTEEN_MAPS}{lines}").expect(rt, "memory");
+    count_of(alloc, &given)
 }
 
 /// Compares why each text makes no image.
-fn are_faulty(
-    rt: &impl Abort,
-    alloc: Global,
-    rows: &[(&str, &str, &str, DecodeFault)],
-) -> Result<(), Fail> {
+fn are_faulty(rt: &impl Abort, alloc: Global, rows: &[(&str, &str, &str, DecodeFault)]) {
     for (name, version, given, want) in rows {
-        let found = count_of_version(alloc, version, given)?;
+        let found = count_of_version(rt, alloc, version, given);
         same(rt, name, &found, &Err(AsmFault::Image(*want)));
     }
-    Ok(())
 }
 
 #[test]
-fn faulty_images(rt: HostRuntime) -> Result<(), Fail> {
-    are_faulty(&rt, rt.alloc(), &FAULTY)?;
-    let sixteen = count_behind_maps(rt.alloc(), "exit\n")?;
+fn faulty_images(rt: HostRuntime) {
+    are_faulty(&rt, rt.alloc(), &FAULTY);
+    let sixteen = count_behind_maps(&rt, rt.alloc(), "exit\n");
     same(&rt, "sixteen maps", &sixteen, &Ok(1));
-    let seventeen = count_behind_maps(rt.alloc(), "map array 4 8 1\nexit\n")?;
+    let seventeen = count_behind_maps(&rt, rt.alloc(), "map array 4 8 1\nexit\n");
     let want = Err(AsmFault::Image(DecodeFault::BadHead));
     same(&rt, "seventeen maps", &seventeen, &want);
-    Ok(())
 }
 
 /// This many lines `mov r0, 1` and an `exit`.
-fn long_text(alloc: Global, count: u32) -> Result<String, AllocError> {
-    let mut given = String::from_str(alloc, "version 1\n")?;
+fn long_text(rt: &impl Abort, alloc: Global, count: u32) -> String {
+    let mut given = String::from_str(alloc, "version 1\n").expect(rt, "memory");
     for _ in 0..count {
-        given.push_str("mov r0, 1\n")?;
+        given.push_str("mov r0, 1\n").expect(rt, "memory");
     }
-    given.push_str("exit\n")?;
-    Ok(given)
+    given.push_str("exit\n").expect(rt, "memory");
+    given
 }
 
 /// How many instructions the image of this many lines and an `exit` has.
-fn count_of_long(alloc: Global, count: u32) -> Result<Result<usize, AsmFault>, AllocError> {
-    let given = long_text(alloc, count)?;
-    Ok(count_of(alloc, &given))
+fn count_of_long(rt: &impl Abort, alloc: Global, count: u32) -> Result<usize, AsmFault> {
+    let given = long_text(rt, alloc, count);
+    count_of(alloc, &given)
 }
 
 /// A text of this many lines and an `exit` is the text of its image.
-fn long_comes_back(rt: &impl Abort, alloc: Global, count: u32) -> Result<(), Fail> {
-    let given = long_text(alloc, count)?;
-    let bytes = bytes_of(alloc, &given)?;
-    is_text_of(rt, alloc, "the longest text", &bytes, &given)
+fn long_comes_back(rt: &impl Abort, alloc: Global, count: u32) {
+    let given = long_text(rt, alloc, count);
+    let bytes = bytes_of(rt, alloc, &given);
+    is_text_of(rt, alloc, "the longest text", &bytes, &given);
 }
 
 #[test]
-fn longest_text(rt: HostRuntime) -> Result<(), Fail> {
-    long_comes_back(&rt, rt.alloc(), 4095)
+fn longest_text(rt: HostRuntime) {
+    long_comes_back(&rt, rt.alloc(), 4095);
 }
 
 #[test]
-fn longest_program(rt: HostRuntime) -> Result<(), Fail> {
-    let longest = count_of_long(rt.alloc(), 4095)?;
+fn longest_program(rt: HostRuntime) {
+    let longest = count_of_long(&rt, rt.alloc(), 4095);
     same(&rt, "the longest", &longest, &Ok(4096));
-    let too_long = count_of_long(rt.alloc(), 4096)?;
+    let too_long = count_of_long(&rt, rt.alloc(), 4096);
     let want = Err(AsmFault::Image(DecodeFault::TooLong));
     same(&rt, "too long", &too_long, &want);
-    Ok(())
 }
 
 #[rattlefmt::skip]
