@@ -289,6 +289,8 @@ fn run_all_in<
     ensures served { ¬ IsErrOf result BadOptions }
     ensures no_update { IfErr result IsOfNoUpdate }
     ensures no_thread { IsErrOf result NoThread → AreNonePut (length states.items) (jobs_put put.new) }
+    ensures handed { ¬ IsErrOf result NoThread → AreAllPut (frames_of setting.entry.capture.now.records.items) (length states.items)
+        (length setting.entry.capture.now.records.items) (jobs_put put.new) }
     ensures ended { AreAllEnded (length states.items + 2) (jobs_put put.new) }
 {
     let workers = states.len();

@@ -1,9 +1,11 @@
-use Rattle.std.proofs.Common.{rules, ◌≡◌, ◌+◌, ◌-◌, ◌/◌, ◌<◌, ◌∷◌, ◌++◌, [], List, length, sym, ap, ◌∙◌, subst, arith}
+use Rattle.std.proofs.Common.{rules, ◌≡◌, ◌+◌, ◌-◌, ◌/◌, ◌<◌, ◌∷◌, ◌++◌, [], List, Result, Ok, Err, length, sym, ap, ◌∙◌, subst, arith}
 use Rattle.rx_queues.specs.declared.job.Job.{Job}
 use Rattle.rx_queues.specs.declared.job.Job.TheVariants.{Note, End}
 use Rattle.rx_queues.specs.Passes.{workers_of, jobs_put}
 use Rattle.replay.specs.Actors.{HasNoEnd, AreAllEnded, AreBothEnded, round_jobs, commands_from}
 use Rattle.replay.specs.Puts.{ArePutWithEnd, put_at}
+use Rattle.replay.specs.declared.fault.ReplayFault.{ReplayFault}
+use Rattle.replay.specs.declared.fault.ReplayFault.TheVariants.{NoThread}
 use Rattle.replay.proofs.HandLemmas.{commands_no_end, notes_no_end, notes_end}
 use Rattle.replay.proofs.EndLemmas.{ended_then, all_ended, nobody_ran}
 use Rattle.replay.proofs.PutLemmas.{all_queues}
@@ -98,3 +100,24 @@ returns-in_default-clause-ended g c =
     (nobody_ran workers (jobs_put c.args.put.now) (jobs_put c.start_both.new.put) (jobs_put c.end_all.new.put) c.requires.ready.passes.nothing_put
     (omega (arith, size, here)) (subst (λ n. AreBothEnded n (jobs_put c.args.put.now) (jobs_put c.start_both.new.put)) here both)
     (subst (λ n. ArePutWithEnd n (jobs_put c.start_both.new.put) (jobs_put c.end_all.new.put)) all c.end_all.ensures.put)).1
+
+abbrev handled_of : (X : Type 0) → X → Result X ReplayFault
+handled_of X all = Ok all
+
+was_no_failure : {X : Type 0} (all : X) → handled_of X all ≡ Err NoThread → ⊥
+was_no_failure all e = cc
+
+pub returns-in-Some-close_both-clause-handed : goal.returns-in-Some-close_both-clause-handed
+returns-in-Some-close_both-clause-handed g c = λ is worker below.
+    let here : workers_of c.args.setting.queues.now ≡ length c.args.states.items = c.requires.ready.passes.workers_are in
+    c.close_both.ensures.others worker (omega (arith, below, here)) ∙ c.in-Ok.ensures.handed (was_no_failure c.in-Ok.handled) worker below
+
+pub returns-in-None-clause-handed : goal.returns-in-None-clause-handed
+returns-in-None-clause-handed g c = λ is worker below.
+    let here : workers_of c.args.setting.queues.now ≡ length c.args.states.items = c.requires.ready.passes.workers_are in
+    c.close_both.ensures.others worker (omega (arith, below, here)) ∙ c.in-Ok.ensures.handed (was_no_failure c.in-Ok.handled) worker below
+
+pub returns-in-Err-clause-handed : goal.returns-in-Err-clause-handed
+returns-in-Err-clause-handed g c = λ is worker below.
+    let here : workers_of c.args.setting.queues.now ≡ length c.args.states.items = c.requires.ready.passes.workers_are in
+    c.end_both.ensures.put.others worker (omega (arith, below, here)) ∙ c.in-Err.ensures.handed is worker below
