@@ -79,7 +79,7 @@ const PACKETS: [Row; 9] = [
         "  slot 6: ldxb r0, [r2+13]\n  r2: packet +0, 0 bytes known\n  needs 14 bytes from the packet's start: no comparison with the packet's end shows"),
     (V1, "ldxw r2, [r1+0]\nldxw r3, [r1+4]\nmov r4, r2\nadd r4, 24\nmov r0, 2\njgt r4, r3, +2\nadd r2, 24\nldxdw r0, [r2+16]\nexit\n",
         "  slot 7: ldxdw r0, [r2+16]\n  r2: packet +24, 24 bytes known\n  \
-         needs 48 bytes from the packet's start (the register stands at +24), known 24: the packet was compared"),
+         needs 48 bytes from the packet's start (the register is at +24), known 24: the packet was compared"),
     (V1, "ldxw r2, [r1+0]\nldxb r0, [r2-1]\nexit\n",
         "  slot 1: ldxb r0, [r2-1]\n  r2: packet +0, 0 bytes known\n  the access begins before"),
     (V1, "ldxw r2, [r1+0]\nadd r2, 65536\nmov r0, 2\nexit\n",
@@ -116,7 +116,7 @@ const MEMORY: [Row; 19] = [
         "  slot 7: add r0, 9\n  r0: value of map 0 from slot 5 +0\n  the value has 8 bytes: an address in a value stays"),
     (V2, "ldval r6, 0, 9\nmov r0, 2\nexit\n", "  slot 0: ldval r6, 0, 9\n  the value has 8 bytes: the offset is above"),
     (V1, "stw [r10-6], 0\nmov r0, 2\nexit\n",
-        "  slot 0: stw [r10-6], 0\n  r10: stack r10-0\n  stack r10-8: bytes --------\n  4 bytes wide: an access of the stack stands"),
+        "  slot 0: stw [r10-6], 0\n  r10: stack r10-0\n  stack r10-8: bytes --------\n  4 bytes wide: an access of the stack is at"),
     (LOOKUP, "jeq r0, 0, +1\nldxw r3, [r0+2]\nmov r0, 2\nexit\n",
         "  slot 7: ldxw r3, [r0+2]\n  r0: value of map 0 from slot 5 +0\n  4 bytes wide: an access at a known offset"),
     (V2, "ldxw r5, [r1+16]\nand r5, 4\nldval r6, 0, 0\nadd r6, r5\naaddw [r6+0], r5\nmov r0, 2\nexit\n",

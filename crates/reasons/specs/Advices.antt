@@ -40,7 +40,7 @@ base_text base = if base == 0 then codes " from the packet's start" else codes "
 
 -- and where the register is, if not there
 unfoldable pub standing_text : ℕ → List ℕ
-standing_text stands = if stands == 0 then [] else codes " (the register stands at +" ++ (decimal stands ++ codes ")")
+standing_text stands = if stands == 0 then [] else codes " (the register is at +" ++ (decimal stands ++ codes ")")
 
 unfoldable pub bytes_text : Need → List ℕ
 bytes_text need = count_text need.bytes ++ (base_text need.base ++ standing_text need.stands)

@@ -120,7 +120,7 @@ fn put_standing(alloc: Global, out: &mut String, stands: u16) -> Result<(), Allo
     if stands == 0 {
         return Ok(());
     }
-    out.push_str(&format!(in alloc; " (the register stands at +{stands})")?)
+    out.push_str(&format!(in alloc; " (the register is at +{stands})")?)
 }
 
 /// How many bytes of the packet an access needs, and from where.
@@ -293,11 +293,11 @@ fn kinds(cause: Cause) -> (&'static str, &'static str) {
         ),
         Cause::PointerArithmetic => (
             "the only arithmetic with a pointer is to add a number to it or to subtract one, in 64 bits, with the pointer as destination; only the \
-                stack, the packet and values can be moved in so",
+                stack, the packet and values can be moved this way",
             "compute the number first, in another register, and add it to a copy of the pointer",
         ),
         Cause::UnknownDelta => (
-            "such a pointer moves only by a single known number (the packet's also by adding one of which an upper bound is known, a value's so from \
+            "such a pointer moves only by a single known number (the packet's also by adding one with a known upper bound, a value's too from \
                 image version 2 on)",
             "use a constant offset, or choose between constants by jumps",
         ),
@@ -379,11 +379,11 @@ fn memory(cause: Cause) -> (&'static str, &'static str) {
             "use an offset up to the size",
         ),
         Cause::StackMisaligned { .. } => (
-            "an access of the stack stands at a multiple of its size",
+            "an access of the stack is at a multiple of its size",
             "use an offset that is such a multiple, or smaller accesses",
         ),
         Cause::ValueMisaligned { .. } => (
-            "an access at a known offset of a value stands at a multiple of its size",
+            "an access at a known offset of a value is at a multiple of its size",
             "use an offset that is such a multiple, or smaller accesses",
         ),
         Cause::AtomicOffsetUnknown => (
