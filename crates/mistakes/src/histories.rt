@@ -105,7 +105,7 @@ fn about_line(alloc: Global, text: &str, line: usize) -> Result<String, AllocErr
         alloc,
         wrong.as_str(),
         ENTRY,
-        "for example: 0 w0 lookup 07000000 cell 0, where keys have 4 bytes",
+        "for example: 0 w0 lookup 07000000 cell 0, where keys have 4 bytes; IMAGE has to be the one that was run",
     )
 }
 

@@ -282,13 +282,13 @@ const NO_FILES: [Unread; 6] = [
     ("a shard out of order", b"XLBJ 1 1 2 16\n1 w0 enter ok\n0 w0 enter ok\n",
         "fault 55 BadJournalFile line 3\n  line 3: \"0 w0 enter ok\"\n  \
          expected an entry of a shard of the image's maps, not of an earlier shard than the line above\n  \
-         for example: 0 w0 lookup 07000000 cell 0, where keys have 4 bytes\n"),
+         for example: 0 w0 lookup 07000000 cell 0, where keys have 4 bytes; IMAGE has to be the one that was run\n"),
     ("no text", b"XLBJ 1 1 1 16\nbad\n0 w0 \xff ok\n",
         "fault 55 BadJournalFile line 3\n  line 3 has a byte that is not UTF-8\n  expected plain ASCII text\n"),
     ("bad before illegal", b"XLBJ 1 1 1 16\n0 w0 leave ok\n0\n",
         "fault 55 BadJournalFile line 3\n  line 3: \"0\"\n  \
          expected an entry of a shard of the image's maps, not of an earlier shard than the line above\n  \
-         for example: 0 w0 lookup 07000000 cell 0, where keys have 4 bytes\n"),
+         for example: 0 w0 lookup 07000000 cell 0, where keys have 4 bytes; IMAGE has to be the one that was run\n"),
 ];
 
 /// Each row's file, audited.

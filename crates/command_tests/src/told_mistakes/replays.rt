@@ -119,10 +119,10 @@ const JOURNALS: [Row; 18] = [
         "  line 1: \"XLBJ 2 1 1 16\"\n  expected XLBJ 1 <workers> <shards> <journal>, options that open the image's maps\n  for example: XLBJ 1 8 1 65536\n"),
     ("another word", b"XLBJ 1 1 1 16\n0 w0 enter ok\n0 w0 leaves ok\n", 3,
         "  line 3: \"0 w0 leaves ok\"\n  expected an entry of a shard of the image's maps, not of an earlier shard than the line above\n  \
-         for example: 0 w0 lookup 07000000 cell 0, where keys have 4 bytes\n"),
+         for example: 0 w0 lookup 07000000 cell 0, where keys have 4 bytes; IMAGE has to be the one that was run\n"),
     ("an empty line", b"XLBJ 1 1 1 16\n\n", 2,
         "  line 2: \"\"\n  expected an entry of a shard of the image's maps, not of an earlier shard than the line above\n  \
-         for example: 0 w0 lookup 07000000 cell 0, where keys have 4 bytes\n"),
+         for example: 0 w0 lookup 07000000 cell 0, where keys have 4 bytes; IMAGE has to be the one that was run\n"),
     ("no line feed at the end", b"XLBJ 1 1 1 16\n0 w0 enter ok", 2,
         "  line 2: \"0 w0 enter ok\"\n  expected a line feed after each line, the last one too\n"),
     ("a byte that is no text", b"XLBJ 1 1 1 16\n0 w0 \xff\n", 2, "  line 2 has a byte that is not UTF-8\n  expected plain ASCII text\n"),
