@@ -1,6 +1,7 @@
 //! Journals read from their text.
 
-ghost use Rattle.std.specs.Prelude.{◌≡◌, ◌≢◌, ◌↔◌, ◌≤◌, ◌+◌, ◌*◌, ◌<◌, ◌++◌, ◌∷◌, true, [], List, ℕ, length, IfOk, IfErr, IfSome, OnOk};
+ghost use Rattle.std.specs.Prelude.{◌≡◌, ◌≢◌, ◌↔◌, ◌≤◌, ◌+◌, ◌*◌, ◌<◌, ◌++◌, ◌∷◌, true, [], List, ℕ};
+ghost use Rattle.std.specs.Prelude.{length, IfOk, IfErr, IfSome, OnOk};
 ghost use Rattle.std.specs.Option.{MatchOption};
 ghost use Rattle.std.specs.Str.{IsUtf8};
 ghost use Rattle.semantics.specs.Cells.{key_of_call, value_of_call};

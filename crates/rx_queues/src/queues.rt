@@ -1,7 +1,7 @@
 //! The queues: the worker of a flow, and what is done with them. A thread that waits for a queue asks again for a moment, and then sleeps.
 
-ghost use Rattle.std.specs.Prelude.{◌≡◌, ◌<◌, ◌≤◌, ◌+◌, ◌∷◌, ◌++◌, ◌↔◌, [], ℕ, length, map, replicate, IfOk, IfErr, IfSome, OnErr, IsErrOf};
-ghost use Rattle.std.specs.Prelude.{OnOk, true};
+ghost use Rattle.std.specs.Prelude.{◌≡◌, ◌<◌, ◌≤◌, ◌+◌, ◌∷◌, ◌++◌, ◌↔◌, [], ℕ, length, map, replicate};
+ghost use Rattle.std.specs.Prelude.{IfOk, IfErr, IfSome, OnErr, IsErrOf, OnOk, true};
 ghost use Rattle.std.specs.Prelude.{MatchOption, option_map, slice_index_or};
 ghost use Rattle.crossbeam_queue.specs.Passes.{view, IsPassOf, IsSamePass, ruled_capacity};
 ghost use Rattle.rx_queues.specs.Fifo.{Fits, IsTakenInOrder, known, no_purpose, putter, taker};

@@ -1,7 +1,7 @@
 //! The steps on a shard's word: take, mark, give, and what is done with the shard in between.
 
-ghost use Rattle.std.specs.Prelude.{◌≡◌, ◌≢◌, ◌<◌, ◌+◌, ◌*◌, ◌%◌, ◌==◌, ◌∷◌, ◌^◌, ℕ, true, false, MatchBool, [], length, IfOk, IfErr};
-ghost use Rattle.std.specs.Prelude.{OnErr};
+ghost use Rattle.std.specs.Prelude.{◌≡◌, ◌≢◌, ◌<◌, ◌+◌, ◌*◌, ◌%◌, ◌==◌, ◌∷◌, ◌^◌, ℕ, true, false};
+ghost use Rattle.std.specs.Prelude.{MatchBool, [], length, IfOk, IfErr, OnErr};
 ghost use Rattle.semantics.specs.ShardPlan.{KeepsRows};
 ghost use Rattle.semantics.specs.History.{Meets, meets, IsLegalHistory, IsJournalFull, entry_of};
 ghost use Rattle.semantics.specs.CallerLaws.{own_entries};

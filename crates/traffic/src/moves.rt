@@ -1,6 +1,7 @@
 //! Flows that are sent to another backend than before.
 
-ghost use Rattle.std.specs.Prelude.{◌≡◌, ◌+◌, ◌^◌, ◌<◌, ◌≤◌, ◌∷◌, ◌++◌, [], ℕ, None, IfOk, OnOk, length, if◌then◌else◌};
+ghost use Rattle.std.specs.Prelude.{◌≡◌, ◌+◌, ◌^◌, ◌<◌, ◌≤◌, ◌∷◌, ◌++◌, [], ℕ};
+ghost use Rattle.std.specs.Prelude.{None, IfOk, OnOk, length, if◌then◌else◌};
 ghost use Rattle.traffic.specs.Counting.{address_at, one_if};
 ghost use Rattle.traffic.specs.Moving.{inner_flow, last_after, last_in, moved_places, moves_by, moves_in, passage_of};
 
