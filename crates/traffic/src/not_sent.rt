@@ -25,7 +25,8 @@ pub enum NotSent {
     Expired,
     /// It is for a service, and too large for a tunnel: it is dropped.
     Large,
-    /// It is for a service, and no tunnel is set up, or no backend is up that it could go to: it is dropped.
+    /// It is for a service, and no tunnel is set up, or neither the backend that is noted for its flow nor the one that its slot of the
+    /// ring names is up: it is dropped.
     NoBackend,
 }
 

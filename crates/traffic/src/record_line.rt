@@ -157,7 +157,8 @@ fn kind_word(kind: FrameKind) -> &'static str
 
 /// The case of the steering rule by which a frame of this kind has this verdict: a frame without a flow passes, by its kind, and so does
 /// one whose flow is for no service; a datagram for a service that cannot go through the tunnel is dropped, by its kind; any other is sent,
-/// or dropped where no tunnel is set up or no backend is up that it could go to. Empty for a run that came to no verdict.
+/// or dropped where no tunnel is set up, or where neither the backend that is noted for its flow nor the one that its slot of the ring
+/// names is up. Empty for a run that came to no verdict.
 pub fn case_word(kind: FrameKind, verdict: LineVerdict) -> &'static str
     ensures { result.now ≡ case_word kind verdict }
 {
