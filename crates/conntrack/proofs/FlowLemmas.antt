@@ -58,22 +58,22 @@ choice_is frame vip tunnel number backend flow fits ready tracks up =
 
 -- what is left once the tunnel is known to be ready, and once the flows are to be looked up
 abbrev on_state : SteeringSizes → FrameView → VipRecord → CellRef → ℕ → Plan
-on_state setting frame vip cell state =
+on_state sizes frame vip cell state =
     read cell 0 8 (λ source. read cell 8 8 (λ macs.
-    read_note setting frame vip (records_of vip (tunnel_of (bytes_of_number 8 source ++ (bytes_of_number 8 macs ++ bytes_of_number 8 state))) None)))
+    read_note sizes frame vip (records_of vip (tunnel_of (bytes_of_number 8 source ++ (bytes_of_number 8 macs ++ bytes_of_number 8 state))) None)))
 
 abbrev on_note : SteeringSizes → FrameView → VipRecord → TunnelRecord → Plan
-on_note setting frame vip tunnel =
-    record_of setting Flows (flow_bytes_of frame.bytes)
-    (λ word. read_backend setting (flow_of (bytes_of_number 8 word)).backend (λ assigned.
-    unless_tracked setting frame (records_of vip tunnel (Some assigned)) (tracked_choice vip (records_of vip tunnel (Some assigned)))))
-    (read_slot setting frame (records_of vip tunnel None))
+on_note sizes frame vip tunnel =
+    record_of sizes Flows (flow_bytes_of frame.bytes)
+    (λ word. read_backend sizes (flow_of (bytes_of_number 8 word)).backend (λ assigned.
+    unless_tracked sizes frame (records_of vip tunnel (Some assigned)) (tracked_choice vip (records_of vip tunnel (Some assigned)))))
+    (read_slot sizes frame (records_of vip tunnel None))
 
-goes_on : (setting : SteeringSizes) (frame : FrameView) (number : ℕ) (backend : BackendRecord) (tunnel : TunnelRecord) (replies : List Reply) →
+goes_on : (sizes : SteeringSizes) (frame : FrameView) (number : ℕ) (backend : BackendRecord) (tunnel : TunnelRecord) (replies : List Reply) →
     has_flow frame.bytes ≡ true → fits_tunnel frame.bytes ≡ true → tunnel.is_ready ≡ true → backend.is_up ≡ true →
     FindsNote tunnel number backend replies →
-    plan_after (steering setting frame) replies ≡ ending setting frame (Some tunnel) (C.Tx number backend.address false)
-goes_on setting frame number backend tunnel replies flow fits ready up finds =
+    plan_after (steering sizes frame) replies ≡ ending sizes frame (Some tunnel) (C.Tx number backend.address false)
+goes_on sizes frame number backend tunnel replies flow fits ready up finds =
     let vip : VipRecord = vip_of (bytes_of_number 8 finds.flags) in
     let set : TunnelRecord = tunnel_of (bytes_of_number 8 finds.source ++ (bytes_of_number 8 finds.macs ++ bytes_of_number 8 finds.state)) in
     let note : ℕ = (flow_of (bytes_of_number 8 finds.note)).backend in
@@ -85,18 +85,18 @@ goes_on setting frame number backend tunnel replies flow fits ready up finds =
     let past_note : List Reply = Cell finds.note_cell ∷ Word finds.note ∷ Cell finds.backend_cell ∷ Word finds.word ∷ [] in
     let past_state : List Reply = Word finds.source ∷ Word finds.macs ∷ past_note in
     let past_flags : List Reply = Cell finds.tunnel_cell ∷ Word finds.state ∷ past_state in
-    ap (plan_after (steering setting frame)) finds.replies_are
-    ∙ on_left (has_flow frame.bytes) (read_service setting frame) (finish setting frame no_records) (Cell finds.service_cell ∷ Word finds.flags ∷ past_flags) flow
-    ∙ on_left (fits_tunnel frame.bytes) (read_tunnel setting frame vip (record no_records { vip = Some vip })) (finish setting frame (record no_records { vip = Some vip })) past_flags fits
-    ∙ on_left bare.is_ready (on_state setting frame vip finds.tunnel_cell finds.state) (finish setting frame (records_of vip bare None)) past_state ready_set
-    ∙ on_right vip.is_notrack (read_slot setting frame (records_of vip set None)) (on_note setting frame vip set) past_note finds.is_tracked
-    ∙ ap (unless_tracked setting frame at_end) (tracked_is vip set note target finds.is_tracked up_target)
-    ∙ ap (ending setting frame (Some set)) (choice_is frame.bytes vip set note target flow fits ready_set finds.is_tracked up_target)
-    ∙ (λ i. ending setting frame (Some (sym finds.tunnel_is i)) (C.Tx (sym finds.number_is i) (sym finds.backend_is i).address false))
+    ap (plan_after (steering sizes frame)) finds.replies_are
+    ∙ on_left (has_flow frame.bytes) (read_service sizes frame) (finish sizes frame no_records) (Cell finds.service_cell ∷ Word finds.flags ∷ past_flags) flow
+    ∙ on_left (fits_tunnel frame.bytes) (read_tunnel sizes frame vip (record no_records { vip = Some vip })) (finish sizes frame (record no_records { vip = Some vip })) past_flags fits
+    ∙ on_left bare.is_ready (on_state sizes frame vip finds.tunnel_cell finds.state) (finish sizes frame (records_of vip bare None)) past_state ready_set
+    ∙ on_right vip.is_notrack (read_slot sizes frame (records_of vip set None)) (on_note sizes frame vip set) past_note finds.is_tracked
+    ∙ ap (unless_tracked sizes frame at_end) (tracked_is vip set note target finds.is_tracked up_target)
+    ∙ ap (ending sizes frame (Some set)) (choice_is frame.bytes vip set note target flow fits ready_set finds.is_tracked up_target)
+    ∙ (λ i. ending sizes frame (Some (sym finds.tunnel_is i)) (C.Tx (sym finds.number_is i) (sym finds.backend_is i).address false))
 
 pub flows_stick : FlowsStick
-flows_stick setting frame tunnel number backend replies flow fits ready up found_note =
-    goes_on setting frame number backend tunnel replies (passes_test frame.bytes flow) fits ready up found_note
+flows_stick sizes frame tunnel number backend replies flow fits ready up found_note =
+    goes_on sizes frame number backend tunnel replies (passes_test frame.bytes flow) fits ready up found_note
 
 -- ---- the service's key
 

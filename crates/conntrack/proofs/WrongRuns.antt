@@ -10,9 +10,9 @@ use Rattle.conntrack.specs.Results.{change_of, changes_in, note_call, IsRaised, 
 use Rattle.conntrack.specs.SteeringLaws.{UncountedRunsAreNoResults, StoringRunsAreNoResults}
 
 pub uncounted_runs : UncountedRunsAreNoResults
-uncounted_runs setting frame exchanges verdict left none result = by result.counted
+uncounted_runs sizes frame exchanges verdict left none result = by result.counted
   where
-    by : (IsRaised setting verdict result.last ⊎ IsNotFound setting verdict result.last) → ⊥
+    by : (IsRaised sizes verdict result.last ⊎ IsNotFound sizes verdict result.last) → ⊥
     by (inl raised) = none (record {
       front = result.before;
       reply = _;
@@ -54,21 +54,21 @@ changes_of_both (exchange ∷ front) back =
     regrouped [] b c = refl
     regrouped (call ∷ a) b c = ap (λ (later : List Call). call ∷ later) (regrouped a b c)
 
-note_stores_not : (setting : SteeringSizes) (note : Option (List ℕ × List ℕ)) → NoneStores (note_call setting note)
-note_stores_not setting None = tt
-note_stores_not setting (Some note) = (tt, tt)
+note_stores_not : (sizes : SteeringSizes) (note : Option (List ℕ × List ℕ)) → NoneStores (note_call sizes note)
+note_stores_not sizes None = tt
+note_stores_not sizes (Some note) = (tt, tt)
 
-count_stores_not : (setting : SteeringSizes) (verdict : Verdict) (last : List Exchange) → (IsRaised setting verdict last ⊎ IsNotFound setting verdict last) → NoneStores (changes_in last)
-count_stores_not setting verdict last (inl raised) = subst (λ (exchanges : List Exchange). NoneStores (changes_in exchanges)) (sym raised.calls) (tt, tt)
-count_stores_not setting verdict last (inr absent) = subst (λ (exchanges : List Exchange). NoneStores (changes_in exchanges)) (sym absent.calls) tt
+count_stores_not : (sizes : SteeringSizes) (verdict : Verdict) (last : List Exchange) → (IsRaised sizes verdict last ⊎ IsNotFound sizes verdict last) → NoneStores (changes_in last)
+count_stores_not sizes verdict last (inl raised) = subst (λ (exchanges : List Exchange). NoneStores (changes_in exchanges)) (sym raised.calls) (tt, tt)
+count_stores_not sizes verdict last (inr absent) = subst (λ (exchanges : List Exchange). NoneStores (changes_in exchanges)) (sym absent.calls) tt
 
 pub storing_runs : StoringRunsAreNoResults
-storing_runs setting frame exchanges verdict left cell offset size value asked result =
+storing_runs sizes frame exchanges verdict left cell offset size value asked result =
     let stored : Exchange = record { call = Store cell offset size value; reply = asked.reply } in
     let none : NoneStores (changes_in exchanges) =
     subst NoneStores (sym (ap changes_in result.all ∙ changes_of_both result.before result.last))
     (both_store_not (changes_in result.before) (changes_in result.last)
-    (subst NoneStores (sym result.noted) (note_stores_not setting _)) (count_stores_not setting verdict result.last result.counted)) in
+    (subst NoneStores (sym result.noted) (note_stores_not sizes _)) (count_stores_not sizes verdict result.last result.counted)) in
     let there : NoneStores (changes_in asked.front ++ changes_in (stored ∷ asked.back)) =
     subst NoneStores (ap changes_in asked.place ∙ changes_of_both asked.front (stored ∷ asked.back)) none in
     (later_stores_not (changes_in asked.front) (changes_in (stored ∷ asked.back)) there).0

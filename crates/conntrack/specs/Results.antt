@@ -38,8 +38,8 @@ changes_in (exchange ∷ later) = change_of exchange.call ++ changes_in later
 
 -- the note of the chosen backend, made with the flag ANY
 abbrev pub note_call : SteeringSizes → Option (List ℕ × List ℕ) → List Call
-note_call setting None = []
-note_call setting (Some note) = Update (shard_of setting Flows note.0) note.0 note.1 (flags_number Any) ∷ []
+note_call sizes None = []
+note_call sizes (Some note) = Update (shard_of sizes Flows note.0) note.0 note.1 (flags_number Any) ∷ []
 
 -- ---- the verdict's count
 
@@ -47,25 +47,25 @@ abbrev pub count_key : Verdict → List ℕ
 count_key verdict = bytes_of_number 4 (verdict_number verdict)
 
 abbrev pub count_lookup : SteeringSizes → Verdict → Call
-count_lookup setting verdict = Lookup (shard_of setting Stats (count_key verdict)) (count_key verdict)
+count_lookup sizes verdict = Lookup (shard_of sizes Stats (count_key verdict)) (count_key verdict)
 
 -- the verdict's count is looked up, and one is added to it
-pub record IsRaised (setting : SteeringSizes) (verdict : Verdict) (exchanges : List Exchange) : Type 0 where
+pub record IsRaised (sizes : SteeringSizes) (verdict : Verdict) (exchanges : List Exchange) : Type 0 where
   pub cell : CellRef
   pub old : Reply
   pub calls :
       exchanges ≡
-      (record { call = count_lookup setting verdict; reply = Cell cell }) ∷ (record { call = count_call cell; reply = old }) ∷ []
+      (record { call = count_lookup sizes verdict; reply = Cell cell }) ∷ (record { call = count_call cell; reply = old }) ∷ []
 
 abbrev pub IsNoCell : Reply → Type 0
 IsNoCell (Cell cell) = ⊥
 IsNoCell reply = Unit {0}
 
 -- the verdict's count is looked up and not found, so nothing is added: an array's shard never replies so
-pub record IsNotFound (setting : SteeringSizes) (verdict : Verdict) (exchanges : List Exchange) : Type 0 where
+pub record IsNotFound (sizes : SteeringSizes) (verdict : Verdict) (exchanges : List Exchange) : Type 0 where
   pub absent : Reply
   pub no_cell : IsNoCell absent
-  pub calls : exchanges ≡ (record { call = count_lookup setting verdict; reply = absent }) ∷ []
+  pub calls : exchanges ≡ (record { call = count_lookup sizes verdict; reply = absent }) ∷ []
 
 -- ---- lookups of flows
 
@@ -91,7 +91,7 @@ flow_lookups_due frame records = if gets_to_note frame records then 1 else 0
 
 -- ---- the result
 
-pub record IsResult (setting : SteeringSizes) (frame : FrameView) (exchanges : List Exchange) (verdict : Verdict) (left : FrameView) :
+pub record IsResult (sizes : SteeringSizes) (frame : FrameView) (exchanges : List Exchange) (verdict : Verdict) (left : FrameView) :
     Type 0 where
   -- the rule chose this by these records
   pub records : Records
@@ -103,6 +103,6 @@ pub record IsResult (setting : SteeringSizes) (frame : FrameView) (exchanges : L
   pub before : List Exchange
   pub last : List Exchange
   pub all : exchanges ≡ before ++ last
-  pub noted : changes_in before ≡ note_call setting (flow_update frame.bytes choice)
-  pub counted : IsRaised setting verdict last ⊎ IsNotFound setting verdict last
+  pub noted : changes_in before ≡ note_call sizes (flow_update frame.bytes choice)
+  pub counted : IsRaised sizes verdict last ⊎ IsNotFound sizes verdict last
   pub flows_looked_up : lookups_of_flows exchanges ≡ flow_lookups_due frame.bytes records

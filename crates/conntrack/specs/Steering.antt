@@ -44,7 +44,7 @@ pub record SteeringSizes : Type 0 where
 
 -- the number of the shard that has a key
 abbrev pub shard_of : SteeringSizes → SteeringMap → List ℕ → ℕ
-shard_of setting map key = shard_of_key (map_place map) (map_kind map) setting.shards key
+shard_of sizes map key = shard_of_key (map_place map) (map_kind map) sizes.shards key
 
 -- a lookup: the plan goes on with the cell that was found, or without one
 abbrev pub found_or : (CellRef → Plan) → Plan → Reply → Plan
@@ -52,14 +52,14 @@ found_or found absent (Cell cell) = found cell
 found_or found absent reply = absent
 
 abbrev pub look : SteeringSizes → SteeringMap → List ℕ → (CellRef → Plan) → Plan → Plan
-look setting map key found absent = Asks (Lookup (shard_of setting map key) key) (found_or found absent)
+look sizes map key found absent = Asks (Lookup (shard_of sizes map key) key) (found_or found absent)
 
 abbrev pub read : CellRef → ℕ → ℕ → (ℕ → Plan) → Plan
 read cell offset size on = Asks (Load cell offset size) (λ reply. on (word_in reply))
 
 -- the record of eight bytes that a key has, as one number; or none
 abbrev pub record_of : SteeringSizes → SteeringMap → List ℕ → (ℕ → Plan) → Plan → Plan
-record_of setting map key known absent = look setting map key (λ cell. read cell 0 8 known) absent
+record_of sizes map key known absent = look sizes map key (λ cell. read cell 0 8 known) absent
 
 -- ---- frames
 
@@ -82,8 +82,8 @@ count_call cell = Atomic cell 0 8 0 1 0
 
 -- the verdict's count is raised by one, and the run ends
 abbrev pub counted : SteeringSizes → Verdict → FrameView → Plan
-counted setting verdict frame =
-    look setting Stats (bytes_of_number 4 (verdict_number verdict))
+counted sizes verdict frame =
+    look sizes Stats (bytes_of_number 4 (verdict_number verdict))
     (λ cell. Asks (count_call cell) (λ reply. Ends verdict frame)) (Ends verdict frame)
 
 -- the rule's choice for a frame with these records
@@ -92,16 +92,16 @@ choice_in frame records = if has_flow frame then choice_for_service (fits_tunnel
 
 -- the chosen backend is noted for the flow, where the rule says so
 abbrev pub noting : SteeringSizes → Option (List ℕ × List ℕ) → Plan → Plan
-noting setting None onward = onward
-noting setting (Some note) onward = Asks (Update (shard_of setting Flows note.0) note.0 note.1 (flags_number Any)) (λ reply. onward)
+noting sizes None onward = onward
+noting sizes (Some note) onward = Asks (Update (shard_of sizes Flows note.0) note.0 note.1 (flags_number Any)) (λ reply. onward)
 
 -- a choice carried out: the note, the verdict's count, the verdict and the frame
 abbrev pub ending : SteeringSizes → FrameView → Option TunnelRecord → Choice → Plan
-ending setting frame tunnel choice =
-    noting setting (flow_update frame.bytes choice) (counted setting (verdict_of_choice choice) (frame_after tunnel choice frame))
+ending sizes frame tunnel choice =
+    noting sizes (flow_update frame.bytes choice) (counted sizes (verdict_of_choice choice) (frame_after tunnel choice frame))
 
 abbrev pub finish : SteeringSizes → FrameView → Records → Plan
-finish setting frame records = ending setting frame records.tunnel (choice_in frame.bytes records)
+finish sizes frame records = ending sizes frame records.tunnel (choice_in frame.bytes records)
 
 -- ---- which records are read
 
@@ -110,60 +110,60 @@ no_records = record { vip = None; tunnel = None; tracked = None; slot = None }
 
 -- a backend's record, by its number
 abbrev pub read_backend : SteeringSizes → ℕ → (Assigned → Plan) → Plan
-read_backend setting number on =
-    record_of setting Backends (bytes_of_number 4 number)
+read_backend sizes number on =
+    record_of sizes Backends (bytes_of_number 4 number)
     (λ word. on (record { number = number; «record» = Some (backend_of (bytes_of_number 8 word)) }))
     (on (record { number = number; «record» = None }))
 
 -- the owner of the flow's slot
 abbrev pub read_owner : SteeringSizes → FrameView → Records → Option ℕ → Plan
-read_owner setting frame records None = finish setting frame records
-read_owner setting frame records (Some number) =
-    read_backend setting number (λ assigned. finish setting frame (record records { slot = Some assigned }))
+read_owner sizes frame records None = finish sizes frame records
+read_owner sizes frame records (Some number) =
+    read_backend sizes number (λ assigned. finish sizes frame (record records { slot = Some assigned }))
 
 abbrev pub read_slot : SteeringSizes → FrameView → Records → Plan
-read_slot setting frame records =
-    look setting Ring (bytes_of_number 4 (fnv1a64_of (flow_bytes_of frame.bytes) % setting.size))
-    (λ cell. read cell 0 4 (λ word. read_owner setting frame records (owner_of word)))
-    (finish setting frame records)
+read_slot sizes frame records =
+    look sizes Ring (bytes_of_number 4 (fnv1a64_of (flow_bytes_of frame.bytes) % sizes.size))
+    (λ cell. read cell 0 4 (λ word. read_owner sizes frame records (owner_of word)))
+    (finish sizes frame records)
 
 -- the slot is read where the noted backend does not get the frame
 abbrev pub unless_tracked : SteeringSizes → FrameView → Records → Option Choice → Plan
-unless_tracked setting frame records (Some choice) = finish setting frame records
-unless_tracked setting frame records None = read_slot setting frame records
+unless_tracked sizes frame records (Some choice) = finish sizes frame records
+unless_tracked sizes frame records None = read_slot sizes frame records
 
 abbrev pub read_note : SteeringSizes → FrameView → VipRecord → Records → Plan
-read_note setting frame vip records =
-    either vip.is_notrack (read_slot setting frame records)
-    (record_of setting Flows (flow_bytes_of frame.bytes)
-    (λ word. read_backend setting (flow_of (bytes_of_number 8 word)).backend (λ assigned.
-    unless_tracked setting frame (record records { tracked = Some assigned })
+read_note sizes frame vip records =
+    either vip.is_notrack (read_slot sizes frame records)
+    (record_of sizes Flows (flow_bytes_of frame.bytes)
+    (λ word. read_backend sizes (flow_of (bytes_of_number 8 word)).backend (λ assigned.
+    unless_tracked sizes frame (record records { tracked = Some assigned })
     (tracked_choice vip (record records { tracked = Some assigned }))))
-    (read_slot setting frame records))
+    (read_slot sizes frame records))
 
 -- the tunnel's record: first whether it is ready, and then its addresses
 abbrev pub read_tunnel : SteeringSizes → FrameView → VipRecord → Records → Plan
-read_tunnel setting frame vip records =
-    look setting Ctl (bytes_of_number 4 0)
+read_tunnel sizes frame vip records =
+    look sizes Ctl (bytes_of_number 4 0)
     (λ cell. read cell 16 8 (λ state.
     either (tunnel_of (replicate 16 0 ++ bytes_of_number 8 state)).is_ready
     (read cell 0 8 (λ source. read cell 8 8 (λ macs.
-    read_note setting frame vip
+    read_note sizes frame vip
     (record records { tunnel = Some (tunnel_of (bytes_of_number 8 source ++ (bytes_of_number 8 macs ++ bytes_of_number 8 state))) }))))
-    (finish setting frame (record records { tunnel = Some (tunnel_of (replicate 16 0 ++ bytes_of_number 8 state)) }))))
-    (finish setting frame records)
+    (finish sizes frame (record records { tunnel = Some (tunnel_of (replicate 16 0 ++ bytes_of_number 8 state)) }))))
+    (finish sizes frame records)
 
 -- a packet that can go through the tunnel gets on
 abbrev pub pass_guard : SteeringSizes → FrameView → VipRecord → Plan
-pass_guard setting frame vip =
-    either (fits_tunnel frame.bytes) (read_tunnel setting frame vip (record no_records { vip = Some vip }))
-    (finish setting frame (record no_records { vip = Some vip }))
+pass_guard sizes frame vip =
+    either (fits_tunnel frame.bytes) (read_tunnel sizes frame vip (record no_records { vip = Some vip }))
+    (finish sizes frame (record no_records { vip = Some vip }))
 
 abbrev pub read_service : SteeringSizes → FrameView → Plan
-read_service setting frame =
-    record_of setting Vips (service_bytes_of frame.bytes) (λ word. pass_guard setting frame (vip_of (bytes_of_number 8 word)))
-    (finish setting frame no_records)
+read_service sizes frame =
+    record_of sizes Vips (service_bytes_of frame.bytes) (λ word. pass_guard sizes frame (vip_of (bytes_of_number 8 word)))
+    (finish sizes frame no_records)
 
 -- the whole rule: a frame without a flow reads nothing
 abbrev pub steering : SteeringSizes → FrameView → Plan
-steering setting frame = either (has_flow frame.bytes) (read_service setting frame) (finish setting frame no_records)
+steering sizes frame = either (has_flow frame.bytes) (read_service sizes frame) (finish sizes frame no_records)

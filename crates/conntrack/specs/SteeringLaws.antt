@@ -36,9 +36,9 @@ AsksForTheService =
 -- a run of the plan that is over is a result of the rule
 abbrev pub FinishedRunsAreResults : Type 0
 FinishedRunsAreResults =
-    (setting : SteeringSizes) (frame : FrameView) (exchanges : List Exchange) (verdict : Verdict) (left : FrameView) →
-    plan_outcome (steering setting frame) (replies_in exchanges) ≡ record { calls = calls_in exchanges; ending = Ended verdict left } →
-    IsResult setting frame exchanges verdict left
+    (sizes : SteeringSizes) (frame : FrameView) (exchanges : List Exchange) (verdict : Verdict) (left : FrameView) →
+    plan_outcome (steering sizes frame) (replies_in exchanges) ≡ record { calls = calls_in exchanges; ending = Ended verdict left } →
+    IsResult sizes frame exchanges verdict left
 
 -- ---- wrong counts
 
@@ -52,15 +52,15 @@ pub record Asked (call : Call) (exchanges : List Exchange) : Type 0 where
 -- a run that does not look its verdict's count up, as one that counts nothing where it drops, is no result of the rule
 abbrev pub UncountedRunsAreNoResults : Type 0
 UncountedRunsAreNoResults =
-    (setting : SteeringSizes) (frame : FrameView) (exchanges : List Exchange) (verdict : Verdict) (left : FrameView) →
-    ¬ Asked (count_lookup setting verdict) exchanges → ¬ IsResult setting frame exchanges verdict left
+    (sizes : SteeringSizes) (frame : FrameView) (exchanges : List Exchange) (verdict : Verdict) (left : FrameView) →
+    ¬ Asked (count_lookup sizes verdict) exchanges → ¬ IsResult sizes frame exchanges verdict left
 
 -- nor is a run that stores, as one that counts by a Load and a Store
 abbrev pub StoringRunsAreNoResults : Type 0
 StoringRunsAreNoResults =
-    (setting : SteeringSizes) (frame : FrameView) (exchanges : List Exchange) (verdict : Verdict) (left : FrameView)
+    (sizes : SteeringSizes) (frame : FrameView) (exchanges : List Exchange) (verdict : Verdict) (left : FrameView)
     (cell : CellRef) (offset size value : ℕ) →
-    Asked (Store cell offset size value) exchanges → ¬ IsResult setting frame exchanges verdict left
+    Asked (Store cell offset size value) exchanges → ¬ IsResult sizes frame exchanges verdict left
 
 -- ---- sticky flows
 
@@ -92,7 +92,7 @@ pub record FindsNote (tunnel : TunnelRecord) (number : ℕ) (backend : BackendRe
 -- the note
 abbrev pub FlowsStick : Type 0
 FlowsStick =
-    (setting : SteeringSizes) (frame : FrameView) (tunnel : TunnelRecord) (number : ℕ) (backend : BackendRecord) (replies : List Reply) →
+    (sizes : SteeringSizes) (frame : FrameView) (tunnel : TunnelRecord) (number : ℕ) (backend : BackendRecord) (replies : List Reply) →
     HasFlow frame.bytes → fits_tunnel frame.bytes ≡ true → tunnel.is_ready ≡ true → backend.is_up ≡ true →
     FindsNote tunnel number backend replies →
-    plan_after (steering setting frame) replies ≡ ending setting frame (Some tunnel) (Tx number backend.address false)
+    plan_after (steering sizes frame) replies ≡ ending sizes frame (Some tunnel) (Tx number backend.address false)

@@ -44,7 +44,7 @@ without_tunnel true fits flow = refl
 
 -- ---- the ends of the plan
 
-module _ (setting : SteeringSizes) (frame : FrameView) where
+module _ (sizes : SteeringSizes) (frame : FrameView) where
   abbrev due_of : Records → ℕ
   due_of records = flow_lookups_due frame.bytes records
 
@@ -57,18 +57,18 @@ module _ (setting : SteeringSizes) (frame : FrameView) where
     last : List Exchange
     all : exchanges ≡ before ++ last
     changes : changes_in before ≡ changed
-    counted_last : IsRaised setting verdict last ⊎ IsNotFound setting verdict last
+    counted_last : IsRaised sizes verdict last ⊎ IsNotFound sizes verdict last
     lookups : looked + lookups_of_flows exchanges ≡ due_of records
 
   record Result (looked : ℕ) (exchanges : List Exchange) (verdict : Verdict) (left : FrameView) : Type 0 where
     records : Records
     choice : Choice
-    shown : Shown looked records choice (note_call setting (flow_update frame.bytes choice)) exchanges verdict left
+    shown : Shown looked records choice (note_call sizes (flow_update frame.bytes choice)) exchanges verdict left
 
   -- only the count is left
   count_shown : (looked : ℕ) (records : Records) (choice : Choice) → IsSteered frame.bytes records choice → looked ≡ due_of records →
       (last : List Exchange) → 0 ≡ lookups_of_flows last →
-      (IsRaised setting (verdict_of_choice choice) last ⊎ IsNotFound setting (verdict_of_choice choice) last) →
+      (IsRaised sizes (verdict_of_choice choice) last ⊎ IsNotFound sizes (verdict_of_choice choice) last) →
       Shown looked records choice [] last (verdict_of_choice choice) (frame_after records.tunnel choice frame)
   count_shown looked records choice steered is last quiet counted_last = record {
     steered = steered;
@@ -83,7 +83,7 @@ module _ (setting : SteeringSizes) (frame : FrameView) where
   }
 
   counted_ends : (looked : ℕ) (records : Records) (choice : Choice) → IsSteered frame.bytes records choice → looked ≡ due_of records →
-      AtEnds (Shown looked records choice []) (counted setting (verdict_of_choice choice) (frame_after records.tunnel choice frame))
+      AtEnds (Shown looked records choice []) (counted sizes (verdict_of_choice choice) (frame_after records.tunnel choice frame))
   counted_ends looked records choice steered is (Cell cell) = λ old. count_shown looked records choice steered is _ refl (inl (record { cell = cell; old = old; calls = refl }))
   counted_ends looked records choice steered is Entered = count_shown looked records choice steered is _ refl (inr (record { absent = Entered; no_cell = tt; calls = refl }))
   counted_ends looked records choice steered is Left = count_shown looked records choice steered is _ refl (inr (record { absent = Left; no_cell = tt; calls = refl }))
@@ -109,13 +109,13 @@ module _ (setting : SteeringSizes) (frame : FrameView) where
   }
 
   noted_ends : (looked : ℕ) (records : Records) (choice : Choice) → IsSteered frame.bytes records choice → looked ≡ due_of records → (note : Option (List ℕ × List ℕ)) →
-      AtEnds (Shown looked records choice (note_call setting note)) (noting setting note (counted setting (verdict_of_choice choice) (frame_after records.tunnel choice frame)))
+      AtEnds (Shown looked records choice (note_call sizes note)) (noting sizes note (counted sizes (verdict_of_choice choice) (frame_after records.tunnel choice frame)))
   noted_ends looked records choice steered is None = counted_ends looked records choice steered is
   noted_ends looked records choice steered is (Some note) = λ answer.
-      weaker (Shown looked records choice []) (λ later v f. Shown looked records choice (note_call setting (Some note)) ((record { call = Update (shard_of setting Flows note.0) note.0 note.1 0; reply = answer }) ∷ later) v f)
-      (λ later v f at. one_before looked looked records choice [] (record { call = Update (shard_of setting Flows note.0) note.0 note.1 0; reply = answer }) later v f
+      weaker (Shown looked records choice []) (λ later v f. Shown looked records choice (note_call sizes (Some note)) ((record { call = Update (shard_of sizes Flows note.0) note.0 note.1 0; reply = answer }) ∷ later) v f)
+      (λ later v f at. one_before looked looked records choice [] (record { call = Update (shard_of sizes Flows note.0) note.0 note.1 0; reply = answer }) later v f
       (let same : looked ≡ looked + 0 = omega arith in same) at)
-      (counted setting (verdict_of_choice choice) (frame_after records.tunnel choice frame)) (counted_ends looked records choice steered is)
+      (counted sizes (verdict_of_choice choice) (frame_after records.tunnel choice frame)) (counted_ends looked records choice steered is)
 
   -- a call that changes nothing comes before
   quiet_before : (looked next : ℕ) (call : Call) → change_of call ≡ [] → next ≡ looked + flow_lookups call → (reply : Reply) (plan : Plan) → AtEnds (Result next) plan →
@@ -125,14 +125,14 @@ module _ (setting : SteeringSizes) (frame : FrameView) where
       (λ later v f at. record {
         records = at.records;
         choice = at.choice;
-        shown = subst (λ (changed : List Call). Shown looked at.records at.choice (changed ++ note_call setting (flow_update frame.bytes at.choice)) ((record { call = call; reply = reply }) ∷ later) v f) quiet
-            (one_before looked next at.records at.choice (note_call setting (flow_update frame.bytes at.choice)) (record { call = call; reply = reply }) later v f is at.shown);
+        shown = subst (λ (changed : List Call). Shown looked at.records at.choice (changed ++ note_call sizes (flow_update frame.bytes at.choice)) ((record { call = call; reply = reply }) ∷ later) v f) quiet
+            (one_before looked next at.records at.choice (note_call sizes (flow_update frame.bytes at.choice)) (record { call = call; reply = reply }) later v f is at.shown);
       }) plan
 
-  looked_up : (looked next : ℕ) (map : SteeringMap) (key : List ℕ) (found : CellRef → Plan) (absent : Plan) → next ≡ looked + flow_lookups (Lookup (shard_of setting map key) key) →
-      ((cell : CellRef) → AtEnds (Result next) (found cell)) → AtEnds (Result next) absent → AtEnds (Result looked) (look setting map key found absent)
+  looked_up : (looked next : ℕ) (map : SteeringMap) (key : List ℕ) (found : CellRef → Plan) (absent : Plan) → next ≡ looked + flow_lookups (Lookup (shard_of sizes map key) key) →
+      ((cell : CellRef) → AtEnds (Result next) (found cell)) → AtEnds (Result next) absent → AtEnds (Result looked) (look sizes map key found absent)
   looked_up looked next map key found absent is on_found on_absent reply =
-      quiet_before looked next (Lookup (shard_of setting map key) key) refl is reply (found_or found absent reply) (by reply)
+      quiet_before looked next (Lookup (shard_of sizes map key) key) refl is reply (found_or found absent reply) (by reply)
     where
       by : (reply : Reply) → AtEnds (Result next) (found_or found absent reply)
       by (Cell cell) = on_found cell
@@ -145,51 +145,51 @@ module _ (setting : SteeringSizes) (frame : FrameView) where
   none_more : (looked : ℕ) → looked ≡ looked + 0
   none_more looked = omega arith
 
-  finishes : (looked : ℕ) (records : Records) → looked ≡ due_of records → AtEnds (Result looked) (finish setting frame records)
+  finishes : (looked : ℕ) (records : Records) → looked ≡ due_of records → AtEnds (Result looked) (finish sizes frame records)
   finishes looked records is =
-      weaker (Shown looked records (choice_in frame.bytes records) (note_call setting (flow_update frame.bytes (choice_in frame.bytes records)))) (Result looked)
+      weaker (Shown looked records (choice_in frame.bytes records) (note_call sizes (flow_update frame.bytes (choice_in frame.bytes records)))) (Result looked)
       (λ exchanges v f at. record { records = records; choice = choice_in frame.bytes records; shown = at })
-      (finish setting frame records)
+      (finish sizes frame records)
       (noted_ends looked records (choice_in frame.bytes records) (follows_rule frame.bytes records) is (flow_update frame.bytes (choice_in frame.bytes records)))
 
   backend_read : (looked number : ℕ) (on : Assigned → Plan) → ((assigned : Assigned) → AtEnds (Result looked) (on assigned)) →
-      AtEnds (Result looked) (read_backend setting number on)
+      AtEnds (Result looked) (read_backend sizes number on)
   backend_read looked number on each =
       looked_up looked looked Backends (bytes_of_number 4 number) (λ cell. read cell 0 8 (λ word. on (record { number = number; «record» = Some (backend_of (bytes_of_number 8 word)) })))
       (on (record { number = number; «record» = None })) (none_more looked)
       (λ cell. loaded looked cell 0 8 (λ word. on (record { number = number; «record» = Some (backend_of (bytes_of_number 8 word)) })) (λ word. each _)) (each _)
 
-  owner_read : (looked : ℕ) (records : Records) → looked ≡ due_of records → (owner : Option ℕ) → AtEnds (Result looked) (read_owner setting frame records owner)
+  owner_read : (looked : ℕ) (records : Records) → looked ≡ due_of records → (owner : Option ℕ) → AtEnds (Result looked) (read_owner sizes frame records owner)
   owner_read looked records is None = finishes looked records is
   owner_read looked records is (Some number) =
-      backend_read looked number (λ assigned. finish setting frame (record records { slot = Some assigned })) (λ assigned. finishes looked (record records { slot = Some assigned }) is)
+      backend_read looked number (λ assigned. finish sizes frame (record records { slot = Some assigned })) (λ assigned. finishes looked (record records { slot = Some assigned }) is)
 
-  slot_read : (looked : ℕ) (records : Records) → looked ≡ due_of records → AtEnds (Result looked) (read_slot setting frame records)
+  slot_read : (looked : ℕ) (records : Records) → looked ≡ due_of records → AtEnds (Result looked) (read_slot sizes frame records)
   slot_read looked records is =
-      looked_up looked looked Ring (bytes_of_number 4 (fnv1a64_of (flow_bytes_of frame.bytes) % setting.size)) (λ cell. read cell 0 4 (λ word. read_owner setting frame records (owner_of word)))
-      (finish setting frame records) (none_more looked)
-      (λ cell. loaded looked cell 0 4 (λ word. read_owner setting frame records (owner_of word)) (λ word. owner_read looked records is (owner_of word))) (finishes looked records is)
+      looked_up looked looked Ring (bytes_of_number 4 (fnv1a64_of (flow_bytes_of frame.bytes) % sizes.size)) (λ cell. read cell 0 4 (λ word. read_owner sizes frame records (owner_of word)))
+      (finish sizes frame records) (none_more looked)
+      (λ cell. loaded looked cell 0 4 (λ word. read_owner sizes frame records (owner_of word)) (λ word. owner_read looked records is (owner_of word))) (finishes looked records is)
 
   unless_read : (looked : ℕ) (records : Records) → looked ≡ due_of records → (choice : Option Choice) →
-      AtEnds (Result looked) (unless_tracked setting frame records choice)
+      AtEnds (Result looked) (unless_tracked sizes frame records choice)
   unless_read looked records is None = slot_read looked records is
   unless_read looked records is (Some choice) = finishes looked records is
 
   abbrev noted_backend : VipRecord → Records → Assigned → Plan
   noted_backend vip records assigned =
-      unless_tracked setting frame (record records { tracked = Some assigned }) (tracked_choice vip (record records { tracked = Some assigned }))
+      unless_tracked sizes frame (record records { tracked = Some assigned }) (tracked_choice vip (record records { tracked = Some assigned }))
 
   abbrev after_note : VipRecord → Records → ℕ → Plan
-  after_note vip records word = read_backend setting (flow_of (bytes_of_number 8 word)).backend (noted_backend vip records)
+  after_note vip records word = read_backend sizes (flow_of (bytes_of_number 8 word)).backend (noted_backend vip records)
 
   -- past the guards: the flows are looked up unless the service says not to
   note_read : (vip : VipRecord) (records : Records) → ((notrack : Bool) → vip.is_notrack ≡ notrack → (if notrack then 0 else 1) ≡ due_of records) →
-      AtEnds (Result 0) (read_note setting frame vip records)
+      AtEnds (Result 0) (read_note sizes frame vip records)
   note_read vip records is =
-      at_either (Result 0) vip.is_notrack (read_slot setting frame records)
-      (look setting Flows (flow_bytes_of frame.bytes) (λ cell. read cell 0 8 (after_note vip records)) (read_slot setting frame records))
+      at_either (Result 0) vip.is_notrack (read_slot sizes frame records)
+      (look sizes Flows (flow_bytes_of frame.bytes) (λ cell. read cell 0 8 (after_note vip records)) (read_slot sizes frame records))
       (λ notrack. slot_read 0 records (is true notrack))
-      (λ tracks. looked_up 0 1 Flows (flow_bytes_of frame.bytes) (λ cell. read cell 0 8 (after_note vip records)) (read_slot setting frame records) refl
+      (λ tracks. looked_up 0 1 Flows (flow_bytes_of frame.bytes) (λ cell. read cell 0 8 (after_note vip records)) (read_slot sizes frame records) refl
       (λ cell. loaded 1 cell 0 8 (after_note vip records) (λ word. backend_read 1 (flow_of (bytes_of_number 8 word)).backend (noted_backend vip records)
       (λ assigned. unless_read 1 (record records { tracked = Some assigned }) (is false tracks) (tracked_choice vip (record records { tracked = Some assigned })))))
       (slot_read 1 records (is false tracks)))
@@ -207,18 +207,18 @@ module _ (setting : SteeringSizes) (frame : FrameView) where
   bare_tunnel state = tunnel_of (replicate 16 0 ++ bytes_of_number 8 state)
 
   abbrev on_macs : VipRecord → ℕ → ℕ → ℕ → Plan
-  on_macs vip state source macs = read_note setting frame vip (with_tunnel vip (ready_tunnel source macs state))
+  on_macs vip state source macs = read_note sizes frame vip (with_tunnel vip (ready_tunnel source macs state))
 
   abbrev on_source : VipRecord → CellRef → ℕ → ℕ → Plan
   on_source vip cell state source = read cell 8 8 (on_macs vip state source)
 
   abbrev on_state : VipRecord → CellRef → ℕ → Plan
   on_state vip cell state =
-      either (bare_tunnel state).is_ready (read cell 0 8 (on_source vip cell state)) (finish setting frame (with_tunnel vip (bare_tunnel state)))
+      either (bare_tunnel state).is_ready (read cell 0 8 (on_source vip cell state)) (finish sizes frame (with_tunnel vip (bare_tunnel state)))
 
   state_read : has_flow frame.bytes ≡ true → fits_tunnel frame.bytes ≡ true → (vip : VipRecord) (cell : CellRef) (state : ℕ) → AtEnds (Result 0) (on_state vip cell state)
   state_read flow fits vip cell state =
-      at_either (Result 0) (bare_tunnel state).is_ready (read cell 0 8 (on_source vip cell state)) (finish setting frame (with_tunnel vip (bare_tunnel state)))
+      at_either (Result 0) (bare_tunnel state).is_ready (read cell 0 8 (on_source vip cell state)) (finish sizes frame (with_tunnel vip (bare_tunnel state)))
       (λ ready. loaded 0 cell 0 8 (on_source vip cell state) (λ source. loaded 0 cell 8 8 (on_macs vip state source) (λ macs.
       note_read vip (with_tunnel vip (ready_tunnel source macs state)) (λ notrack is. (by_notrack notrack ∙ sym (λ i. due (not (is i)) (ready i) (fits i) (flow i)))))))
       (λ bare. finishes 0 (with_tunnel vip (bare_tunnel state))
@@ -228,9 +228,9 @@ module _ (setting : SteeringSizes) (frame : FrameView) where
       by_notrack true = refl
       by_notrack false = refl
 
-  tunnel_read : has_flow frame.bytes ≡ true → fits_tunnel frame.bytes ≡ true → (vip : VipRecord) → AtEnds (Result 0) (read_tunnel setting frame vip (with_vip vip))
+  tunnel_read : has_flow frame.bytes ≡ true → fits_tunnel frame.bytes ≡ true → (vip : VipRecord) → AtEnds (Result 0) (read_tunnel sizes frame vip (with_vip vip))
   tunnel_read flow fits vip =
-      looked_up 0 0 Ctl (bytes_of_number 4 0) (λ cell. read cell 16 8 (on_state vip cell)) (finish setting frame (with_vip vip)) refl
+      looked_up 0 0 Ctl (bytes_of_number 4 0) (λ cell. read cell 16 8 (on_state vip cell)) (finish sizes frame (with_vip vip)) refl
       (λ cell. loaded 0 cell 16 8 (on_state vip cell) (state_read flow fits vip cell))
       (finishes 0 (with_vip vip) (without_tunnel (not vip.is_notrack) (fits_tunnel frame.bytes) (has_flow frame.bytes)))
 
@@ -238,22 +238,22 @@ module _ (setting : SteeringSizes) (frame : FrameView) where
   vip_by word = vip_of (bytes_of_number 8 word)
 
   abbrev on_flags : ℕ → Plan
-  on_flags word = either (fits_tunnel frame.bytes) (read_tunnel setting frame (vip_by word) (with_vip (vip_by word))) (finish setting frame (with_vip (vip_by word)))
+  on_flags word = either (fits_tunnel frame.bytes) (read_tunnel sizes frame (vip_by word) (with_vip (vip_by word))) (finish sizes frame (with_vip (vip_by word)))
 
   service_read : has_flow frame.bytes ≡ true → (word : ℕ) → AtEnds (Result 0) (on_flags word)
   service_read flow word =
-      at_either (Result 0) (fits_tunnel frame.bytes) (read_tunnel setting frame (vip_by word) (with_vip (vip_by word))) (finish setting frame (with_vip (vip_by word)))
+      at_either (Result 0) (fits_tunnel frame.bytes) (read_tunnel sizes frame (vip_by word) (with_vip (vip_by word))) (finish sizes frame (with_vip (vip_by word)))
       (λ fits. tunnel_read flow fits (vip_by word))
       (λ unfit. finishes 0 (with_vip (vip_by word)) (without_tunnel (not (vip_by word).is_notrack) (fits_tunnel frame.bytes) (has_flow frame.bytes)))
 
-  whole : AtEnds (Result 0) (steering setting frame)
+  whole : AtEnds (Result 0) (steering sizes frame)
   whole =
-      at_either (Result 0) (has_flow frame.bytes) (read_service setting frame) (finish setting frame no_records)
-      (λ flow. looked_up 0 0 Vips (service_bytes_of frame.bytes) (λ cell. read cell 0 8 on_flags) (finish setting frame no_records) refl
+      at_either (Result 0) (has_flow frame.bytes) (read_service sizes frame) (finish sizes frame no_records)
+      (λ flow. looked_up 0 0 Vips (service_bytes_of frame.bytes) (λ cell. read cell 0 8 on_flags) (finish sizes frame no_records) refl
       (λ cell. loaded 0 cell 0 8 on_flags (service_read flow)) (finishes 0 no_records refl))
       (λ none. finishes 0 no_records refl)
 
-  as_result : (exchanges : List Exchange) (verdict : Verdict) (left : FrameView) → Result 0 exchanges verdict left → IsResult setting frame exchanges verdict left
+  as_result : (exchanges : List Exchange) (verdict : Verdict) (left : FrameView) → Result 0 exchanges verdict left → IsResult sizes frame exchanges verdict left
   as_result exchanges verdict left at = record {
     records = at.records;
     choice = at.choice;
@@ -269,5 +269,5 @@ module _ (setting : SteeringSizes) (frame : FrameView) where
   }
 
 pub finished_runs : FinishedRunsAreResults
-finished_runs setting frame exchanges verdict left is =
-    as_result setting frame exchanges verdict left (at_end (Result setting frame 0) (steering setting frame) (whole setting frame) exchanges verdict left is)
+finished_runs sizes frame exchanges verdict left is =
+    as_result sizes frame exchanges verdict left (at_end (Result sizes frame 0) (steering sizes frame) (whole sizes frame) exchanges verdict left is)
