@@ -27,7 +27,7 @@ pub record AreCommandsTaken (before after : List Applied) (jobs : List Job) : Ty
   pub each_once : jobs ≡ command_jobs later ++ End ∷ []
 
 -- what was noted since the controller began, with its own entries, is an account of its script
-pub record IsAccounted (plan : ℕ → ShardPlan) (start : CommanderView) (noted : List Applied) (pass : PassView) : Type 0 where
+pub record IsActorAccounted (plan : ℕ → ShardPlan) (start : CommanderView) (noted : List Applied) (pass : PassView) : Type 0 where
   pub state : ControllerState
   pub account : IsScriptAccount plan start.port.maps start.port.options start.updates start.script start.controller.size noted state pass
 

@@ -24,7 +24,7 @@ use Rattle.replay.specs.declared.outcome.Applied.{Applied}
 use Rattle.replay.specs.SharedUpdates.{shard_of, update_call}
 use Rattle.replay.specs.Commands.{CommanderView, CommandDone, AreNotedOf, AreDone, IsScriptAccount, ServesScript}
 use Rattle.replay.specs.Commands.{all_set, made_in, with_updates, made_deeds, commands_deeds}
-use Rattle.replay.specs.ActorJobs.{AreCommandsTaken, AreRoundsMade, IsAccounted as IsControllersAccount}
+use Rattle.replay.specs.ActorJobs.{AreCommandsTaken, AreRoundsMade, IsActorAccounted as IsControllersAccount}
 use Rattle.replay.specs.Rounds.{IsReclaimedBy, AreRoundsDone}
 use Rattle.replay.specs.Actors.{numbers_from}
 

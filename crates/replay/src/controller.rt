@@ -3,7 +3,7 @@
 ghost use Rattle.std.specs.Prelude.{◌≡◌, ◌<◌, ◌∷◌, ◌++◌, [], length, Option, Some, slice_get, IfOk, IfErr, OnOk, OnErr, false, MatchOption};
 ghost use Rattle.rx_queues.specs.Passes.{IsTakePassOf, jobs_taken, place_taken_from, workers_of, commands_of};
 ghost use Rattle.rx_queues.specs.declared.job.Job.TheVariants.{Command as CommandJob, End};
-ghost use Rattle.replay.specs.ActorJobs.{AreCommandsTaken, IsAccounted, IsForCommands};
+ghost use Rattle.replay.specs.ActorJobs.{AreCommandsTaken, IsActorAccounted, IsForCommands};
 ghost use Rattle.replay.specs.Actors.{HasEndLast, IsUnused};
 ghost use Rattle.maglev.specs.RingSize.{IsRingSize};
 ghost use Rattle.map_updates.specs.Misfits.{AreFitting};
@@ -212,7 +212,7 @@ fn commands_until_end<B: Naming, W: Wait, G: Gate, R: Wait>(
     ensures take { IsTakePassOf queues.now result.take × (place_taken_from result.take ≡ place_taken_from take) }
     ensures ended { HasEndLast (jobs_taken result.take) }
     ensures jobs { result.is_refused ≡ false → AreCommandsTaken commander.entry.noted result.given.noted.items (jobs_taken result.take) }
-    ensures account { IsAccounted B.plan commander.entry result.given.noted.items result.given.pass }
+    ensures account { IsActorAccounted B.plan commander.entry result.given.noted.items result.given.pass }
     ensures who { result.given.pass.who ≡ TheController }
 {
     let mut is_refused = false;
