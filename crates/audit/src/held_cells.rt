@@ -5,11 +5,8 @@ ghost use Rattle.semantics.specs.declared.call.Entry.{Entry as Told};
 ghost use Rattle.semantics.specs.Reclamation.{holds};
 ghost use Rattle.audit.specs.HeldCells.{place_found, is_found, since_after, found_after, Tells, AreHeld};
 
-use semantics::{Caller, Entry, HeldChange};
+use semantics::{Caller, Entry, HeldChange, MOST_WORKERS};
 use std::alloc::{AllocError, Global};
-
-/// How many workers there may be.
-const WORKERS: u8 = 8;
 
 /// What a worker's own entries so far say of the cells that it holds. Places are counted from 1; 0 is none.
 #[derive(Drop)]
@@ -93,7 +90,7 @@ impl HeldSoFar {
         ensures { IfOk result (λ held. AreHeld held []) }
     {
         let mut workers = Vec::new(alloc);
-        'numbers: for _ in 0..WORKERS {
+        'numbers: for _ in 0..MOST_WORKERS {
             workers.push(Findings::new(alloc))?;
         }
         Ok(HeldSoFar { workers })
