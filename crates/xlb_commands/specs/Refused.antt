@@ -202,12 +202,12 @@ pub data IsExplainRefusal (files : FileBytes) (failed : Type 0) (name : List ℕ
 -- ---- journals
 
 -- the second file has these journals of the maps of the first file's image
-pub record AreJournalsOfImage (files : FileBytes) (name journals : List ℕ) (told : JournalsView) : Type 0 where
+pub record AreJournalsOfImage (files : FileBytes) (name journals : List ℕ) (view : JournalsView) : Type 0 where
   pub image : Contents
   pub file : IsImageFile files name image
   pub bytes : List ℕ
   pub read : files journals bytes
-  pub spelled : IsJournalsFile image.maps bytes told
+  pub spelled : IsJournalsFile image.maps bytes view
 
 -- xlb audit: no image; journals that were not read, that the file does not spell, or that are not legal; or memory was refused for the line
 pub data IsAuditRefusal (files : FileBytes) (failed : Type 0) (name journals : List ℕ) (fault : Fault) : Type 0 where
@@ -216,9 +216,9 @@ pub data IsAuditRefusal (files : FileBytes) (failed : Type 0) (name journals : L
       → IsAuditRefusal files failed name journals fault
   no_journals : (image : Contents) (bytes : List ℕ) (why : FileFault) → IsImageFile files name image → files journals bytes
       → RefusesJournals image.maps bytes why → fault ≡ faults.Journals why → IsAuditRefusal files failed name journals fault
-  not_legal : (told : JournalsView) (why : AuditFault) → AreJournalsOfImage files name journals told → ExplainsJournals told why
+  not_legal : (view : JournalsView) (why : AuditFault) → AreJournalsOfImage files name journals view → ExplainsJournals view why
       → fault ≡ faults.Audit why → IsAuditRefusal files failed name journals fault
-  no_verdict : (told : JournalsView) → AreJournalsOfImage files name journals told → AreLegal told → fault ≡ faults.Memory
+  no_verdict : (view : JournalsView) → AreJournalsOfImage files name journals view → AreLegal view → fault ≡ faults.Memory
       → IsAuditRefusal files failed name journals fault
 
 -- Memory was refused for what a run or a replay is to write or to print. Where a file is named for the journals, it may have been refused
@@ -290,7 +290,7 @@ pub data IsRunRefusal (files after : FileBytes) (failed : Type 0) (run : RunFile
   stopped : (program : Contents) (bytes : List ℕ) (stop : Stop) → AreKept files after → AreRunInputs files run updates program bytes
       → worker < 8 → IsStoppedRun program bytes now worker updates stop → fault ≡ faults.Run stop
       → IsRunRefusal files after failed run now worker updates fault
-  not_told : (program : Contents) (bytes : List ℕ) → AreKept files after → AreRunInputs files run updates program bytes → worker < 8
+  no_output_room : (program : Contents) (bytes : List ℕ) → AreKept files after → AreRunInputs files run updates program bytes → worker < 8
       → IsEndedRun program bytes now worker updates → LacksRoom (text_of run.journals) fault
       → IsRunRefusal files after failed run now worker updates fault
   not_filed : (program : Contents) (bytes : List ℕ) → AreRunInputs files run updates program bytes → worker < 8
@@ -304,7 +304,7 @@ pub data IsRunRefusal (files after : FileBytes) (failed : Type 0) (run : RunFile
 pub record IsNotMade (ring : ℕ) (fault : Fault) : Type 0 where
   pub why : SteerFault
   pub size : (why ≡ steering.BadSize) ↔ (¬ IsRingSize ring)
-  pub told : fault ≡ faults.Steering why
+  pub fault_is : fault ≡ faults.Steering why
 
 -- the shipped program was not made, or breaks a rule: its first reject
 pub data IsShippedRefusal (ring : ℕ) (fault : Fault) : Type 0 where
@@ -444,17 +444,17 @@ IsRefusedWith before after failed (Replay files options ring exact summary skip_
     updates.items fault
 
 -- the fault that is printed: the command was refused with it; or it was done, and what it prints could not be printed
-pub data IsToldFault (before after : FileBytes) (failed unprinted : Type 0) (settings : Settings) (fault : Fault) : Type 0 where
-  refused_with : IsRefusedWith before after failed settings fault → IsToldFault before after failed unprinted settings fault
+pub data IsPrintedFault (before after : FileBytes) (failed unprinted : Type 0) (settings : Settings) (fault : Fault) : Type 0 where
+  refused_with : IsRefusedWith before after failed settings fault → IsPrintedFault before after failed unprinted settings fault
   not_printed : (printed : List ℕ) → IsDone before after settings printed ⊎ IsDoneInPart before after settings printed → unprinted
-      → fault ≡ faults.Output → IsToldFault before after failed unprinted settings fault
+      → fault ≡ faults.Output → IsPrintedFault before after failed unprinted settings fault
 
 -- ---- what is printed
 
 -- the notes that go below the fault's line
-abbrev pub notes_told : {Z : Type 0} → Option (String Z) → List ℕ
-notes_told None = []
-notes_told (Some notes) = string_bytes notes
+abbrev pub printed_notes : {Z : Type 0} → Option (String Z) → List ℕ
+printed_notes None = []
+printed_notes (Some notes) = string_bytes notes
 
 -- To a stream that held `before` one text was written: the fault's line, and below it the notes' lines, which begin with two blanks each.
 -- Where memory was refused for that text, it is the line of fault 8.
@@ -482,31 +482,31 @@ pub record IsClash (before after : FileBytes) (are_one : FileBytes) (settings : 
   pub over : IsOver settings written other
   pub one : are_one written other
   pub kept : AreKept before after
-  pub told : err'.failures ≡ err.failures → PrintsClash written other err.held err'.held
+  pub printed : err'.failures ≡ err.failures → PrintsClash written other err.held err'.held
   pub nothing : out' ≡ out
 
 -- a mistake of the command line that shows in the image was printed on `err`, unless that failed, and nothing on `out`
-pub record IsMisfitTold (before after : FileBytes) (settings : Settings) (out out' err err' : Stream) : Type 0 where
+pub record IsMisfitPrinted (before after : FileBytes) (settings : Settings) (out out' err err' : Stream) : Type 0 where
   pub place : ℕ
   pub misfit : Misfit
   pub is : IsMistake before after settings place misfit
-  pub told : err'.failures ≡ err.failures → PrintsMistake place misfit err.held err'.held
+  pub printed : err'.failures ≡ err.failures → PrintsMistake place misfit err.held err'.held
   pub nothing : out' ≡ out
 
 -- a mistake that shows only in the image, or in the files' names
 abbrev pub IsMistaken : FileBytes → FileBytes → FileBytes → Settings → Stream → Stream → Stream → Stream → Type 0
 IsMistaken before after are_one settings out out' err err' =
-    IsMisfitTold before after settings out out' err err' ⊎ IsClash before after are_one settings out out' err err'
+    IsMisfitPrinted before after settings out out' err err' ⊎ IsClash before after are_one settings out out' err err'
 
 -- the line of the command's fault was printed on `err`, unless that failed, and nothing to `out`, unless that failed
-pub record IsTold (before after : FileBytes) (failed : Type 0) (settings : Settings) (out out' err err' : Stream) : Type 0 where
+pub record IsRefusalPrinted (before after : FileBytes) (failed : Type 0) (settings : Settings) (out out' err err' : Stream) : Type 0 where
   pub fault : Fault
-  pub fault_is : IsToldFault before after failed (HasFailed out.failures out'.failures) settings fault
+  pub fault_is : IsPrintedFault before after failed (HasFailed out.failures out'.failures) settings fault
   pub notes : List ℕ
-  pub told : err'.failures ≡ err.failures → PrintsRefusal fault notes err.held err'.held
+  pub printed : err'.failures ≡ err.failures → PrintsRefusal fault notes err.held err'.held
   pub nothing : out'.failures ≡ out.failures → out'.held ≡ out.held
 
 -- the command is refused: its report says so, or its fault was printed
 abbrev pub IsRefused : FileBytes → FileBytes → Type 0 → Settings → Stream → Stream → Stream → Stream → Type 0
 IsRefused before after failed settings out out' err err' =
-    IsReported before after settings out.held out'.held err err' ⊎ IsTold before after failed settings out out' err err'
+    IsReported before after settings out.held out'.held err err' ⊎ IsRefusalPrinted before after failed settings out out' err err'

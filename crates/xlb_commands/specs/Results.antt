@@ -73,9 +73,9 @@ pub record IsChecked (files : FileBytes) (name : List ℕ) (printed : List ℕ) 
 pub record IsExplained (files : FileBytes) (name : List ℕ) (printed : List ℕ) : Type 0 where
   pub first : List ℕ
   pub checked : IsChecked files name first
-  pub told : List ℕ
-  pub explanation : IsExplanation checked.image.version checked.image.maps checked.image.code told
-  pub both : printed ≡ first ++ told
+  pub second : List ℕ
+  pub explanation : IsExplanation checked.image.version checked.image.maps checked.image.code second
+  pub both : printed ≡ first ++ second
 
 abbrev pub verdict_name : Verdict → List ℕ
 verdict_name Aborted = codes "aborted"
@@ -171,9 +171,9 @@ pub record IsAudited (files : FileBytes) (name journals : List ℕ) (printed : L
   pub file : IsImageFile files name image
   pub bytes : List ℕ
   pub read : files journals bytes
-  pub told : JournalsView
-  pub spelled : IsJournalsFile image.maps bytes told
-  pub legal : AreLegal told
+  pub view : JournalsView
+  pub spelled : IsJournalsFile image.maps bytes view
+  pub legal : AreLegal view
   pub line : printed ≡ codes "legal\n"
 
 -- the text of the first file spells the image that the second file now has
@@ -247,7 +247,7 @@ stream held failures = record { held = held; failures = failures }
 pub record AreNotesPrinted (before after : Stream) : Type 0 where
   pub notes : List ℕ
   pub are_notes : AreNotes notes
-  pub told : after.failures ≡ before.failures → after.held ≡ append_known before.held notes
+  pub printed : after.failures ≡ before.failures → after.held ≡ append_known before.held notes
 
 -- what is written to the error stream after a command's report: of a run, of a replay and of tables such lines, of another command nothing
 abbrev pub IsNoted : Settings → Stream → Stream → Type 0

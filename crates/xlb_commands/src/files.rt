@@ -76,7 +76,7 @@ fn bytes_of_journals(alloc: Global, name: &str, journals: &Journals) -> Result<M
     requires { KeepsRows journals.now.options.journal }
     ensures bytes { IfOk result (λ sink. sink.bytes ≡ journals_text journals.now) }
     ensures refused { IfErr result (λ refusal. LacksRoom (Some name.now) refusal.fault) }
-    ensures told { IfErr result (λ refusal. refusal.fault ≡ Fault.Journals FileFault.Memory) }
+    ensures fault { IfErr result (λ refusal. refusal.fault ≡ Fault.Journals FileFault.Memory) }
 {
     let mut sink = MemorySink::new(alloc);
     match write_journals(alloc, &mut sink, journals) {
@@ -94,7 +94,7 @@ pub(crate) fn journal_bytes(
     requires { (file : List ℕ) → text_of name ≡ Some file → KeepsRows journals.now.options.journal }
     ensures bytes { IfOk result (λ sink. (file : List ℕ) → text_of name.entry ≡ Some file → sink.bytes ≡ journals_text journals.now) }
     ensures refused { IfErr result (λ refusal. LacksRoom (text_of name.entry) refusal.fault) }
-    ensures told { IfErr result (λ refusal. refusal.fault ≡ Fault.Journals FileFault.Memory) }
+    ensures fault { IfErr result (λ refusal. refusal.fault ≡ Fault.Journals FileFault.Memory) }
 {
     match name {
         Some(name) => bytes_of_journals(alloc, name, journals),

@@ -8,7 +8,7 @@ ghost use Rattle.xlb_commands.specs.Clashes.{AreApart};
 ghost use Rattle.xlb_commands.specs.FaultLines.{fault_line, mistake_text};
 ghost use Rattle.xlb_commands.specs.Results.{AreNotesPrinted, IsAnswer, IsDone, IsNoted, KeepsFiles, stream};
 ghost use Rattle.xlb_commands.specs.Refused.{HasFailed, IsMistaken, IsRefused, IsRefusedWith, PrintsClash, PrintsMistake, PrintsRefusal};
-ghost use Rattle.xlb_commands.specs.Refused.{notes_told};
+ghost use Rattle.xlb_commands.specs.Refused.{printed_notes};
 
 use crate::clashes::{Clash, clash_of};
 use crate::commands::{
@@ -170,7 +170,7 @@ fn mistake_text(alloc: Global, place: usize, misfit: Misfit) -> Result<String, A
 fn mistake<E: Sink>(alloc: Global, place: usize, misfit: Misfit, err: &mut E) -> u8
     requires { E.failure_count err.old < 2 ^ 64 - 1 }
     ensures status { result ≡ 2 }
-    ensures told { E.failure_count err.new ≡ E.failure_count err.old → PrintsMistake place misfit (E.held err.old) (E.held err.new) }
+    ensures printed { E.failure_count err.new ≡ E.failure_count err.old → PrintsMistake place misfit (E.held err.old) (E.held err.new) }
 {
     match mistake_text(alloc, place, misfit) {
         Ok(text) => print(err, text.as_bytes()),
@@ -183,7 +183,7 @@ fn mistake<E: Sink>(alloc: Global, place: usize, misfit: Misfit, err: &mut E) ->
 fn refuse_clash<E: Sink>(alloc: Global, clash: &Clash<'_>, err: &mut E) -> u8
     requires { E.failure_count err.old < 2 ^ 64 - 1 }
     ensures status { result ≡ 2 }
-    ensures told { E.failure_count err.new ≡ E.failure_count err.old →
+    ensures printed { E.failure_count err.new ≡ E.failure_count err.old →
         PrintsClash clash.now.written.now clash.now.other.now (E.held err.old) (E.held err.new) }
 {
     match clash.text(alloc) {
@@ -237,8 +237,8 @@ fn note<E: Sink>(alloc: Global, settings: &Settings<'_>, report: &Report, err: &
 }
 
 /// The text that is printed of a refusal: the fault's line, and notes below it.
-fn told(alloc: Global, refusal: &Refusal) -> Result<Vec<u8>, AllocError>
-    ensures { IfOk result (λ text. IsRefusalText (fault_line refusal.now.fault) (notes_told refusal.now.notes) text.items) }
+fn message(alloc: Global, refusal: &Refusal) -> Result<Vec<u8>, AllocError>
+    ensures { IfOk result (λ text. IsRefusalText (fault_line refusal.now.fault) (printed_notes refusal.now.notes) text.items) }
 {
     let line = fault_line(alloc, refusal.fault)?;
     match &refusal.notes {
@@ -259,10 +259,10 @@ fn print<E: Sink>(err: &mut E, text: &[u8])
 fn refuse<E: Sink>(alloc: Global, refusal: &Refusal, err: &mut E) -> u8
     requires { E.failure_count err.old < 2 ^ 64 - 1 }
     ensures status { result ≡ 1 }
-    ensures told { E.failure_count err.new ≡ E.failure_count err.old →
-        PrintsRefusal refusal.now.fault (notes_told refusal.now.notes) (E.held err.old) (E.held err.new) }
+    ensures printed { E.failure_count err.new ≡ E.failure_count err.old →
+        PrintsRefusal refusal.now.fault (printed_notes refusal.now.notes) (E.held err.old) (E.held err.new) }
 {
-    match told(alloc, refusal) {
+    match message(alloc, refusal) {
         Ok(text) => print(err, &text),
         Err(_) => print(err, b"fault 8 Memory\n"),
     }

@@ -14,8 +14,8 @@ returns-in-Ok-clause-done g c =
     let verified = c.in-Ok.verified in
     let maps = c.in-Ok.ensures.accepted.0 in
     let code = c.in-Ok.ensures.accepted.1 in
-    let told = c.in_ok-accepted-in-Ok.ensures in
-    let reader = told.0 in
+    let shown = c.in_ok-accepted-in-Ok.ensures in
+    let reader = shown.0 in
     record {
       image = image;
       file = c.in_ok-image.ensures.file;
@@ -23,9 +23,9 @@ returns-in-Ok-clause-done g c =
       accepted = c.in-Ok.ensures.accepted.2;
       safe = c.in-Ok.ensures.safe;
       reader = reader;
-      reads = subst (λ (insns : List Insn). IsTrue reader ↔ IsReader insns verified.states) code told.1;
+      reads = subst (λ (insns : List Insn). IsTrue reader ↔ IsReader insns verified.states) code shown.1;
       line =
-          told.2
+          shown.2
           ∙ (ap (λ (insns : List Insn). accepted_text (total_slots insns) (length verified.maps) (yes_or_no reader)) code
           ∙ ap (λ (defs : List MapDef). accepted_text (total_slots image.code) (length defs) (yes_or_no reader)) maps);
     }

@@ -14,8 +14,8 @@ returns-in-Ok-clause-done g c =
     let verified = c.in-Ok.verified in
     let maps = c.in-Ok.ensures.accepted.0 in
     let code = c.in-Ok.ensures.accepted.1 in
-    let told = c.in_ok-text-in-Ok.ensures in
-    let reader = told.0 in
+    let shown = c.in_ok-text-in-Ok.ensures in
+    let reader = shown.0 in
     record {
       first = string_bytes c.in_ok-text-in-Ok.text;
       checked = record {
@@ -25,13 +25,13 @@ returns-in-Ok-clause-done g c =
         accepted = c.in-Ok.ensures.accepted.2;
         safe = c.in-Ok.ensures.safe;
         reader = reader;
-        reads = subst (λ (insns : List Insn). IsTrue reader ↔ IsReader insns verified.states) code told.1;
+        reads = subst (λ (insns : List Insn). IsTrue reader ↔ IsReader insns verified.states) code shown.1;
         line =
-            told.2
+            shown.2
             ∙ (ap (λ (insns : List Insn). accepted_text (total_slots insns) (length verified.maps) (yes_or_no reader)) code
             ∙ ap (λ (defs : List MapDef). accepted_text (total_slots image.code) (length defs) (yes_or_no reader)) maps);
       };
-      told = string_bytes c.in_ok-reasons.reasons;
+      second = string_bytes c.in_ok-reasons.reasons;
       explanation = c.in_ok-reasons.ensures;
       both = c.in_ok-push_str-in-Ok.ensures.bytes ∙ ap (λ (more : List ℕ). string_bytes c.in_ok-text-in-Ok.text ++ more) c.as_str.ensures.value;
     }

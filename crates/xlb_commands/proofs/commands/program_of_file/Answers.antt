@@ -13,7 +13,7 @@ use Rattle.xlb_commands.proofs.commands.program_of_file.Goals as goal
 -- how the front begins, the file does
 begins_alike : (bytes shown : List ℕ) (front : Front) (is : Bool) (so : Bool) → IsFrontOf bytes kept_of_image front → shown ≡ front.bytes.items → is ≡ begins_as_source shown
     → is ≡ so → begins_as_source (take kept_of_image bytes) ≡ so
-begins_alike bytes shown front is so is_front same told so_is = ap begins_as_source (sym is_front.kept) ∙ (ap begins_as_source (sym same) ∙ (sym told ∙ so_is))
+begins_alike bytes shown front is so is_front same begins so_is = ap begins_as_source (sym is_front.kept) ∙ (ap begins_as_source (sym same) ∙ (sym begins ∙ so_is))
 
 pub returns-in_err-front-clause-refused : goal.returns-in_err-front-clause-refused
 returns-in_err-front-clause-refused g c =

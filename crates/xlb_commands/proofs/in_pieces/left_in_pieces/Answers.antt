@@ -115,26 +115,26 @@ returns-clause-left c = λ records sent ends under captured.
     let whole = replayed.whole in
     let is = replayed.is_whole in
     let updated : whole.updates.items ≡ asked.updates.now = is.updates ∙ c.in_ok-outcome.ensures.updates in
-    let told = replayed.accounted in
+    let account = replayed.accounted in
     record {
       whole = whole;
       sent_are = is.sent_are;
-      made = record { updates_are = updated; accounted = told; in_turn = λ exact. replayed.in_turn };
+      made = record { updates_are = updated; accounted = account; in_turn = λ exact. replayed.in_turn };
       headline = record {
         verified = asked.verified.now;
         image_is = refl;
-        kept = c.headline.ensures asked.script.now options records whole under.options_fit captured told;
+        kept = c.headline.ensures asked.script.now options records whole under.options_fit captured account;
       };
       by_rule = λ none. rule_of (text_of asked.files.now.image) asked.ring asked.script.now options records whole
           (λ shipped. record {
             runs = c.steered_where_shipped.ensures.steered shipped asked.script.now options records whole under.options_fit
-                (of_capture records captured) told;
+                (of_capture records captured) account;
             totals = λ unstopped. c.steered_where_shipped.ensures.totals shipped asked.script.now options records whole under.options_fit
-                (of_capture records captured) told (updated ∙ none) unstopped;
+                (of_capture records captured) account (updated ∙ none) unstopped;
           });
       readers = λ none reads no_commands unstopped. reader_file_is asked.verified.now.maps asked.verified.now.code asked.script.now options records whole
           (c.readers_send_alike.ensures.sends reads)
-          (journals_fit program asked.script.now options records whole under.options_fit told) captured told (updated ∙ none) no_commands unstopped;
+          (journals_fit program asked.script.now options records whole under.options_fit account) captured account (updated ∙ none) no_commands unstopped;
       journals_are = λ file named. c.in_ok-journals.ensures.bytes file named ∙ ap journals_text (sym is.journals);
       text = text_is _ c.in_ok-outcome.outcome whole c.deref.result.now is.counts (is.refused ∙ sym c.deref.ensures.value) c.in_ok-report.ensures.text;
       none_refused = none_is _ whole c.deref.result.now (is.refused ∙ sym c.deref.ensures.value) c.in_ok-report.ensures.refused;

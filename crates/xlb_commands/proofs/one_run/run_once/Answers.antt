@@ -16,7 +16,7 @@ use Rattle.wire.specs.FrameView.{FrameView}
 use Rattle.command_line.specs.Reading.{text_of}
 use Rattle.command_line.specs.declared.commands.RunFiles.{RunFiles}
 use Rattle.xlb_commands.specs.Files.{FileBytes, AreKept, AreAllKeptBut, IsImageFile}
-use Rattle.xlb_commands.specs.Refused.{IsFittingProgram, AreRunInputs, IsEndedRun, no_report_room, no_run_program, no_run_frame, no_worker, not_run, stopped, not_told, not_filed}
+use Rattle.xlb_commands.specs.Refused.{IsFittingProgram, AreRunInputs, IsEndedRun, no_report_room, no_run_program, no_run_frame, no_worker, not_run, stopped, no_output_room, not_filed}
 use Rattle.xlb_commands.specs.Results.{run_options, program_of_run, start_of_run}
 use Rattle.xlb_commands.proofs.Refusals.{kept_twice, frame_refusal_before, failed_since, unfiled_since, written_down}
 use Rattle.xlb_commands.proofs.one_run.run_once.Goals as goal
@@ -188,7 +188,7 @@ returns-in_err-file-clause-refused g c =
     } in
     let p = err_from_is_err_and c.from_residual-in_err-file.result c.from_residual-in_err-file.ensures.1 in
     rw (p.1, p.2)
-    (not_told program c.in_ok-frame.frame.bytes (kept_twice _ _ _ c.judged_of.ensures.kept c.frame_of.ensures.kept) read below ended
+    (no_output_room program c.in_ok-frame.frame.bytes (kept_twice _ _ _ c.judged_of.ensures.kept c.frame_of.ensures.kept) read below ended
     c.in_err-file.ensures.refused)
 
 pub returns-in_err-text-clause-refused : goal.returns-in_err-text-clause-refused
@@ -209,7 +209,7 @@ returns-in_err-text-clause-refused g c =
       ended = ended_so _ _ _ _ _ _ _ _ _ _ _ c.in_ok-moment.ensures.given.1 c.in_ok-moment.ensures.given.0 at;
     } in
     let p = err_from_is_err_and c.from_residual-in_err-text.result c.from_residual-in_err-text.ensures.1 in
-    rw p.1 (not_told program c.in_ok-frame.frame.bytes (kept_twice _ _ _ c.judged_of.ensures.kept c.frame_of.ensures.kept) read below ended
+    rw p.1 (no_output_room program c.in_ok-frame.frame.bytes (kept_twice _ _ _ c.judged_of.ensures.kept c.frame_of.ensures.kept) read below ended
     (no_report_room p.2))
 
 -- the journals of a run are kept in rows

@@ -49,10 +49,10 @@ unopened maps updates worker BadOptions fault known below is = not_served (maps_
 unopened maps updates worker Memory fault known below is = no_map_memory (served _ _ (λ broken. no_memory (known.1 broken))) is
 
 -- an update was refused
-refused_so : {A : Type 0} (maps : List MapDef) (updates : List MapUpdate) (worker place : ℕ) (answer told : ℤ) (why : RunFault) (fault : Fault) → why ≡ Refused place answer → told ≡ answer
+refused_so : {A : Type 0} (maps : List MapDef) (updates : List MapUpdate) (worker place : ℕ) (answer reported : ℤ) (why : RunFault) (fault : Fault) → why ≡ Refused place answer → reported ≡ answer
     → (result_of A why ≡ result_of A (Open BadOptions) ↔ (IsFalse (are_served_options maps run_options) ⊎ (8 ≤ worker)))
-    → IsWhyNone maps run_options updates why → fault ≡ faults.Script (scripts.Refused told) → IsRunFault maps updates fault
-refused_so {A} maps updates worker place answer told why fault e same known none is =
+    → IsWhyNone maps run_options updates why → fault ≡ faults.Script (scripts.Refused reported) → IsRunFault maps updates fault
+refused_so {A} maps updates worker place answer reported why fault e same known none is =
     update_refused place answer
     (served _ _ (λ broken. no_refusal place answer (subst (λ (it : RunFault). result_of A it ≡ result_of A (Open BadOptions)) e (known.1 broken))))
     (subst (IsWhyNone maps run_options updates) e none) (is ∙ ap (λ (it : ℤ). faults.Script (scripts.Refused it)) same)

@@ -42,8 +42,8 @@ unfiled_as before after failed names made sent journals fault same is =
 
 pub left_of-requires-clause-ends : goal.left_of-requires-clause-ends
 left_of-requires-clause-ends g c =
-    let told = c.in-Ok.ensures.made.accounted in
-    ap length told.ends ∙ length_ends (frames_of c.in_ok-capture.capture.records.items) c.args.asked.options.workers told.runs (length c.in_ok-capture.capture.records.items)
+    let account = c.in-Ok.ensures.made.accounted in
+    ap length account.ends ∙ length_ends (frames_of c.in_ok-capture.capture.records.items) c.args.asked.options.workers account.runs (length c.in_ok-capture.capture.records.items)
 
 pub left_of-requires-clause-rows : goal.left_of-requires-clause-rows
 left_of-requires-clause-rows g c = λ file is.

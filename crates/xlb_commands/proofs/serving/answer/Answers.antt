@@ -22,10 +22,10 @@ shipped_whole before after settings out ring answer report same is whole silent 
 
 pub returns-in_ok-write_shipped-in-Shipped-clause-answered : goal.returns-in_ok-write_shipped-in-Shipped-clause-answered
 returns-in_ok-write_shipped-in-Shipped-clause-answered g c =
-    let told = c.reported-in-Shipped.ensures in
+    let made = c.reported-in-Shipped.ensures in
     let same : c.args.settings.now ≡ Shipped c.in-Shipped.out c.in-Shipped.ring = search rules in
-    shipped_whole _ _ c.args.settings.now c.in-Shipped.out c.in-Shipped.ring c.reported-in-Shipped.result told.0 same told.1 told.2
-    (ap string_bytes told.3 ∙ c.in_ok-write_shipped-in-Shipped.ensures.silent) c.in_ok-write_shipped-in-Shipped.ensures.done
+    shipped_whole _ _ c.args.settings.now c.in-Shipped.out c.in-Shipped.ring c.reported-in-Shipped.result made.0 same made.1 made.2
+    (ap string_bytes made.3 ∙ c.in_ok-write_shipped-in-Shipped.ensures.silent) c.in_ok-write_shipped-in-Shipped.ensures.done
 
 -- tables are printed, of a script with a command that was refused, or with none
 tables_shown : (before after : FileBytes) (settings : Settings) (script : Bor (List ℕ)) (ring : ℕ) (answer : CommandAnswer) (report : Report)

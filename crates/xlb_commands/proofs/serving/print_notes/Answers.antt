@@ -21,9 +21,9 @@ returns-in-Ok g c =
     record {
       notes = form.below;
       are_notes = form.are_notes;
-      told = λ same. c.print_below.ensures same
+      printed = λ same. c.print_below.ensures same
           ∙ ap (append_known _) (ap (λ (it : List ℕ). drop 1 it) c.deref.ensures.value ∙ below_is _ _ form);
     }
 
 pub returns-in-Err : goal.returns-in-Err
-returns-in-Err g c = record { notes = []; are_notes = refl; told = c.print.ensures }
+returns-in-Err g c = record { notes = []; are_notes = refl; printed = c.print.ensures }

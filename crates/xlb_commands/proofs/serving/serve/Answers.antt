@@ -6,7 +6,7 @@ use Rattle.xlb_commands.specs.Results.{IsAnswer}
 use Rattle.xlb_commands.specs.declared.report.Report.{Report}
 use Rattle.xlb_commands.specs.declared.serving.CommandAnswer.{CommandAnswer}
 use Rattle.xlb_commands.specs.declared.serving.CommandAnswer.TheVariants as answers
-use Rattle.xlb_commands.specs.Refused.{not_printed, notes_told, refused_with}
+use Rattle.xlb_commands.specs.Refused.{not_printed, printed_notes, refused_with}
 use Rattle.std.specs.Io.KnownBytes.{append_known}
 use Rattle.xlb_commands.proofs.serving.serve.Goals as goal
 
@@ -64,8 +64,8 @@ returns-in-Ok-Reported-clause-refused g c =
           not_printed (string_bytes c.in-Ok-Reported.report.text)
           (one_of c.in-Ok-Reported.report.is_refused known.0 known.1)
           c.in-Err-write_all.ensures.counted c.from.ensures;
-      notes = notes_told c.from.result.notes;
-      told = c.refuse.ensures.told;
+      notes = printed_notes c.from.result.notes;
+      printed = c.refuse.ensures.printed;
       nothing = λ same. absurd (has_grown _ _ c.in-Err-write_all.ensures.counted same);
     })
 
@@ -73,7 +73,7 @@ pub returns-clause-refused : goal.returns-clause-refused
 returns-clause-refused g c = λ is. inr (record {
   fault = c.in-Err.refusal.fault;
   fault_is = refused_with c.in-Err.ensures.refused;
-  notes = notes_told c.in-Err.refusal.notes;
-  told = c.refuse-in-Err.ensures.told;
+  notes = printed_notes c.in-Err.refusal.notes;
+  printed = c.refuse-in-Err.ensures.printed;
   nothing = λ same. refl;
 })

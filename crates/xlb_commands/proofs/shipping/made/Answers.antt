@@ -18,7 +18,7 @@ returns-in-Err-clause-refused c =
     record {
       why = c.in-Err.fault;
       size = ((λ e. why.0 (ap (λ (fault : SteerFault). Err fault) e)), (λ broken. same_fault _ _ (why.1 broken)));
-      told = c.hinted.ensures;
+      fault_is = c.hinted.ensures;
     }
 
 -- whether a table may have a size is decided, so a size is one where the contrary is wrong
