@@ -12,4 +12,4 @@ mod counted_traffic;
 #[cfg(test)]
 mod files_in_memory;
 #[cfg(test)]
-mod told_mistakes;
+mod printed_mistakes;

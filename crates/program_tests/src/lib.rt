@@ -23,6 +23,8 @@ mod map_values;
 #[cfg(test)]
 mod operation_rows;
 #[cfg(test)]
+mod printed_reasons;
+#[cfg(test)]
 mod program_structure;
 #[cfg(test)]
 mod programs;
@@ -34,8 +36,6 @@ mod runs;
 mod sources;
 #[cfg(test)]
 mod straight_code;
-#[cfg(test)]
-mod told_reasons;
 #[cfg(test)]
 mod updates_in_words;
 #[cfg(test)]
