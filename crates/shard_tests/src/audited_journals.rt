@@ -9,6 +9,7 @@ use ebpf_decode::{MapDef, MapKind};
 use journals::{EntryList, Journals};
 use semantics::{Call, Caller, CellRef, Entry, Options, Reply};
 use std::alloc::Global;
+use std::process::Abort;
 use std::test::Fail;
 
 fn entry(worker: u8, call: Call, reply: Reply) -> Entry {
@@ -16,22 +17,34 @@ fn entry(worker: u8, call: Call, reply: Reply) -> Entry {
     Entry { who, call, reply }
 }
 
-/// The journals of one array of one value: two workers enter, and one may load from a cell that it did not look up.
-fn journals(alloc: Global, is_loaded: bool) -> Result<Journals, Fail>
+/// Two workers enter, and one may load from a cell that it did not look up.
+fn entries_of<R: Abort>(rt: &R, alloc: Global, is_loaded: bool) -> EntryList {
+    let shard = 0;
+    let enter = Call::Enter { shard };
+    let load = Call::Load {
+        cell: CellRef { shard, id: 0 },
+        offset: 0,
+        size: 8,
+    };
+    let mut entries = EntryList::new(alloc);
+    entries
+        .push(&entry(1, enter, Reply::Entered))
+        .expect(rt, "room");
+    entries
+        .push(&entry(0, enter, Reply::Entered))
+        .expect(rt, "room");
+    if is_loaded {
+        entries
+            .push(&entry(1, load, Reply::Word { value: 0 }))
+            .expect(rt, "room");
+    }
+    entries
+}
+
+/// The journals of one array of one value, with these entries.
+fn journals<R: Abort>(rt: &R, alloc: Global, is_loaded: bool) -> Result<Journals, Fail>
     ensures { IfOk result (λ journals. KeepsRows journals.options.journal) }
 {
-    let shard = 0;
-    let mut entries = EntryList::new(alloc);
-    entries.push(&entry(1, Call::Enter { shard }, Reply::Entered))?;
-    entries.push(&entry(0, Call::Enter { shard }, Reply::Entered))?;
-    if is_loaded {
-        let load = Call::Load {
-            cell: CellRef { shard, id: 0 },
-            offset: 0,
-            size: 8,
-        };
-        entries.push(&entry(1, load, Reply::Word { value: 0 }))?;
-    }
     let mut maps = Vec::new(alloc);
     maps.push(MapDef {
         kind: MapKind::Array,
@@ -45,24 +58,33 @@ fn journals(alloc: Global, is_loaded: bool) -> Result<Journals, Fail>
         journal: 16,
     };
     let mut lists = Vec::new(alloc);
-    lists.push(entries)?;
+    lists.push(entries_of(rt, alloc, is_loaded))?;
     Ok(Journals::listed(maps, options, lists))
 }
 
 /// What the audit says of these journals.
-fn audited(alloc: Global, is_loaded: bool) -> Result<Result<(), AuditFault>, Fail> {
-    let journals = journals(alloc, is_loaded)?;
+fn audited<R: Abort>(
+    rt: &R,
+    alloc: Global,
+    is_loaded: bool,
+) -> Result<Result<(), AuditFault>, Fail> {
+    let journals = journals(rt, alloc, is_loaded)?;
     Ok(audit(alloc, &journals))
 }
 
 #[test]
 fn first_illegal_entries(rt: HostRuntime) -> Result<(), Fail> {
     let wanted = Err(AuditFault::Illegal { shard: 0, place: 2 });
-    same(&rt, "two runs enter", &audited(rt.alloc(), false)?, &Ok(()));
+    same(
+        &rt,
+        "two runs enter",
+        &audited(&rt, rt.alloc(), false)?,
+        &Ok(()),
+    );
     same(
         &rt,
         "a Load of no cell",
-        &audited(rt.alloc(), true)?,
+        &audited(&rt, rt.alloc(), true)?,
         &wanted,
     );
     Ok(())

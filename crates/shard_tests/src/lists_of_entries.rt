@@ -4,7 +4,8 @@ use crate::asserting::same;
 use ebpf_decode::{MapDef, MapKind};
 use journals::EntryList;
 use semantics::{Call, Caller, CellRef, Entry, Key, Options, Reply, Value};
-use std::alloc::{AllocError, Global};
+use std::alloc::Global;
+use std::process::Abort;
 
 /// Two maps whose entries 1, 2 and 4 divide, and 8 does not.
 const MAPS: [MapDef; 2] = [
@@ -40,13 +41,13 @@ const OPTIONS: [(&str, u32, u32, u32, bool); 12] = [
 
 #[test]
 fn options_that_open_shards(rt: HostRuntime) {
-    for (name, workers, shards, journal, want) in OPTIONS {
+    for (name, workers, shards, journal, want) in &OPTIONS {
         let options = Options {
-            workers,
-            shards,
-            journal,
+            workers: *workers,
+            shards: *shards,
+            journal: *journal,
         };
-        same(&rt, name, &options.fit(&MAPS), &want);
+        same(&rt, name, &options.fit(&MAPS), want);
     }
 }
 
@@ -108,12 +109,12 @@ fn entry_at(calls: &[Call; 12], place: usize) -> Entry {
 }
 
 /// This many entries.
-fn list_of(alloc: Global, calls: &[Call; 12], count: usize) -> Result<EntryList, AllocError> {
+fn list_of<R: Abort>(rt: &R, alloc: Global, calls: &[Call; 12], count: usize) -> EntryList {
     let mut list = EntryList::new(alloc);
     for place in 0..count {
-        list.push(&entry_at(calls, place))?;
+        list.push(&entry_at(calls, place)).expect(rt, "room");
     }
-    Ok(list)
+    list
 }
 
 /// The place of the first entry that is not what was put there.
@@ -127,9 +128,9 @@ fn first_other(list: &EntryList, calls: &[Call; 12]) -> Option<usize> {
 }
 
 #[test]
-fn entries_read_back(rt: HostRuntime) -> Result<(), AllocError> {
+fn entries_read_back(rt: HostRuntime) {
     let calls = calls();
-    let list = list_of(rt.alloc(), &calls, 1000)?;
+    let list = list_of(&rt, rt.alloc(), &calls, 1000);
     same(&rt, "how many entries", &list.len(), &1000);
     same(
         &rt,
@@ -137,5 +138,4 @@ fn entries_read_back(rt: HostRuntime) -> Result<(), AllocError> {
         &first_other(&list, &calls),
         &None,
     );
-    Ok(())
 }

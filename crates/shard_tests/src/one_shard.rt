@@ -212,7 +212,7 @@ fn entries_of(
 }
 
 #[rattlefmt::skip]
-const ARRAY_OF_TWO: [Row; 26] = [
+static ARRAY_OF_TWO: [Row; 26] = [
     ("an index out of range under NOEXIST",       IndexCall::Put(2, 7, NOEXIST), Reply::Answer { code: -7 }),
     ("an index is there under NOEXIST",           IndexCall::Put(0, 7, NOEXIST), Reply::Answer { code: -17 }),
     ("unknown flags",                             IndexCall::Put(0, 7, 3),       Reply::Answer { code: -22 }),
@@ -284,8 +284,8 @@ fn array_of_size(
 
 #[test]
 fn arrays_of_each_size(rt: HostRuntime) -> Result<(), AllocError> {
-    for (value_size, max_entries) in SIZES {
-        array_of_size(&rt, rt.alloc(), value_size, max_entries)?;
+    for (value_size, max_entries) in &SIZES {
+        array_of_size(&rt, rt.alloc(), *value_size, *max_entries)?;
     }
     Ok(())
 }
@@ -312,7 +312,7 @@ const CELLS_RUN_OUT: [Row; 8] = [
 ];
 
 #[rattlefmt::skip]
-const HELD_CELL_STAYS: [Row; 14] = [
+static HELD_CELL_STAYS: [Row; 14] = [
     ("a key",                             IndexCall::Put(1, 1, ANY),     Reply::Answer { code: 0 }),
     ("a worker enters",                   IndexCall::Enter(0),           Reply::Entered),
     ("an absent key",                     IndexCall::Look(0, 2),         Reply::Null),
@@ -337,9 +337,9 @@ fn hash_plan(max_entries: u32) -> ShardPlan
 
 #[test]
 fn hash_of_one_entry(rt: HostRuntime) -> Result<(), AllocError> {
-    for rows in [&HASH_OF_ONE[..], &CELLS_RUN_OUT, &HELD_CELL_STAYS] {
-        let _count = entries_of(&rt, rt.alloc(), hash_plan(1), rows)?;
-    }
+    let _count = entries_of(&rt, rt.alloc(), hash_plan(1), &HASH_OF_ONE)?;
+    let _count = entries_of(&rt, rt.alloc(), hash_plan(1), &CELLS_RUN_OUT)?;
+    let _count = entries_of(&rt, rt.alloc(), hash_plan(1), &HELD_CELL_STAYS)?;
     Ok(())
 }
 

@@ -146,28 +146,22 @@ fn call_of(ask: KeyCall) -> Call {
 }
 
 /// Makes a call that its caller may make and for which there is room. Its reply is foretold.
-fn make(
-    rt: &impl Abort,
-    shard: &mut OneThreadShard,
-    name: &str,
-    ask: KeyCall,
-) -> Result<Reply, AllocError> {
+fn make(rt: &impl Abort, shard: &mut OneThreadShard, name: &str, ask: KeyCall) -> Reply {
     let who = caller_of(ask);
     let call = call_of(ask);
     holds(rt, name, shard.meets(&who, &call));
     holds(rt, name, !shard.is_full(&call));
     let foretold = shard.reply(&who, &call);
-    let reply = shard.step(who, &call)?;
+    let reply = shard.step(who, &call).expect(rt, "a step");
     same(rt, name, &foretold, &reply);
-    Ok(reply)
+    reply
 }
 
 /// Makes the calls of the rows in turn.
-fn serves(rt: &impl Abort, shard: &mut OneThreadShard, rows: &[Row]) -> Result<(), AllocError> {
+fn serves(rt: &impl Abort, shard: &mut OneThreadShard, rows: &[Row]) {
     for (name, ask, want) in rows {
-        same(rt, name, &make(rt, shard, name, *ask)?, want);
+        same(rt, name, &make(rt, shard, name, *ask), want);
     }
-    Ok(())
 }
 
 /// Makes the calls of the rows in turn, on a shard in which nothing has happened.
@@ -180,7 +174,7 @@ fn serves_new(
     requires { IsPlan plan }
 {
     let mut shard = OneThreadShard::open(alloc, plan)?;
-    serves(rt, &mut shard, rows)?;
+    serves(rt, &mut shard, rows);
     Ok(shard)
 }
 
@@ -206,7 +200,7 @@ const NO_FREE_CELL: [Row; 8] = [
 ];
 
 #[rattlefmt::skip]
-const HELD_CELL: [Row; 13] = [
+static HELD_CELL: [Row; 13] = [
     ("a key",                                KeyCall::Put(A, ANY),       Reply::Answer { code: 0 }),
     ("a worker enters",                      KeyCall::Enter(0),          Reply::Entered),
     ("it finds the cell",                    KeyCall::Look(0, A),        Reply::Cell { cell: CellRef { shard: 0, id: 0 } }),
@@ -223,7 +217,7 @@ const HELD_CELL: [Row; 13] = [
 ];
 
 #[rattlefmt::skip]
-const TWO_USED: [Row; 9] = [
+static TWO_USED: [Row; 9] = [
     ("the first key",                          KeyCall::Put(A, ANY), Reply::Answer { code: 0 }),
     ("the second key",                         KeyCall::Put(B, ANY), Reply::Answer { code: 0 }),
     ("a worker enters",                        KeyCall::Enter(0),    Reply::Entered),
@@ -236,7 +230,7 @@ const TWO_USED: [Row; 9] = [
 ];
 
 #[rattlefmt::skip]
-const ARRAY_OF_TWO: [Row; 15] = [
+static ARRAY_OF_TWO: [Row; 15] = [
     ("an index out of range under NOEXIST",  KeyCall::Put(2, NOEXIST),   Reply::Answer { code: -7 }),
     ("an index is there under NOEXIST",      KeyCall::Put(0, NOEXIST),   Reply::Answer { code: -17 }),
     ("unknown flags",                        KeyCall::Put(0, 3),         Reply::Answer { code: -22 }),
@@ -299,7 +293,7 @@ const THE_RUN_LEAVES: [Row; 1] = [("the run leaves", KeyCall::Leave(0), Reply::L
 fn journal_of_16_entries(rt: HostRuntime) -> Result<(), AllocError> {
     let plan = plan(MapKind::Array, 2, 16);
     let mut shard = serves_new(&rt, rt.alloc(), plan, &A_RUN_ENTERS)?;
-    serves(&rt, &mut shard, &PAST_THE_END)?;
+    serves(&rt, &mut shard, &PAST_THE_END);
     same(&rt, "how many entries", &shard.journal().len(), &15);
     holds(
         &rt,
@@ -311,13 +305,13 @@ fn journal_of_16_entries(rt: HostRuntime) -> Result<(), AllocError> {
         "another run",
         shard.is_full(&call_of(KeyCall::Enter(1))),
     );
-    serves(&rt, &mut shard, &THE_RUN_LEAVES)?;
+    serves(&rt, &mut shard, &THE_RUN_LEAVES);
     holds(&rt, "a Reclaim", shard.is_full(&call_of(KeyCall::Reclaim)));
     Ok(())
 }
 
 #[rattlefmt::skip]
-const NOT_SERVED: [(&str, KeyCall); 14] = [
+static NOT_SERVED: [(&str, KeyCall); 14] = [
     ("a worker enters once",                   KeyCall::Enter(0)),
     ("a worker outside does not leave",        KeyCall::Leave(1)),
     ("a worker outside looks nothing up",      KeyCall::Look(1, 0)),

@@ -47,7 +47,7 @@ enum Got {
 type Row = (&'static str, PortCall, Got);
 
 /// An image of two arrays and a hash map.
-fn example_image(alloc: Global) -> Result<Image, Fail>
+fn example_image<R: Abort>(rt: &R, alloc: Global) -> Result<Image, Fail>
     ensures maps { IfOk result (λ image. image.maps ≡ example_maps) }
 {
     let mut maps = Vec::new(alloc);
@@ -55,7 +55,7 @@ fn example_image(alloc: Global) -> Result<Image, Fail>
     maps.push(array_of(3))?;
     maps.push(hash_of(2))?;
     let mut code = Vec::new(alloc);
-    code.push(Insn::Exit)?;
+    code.push(Insn::Exit).expect(rt, "code");
     Ok(Image::of(Version::V1, maps, code)?)
 }
 
@@ -334,7 +334,7 @@ fn session(
     refused: Option<JournalFull>,
     entries: &[Says],
 ) -> Result<(), Fail> {
-    let image = example_image(alloc)?;
+    let image = example_image(rt, alloc)?;
     let options = options_of(journal);
     let mut shards = PlainShards::open(alloc, &image, options)?;
     opened_serve();
@@ -440,7 +440,7 @@ fn last_entry_is_the_leave(rt: HostRuntime) -> Result<(), Fail> {
 }
 
 #[rattlefmt::skip]
-const ANSWERS: [Row; 16] = [
+static ANSWERS: [Row; 16] = [
     ("a store",                             PortCall::Store(1, 1, 0x0102),      Got::Nothing),
     ("is read back",                        PortCall::Load(1, 1),               Got::Number(0x0102)),
     ("the cell beside it stays",            PortCall::Load(1, 2),               Got::Number(0)),
@@ -465,7 +465,7 @@ fn answers_of_an_array(rt: HostRuntime) -> Result<(), Fail> {
 }
 
 #[rattlefmt::skip]
-const KEYS: [Row; 16] = [
+static KEYS: [Row; 16] = [
     ("a key that nobody put",          PortCall::Look(2, 7),        Got::Handle(0)),
     ("none to replace",                PortCall::Put(2, 7, 1, 2),   Got::Answer(-2)),
     ("none to delete",                 PortCall::Remove(2, 7),      Got::Answer(-2)),
@@ -521,7 +521,7 @@ const TWO_SESSIONS: [Entered; 6] = [
 /// A second run has a session of its own.
 #[test]
 fn one_session_for_each_run(rt: HostRuntime) -> Result<(), Fail> {
-    let image = example_image(rt.alloc())?;
+    let image = example_image(&rt, rt.alloc())?;
     let options = options_of(64);
     let mut shards = PlainShards::open(rt.alloc(), &image, options)?;
     opened_serve();

@@ -9,12 +9,12 @@ use std::process::Abort;
 use std::test::Fail;
 
 /// An image with these maps.
-fn image_of(alloc: Global, version: Version, definitions: &[MapDef]) -> Result<Image, Fail> {
+fn image_of<R: Abort>(rt: &R, alloc: Global, version: Version, definitions: &[MapDef]) -> Image {
     let mut maps = Vec::new(alloc);
-    maps.extend_from_slice(definitions)?;
+    maps.extend_from_slice(definitions).expect(rt, "maps");
     let mut code = Vec::new(alloc);
-    code.push(Insn::Exit)?;
-    Ok(Image::of(version, maps, code)?)
+    code.push(Insn::Exit).expect(rt, "code");
+    Image::of(version, maps, code).expect(rt, "an image")
 }
 
 /// Two arrays.
@@ -24,12 +24,15 @@ const TWO_MAPS: [MapDef; 2] = [
     MapDef { kind: MapKind::Array, key_size: 4, value_size: 8, max_entries: 4096 },
 ];
 
-fn two_maps(alloc: Global) -> Result<Image, Fail> {
-    image_of(alloc, Version::V1, &TWO_MAPS)
+fn two_maps<R: Abort>(rt: &R, alloc: Global) -> Image {
+    image_of(rt, alloc, Version::V1, &TWO_MAPS)
 }
 
+/// A name, workers, shards to a map, entries of a journal, and why no shards are opened.
+type OptionsRow = (&'static str, u32, u32, u32, Option<OpenFault>);
+
 #[rattlefmt::skip]
-const OPTIONS: [(&str, u32, u32, u32, Option<OpenFault>); 11] = [
+const OPTIONS: [OptionsRow; 11] = [
     ("the least",                 1, 1, 16,        None),
     ("the most workers",          8, 1, 16,        None),
     ("no worker",                 0, 1, 16,        Some(OpenFault::BadOptions)),
@@ -74,18 +77,22 @@ fn refusal(alloc: Global, image: &Image, options: Options) -> Option<OpenFault> 
     }
 }
 
-#[test]
-fn options_that_are_served(rt: HostRuntime) -> Result<(), Fail> {
-    let image = two_maps(rt.alloc())?;
-    for (name, workers, shards, journal, want) in OPTIONS {
+/// Compares which options of the rows are refused, and why.
+fn are_served(rt: &impl Abort, alloc: Global, image: &Image, rows: &[OptionsRow]) {
+    for (name, workers, shards, journal, want) in rows {
         let options = Options {
-            workers,
-            shards,
-            journal,
+            workers: *workers,
+            shards: *shards,
+            journal: *journal,
         };
-        same(&rt, name, &refusal(rt.alloc(), &image, options), &want);
+        same(rt, name, &refusal(alloc, image, options), want);
     }
-    Ok(())
+}
+
+#[test]
+fn options_that_are_served(rt: HostRuntime) {
+    let image = two_maps(&rt, rt.alloc());
+    are_served(&rt, rt.alloc(), &image, &OPTIONS);
 }
 
 const WORKER: Caller = Caller::Worker { number: 1 };
@@ -101,7 +108,7 @@ enum WorkerCall {
 type Row = (&'static str, u32, WorkerCall, Reply, [usize; 2]);
 
 #[rattlefmt::skip]
-const OF_TWO_MAPS: [Row; 6] = [
+static OF_TWO_MAPS: [Row; 6] = [
     ("a worker enters the first",   0, WorkerCall::Enter,      Reply::Entered,                                      [1, 0]),
     ("the first's last index",      0, WorkerCall::Look(2),    Reply::Cell { cell: CellRef { shard: 0, id: 2 } },    [2, 0]),
     ("no index past the first's end", 0, WorkerCall::Look(3),    Reply::Null,                                         [3, 0]),
@@ -150,11 +157,11 @@ fn serves(rt: &impl Abort, mut shards: PlainShards, rows: &[Row]) {
 
 /// The shard of each map has the map's entries, its own number and its own journal.
 #[test]
-fn one_shard_for_each_map(rt: HostRuntime) -> Result<(), Fail> {
-    let shards = opened(rt.alloc(), &two_maps(rt.alloc())?, 2, 1)?;
+fn one_shard_for_each_map(rt: HostRuntime) {
+    let image = two_maps(&rt, rt.alloc());
+    let shards = opened(rt.alloc(), &image, 2, 1).expect(&rt, "shards");
     same(&rt, "how many shards", &shards.count(), &2);
     serves(&rt, shards, &OF_TWO_MAPS);
-    Ok(())
 }
 
 /// An array, a hash map and an LRU map, whose values have 256 bytes.
@@ -165,8 +172,8 @@ const THREE_KINDS: [MapDef; 3] = [
     MapDef { kind: MapKind::LruHash, key_size: 4, value_size: 256, max_entries: 16 },
 ];
 
-fn three_kinds(alloc: Global) -> Result<Image, Fail> {
-    image_of(alloc, Version::V2, &THREE_KINDS)
+fn three_kinds<R: Abort>(rt: &R, alloc: Global) -> Image {
+    image_of(rt, alloc, Version::V2, &THREE_KINDS)
 }
 
 /// PlainShards to a map, and how many there are of three maps; none where the options are refused.
@@ -182,12 +189,11 @@ const COUNTS: [(&str, u32, Option<usize>); 8] = [
 ];
 
 #[test]
-fn shards_to_a_map(rt: HostRuntime) -> Result<(), Fail> {
-    let image = three_kinds(rt.alloc())?;
-    for (name, shards, want) in COUNTS {
-        same(&rt, name, &count_of(rt.alloc(), &image, shards), &want);
+fn shards_to_a_map(rt: HostRuntime) {
+    let image = three_kinds(&rt, rt.alloc());
+    for (name, shards, want) in &COUNTS {
+        same(&rt, name, &count_of(rt.alloc(), &image, *shards), want);
     }
-    Ok(())
 }
 
 /// A number, with its map's kind and its part of four.
@@ -205,21 +211,33 @@ fn plan_of(rt: &impl Abort, shards: &mut PlainShards, name: &str, number: u32) -
     *shards.shard(number).plan()
 }
 
+/// Compares the kind, the number and the part of a shard.
+fn has_place(
+    rt: &impl Abort,
+    shards: &mut PlainShards,
+    name: &str,
+    number: u32,
+    kind: MapKind,
+    part: u32,
+) {
+    let plan = plan_of(rt, shards, name, number);
+    same(rt, name, &plan.definition.kind, &kind);
+    same(
+        rt,
+        name,
+        &[plan.number, plan.part, plan.parts],
+        &[number, part, 4],
+    );
+}
+
 /// `PlainShards` are in order, map after map, part after part.
 #[test]
-fn places_of_shards(rt: HostRuntime) -> Result<(), Fail> {
-    let mut shards = opened(rt.alloc(), &three_kinds(rt.alloc())?, 1, 4)?;
-    for (name, number, kind, part) in PLACES {
-        let plan = plan_of(&rt, &mut shards, name, number);
-        same(&rt, name, &plan.definition.kind, &kind);
-        same(
-            &rt,
-            name,
-            &[plan.number, plan.part, plan.parts],
-            &[number, part, 4],
-        );
+fn places_of_shards(rt: HostRuntime) {
+    let image = three_kinds(&rt, rt.alloc());
+    let mut shards = opened(rt.alloc(), &image, 1, 4).expect(&rt, "shards");
+    for (name, number, kind, part) in &PLACES {
+        has_place(&rt, &mut shards, name, *number, *kind, *part);
     }
-    Ok(())
 }
 
 /// Compares a fault's number and its text.

@@ -6,7 +6,6 @@ mod rows;
 mod two_workers;
 mod waiting;
 
-ghost use Rattle.std.specs.Prelude.{IfOk};
 ghost use Rattle.shards.specs.NewShards.{IsNamed};
 
 use crate::asserting::{holds, same};
@@ -14,36 +13,39 @@ use ebpf_decode::{Image, Insn, MapDef, MapKind, Version};
 use journals::Journals;
 use semantics::{Call, Caller, CellRef, Key, Options, Reply};
 use shards::{Naming, Opened, Pass, PassFault, Shards};
-use std::alloc::{AllocError, Global};
+use std::alloc::Global;
 use std::marker::Brand;
 use std::process::Abort;
 use std::sync::Wait;
-use std::test::Fail;
 use std::thread::{Threads, join};
 
 /// An image of two arrays.
-fn two_maps(alloc: Global) -> Result<Image, Fail> {
+fn two_maps<R: Abort>(rt: &R, alloc: Global) -> Image {
     let mut maps = Vec::new(alloc);
-    for max_entries in [4, 4096] {
-        maps.push(MapDef {
-            kind: MapKind::Array,
-            key_size: 4,
-            value_size: 8,
-            max_entries,
-        })?;
-    }
+    maps.push(array_of(4)).expect(rt, "a map");
+    maps.push(array_of(4096)).expect(rt, "a map");
     let mut code = Vec::new(alloc);
-    code.push(Insn::Exit)?;
-    Ok(Image::of(Version::V1, maps, code)?)
+    code.push(Insn::Exit).expect(rt, "code");
+    Image::of(Version::V1, maps, code).expect(rt, "an image")
 }
 
-fn opened(alloc: Global, journal: u32) -> Result<Opened, Fail> {
+fn array_of(max_entries: u32) -> MapDef {
+    MapDef {
+        kind: MapKind::Array,
+        key_size: 4,
+        value_size: 8,
+        max_entries,
+    }
+}
+
+fn opened<R: Abort>(rt: &R, alloc: Global, journal: u32) -> Opened {
     let options = Options {
         workers: 2,
         shards: 1,
         journal,
     };
-    Ok(Opened::open(alloc, &two_maps(alloc)?, options)?)
+    let image = two_maps(rt, alloc);
+    Opened::open(alloc, &image, options).expect(rt, "shards")
 }
 
 /// A call of the second shard.
@@ -91,7 +93,7 @@ fn attempt<B: Naming, R: Abort + Wait>(
 
 /// What each call replies, and whether its caller is inside afterwards.
 #[rattlefmt::skip]
-const IN_TURN: [(&str, bool, Step, Option<Reply>, bool); 13] = [
+static IN_TURN: [(&str, bool, Step, Option<Reply>, bool); 13] = [
     ("nobody leaves who is outside",       true,  Step::Leave,                None, false),
     ("a worker enters",                    true,  Step::Enter,                Some(Reply::Entered), true),
     ("it enters once",                     true,  Step::Enter,                None, true),
@@ -118,39 +120,42 @@ fn length_of(journals: &Journals, number: usize) -> usize {
 }
 
 /// New shards, and the passes of both workers.
-fn two_passes<B: Naming>(
+fn two_passes<B: Naming, R: Abort>(
+    rt: &R,
     alloc: Global,
     opened: Opened,
-) -> Result<(Shards<B>, Pass<B>, Pass<B>), Fail>
+) -> (Shards<B>, Pass<B>, Pass<B>)
     requires { IsNamed B.count B.table B.plan B.order opened }
 {
-    let (shards, mut dealer) = opened.share::<B>(alloc)?;
-    let first = dealer.pass(alloc, Caller::Worker { number: 0 })?;
-    let second = dealer.pass(alloc, Caller::Worker { number: 1 })?;
-    Ok((shards, first, second))
+    let (shards, mut dealer) = opened.share::<B>(alloc).expect(rt, "shared shards");
+    let first = dealer.pass(alloc, Caller::Worker { number: 0 });
+    let first = first.expect(rt, "a pass");
+    let second = dealer.pass(alloc, Caller::Worker { number: 1 });
+    let second = second.expect(rt, "a pass");
+    (shards, first, second)
 }
 
 /// New shards, and the pass of the first worker.
-fn one_pass<B: Naming>(alloc: Global, opened: Opened) -> Result<(Shards<B>, Pass<B>), Fail>
+fn one_pass<B: Naming, R: Abort>(rt: &R, alloc: Global, opened: Opened) -> (Shards<B>, Pass<B>)
     requires { IsNamed B.count B.table B.plan B.order opened }
 {
-    let (shards, mut dealer) = opened.share::<B>(alloc)?;
-    let pass = dealer.pass(alloc, Caller::Worker { number: 0 })?;
-    Ok((shards, pass))
+    let (shards, mut dealer) = opened.share::<B>(alloc).expect(rt, "shared shards");
+    let pass = dealer.pass(alloc, Caller::Worker { number: 0 });
+    (shards, pass.expect(rt, "a pass"))
 }
 
 /// The journals when the shards are closed.
-fn closed<B: Naming>(
-    rt: &impl Wait,
+fn closed<B: Naming, R: Abort + Wait>(
+    rt: &R,
     alloc: Global,
     shards: Shards<B>,
     first: Pass<B>,
     second: Pass<B>,
-) -> Result<Journals, AllocError> {
-    let mut passes = Vec::with_capacity(alloc, 2)?;
-    passes.push_reserved(first);
-    passes.push_reserved(second);
-    Ok(shards.close(rt, passes))
+) -> Journals {
+    let mut passes = Vec::with_capacity(alloc, 2).expect(rt, "a list");
+    passes.push(first).expect(rt, "room");
+    passes.push(second).expect(rt, "room");
+    shards.close(rt, passes)
 }
 
 /// Makes a call, and compares what it replies and whether its caller is inside afterwards.
@@ -168,32 +173,31 @@ fn turn<B: Naming, R: Abort + Wait>(
     same(rt, name, &pass.is_inside(1), &inside);
 }
 
-fn in_turn<B: Naming, R: Abort + Wait>(rt: &R, alloc: Global, opened: Opened) -> Result<(), Fail>
+fn in_turn<B: Naming, R: Abort + Wait>(rt: &R, alloc: Global, opened: Opened)
     requires { IsNamed B.count B.table B.plan B.order opened }
 {
-    let (shards, mut first, mut second) = two_passes::<B>(alloc, opened)?;
-    for (name, is_first, step, want, inside) in IN_TURN {
-        if is_first {
-            turn(rt, &shards, &mut first, name, step, want, inside);
+    let (shards, mut first, mut second) = two_passes::<B, R>(rt, alloc, opened);
+    for (name, is_first, step, want, inside) in &IN_TURN {
+        if *is_first {
+            turn(rt, &shards, &mut first, name, *step, *want, *inside);
         } else {
-            turn(rt, &shards, &mut second, name, step, want, inside);
+            turn(rt, &shards, &mut second, name, *step, *want, *inside);
         }
     }
-    let journals = closed(rt, alloc, shards, first, second)?;
+    let journals = closed(rt, alloc, shards, first, second);
     same(rt, "how many journals", &journals.count(), &2);
     same(rt, "the first one's entries", &length_of(&journals, 0), &0);
     same(rt, "the second one's entries", &length_of(&journals, 1), &8);
-    Ok(())
 }
 
 #[test]
-fn two_passes_of_one_shard(rt: HostRuntime) -> Result<(), Fail> {
-    let opened = opened(rt.alloc(), 16)?;
-    in_turn::<Brand, HostRuntime>(&rt, rt.alloc(), opened)
+fn two_passes_of_one_shard(rt: HostRuntime) {
+    let opened = opened(&rt, rt.alloc(), 16);
+    in_turn::<Brand, HostRuntime>(&rt, rt.alloc(), opened);
 }
 
 #[rattlefmt::skip]
-const DEALT: [(&str, Caller, Option<PassFault>); 7] = [
+static DEALT: [(&str, Caller, Option<PassFault>); 7] = [
     ("the controller",        Caller::Controller,           None),
     ("the last worker",       Caller::Worker { number: 1 }, None),
     ("the controller again",  Caller::Controller,           Some(PassFault::PassTaken)),
@@ -203,20 +207,19 @@ const DEALT: [(&str, Caller, Option<PassFault>); 7] = [
     ("the last worker again", Caller::Worker { number: 1 }, Some(PassFault::PassTaken)),
 ];
 
-fn dealt<B: Naming, R: Abort + Wait>(rt: &R, alloc: Global, opened: Opened) -> Result<(), Fail>
+fn dealt<B: Naming, R: Abort + Wait>(rt: &R, alloc: Global, opened: Opened)
     requires { IsNamed B.count B.table B.plan B.order opened }
 {
-    let (_shards, mut dealer) = opened.share::<B>(alloc)?;
-    for (name, who, want) in DEALT {
-        same(rt, name, &dealer.pass(alloc, who).err(), &want);
+    let (_shards, mut dealer) = opened.share::<B>(alloc).expect(rt, "shared shards");
+    for (name, who, want) in &DEALT {
+        same(rt, name, &dealer.pass(alloc, *who).err(), want);
     }
-    Ok(())
 }
 
 #[test]
-fn passes_that_are_dealt(rt: HostRuntime) -> Result<(), Fail> {
-    let opened = opened(rt.alloc(), 65536)?;
-    dealt::<Brand, HostRuntime>(&rt, rt.alloc(), opened)
+fn passes_that_are_dealt(rt: HostRuntime) {
+    let opened = opened(&rt, rt.alloc(), 65536);
+    dealt::<Brand, HostRuntime>(&rt, rt.alloc(), opened);
 }
 
 const RUNS: u32 = 100;
@@ -238,10 +241,10 @@ fn by_two_threads<B: Naming + Send + Sync, R: Threads + Abort + Wait + Sync>(
     rt: &R,
     alloc: Global,
     opened: Opened,
-) -> Result<(), Fail>
+)
     requires { IsNamed B.count B.table B.plan B.order opened }
 {
-    let (shards, first, second) = two_passes::<B>(alloc, opened)?;
+    let (shards, first, second) = two_passes::<B, R>(rt, alloc, opened);
     let (one, two) = join(
         rt,
         || runs(rt, &shards, first),
@@ -253,33 +256,32 @@ fn by_two_threads<B: Naming + Send + Sync, R: Threads + Abort + Wait + Sync>(
         &[one, two],
         &[300, 300],
     );
-    let journals = shards.close(rt, Vec::with_capacity(alloc, 0)?);
+    let passes = Vec::with_capacity(alloc, 0).expect(rt, "a list");
+    let journals = shards.close(rt, passes);
     same(rt, "their entries", &length_of(&journals, 1), &600);
-    Ok(())
 }
 
 /// The journal has room for the calls of both, and for no entry that is made twice.
 #[test]
-fn two_threads_on_one_shard(rt: HostRuntime) -> Result<(), Fail> {
-    let opened = opened(rt.alloc(), 600)?;
-    by_two_threads::<Brand, HostRuntime>(&rt, rt.alloc(), opened)
+fn two_threads_on_one_shard(rt: HostRuntime) {
+    let opened = opened(&rt, rt.alloc(), 600);
+    by_two_threads::<Brand, HostRuntime>(&rt, rt.alloc(), opened);
 }
 
-fn held<B: Naming, R: Abort + Wait>(rt: &R, alloc: Global, opened: Opened) -> Result<(), Fail>
+fn held<B: Naming, R: Abort + Wait>(rt: &R, alloc: Global, opened: Opened)
     requires { IsNamed B.count B.table B.plan B.order opened }
 {
-    let (shards, mut pass) = one_pass::<B>(alloc, opened)?;
+    let (shards, mut pass) = one_pass::<B, R>(rt, alloc, opened);
     holds(rt, "there are two shards", 1 < shards.count());
     let got = shards.hold(rt, 0, || attempt(rt, &shards, &mut pass, Step::Enter));
     same(rt, "the call on the other", &got, &Some(Reply::Entered));
-    Ok(())
 }
 
 /// While one shard's lock is held, a call on the other is answered: each has a lock of its own, and what is to run under it runs.
 #[test]
-fn a_call_while_another_shard_is_held(rt: HostRuntime) -> Result<(), Fail> {
-    let opened = opened(rt.alloc(), 16)?;
-    held::<Brand, HostRuntime>(&rt, rt.alloc(), opened)
+fn a_call_while_another_shard_is_held(rt: HostRuntime) {
+    let opened = opened(&rt, rt.alloc(), 16);
+    held::<Brand, HostRuntime>(&rt, rt.alloc(), opened);
 }
 
 /// One run: Enter, this many Lookups, Leave. Says how many of the calls were served.
@@ -308,25 +310,19 @@ fn run_of<B: Naming, R: Abort + Wait>(
 type Run = (&'static str, u32, u32);
 
 /// Makes runs with this many Lookups, one after another in a journal of 16, and compares how many of their calls are served.
-fn filled<B: Naming, R: Abort + Wait>(
-    rt: &R,
-    alloc: Global,
-    opened: Opened,
-    runs: &[Run],
-) -> Result<(), Fail>
+fn filled<B: Naming, R: Abort + Wait>(rt: &R, alloc: Global, opened: Opened, runs: &[Run])
     requires { IsNamed B.count B.table B.plan B.order opened }
 {
-    let (shards, mut pass) = one_pass::<B>(alloc, opened)?;
+    let (shards, mut pass) = one_pass::<B, R>(rt, alloc, opened);
     for (name, lookups, want) in runs {
         same(rt, name, &run_of(rt, &shards, &mut pass, *lookups), want);
     }
-    Ok(())
 }
 
 /// Makes the runs on new shards.
-fn fills<R: Abort + Wait>(rt: &R, alloc: Global, runs: &[Run]) -> Result<(), Fail> {
-    let opened = opened(alloc, 16)?;
-    filled::<Brand, R>(rt, alloc, opened, runs)
+fn fills<R: Abort + Wait>(rt: &R, alloc: Global, runs: &[Run]) {
+    let opened = opened(rt, alloc, 16);
+    filled::<Brand, R>(rt, alloc, opened, runs);
 }
 
 const ONE_LONG_RUN: [Run; 1] = [("15 lookups", 15, 16)];
@@ -337,16 +333,16 @@ const AFTER_15: [Run; 2] = [("15 entries", 13, 15), ("no more", 0, 0)];
 
 /// Of 15 Lookups after an Enter 14 are served, and then the Leave.
 #[test]
-fn a_run_keeps_room_for_its_leave(rt: HostRuntime) -> Result<(), Fail> {
-    fills(&rt, rt.alloc(), &ONE_LONG_RUN)
+fn a_run_keeps_room_for_its_leave(rt: HostRuntime) {
+    fills(&rt, rt.alloc(), &ONE_LONG_RUN);
 }
 
 #[test]
-fn an_enter_after_14_entries_is_served(rt: HostRuntime) -> Result<(), Fail> {
-    fills(&rt, rt.alloc(), &AFTER_14)
+fn an_enter_after_14_entries_is_served(rt: HostRuntime) {
+    fills(&rt, rt.alloc(), &AFTER_14);
 }
 
 #[test]
-fn an_enter_after_15_entries_is_refused(rt: HostRuntime) -> Result<(), Fail> {
-    fills(&rt, rt.alloc(), &AFTER_15)
+fn an_enter_after_15_entries_is_refused(rt: HostRuntime) {
+    fills(&rt, rt.alloc(), &AFTER_15);
 }

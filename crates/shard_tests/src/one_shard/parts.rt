@@ -101,8 +101,8 @@ fn index_in_its_part(
 /// An index that is its remainder's belongs to that part alone.
 #[test]
 fn indices_by_parts(rt: HostRuntime) -> Result<(), AllocError> {
-    for (parts, index, part, id) in INDICES {
-        index_in_its_part(&rt, rt.alloc(), parts, index, part, id)?;
+    for (parts, index, part, id) in &INDICES {
+        index_in_its_part(&rt, rt.alloc(), *parts, *index, *part, *id)?;
     }
     Ok(())
 }
@@ -140,15 +140,27 @@ fn key_in_its_part(
     Ok(())
 }
 
+/// Does so for all keys.
+fn keys_in_their_parts(
+    rt: &impl Abort,
+    alloc: Global,
+    kind: MapKind,
+    parts: u32,
+) -> Result<(), AllocError> {
+    for (index, remainder) in &KEYS {
+        key_in_its_part(rt, alloc, kind, parts, *index, *remainder)?;
+    }
+    Ok(())
+}
+
+const PARTS: [u32; 4] = [1, 2, 4, 8];
+
 /// A key belongs to the part that is the remainder of its FNV-1a, and not to the next one.
 #[test]
 fn keys_by_parts(rt: HostRuntime) -> Result<(), AllocError> {
-    for kind in [MapKind::Hash, MapKind::LruHash] {
-        for parts in [1, 2, 4, 8] {
-            for (index, remainder) in KEYS {
-                key_in_its_part(&rt, rt.alloc(), kind, parts, index, remainder)?;
-            }
-        }
+    for parts in &PARTS {
+        keys_in_their_parts(&rt, rt.alloc(), MapKind::Hash, *parts)?;
+        keys_in_their_parts(&rt, rt.alloc(), MapKind::LruHash, *parts)?;
     }
     Ok(())
 }

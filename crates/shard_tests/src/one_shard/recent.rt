@@ -30,7 +30,7 @@ const AN_UPDATE_IS_A_USE: [Row; 6] = [
 ];
 
 #[rattlefmt::skip]
-const OTHER_CALLS_ARE_NO_USES: [Row; 11] = [
+static OTHER_CALLS_ARE_NO_USES: [Row; 11] = [
     ("a first key",                       IndexCall::Put(1, 1, ANY),     Reply::Answer { code: 0 }),
     ("a worker enters",                   IndexCall::Enter(0),           Reply::Entered),
     ("it finds the key",                  IndexCall::Look(0, 1),         Reply::Cell { cell: CellRef { shard: SHARD, id: 0 } }),
@@ -46,7 +46,7 @@ const OTHER_CALLS_ARE_NO_USES: [Row; 11] = [
 
 /// A worker holds A, for which B came. C finds no free cell, and B stays.
 #[rattlefmt::skip]
-const NO_CELL_NO_EVICTION: [Row; 17] = [
+static NO_CELL_NO_EVICTION: [Row; 17] = [
     ("A",                                 IndexCall::Put(1, 1, ANY),     Reply::Answer { code: 0 }),
     ("a worker enters",                   IndexCall::Enter(0),           Reply::Entered),
     ("it holds A's cell",                 IndexCall::Look(0, 1),         Reply::Cell { cell: CellRef { shard: SHARD, id: 0 } }),

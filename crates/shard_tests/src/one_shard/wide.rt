@@ -24,7 +24,7 @@ enum Wide {
 
 /// The calls of one worker, and what each is answered.
 #[rattlefmt::skip]
-const ROWS: [(&str, Wide, Reply); 8] = [
+static ROWS: [(&str, Wide, Reply); 8] = [
     ("a worker enters",                       Wide::Enter,                 Reply::Entered),
     ("a value of 256 bytes",                  Wide::Put,                   Reply::Answer { code: 0 }),
     ("its key is found",                      Wide::Look,                  Reply::Cell { cell: CellRef { shard: SHARD, id: 3 } }),
@@ -114,8 +114,7 @@ fn serves_new_wide(rt: &impl Abort, alloc: Global, kind: MapKind) -> Result<(), 
 
 #[test]
 fn values_of_256_bytes(rt: HostRuntime) -> Result<(), AllocError> {
-    for kind in [MapKind::Array, MapKind::Hash, MapKind::LruHash] {
-        serves_new_wide(&rt, rt.alloc(), kind)?;
-    }
-    Ok(())
+    serves_new_wide(&rt, rt.alloc(), MapKind::Array)?;
+    serves_new_wide(&rt, rt.alloc(), MapKind::Hash)?;
+    serves_new_wide(&rt, rt.alloc(), MapKind::LruHash)
 }

@@ -17,17 +17,17 @@ use semantics::{Caller, CellRef, Entry, JournalFull, Reply};
 use shard_port::port::ShardPort;
 use shard_port::{NoGate, Tally};
 use shards::{Naming, Opened, Pass, Shards};
-use std::alloc::{AllocError, Global};
+use std::alloc::Global;
 use std::marker::Brand;
 use std::process::Abort;
 use std::sync::Wait;
 use std::test::Fail;
 
-fn opened(alloc: Global, journal: u32) -> Result<Opened, Fail>
+fn opened<R: Abort>(rt: &R, alloc: Global, journal: u32) -> Result<Opened, Fail>
     ensures maps { IfOk result (λ opened. opened.maps ≡ example_maps) }
     ensures workers { IfOk result (λ opened. opened.options.workers ≡ 2) }
 {
-    let image = example_image(alloc)?;
+    let image = example_image(rt, alloc)?;
     Ok(Opened::open(alloc, &image, options_of(journal))?)
 }
 
@@ -68,29 +68,34 @@ fn entry_at(journals: &Journals, number: u32, place: usize) -> Option<Entry> {
 /// Compares all entries of the journals, each as what worker 1 asked and what it was replied.
 fn say(rt: &impl Abort, journals: &Journals, entries: &[Says]) {
     for (name, number, want) in entries {
-        holds(rt, name, (*number as usize) < journals.count());
-        let mut place: usize = 0;
-        for (times, made, reply) in *want {
-            for _ in 0..*times {
-                let wanted = entry_of(*number, *made, *reply);
-                same(rt, name, &entry_at(journals, *number, place), &Some(wanted));
-                place = place.saturating_add(1);
-            }
-        }
-        same(rt, name, &entry_at(journals, *number, place), &None);
+        says(rt, journals, name, *number, want);
     }
 }
 
+/// Compares all entries of a shard's journal.
+fn says(rt: &impl Abort, journals: &Journals, name: &str, number: u32, want: &[Entered]) {
+    holds(rt, name, (number as usize) < journals.count());
+    let mut place: usize = 0;
+    for (times, made, reply) in want {
+        for _ in 0..*times {
+            let wanted = entry_of(number, *made, *reply);
+            same(rt, name, &entry_at(journals, number, place), &Some(wanted));
+            place = place.saturating_add(1);
+        }
+    }
+    same(rt, name, &entry_at(journals, number, place), &None);
+}
+
 /// The journals when the shards are closed.
-fn closed<B: Naming>(
-    rt: &impl Wait,
+fn closed<B: Naming, R: Abort + Wait>(
+    rt: &R,
     alloc: Global,
     shards: Shards<B>,
     pass: Pass<B>,
-) -> Result<Journals, AllocError> {
-    let mut passes = Vec::with_capacity(alloc, 1)?;
-    passes.push_reserved(pass);
-    Ok(shards.close(rt, passes))
+) -> Journals {
+    let mut passes = Vec::with_capacity(alloc, 1).expect(rt, "a list");
+    passes.push(pass).expect(rt, "room");
+    shards.close(rt, passes)
 }
 
 /// One run of worker 1 with these rows: compares what it is refused, and returns the journals when it has ended.
@@ -109,7 +114,7 @@ fn session<B: Naming, R: Abort + Wait>(
     let mut pass = dealer.pass(alloc, Caller::Worker { number: 1 })?;
     let found = run(rt, &shards, &mut pass, rows);
     same(rt, "what is refused", &found, &refused);
-    Ok(closed(rt, alloc, shards, pass)?)
+    Ok(closed(rt, alloc, shards, pass))
 }
 
 /// One run of worker 1 on new shards: compares what it is refused, and the entries that it leaves.
@@ -121,7 +126,7 @@ fn one_run<R: Abort + Wait>(
     refused: Option<JournalFull>,
     entries: &[Says],
 ) -> Result<(), Fail> {
-    let opened = opened(alloc, journal)?;
+    let opened = opened(rt, alloc, journal)?;
     let journals = session::<Brand, R>(rt, alloc, opened, rows, refused)?;
     say(rt, &journals, entries);
     Ok(())
@@ -202,7 +207,7 @@ fn six<B: Naming, R: Abort + Wait>(rt: &R, alloc: Global, opened: Opened) -> Res
     let _ = look_three_times(rt, &shards, &mut pass);
     let last = look_three_times(rt, &shards, &mut pass);
     same(rt, "the last run", &last, &Err(JournalFull { shard: 0 }));
-    Ok(closed(rt, alloc, shards, pass)?)
+    Ok(closed(rt, alloc, shards, pass))
 }
 
 /// Six runs on new shards, and what the first shard's journal says then.
@@ -212,7 +217,7 @@ fn six_runs<R: Abort + Wait>(
     journal: u32,
     entries: &[Says],
 ) -> Result<(), Fail> {
-    let opened = opened(alloc, journal)?;
+    let opened = opened(rt, alloc, journal)?;
     let journals = six::<Brand, R>(rt, alloc, opened)?;
     say(rt, &journals, entries);
     Ok(())

@@ -11,7 +11,6 @@ use std::marker::Brand;
 use std::process::Abort;
 use std::sync::Wait;
 use std::sync::atomic::{AtomicBool, Ordering};
-use std::test::Fail;
 use std::thread::{Threads, join};
 
 /// The signals that two threads give each other.
@@ -98,10 +97,10 @@ fn held<B: Naming + Send + Sync, R: Threads + Abort + Wait + Sync>(
     rt: &R,
     alloc: Global,
     opened: Opened,
-) -> Result<(), Fail>
+)
     requires { IsNamed B.count B.table B.plan B.order opened }
 {
-    let (shards, first, second) = two_passes::<B>(alloc, opened)?;
+    let (shards, first, second) = two_passes::<B, R>(rt, alloc, opened);
     holds(rt, "there are two shards", 1 < shards.count());
     let signals = Signals {
         ready: AtomicBool::new(false),
@@ -128,12 +127,11 @@ fn held<B: Naming + Send + Sync, R: Threads + Abort + Wait + Sync>(
         &other,
         &Some(Reply::Entered),
     );
-    Ok(())
 }
 
 /// A shard stays held until a call on another is answered, and a call that was made on it meanwhile is answered only after that.
 #[test]
-fn a_call_of_a_held_shard_waits(rt: HostRuntime) -> Result<(), Fail> {
-    let opened = opened(rt.alloc(), 16)?;
-    held::<Brand, HostRuntime>(&rt, rt.alloc(), opened)
+fn a_call_of_a_held_shard_waits(rt: HostRuntime) {
+    let opened = opened(&rt, rt.alloc(), 16);
+    held::<Brand, HostRuntime>(&rt, rt.alloc(), opened);
 }

@@ -13,26 +13,28 @@ use std::process::Abort;
 use std::sync::Wait;
 use std::test::Fail;
 
+const HASH_OF_EIGHT: MapDef = MapDef {
+    kind: MapKind::Hash,
+    key_size: 4,
+    value_size: 8,
+    max_entries: 8,
+};
+
 /// Sixteen maps in eight parts each: 128 shards.
-fn most_shards(alloc: Global) -> Result<Opened, Fail> {
+fn most_shards<R: Abort>(rt: &R, alloc: Global) -> Opened {
     let mut maps = Vec::new(alloc);
     for _ in 0..16 {
-        maps.push(MapDef {
-            kind: MapKind::Hash,
-            key_size: 4,
-            value_size: 8,
-            max_entries: 8,
-        })?;
+        maps.push(HASH_OF_EIGHT).expect(rt, "a map");
     }
     let mut code = Vec::new(alloc);
-    code.push(Insn::Exit)?;
-    let image = Image::of(Version::V1, maps, code)?;
+    code.push(Insn::Exit).expect(rt, "code");
+    let image = Image::of(Version::V1, maps, code).expect(rt, "an image");
     let options = Options {
         workers: 8,
         shards: 8,
         journal: 16,
     };
-    Ok(Opened::open(alloc, &image, options)?)
+    Opened::open(alloc, &image, options).expect(rt, "shards")
 }
 
 /// Whether a worker that is outside the shard enters it.
@@ -52,52 +54,41 @@ fn enters<B: Naming, R: Abort + Wait>(
 }
 
 /// How many shards a worker enters, from the first one on.
-fn entered<B: Naming, R: Abort + Wait>(
-    rt: &R,
-    alloc: Global,
-    opened: Opened,
-    count: u32,
-) -> Result<u32, Fail>
+fn entered<B: Naming, R: Abort + Wait>(rt: &R, alloc: Global, opened: Opened, count: u32) -> u32
     requires { IsNamed B.count B.table B.plan B.order opened }
 {
-    let (shards, mut pass) = one_pass::<B>(alloc, opened)?;
+    let (shards, mut pass) = one_pass::<B, R>(rt, alloc, opened);
     let mut served: u32 = 0;
     for shard in 0..count {
         if enters(rt, &shards, &mut pass, shard) {
             served = served.wrapping_add(1);
         }
     }
-    Ok(served)
+    served
 }
 
 /// Each of the most shards that there can be is found under its own number: a call of one that is not waits for ever.
 #[test]
-fn each_of_128_shards_answers(rt: HostRuntime) -> Result<(), Fail> {
-    let opened = most_shards(rt.alloc())?;
-    let served = entered::<Brand, HostRuntime>(&rt, rt.alloc(), opened, 128)?;
+fn each_of_128_shards_answers(rt: HostRuntime) {
+    let opened = most_shards(&rt, rt.alloc());
+    let served = entered::<Brand, HostRuntime>(&rt, rt.alloc(), opened, 128);
     same(&rt, "shards entered", &served, &128);
-    Ok(())
 }
 
-fn second_held<B: Naming, R: Abort + Wait>(
-    rt: &R,
-    alloc: Global,
-    opened: Opened,
-) -> Result<(), Fail>
+fn second_held<B: Naming, R: Abort + Wait>(rt: &R, alloc: Global, opened: Opened)
     requires { IsNamed B.count B.table B.plan B.order opened }
 {
-    let (shards, mut pass) = one_pass::<B>(alloc, opened)?;
+    let (shards, mut pass) = one_pass::<B, R>(rt, alloc, opened);
     holds(rt, "there are two shards", 1 < shards.count());
     let got = shards.hold(rt, 1, || enters(rt, &shards, &mut pass, 0));
     same(rt, "the call on the first", &got, &true);
-    Ok(())
 }
 
 /// The shard that is held is the one of the number: else the call on the first one would wait for ever.
 #[test]
-fn a_call_of_the_first_while_the_second_is_held(rt: HostRuntime) -> Result<(), Fail> {
-    let opened = opened(rt.alloc(), 16)?;
-    second_held::<Brand, HostRuntime>(&rt, rt.alloc(), opened)
+fn a_call_of_the_first_while_the_second_is_held(rt: HostRuntime) {
+    let opened = opened(&rt, rt.alloc(), 16);
+    second_held::<Brand, HostRuntime>(&rt, rt.alloc(), opened);
 }
 
 const FAULTS: [(PassFault, &str); 3] = [

@@ -13,26 +13,26 @@ use std::alloc::Global;
 use std::marker::Brand;
 use std::process::Abort;
 use std::sync::Wait;
-use std::test::Fail;
 
 /// The shards of one map with keys of 4 bytes and values of 8.
-fn opened(alloc: Global, kind: MapKind, max_entries: u32) -> Result<Opened, Fail> {
-    let mut maps = Vec::new(alloc);
-    maps.push(MapDef {
+fn opened<R: Abort>(rt: &R, alloc: Global, kind: MapKind, max_entries: u32) -> Opened {
+    let definition = MapDef {
         kind,
         key_size: 4,
         value_size: 8,
         max_entries,
-    })?;
+    };
+    let mut maps = Vec::new(alloc);
+    maps.push(definition).expect(rt, "a map");
     let mut code = Vec::new(alloc);
-    code.push(Insn::Exit)?;
-    let image = Image::of(Version::V1, maps, code)?;
+    code.push(Insn::Exit).expect(rt, "code");
+    let image = Image::of(Version::V1, maps, code).expect(rt, "an image");
     let options = Options {
         workers: 2,
         shards: 1,
         journal: 1_048_576,
     };
-    Ok(Opened::open(alloc, &image, options)?)
+    Opened::open(alloc, &image, options).expect(rt, "shards")
 }
 
 /// A call of the shard.
@@ -133,25 +133,21 @@ fn makes<B: Naming, R: Abort + Wait>(rt: &R, shards: &Shards<B>, pass: &mut Pass
 }
 
 /// Makes the calls of all rows in turn, and says how many entries the journal then has.
-fn made<B: Naming, R: Abort + Wait>(
-    rt: &R,
-    alloc: Global,
-    opened: Opened,
-    rows: &[Row],
-) -> Result<usize, Fail>
+fn made<B: Naming, R: Abort + Wait>(rt: &R, alloc: Global, opened: Opened, rows: &[Row]) -> usize
     requires { IsNamed B.count B.table B.plan B.order opened }
 {
-    let (shards, mut dealer) = opened.share::<B>(alloc)?;
-    let mut passes = Vec::with_capacity(alloc, 4)?;
-    for who in CALLERS {
-        passes.push(dealer.pass(alloc, who)?)?;
+    let (shards, mut dealer) = opened.share::<B>(alloc).expect(rt, "shared shards");
+    let mut passes = Vec::with_capacity(alloc, 4).expect(rt, "a list");
+    for who in &CALLERS {
+        let pass = dealer.pass(alloc, *who).expect(rt, "a pass");
+        passes.push(pass).expect(rt, "room");
     }
     for row in rows {
         holds(rt, row.0, row.1 < passes.len());
         makes(rt, &shards, &mut passes[row.1], row);
     }
     let journals = shards.close(rt, passes);
-    Ok(length_of(&journals, 0))
+    length_of(&journals, 0)
 }
 
 /// Makes the calls of all rows in turn on a new shard, whose journal then has this many entries.
@@ -162,15 +158,14 @@ fn leaves<R: Abort + Wait>(
     max_entries: u32,
     rows: &[Row],
     entries: usize,
-) -> Result<(), Fail> {
-    let opened = opened(alloc, kind, max_entries)?;
-    let found = made::<Brand, R>(rt, alloc, opened, rows)?;
+) {
+    let opened = opened(rt, alloc, kind, max_entries);
+    let found = made::<Brand, R>(rt, alloc, opened, rows);
     same(rt, "how many entries", &found, &entries);
-    Ok(())
 }
 
 #[rattlefmt::skip]
-const TWO_WORKERS: [Row; 13] = [
+static TWO_WORKERS: [Row; 13] = [
     ("nobody holds anything at first",         W0,         Asked::Nothing,        None,                                false, false),
     ("a worker enters",                        W0,         Asked::Enter,          Some(Reply::Entered),                true,  false),
     ("it finds the first index",               W0,         Asked::Look { key: 0 }, Some(Reply::Cell { cell: FIRST }),  true,  true),
@@ -189,12 +184,12 @@ const TWO_WORKERS: [Row; 13] = [
 
 /// The calls of the first seven rows make five entries, those after them three.
 #[test]
-fn a_worker_holds_what_it_found_until_it_leaves(rt: HostRuntime) -> Result<(), Fail> {
-    leaves(&rt, rt.alloc(), MapKind::Array, 2, &TWO_WORKERS, 8)
+fn a_worker_holds_what_it_found_until_it_leaves(rt: HostRuntime) {
+    leaves(&rt, rt.alloc(), MapKind::Array, 2, &TWO_WORKERS, 8);
 }
 
 #[rattlefmt::skip]
-const HELD_AND_DELETED: [Row; 9] = [
+static HELD_AND_DELETED: [Row; 9] = [
     ("a key is set",
         CONTROLLER, Asked::Update { key: 10, value: 7, flags: 0 }, Some(Reply::Answer { code: 0 }),   false, false),
     ("a worker enters",
@@ -216,12 +211,12 @@ const HELD_AND_DELETED: [Row; 9] = [
 ];
 
 #[test]
-fn a_held_cell_outlives_its_key(rt: HostRuntime) -> Result<(), Fail> {
-    leaves(&rt, rt.alloc(), MapKind::Hash, 1, &HELD_AND_DELETED, 9)
+fn a_held_cell_outlives_its_key(rt: HostRuntime) {
+    leaves(&rt, rt.alloc(), MapKind::Hash, 1, &HELD_AND_DELETED, 9);
 }
 
 #[rattlefmt::skip]
-const OF_AN_ARRAY: [Row; 5] = [
+static OF_AN_ARRAY: [Row; 5] = [
     ("an index past the end is too big",
         CONTROLLER, Asked::Update { key: 2, value: 1, flags: 1 }, Some(Reply::Answer { code: -7 }),  false, false),
     ("an index below it exists",
@@ -235,6 +230,6 @@ const OF_AN_ARRAY: [Row; 5] = [
 ];
 
 #[test]
-fn updates_and_deletes_of_an_array(rt: HostRuntime) -> Result<(), Fail> {
-    leaves(&rt, rt.alloc(), MapKind::Array, 2, &OF_AN_ARRAY, 5)
+fn updates_and_deletes_of_an_array(rt: HostRuntime) {
+    leaves(&rt, rt.alloc(), MapKind::Array, 2, &OF_AN_ARRAY, 5);
 }

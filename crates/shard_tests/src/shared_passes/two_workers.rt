@@ -116,7 +116,7 @@ fn closed<B: Naming>(rt: &impl Wait, shards: Shards<B>, passes: Vec<Pass<B>>) ->
 }
 
 /// The shard of one array of one element.
-fn opened(alloc: Global) -> Result<Opened, Fail>
+fn opened<R: Abort>(rt: &R, alloc: Global) -> Result<Opened, Fail>
     ensures maps { IfOk result (λ opened. opened.maps ≡ one_element ∷ []) }
     ensures options { IfOk result (λ opened. opened.options ≡ for_two) }
 {
@@ -128,7 +128,7 @@ fn opened(alloc: Global) -> Result<Opened, Fail>
         max_entries: 1,
     })?;
     let mut code = Vec::new(alloc);
-    code.push(Insn::Exit)?;
+    code.push(Insn::Exit).expect(rt, "code");
     let image = Image::of(Version::V1, maps, code)?;
     let options = Options {
         workers: 2,
@@ -163,6 +163,6 @@ fn row<B: Naming, R: Abort + Wait>(rt: &R, alloc: Global, opened: Opened) -> Res
 
 #[test]
 fn a_caller_knows_its_own_entries(rt: HostRuntime) -> Result<(), Fail> {
-    let opened = opened(rt.alloc())?;
+    let opened = opened(&rt, rt.alloc())?;
     row::<Brand, HostRuntime>(&rt, rt.alloc(), opened)
 }

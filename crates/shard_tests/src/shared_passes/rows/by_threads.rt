@@ -12,12 +12,11 @@ use journals::Journals;
 use one_key::{OneKey, first_value};
 use semantics::{Caller, CellRef, Reply};
 use shards::{Naming, Opened, Pass, Shards};
-use std::alloc::{AllocError, Global};
+use std::alloc::Global;
 use std::marker::Brand;
 use std::process::Abort;
 use std::sync::Wait;
 use std::sync::atomic::{AtomicU64, Ordering};
-use std::test::Fail;
 use std::thread::{Threads, join, yield_now};
 
 /// Waits until this many have been counted.
@@ -99,34 +98,38 @@ fn both(one: Had, other: Had) -> Had {
 }
 
 /// The journals when the shards are closed, and what all three callers had.
-fn closed<B: Naming>(
-    rt: &impl Wait,
+fn closed<B: Naming, R: Abort + Wait>(
+    rt: &R,
     alloc: Global,
     shards: Shards<B>,
     worker: Ended<B>,
     controller: Ended<B>,
     reclaimer: Ended<B>,
-) -> Result<(Journals, Had), AllocError> {
+) -> (Journals, Had) {
     let had = both(worker.had, both(controller.had, reclaimer.had));
-    let mut passes = Vec::with_capacity(alloc, 3)?;
-    passes.push_reserved(worker.pass);
-    passes.push_reserved(controller.pass);
-    passes.push_reserved(reclaimer.pass);
-    Ok((shards.close(rt, passes), had))
+    let mut passes = Vec::with_capacity(alloc, 3).expect(rt, "a list");
+    passes.push(worker.pass).expect(rt, "room");
+    passes.push(controller.pass).expect(rt, "room");
+    passes.push(reclaimer.pass).expect(rt, "room");
+    (shards.close(rt, passes), had)
 }
 
 /// A new shard, and the passes of a worker, the controller and the reclaimer.
-fn three_passes<B: Naming>(
+fn three_passes<B: Naming, R: Abort>(
+    rt: &R,
     alloc: Global,
     opened: Opened,
-) -> Result<(Shards<B>, Pass<B>, Pass<B>, Pass<B>), Fail>
+) -> (Shards<B>, Pass<B>, Pass<B>, Pass<B>)
     requires { IsNamed B.count B.table B.plan B.order opened }
 {
-    let (shards, mut dealer) = opened.share::<B>(alloc)?;
-    let worker = dealer.pass(alloc, Caller::Worker { number: 0 })?;
-    let controller = dealer.pass(alloc, Caller::Controller)?;
-    let reclaimer = dealer.pass(alloc, Caller::Reclaimer)?;
-    Ok((shards, worker, controller, reclaimer))
+    let (shards, mut dealer) = opened.share::<B>(alloc).expect(rt, "shared shards");
+    let worker = dealer.pass(alloc, Caller::Worker { number: 0 });
+    let worker = worker.expect(rt, "a pass");
+    let controller = dealer.pass(alloc, Caller::Controller);
+    let controller = controller.expect(rt, "a pass");
+    let reclaimer = dealer.pass(alloc, Caller::Reclaimer);
+    let reclaimer = reclaimer.expect(rt, "a pass");
+    (shards, worker, controller, reclaimer)
 }
 
 /// Makes the calls of all rows in turn, by three threads.
@@ -135,10 +138,10 @@ fn by_turns<B: Naming + Send + Sync, R: Threads + Abort + Wait + Sync>(
     alloc: Global,
     opened: Opened,
     rows: &[Row],
-) -> Result<(), Fail>
+)
     requires { IsNamed B.count B.table B.plan B.order opened }
 {
-    let (shards, worker, controller, reclaimer) = three_passes::<B>(alloc, opened)?;
+    let (shards, worker, controller, reclaimer) = three_passes::<B, R>(rt, alloc, opened);
     let made = AtomicU64::new(0);
     let (one, (two, three)) = join(
         rt,
@@ -151,7 +154,7 @@ fn by_turns<B: Naming + Send + Sync, R: Threads + Abort + Wait + Sync>(
             )
         },
     );
-    let (journals, had) = closed(rt, alloc, shards, one, two, three)?;
+    let (journals, had) = closed(rt, alloc, shards, one, two, three);
     same(rt, "a call with another reply", &had.wrong, &None);
     same(rt, "how many replies", &had.replies, &rows.len());
     same(
@@ -160,29 +163,24 @@ fn by_turns<B: Naming + Send + Sync, R: Threads + Abort + Wait + Sync>(
         &length_of(&journals, 0),
         &rows.len(),
     );
-    Ok(())
 }
 
 /// The same on a new hash shard of one key.
-fn on_a_new_shard<R: Threads + Abort + Wait + Sync>(
-    rt: &R,
-    alloc: Global,
-    rows: &[Row],
-) -> Result<(), Fail> {
-    let opened = opened(alloc, MapKind::Hash, 1)?;
-    by_turns::<Brand, R>(rt, alloc, opened, rows)
+fn on_a_new_shard<R: Threads + Abort + Wait + Sync>(rt: &R, alloc: Global, rows: &[Row]) {
+    let opened = opened(rt, alloc, MapKind::Hash, 1);
+    by_turns::<Brand, R>(rt, alloc, opened, rows);
 }
 
 #[test]
-fn a_held_cell_outlives_its_key_by_threads(rt: HostRuntime) -> Result<(), Fail> {
-    on_a_new_shard(&rt, rt.alloc(), &HELD_AND_DELETED)
+fn a_held_cell_outlives_its_key_by_threads(rt: HostRuntime) {
+    on_a_new_shard(&rt, rt.alloc(), &HELD_AND_DELETED);
 }
 
 const THIRD: CellRef = CellRef { shard: 0, id: 2 };
 
 /// The shard has two cells, so a third key has none until those of the first two are freed.
 #[rattlefmt::skip]
-const ALL_CELLS_RETIRED: [Row; 12] = [
+static ALL_CELLS_RETIRED: [Row; 12] = [
     ("a key is set",
         CONTROLLER, Asked::Update { key: 10, value: 5, flags: 0 }, Some(Reply::Answer { code: 0 }),   false, false),
     ("it is deleted",
@@ -210,8 +208,8 @@ const ALL_CELLS_RETIRED: [Row; 12] = [
 ];
 
 #[test]
-fn retired_cells_are_freed_by_threads(rt: HostRuntime) -> Result<(), Fail> {
-    on_a_new_shard(&rt, rt.alloc(), &ALL_CELLS_RETIRED)
+fn retired_cells_are_freed_by_threads(rt: HostRuntime) {
+    on_a_new_shard(&rt, rt.alloc(), &ALL_CELLS_RETIRED);
 }
 
 /// How many runs the worker makes, and how often the controller sets and deletes the key.
@@ -366,10 +364,10 @@ fn freely<B: Naming + Send + Sync, R: Threads + Abort + Wait + Sync>(
     rt: &R,
     alloc: Global,
     opened: Opened,
-) -> Result<(), Fail>
+)
     requires { IsNamed B.count B.table B.plan B.order opened }
 {
-    let (shards, worker, controller, reclaimer) = three_passes::<B>(alloc, opened)?;
+    let (shards, worker, controller, reclaimer) = three_passes::<B, R>(rt, alloc, opened);
     let begun = AtomicU64::new(0);
     let (mut one, (mut two, mut three)) = join(
         rt,
@@ -383,7 +381,7 @@ fn freely<B: Naming + Send + Sync, R: Threads + Abort + Wait + Sync>(
         },
     );
     afterwards(rt, &shards, &mut one, &mut two, &mut three);
-    let (journals, had) = closed(rt, alloc, shards, one, two, three)?;
+    let (journals, had) = closed(rt, alloc, shards, one, two, three);
     same(rt, "a call with another reply", &had.wrong, &None);
     same(
         rt,
@@ -397,7 +395,6 @@ fn freely<B: Naming + Send + Sync, R: Threads + Abort + Wait + Sync>(
         &first_other(&journals),
         &None,
     );
-    Ok(())
 }
 
 /// The place of the first entry whose reply one thread would not give.
@@ -420,7 +417,7 @@ fn first_other(journals: &Journals) -> Option<usize> {
 }
 
 #[test]
-fn three_threads_on_one_shard(rt: HostRuntime) -> Result<(), Fail> {
-    let opened = opened(rt.alloc(), MapKind::Hash, 1)?;
-    freely::<Brand, HostRuntime>(&rt, rt.alloc(), opened)
+fn three_threads_on_one_shard(rt: HostRuntime) {
+    let opened = opened(&rt, rt.alloc(), MapKind::Hash, 1);
+    freely::<Brand, HostRuntime>(&rt, rt.alloc(), opened);
 }
