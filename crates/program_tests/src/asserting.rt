@@ -5,7 +5,6 @@ ghost use Rattle.std.specs.Prelude.{◌≡◌, true};
 use std::alloc::Global;
 use std::fmt::{Debug, Display};
 use std::process::Abort;
-use std::test::Fail;
 
 /// Ends the test where a value is not the wanted one; the message names the row.
 pub(crate) fn same<T: PartialEq + Debug>(rt: &impl Abort, name: &str, found: &T, wanted: &T) {
@@ -64,13 +63,7 @@ pub(crate) fn holds_of(rt: &impl Abort, name: &str, fact: &str, is_so: bool)
 }
 
 /// Ends the test where a value is not printed so.
-pub(crate) fn prints<T: Display>(
-    rt: &impl Abort,
-    alloc: Global,
-    value: &T,
-    wanted: &str,
-) -> Result<(), Fail> {
-    let text = format!(in alloc; "{value}")?;
+pub(crate) fn prints<T: Display>(rt: &impl Abort, alloc: Global, value: &T, wanted: &str) {
+    let text = format!(in alloc; "{value}").expect(rt, "memory");
     assert_eq!(rt; text.as_str(), wanted);
-    Ok(())
 }

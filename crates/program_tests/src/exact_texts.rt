@@ -5,7 +5,6 @@ use disasm::{AsmFault, assemble, line, round_trip, text};
 use ebpf_decode::{DecodeFault, Insn, decode, encode};
 use std::alloc::Global;
 use std::process::Abort;
-use std::test::Fail;
 use test_support::programs::{FIRST_RUN, FIRST_RUN_IMAGE};
 
 const HEAD: [u8; 8] = [0x58, 0x4c, 0x42, 0x50, 1, 0, 0, 0];
@@ -562,9 +561,8 @@ const FAULT_TEXTS: [(AsmFault, &str); 3] = [
 ];
 
 #[test]
-fn fault_texts(rt: HostRuntime) -> Result<(), Fail> {
-    for (fault, want) in FAULT_TEXTS {
-        prints(&rt, rt.alloc(), &fault, want)?;
+fn fault_texts(rt: HostRuntime) {
+    for (fault, want) in &FAULT_TEXTS {
+        prints(&rt, rt.alloc(), fault, want);
     }
-    Ok(())
 }

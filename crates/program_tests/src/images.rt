@@ -7,9 +7,8 @@ use isa::{
     AluOp, AtomicOp, ByteOrder, Extension, Register, ShortExtension, Size, SourceOperand,
     SwapWidth, Test, Width,
 };
-use std::alloc::{AllocError, Global};
+use std::alloc::Global;
 use std::process::Abort;
-use std::test::Fail;
 use test_support::programs::{ARRAY, FIRST_RUN_IMAGE, ONE_ENTRY};
 
 const HEAD: [u8; 8] = [0x58, 0x4c, 0x42, 0x50, 1, 0, 0, 0];
@@ -23,17 +22,12 @@ fn number_of(alloc: Global, bytes: &[u8]) -> u8 {
 }
 
 /// The bytes of an image: its head, and two parts behind it.
-fn bytes_of(
-    alloc: Global,
-    head: &[u8],
-    first: &[u8],
-    second: &[u8],
-) -> Result<Vec<u8>, AllocError> {
+fn bytes_of(rt: &impl Abort, alloc: Global, head: &[u8], first: &[u8], second: &[u8]) -> Vec<u8> {
     let mut bytes = Vec::new(alloc);
-    bytes.extend_from_slice(head)?;
-    bytes.extend_from_slice(first)?;
-    bytes.extend_from_slice(second)?;
-    Ok(bytes)
+    bytes.extend_from_slice(head).expect(rt, "room");
+    bytes.extend_from_slice(first).expect(rt, "room");
+    bytes.extend_from_slice(second).expect(rt, "room");
+    bytes
 }
 
 /// Such bytes have the fault of this number, or are an image where it is 0.
@@ -45,23 +39,15 @@ fn has_fault(
     first: &[u8],
     second: &[u8],
     want: u8,
-) -> Result<(), Fail> {
-    let bytes = bytes_of(alloc, head, first, second)?;
+) {
+    let bytes = bytes_of(rt, alloc, head, first, second);
     same(rt, name, &number_of(alloc, &bytes), &want);
-    Ok(())
 }
 
 /// An image is encoded so.
-fn is_encoded(
-    rt: &impl Abort,
-    alloc: Global,
-    name: &str,
-    image: &Image,
-    want: &[u8],
-) -> Result<(), Fail> {
-    let bytes = encode(alloc, image)?;
+fn is_encoded(rt: &impl Abort, alloc: Global, name: &str, image: &Image, want: &[u8]) {
+    let bytes = encode(alloc, image).expect(rt, "memory");
     same_fact(rt, name, "encoded", &bytes.as_slice(), &want);
-    Ok(())
 }
 
 /// Bytes are decoded to this program, in this many slots and without maps, which is encoded to the same bytes.
@@ -73,12 +59,12 @@ fn is_decoded(
     version: Version,
     code: &[Insn],
     slots: usize,
-) -> Result<(), Fail> {
-    let image = decode(alloc, bytes)?;
+) {
+    let image = decode(alloc, bytes).expect(rt, "an image");
     same_fact(rt, name, "decoded", &image.code(), &code);
     same_fact(rt, name, "the version", &image.version(), &version);
     same_fact(rt, name, "slots", &image.slots(), &slots);
-    is_encoded(rt, alloc, name, &image, bytes)
+    is_encoded(rt, alloc, name, &image, bytes);
 }
 
 /// A program without maps is encoded so, and these bytes are decoded to it again.
@@ -90,10 +76,10 @@ fn goes_both_ways(
     code: &[Insn],
     slots: usize,
     bytes: &[u8],
-) -> Result<(), Fail> {
-    let image = image_of(alloc, version, &[], code)?;
-    is_encoded(rt, alloc, name, &image, bytes)?;
-    is_decoded(rt, alloc, name, bytes, version, image.code(), slots)
+) {
+    let image = image_of(rt, alloc, version, &[], code);
+    is_encoded(rt, alloc, name, &image, bytes);
+    is_decoded(rt, alloc, name, bytes, version, image.code(), slots);
 }
 
 // By the high and the low four bits of an opcode in a slot of zeros (byte swaps: of width 16): 0 where there is an instruction.
@@ -118,25 +104,23 @@ static OPCODES: [[u8; 16]; 16] = [
 ];
 
 /// An image of one slot, of zeros except this opcode, has the fault of this number.
-fn has_opcode_fault(rt: &impl Abort, alloc: Global, opcode: u8, want: u8) -> Result<(), Fail> {
+fn has_opcode_fault(rt: &impl Abort, alloc: Global, opcode: u8, want: u8) {
     let swaps = opcode == 0xd4 || opcode == 0xdc || opcode == 0xd7;
     let width = if swaps { 16 } else { 0 };
-    let bytes = bytes_of(alloc, &HEAD, &[opcode, 0, 0, 0, width, 0, 0, 0], &[])?;
+    let bytes = bytes_of(rt, alloc, &HEAD, &[opcode, 0, 0, 0, width, 0, 0, 0], &[]);
     let found = number_of(alloc, &bytes);
     same_at(rt, "opcode", u64::from(opcode), &found, &want);
-    Ok(())
 }
 
 #[test]
-fn opcodes(rt: HostRuntime) -> Result<(), Fail> {
+fn opcodes(rt: HostRuntime) {
     let mut opcode = 0u8;
     for row in &OPCODES {
         for &want in row {
-            has_opcode_fault(&rt, rt.alloc(), opcode, want)?;
+            has_opcode_fault(&rt, rt.alloc(), opcode, want);
             opcode = opcode.wrapping_add(1);
         }
     }
-    Ok(())
 }
 
 #[rattlefmt::skip]
@@ -185,11 +169,10 @@ static SLOTS: [(&str, [u8; 8], u8); 41] = [
 ];
 
 #[test]
-fn faults_of_one_slot(rt: HostRuntime) -> Result<(), Fail> {
+fn faults_of_one_slot(rt: HostRuntime) {
     for &(name, slot, want) in &SLOTS {
-        has_fault(&rt, rt.alloc(), name, &HEAD, &slot, &[], want)?;
+        has_fault(&rt, rt.alloc(), name, &HEAD, &slot, &[], want);
     }
-    Ok(())
 }
 
 #[rattlefmt::skip]
@@ -209,11 +192,10 @@ static WIDE: [(&str, [u8; 8], [u8; 8], u8); 6] = [
 ];
 
 #[test]
-fn wide_instructions(rt: HostRuntime) -> Result<(), Fail> {
+fn wide_instructions(rt: HostRuntime) {
     for &(name, first, second, want) in &WIDE {
-        has_fault(&rt, rt.alloc(), name, &HEAD, &first, &second, want)?;
+        has_fault(&rt, rt.alloc(), name, &HEAD, &first, &second, want);
     }
-    Ok(())
 }
 
 #[rattlefmt::skip]
@@ -278,23 +260,16 @@ static INSTRUCTIONS: [(&str, Insn, [u8; 8]); 19] = [
 ];
 
 /// An image of this slot alone is decoded to the instruction, and encoded again.
-fn is_slot_of(
-    rt: &impl Abort,
-    alloc: Global,
-    name: &str,
-    insn: Insn,
-    slot: &[u8],
-) -> Result<(), Fail> {
-    let bytes = bytes_of(alloc, &HEAD, slot, &[])?;
-    is_decoded(rt, alloc, name, &bytes, Version::V1, &[insn], 1)
+fn is_slot_of(rt: &impl Abort, alloc: Global, name: &str, insn: Insn, slot: &[u8]) {
+    let bytes = bytes_of(rt, alloc, &HEAD, slot, &[]);
+    is_decoded(rt, alloc, name, &bytes, Version::V1, &[insn], 1);
 }
 
 #[test]
-fn instructions_and_their_slots(rt: HostRuntime) -> Result<(), Fail> {
+fn instructions_and_their_slots(rt: HostRuntime) {
     for &(name, insn, slot) in &INSTRUCTIONS {
-        is_slot_of(&rt, rt.alloc(), name, insn, &slot)?;
+        is_slot_of(&rt, rt.alloc(), name, insn, &slot);
     }
-    Ok(())
 }
 
 const WIDE_CODE: [Insn; 2] = [
@@ -316,7 +291,7 @@ static WIDE_BYTES: [u8; 40] = [
 ];
 
 #[test]
-fn wide_instructions_and_their_slots(rt: HostRuntime) -> Result<(), Fail> {
+fn wide_instructions_and_their_slots(rt: HostRuntime) {
     goes_both_ways(
         &rt,
         rt.alloc(),
@@ -325,7 +300,7 @@ fn wide_instructions_and_their_slots(rt: HostRuntime) -> Result<(), Fail> {
         &WIDE_CODE,
         4,
         &WIDE_BYTES,
-    )
+    );
 }
 
 // Heads of images with one map, and without a program.
@@ -374,14 +349,13 @@ static WIDER_MAPS: [(&str, [u8; 16], u8); 7] = [
 ];
 
 #[test]
-fn maps(rt: HostRuntime) -> Result<(), Fail> {
+fn maps(rt: HostRuntime) {
     for &(name, map, want) in &MAPS {
-        has_fault(&rt, rt.alloc(), name, &ONE_MAP, &map, &[], want)?;
+        has_fault(&rt, rt.alloc(), name, &ONE_MAP, &map, &[], want);
     }
     for &(name, map, want) in &WIDER_MAPS {
-        has_fault(&rt, rt.alloc(), name, &ONE_WIDER_MAP, &map, &[], want)?;
+        has_fault(&rt, rt.alloc(), name, &ONE_WIDER_MAP, &map, &[], want);
     }
-    Ok(())
 }
 
 // What is bpf(2)'s name of a type, its number, and the kind of map that it is.
@@ -393,27 +367,20 @@ static KINDS: [(&str, u8, MapKind); 3] = [
 ];
 
 /// An image of one map of this type and an exit is decoded to a map of this kind, and encoded again.
-fn has_kind(
-    rt: &impl Abort,
-    alloc: Global,
-    name: &str,
-    number: u8,
-    kind: MapKind,
-) -> Result<(), Fail> {
+fn has_kind(rt: &impl Abort, alloc: Global, name: &str, number: u8, kind: MapKind) {
     let map = [number, 0, 0, 0, 4, 0, 0, 0, 8, 0, 0, 0, 1, 0, 0, 0];
-    let bytes = bytes_of(alloc, &ONE_MAP, &map, &[0x95, 0, 0, 0, 0, 0, 0, 0])?;
-    let image = decode(alloc, &bytes)?;
+    let bytes = bytes_of(rt, alloc, &ONE_MAP, &map, &[0x95, 0, 0, 0, 0, 0, 0, 0]);
+    let image = decode(alloc, &bytes).expect(rt, "an image");
     let want = [MapDef { kind, ..ONE_ENTRY }];
     same_fact(rt, name, "the map", &image.maps(), &want.as_slice());
-    is_encoded(rt, alloc, name, &image, &bytes)
+    is_encoded(rt, alloc, name, &image, &bytes);
 }
 
 #[test]
-fn kinds_of_maps(rt: HostRuntime) -> Result<(), Fail> {
+fn kinds_of_maps(rt: HostRuntime) {
     for &(name, number, kind) in &KINDS {
-        has_kind(&rt, rt.alloc(), name, number, kind)?;
+        has_kind(&rt, rt.alloc(), name, number, kind);
     }
-    Ok(())
 }
 
 // A wide slot and the slot after it, in an image of this version.
@@ -440,10 +407,10 @@ static ADDRESS_BYTES: [u8; 24] = [
 ];
 
 #[test]
-fn addresses_in_values(rt: HostRuntime) -> Result<(), Fail> {
+fn addresses_in_values(rt: HostRuntime) {
     for &(name, version, first, second, want) in &ADDRESSES {
         let head = [0x58, 0x4c, 0x42, 0x50, version, 0, 0, 0];
-        has_fault(&rt, rt.alloc(), name, &head, &first, &second, want)?;
+        has_fault(&rt, rt.alloc(), name, &head, &first, &second, want);
     }
     goes_both_ways(
         &rt,
@@ -453,7 +420,7 @@ fn addresses_in_values(rt: HostRuntime) -> Result<(), Fail> {
         &[ADDRESS],
         2,
         &ADDRESS_BYTES,
-    )
+    );
 }
 
 #[rattlefmt::skip]
@@ -505,51 +472,55 @@ fn beginnings(rt: HostRuntime) {
 }
 
 #[test]
-fn first_run(rt: HostRuntime) -> Result<(), Fail> {
-    let image = decode(rt.alloc(), &FIRST_RUN_IMAGE)?;
+fn first_run(rt: HostRuntime) {
+    let image = decode(rt.alloc(), &FIRST_RUN_IMAGE).expect(&rt, "an image");
     same(&rt, "instructions", &image.code().len(), &17);
     same(&rt, "maps", &image.maps(), &ARRAY.as_slice());
-    is_encoded(&rt, rt.alloc(), "the first run", &image, &FIRST_RUN_IMAGE)
+    is_encoded(&rt, rt.alloc(), "the first run", &image, &FIRST_RUN_IMAGE);
 }
 
+const MOVE: [u8; 8] = [0xb7, 0, 0, 0, 1, 0, 0, 0];
+
+const EXIT: [u8; 8] = [0x95, 0, 0, 0, 0, 0, 0, 0];
+
 /// An image of this many moves and an exit has the fault of this number, or none where it is 0.
-fn has_length_fault(rt: &impl Abort, alloc: Global, count: u32, want: u8) -> Result<(), Fail> {
-    let mut bytes = bytes_of(alloc, &HEAD, &[], &[])?;
+fn has_length_fault(rt: &impl Abort, alloc: Global, count: u32, want: u8) {
+    let mut bytes = bytes_of(rt, alloc, &HEAD, &[], &[]);
     for _ in 0..count {
-        bytes.extend_from_slice(&[0xb7, 0, 0, 0, 1, 0, 0, 0])?;
+        bytes.extend_from_slice(&MOVE).expect(rt, "room");
     }
-    bytes.extend_from_slice(&[0x95, 0, 0, 0, 0, 0, 0, 0])?;
+    bytes.extend_from_slice(&EXIT).expect(rt, "room");
     let found = number_of(alloc, &bytes);
     same_at(rt, "moves", u64::from(count), &found, &want);
-    Ok(())
 }
 
 #[test]
-fn lengths(rt: HostRuntime) -> Result<(), Fail> {
-    has_length_fault(&rt, rt.alloc(), 4095, 0)?;
-    has_length_fault(&rt, rt.alloc(), 4096, 14)
+fn lengths(rt: HostRuntime) {
+    has_length_fault(&rt, rt.alloc(), 4095, 0);
+    has_length_fault(&rt, rt.alloc(), 4096, 14);
 }
 
 /// The fault of an image of these parts, or 0.
 fn part_fault(
+    rt: &impl Abort,
     alloc: Global,
     version: Version,
     maps: u32,
     map: MapDef,
     code: u32,
     insn: Insn,
-) -> Result<u8, AllocError> {
+) -> u8 {
     let mut all_maps = Vec::new(alloc);
     for _ in 0..maps {
-        all_maps.push(map)?;
+        all_maps.push(map).expect(rt, "room");
     }
     let mut all_code = Vec::new(alloc);
     for _ in 0..code {
-        all_code.push(insn)?;
+        all_code.push(insn).expect(rt, "room");
     }
     match Image::of(version, all_maps, all_code) {
-        Ok(_) => Ok(0),
-        Err(fault) => Ok(fault.number()),
+        Ok(_) => 0,
+        Err(fault) => fault.number(),
     }
 }
 
@@ -595,12 +566,11 @@ static PARTS: [(&str, Version, u32, MapDef, u32, Insn, u8); 12] = [
 ];
 
 #[test]
-fn images_of_parts(rt: HostRuntime) -> Result<(), Fail> {
+fn images_of_parts(rt: HostRuntime) {
     for &(name, version, maps, map, code, insn, want) in &PARTS {
-        let number = part_fault(rt.alloc(), version, maps, map, code, insn)?;
+        let number = part_fault(&rt, rt.alloc(), version, maps, map, code, insn);
         same(&rt, name, &number, &want);
     }
-    Ok(())
 }
 
 #[rattlefmt::skip]
@@ -619,11 +589,10 @@ static TEXTS: [(DecodeFault, &str); 11] = [
 ];
 
 #[test]
-fn texts(rt: HostRuntime) -> Result<(), Fail> {
+fn texts(rt: HostRuntime) {
     for &(fault, want) in &TEXTS {
-        prints(&rt, rt.alloc(), &fault, want)?;
+        prints(&rt, rt.alloc(), &fault, want);
     }
-    Ok(())
 }
 
 #[test]

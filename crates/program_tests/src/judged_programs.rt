@@ -6,7 +6,6 @@ use ebpf_decode::{Insn, MapDef, MapKind, Version};
 use isa::{AluOp, AtomicOp, Register, Size, SourceOperand, Test, Width};
 use std::alloc::Global;
 use std::process::Abort;
-use std::test::Fail;
 use verifier::*;
 
 const MAPS: [MapDef; 1] = [MapDef {
@@ -477,8 +476,9 @@ pub(crate) fn is_judged(
     maps: &[MapDef],
     code: &[Insn],
     wanted: Result<bool, Reject>,
-) -> Result<(), Fail> {
-    match verify(alloc, image_of(alloc, version, maps, code)?) {
+) {
+    let image = image_of(rt, alloc, version, maps, code);
+    match verify(alloc, image) {
         Ok(verified) => {
             same(rt, name, &Ok(verified.is_reader()), &wanted);
             let length = verified.image().code().len();
@@ -486,23 +486,20 @@ pub(crate) fn is_judged(
         }
         Err(reject) => same(rt, name, &Err(reject), &wanted),
     }
-    Ok(())
 }
 
 #[test]
-fn accepted(rt: HostRuntime) -> Result<(), Fail> {
+fn accepted(rt: HostRuntime) {
     for &(name, code, reads) in &ACCEPTED {
-        is_judged(&rt, rt.alloc(), name, Version::V1, &MAPS, code, Ok(reads))?;
+        is_judged(&rt, rt.alloc(), name, Version::V1, &MAPS, code, Ok(reads));
     }
-    Ok(())
 }
 
 #[test]
-fn refused(rt: HostRuntime) -> Result<(), Fail> {
+fn refused(rt: HostRuntime) {
     for &(name, code, wanted) in &REFUSED {
-        is_judged(&rt, rt.alloc(), name, Version::V1, &MAPS, code, Err(wanted))?;
+        is_judged(&rt, rt.alloc(), name, Version::V1, &MAPS, code, Err(wanted));
     }
-    Ok(())
 }
 
 #[rattlefmt::skip]
@@ -523,7 +520,7 @@ static KINDS: [(&str, MapKind, u32, Result<bool, Reject>); 5] = [
 
 /// Maps of every kind are accepted; keys have the map's size.
 #[test]
-fn maps_of_every_kind(rt: HostRuntime) -> Result<(), Fail> {
+fn maps_of_every_kind(rt: HostRuntime) {
     for &(name, kind, key_size, wanted) in &KINDS {
         let maps = [MapDef {
             kind,
@@ -531,13 +528,12 @@ fn maps_of_every_kind(rt: HostRuntime) -> Result<(), Fail> {
             value_size: 8,
             max_entries: 8,
         }];
-        is_judged(&rt, rt.alloc(), name, Version::V1, &maps, &COUNTED, wanted)?;
+        is_judged(&rt, rt.alloc(), name, Version::V1, &maps, &COUNTED, wanted);
     }
-    Ok(())
 }
 
 #[test]
-fn no_map_in_the_list(rt: HostRuntime) -> Result<(), Fail> {
+fn no_map_in_the_list(rt: HostRuntime) {
     is_judged(
         &rt,
         rt.alloc(),
@@ -546,7 +542,7 @@ fn no_map_in_the_list(rt: HostRuntime) -> Result<(), Fail> {
         &[],
         &[MAP, PASS, EXIT],
         Err(Reject::UnknownMap { slot: 0 }),
-    )
+    );
 }
 
 /// What a flat instruction is, of those in the rows below.
@@ -574,15 +570,15 @@ fn resolves_to(
     code: &[Insn],
     slot: usize,
     wanted: &str,
-) -> Result<(), Fail> {
-    match verify(alloc, image_of(alloc, Version::V1, &MAPS, code)?) {
+) {
+    let image = image_of(rt, alloc, Version::V1, &MAPS, code);
+    match verify(alloc, image) {
         Ok(verified) => {
             let found = verified.op(slot).map_or("none", sort);
             same(rt, name, &Ok(found), &Ok::<&str, Reject>(wanted));
         }
         Err(reject) => same(rt, name, &Err(reject), &Ok::<&str, Reject>(wanted)),
     }
-    Ok(())
 }
 
 #[rattlefmt::skip]
@@ -598,16 +594,15 @@ static RESOLVED: [(&str, &[Insn], usize, &str); 8] = [
 ];
 
 #[test]
-fn resolved_instructions(rt: HostRuntime) -> Result<(), Fail> {
+fn resolved_instructions(rt: HostRuntime) {
     for &(name, code, slot, wanted) in &RESOLVED {
-        resolves_to(&rt, rt.alloc(), name, code, slot, wanted)?;
+        resolves_to(&rt, rt.alloc(), name, code, slot, wanted);
     }
-    Ok(())
 }
 
 #[test]
-fn the_longest_program(rt: HostRuntime) -> Result<(), Fail> {
-    let code = repeated(rt.alloc(), PASS, 4095)?;
+fn the_longest_program(rt: HostRuntime) {
+    let code = repeated(&rt, rt.alloc(), PASS, 4095);
     is_judged(
         &rt,
         rt.alloc(),
@@ -616,7 +611,7 @@ fn the_longest_program(rt: HostRuntime) -> Result<(), Fail> {
         &[],
         &code,
         Ok(true),
-    )
+    );
 }
 
 #[rattlefmt::skip]
@@ -644,9 +639,8 @@ static TEXTS: [(Reject, &str); 20] = [
 ];
 
 #[test]
-fn printed_rejects(rt: HostRuntime) -> Result<(), Fail> {
+fn printed_rejects(rt: HostRuntime) {
     for &(reject, wanted) in &TEXTS {
-        prints(&rt, rt.alloc(), &reject, wanted)?;
+        prints(&rt, rt.alloc(), &reject, wanted);
     }
-    Ok(())
 }

@@ -1,20 +1,19 @@
 //! Programs with what is printed of them, worked out by hand from the rules.
 
-use crate::asserting::{holds, same_text};
+use crate::asserting::{holds, holds_of, same_text};
 use disasm::assemble;
 use reasons::explain;
 use std::alloc::Global;
 use std::process::Abort;
-use std::test::Fail;
 
 const LOOKUP: &str =
     "version 1\nmap array 4 8 1\nstw [r10-4], 0\nmov r2, r10\nadd r2, -4\nldmap r1, 0\ncall 1\n";
 
 /// What is printed of the program of a text.
-fn explained(alloc: Global, head: &str, code: &str) -> Result<String, Fail> {
-    let text = format!(in alloc; "{head}{code}")?;
-    let image = assemble(alloc, &text)?;
-    Ok(explain(alloc, &image)?)
+fn explained(rt: &impl Abort, alloc: Global, head: &str, code: &str) -> String {
+    let text = format!(in alloc; "{head}{code}").expect(rt, "memory");
+    let image = assemble(alloc, &text).expect(rt, "an image");
+    explain(alloc, &image).expect(rt, "memory")
 }
 
 /// A program, and the lines of what is printed of it up to the rule.
@@ -153,71 +152,62 @@ const PROGRAM: &str = "  slot 0: ldmap r6, 0
 ";
 
 /// Holds the beginning of what is printed of a program against its lines.
-fn check_row(
-    rt: &impl Abort,
-    alloc: Global,
-    head: &str,
-    code: &str,
-    want: &str,
-) -> Result<(), Fail> {
-    let text = explained(alloc, head, code)?;
-    assert!(rt; text.starts_with(want), "{code}{text}");
-    Ok(())
+fn check_row(rt: &impl Abort, alloc: Global, head: &str, code: &str, want: &str) {
+    let text = explained(rt, alloc, head, code);
+    holds_of(rt, code, &text, text.starts_with(want));
 }
 
-fn check_rows(rt: &impl Abort, alloc: Global, rows: &[Row]) -> Result<(), Fail> {
+fn check_rows(rt: &impl Abort, alloc: Global, rows: &[Row]) {
     for (head, code, want) in rows {
-        check_row(rt, alloc, head, code, want)?;
+        check_row(rt, alloc, head, code, want);
     }
-    Ok(())
 }
 
 #[test]
-fn structure(rt: HostRuntime) -> Result<(), Fail> {
-    check_rows(&rt, rt.alloc(), &STRUCTURE)
+fn structure(rt: HostRuntime) {
+    check_rows(&rt, rt.alloc(), &STRUCTURE);
 }
 
 #[test]
-fn kinds(rt: HostRuntime) -> Result<(), Fail> {
-    check_rows(&rt, rt.alloc(), &KINDS)
+fn kinds(rt: HostRuntime) {
+    check_rows(&rt, rt.alloc(), &KINDS);
 }
 
 #[test]
-fn packets(rt: HostRuntime) -> Result<(), Fail> {
-    check_rows(&rt, rt.alloc(), &PACKETS)
+fn packets(rt: HostRuntime) {
+    check_rows(&rt, rt.alloc(), &PACKETS);
 }
 
 #[test]
-fn memory(rt: HostRuntime) -> Result<(), Fail> {
-    check_rows(&rt, rt.alloc(), &MEMORY)
+fn memory(rt: HostRuntime) {
+    check_rows(&rt, rt.alloc(), &MEMORY);
 }
 
 #[test]
-fn accepted_program(rt: HostRuntime) -> Result<(), Fail> {
+fn accepted_program(rt: HostRuntime) {
     let text = explained(
+        &rt,
         rt.alloc(),
         "version 1\nmap array 4 8 1\n",
         "ldmap r6, 0\nldxw r7, [r1+16]\nstb [r10-1], 7\nstxdw [r10-16], r6\ncall 8\nexit\n",
-    )?;
+    );
     same_text(&rt, "a program that is accepted", &text, PROGRAM);
-    Ok(())
 }
 
 /// 4095 moves and an `exit`.
-fn largest(alloc: Global) -> Result<String, Fail> {
+fn largest(rt: &impl Abort, alloc: Global) -> String {
     let mut code = String::new(alloc);
     for _ in 0..4095 {
-        code.push_str("mov r0, 2\n")?;
+        code.push_str("mov r0, 2\n").expect(rt, "memory");
     }
-    code.push_str("exit\n")?;
-    Ok(code)
+    code.push_str("exit\n").expect(rt, "memory");
+    code
 }
 
 #[test]
-fn largest_program(rt: HostRuntime) -> Result<(), Fail> {
-    let code = largest(rt.alloc())?;
-    let text = explained(rt.alloc(), V1, &code)?;
+fn largest_program(rt: HostRuntime) {
+    let code = largest(&rt, rt.alloc());
+    let text = explained(&rt, rt.alloc(), V1, &code);
     let last = "  slot 4095: exit\n    known: r0 number 2; r1 context; r10 stack r10-0;\n";
     holds(&rt, "the last slot", text.ends_with(last));
-    Ok(())
 }

@@ -9,7 +9,6 @@ use image_shape::{
 use isa::{AluOp, Register, SourceOperand, Test, Width};
 use std::alloc::Global;
 use std::process::Abort;
-use std::test::Fail;
 use test_support::programs::FIRST_RUN_IMAGE;
 
 const MOV: Insn = Insn::Alu {
@@ -130,26 +129,23 @@ fn has_shape(
     name: &str,
     code: &[Insn],
     want: Result<(), ShapeFault>,
-) -> Result<(), Fail> {
-    let image = image_of(alloc, Version::V1, &[], code)?;
+) {
+    let image = image_of(rt, alloc, Version::V1, &[], code);
     same(rt, name, &check_shape(&image), &want);
-    Ok(())
 }
 
 #[test]
-fn accepted(rt: HostRuntime) -> Result<(), Fail> {
+fn accepted(rt: HostRuntime) {
     for &(name, code) in &ACCEPTED {
-        has_shape(&rt, rt.alloc(), name, code, Ok(()))?;
+        has_shape(&rt, rt.alloc(), name, code, Ok(()));
     }
-    Ok(())
 }
 
 #[test]
-fn refused(rt: HostRuntime) -> Result<(), Fail> {
+fn refused(rt: HostRuntime) {
     for &(name, code, want) in &REFUSED {
-        has_shape(&rt, rt.alloc(), name, code, Err(want))?;
+        has_shape(&rt, rt.alloc(), name, code, Err(want));
     }
-    Ok(())
 }
 /// What the first this many slots of FIRST_RUN_IMAGE are refused with: its jump at slot 5 goes to slot 17.
 fn want_at(slots: u32) -> Result<(), ShapeFault> {
@@ -165,29 +161,27 @@ fn want_at(slots: u32) -> Result<(), ShapeFault> {
 }
 
 /// The bytes of a beginning of FIRST_RUN_IMAGE have the structure that is wanted of this many slots.
-fn begins_so(rt: &impl Abort, alloc: Global, bytes: &[u8], slots: u32) -> Result<(), Fail> {
-    let image = decode(alloc, bytes)?;
+fn begins_so(rt: &impl Abort, alloc: Global, bytes: &[u8], slots: u32) {
+    let image = decode(alloc, bytes).expect(rt, "an image");
     let found = check_shape(&image);
     same_at(rt, "slots up to", u64::from(slots), &found, &want_at(slots));
-    Ok(())
 }
 
 // Eleven slots end within a wide instruction, and are no image.
 #[test]
-fn beginnings(rt: HostRuntime) -> Result<(), Fail> {
+fn beginnings(rt: HostRuntime) {
     for slots in 1u32..19 {
         if slots != 11 {
             let bytes = &FIRST_RUN_IMAGE[..24 + 8 * slots as usize];
-            begins_so(&rt, rt.alloc(), bytes, slots)?;
+            begins_so(&rt, rt.alloc(), bytes, slots);
         }
     }
-    Ok(())
 }
 
 #[test]
-fn longest_program(rt: HostRuntime) -> Result<(), Fail> {
-    let code = repeated(rt.alloc(), MOV, 4095)?;
-    has_shape(&rt, rt.alloc(), "4096 slots", &code, Ok(()))
+fn longest_program(rt: HostRuntime) {
+    let code = repeated(&rt, rt.alloc(), MOV, 4095);
+    has_shape(&rt, rt.alloc(), "4096 slots", &code, Ok(()));
 }
 
 #[rattlefmt::skip]
@@ -200,12 +194,11 @@ static TEXTS: [(ShapeFault, u8, &str); 5] = [
 ];
 
 #[test]
-fn texts(rt: HostRuntime) -> Result<(), Fail> {
+fn texts(rt: HostRuntime) {
     for &(fault, number, want) in &TEXTS {
         same(&rt, want, &fault.number(), &number);
-        prints(&rt, rt.alloc(), &fault, want)?;
+        prints(&rt, rt.alloc(), &fault, want);
     }
-    Ok(())
 }
 
 #[rattlefmt::skip]

@@ -2,28 +2,27 @@
 
 use ebpf_decode::{Image, Insn, MapDef, Version};
 use std::alloc::Global;
-use std::test::Fail;
+use std::process::Abort;
 
 /// An image of these maps and this program.
 pub(crate) fn image_of(
+    rt: &impl Abort,
     alloc: Global,
     version: Version,
     maps: &[MapDef],
     code: &[Insn],
-) -> Result<Image, Fail> {
-    let mut all_maps = Vec::new(alloc);
-    all_maps.extend_from_slice(maps)?;
-    let mut all = Vec::new(alloc);
-    all.extend_from_slice(code)?;
-    Ok(Image::of(version, all_maps, all)?)
+) -> Image {
+    let maps = Vec::from_slice(alloc, maps).expect(rt, "maps");
+    let code = Vec::from_slice(alloc, code).expect(rt, "code");
+    Image::of(version, maps, code).expect(rt, "an image")
 }
 
 /// This many times an instruction, and an exit.
-pub(crate) fn repeated(alloc: Global, insn: Insn, count: u32) -> Result<Vec<Insn>, Fail> {
+pub(crate) fn repeated(rt: &impl Abort, alloc: Global, insn: Insn, count: u32) -> Vec<Insn> {
     let mut code = Vec::new(alloc);
     for _ in 0..count {
-        code.push(insn)?;
+        code.push(insn).expect(rt, "room");
     }
-    code.push(Insn::Exit)?;
-    Ok(code)
+    code.push(Insn::Exit).expect(rt, "room");
+    code
 }

@@ -11,7 +11,7 @@ mod nothing;
 mod programs;
 mod scripted;
 
-use crate::asserting::{same, same_fact};
+use crate::asserting::{prints, same, same_fact};
 use ebpf_decode::Insn;
 use isa::Register::{R0, R1, R2, R3, R4, R5, R10};
 use isa::{AluOp, Register, Size, SourceOperand, Test, Width};
@@ -21,7 +21,6 @@ use programs::{MOMENT, accepted, ran};
 use semantics::Verdict;
 use std::alloc::Global;
 use std::process::Abort;
-use std::test::Fail;
 use test_support::{add, alu, call, jump, load, mov, number, put};
 
 fn exit(verdict: Verdict, steps: u64) -> Exit {
@@ -38,14 +37,13 @@ fn ends(
     bytes: &[u8],
     want: Exit,
     name: &str,
-) -> Result<(), Fail>
+)
     requires { moment.now.worker < 8 }
 {
-    let verified = accepted(alloc, &[], head, tail)?;
-    let ran = ran(alloc, &verified, moment, bytes)?;
+    let verified = accepted(rt, alloc, &[], head, tail);
+    let ran = ran(rt, alloc, &verified, moment, bytes).expect(rt, "a frame");
     same(rt, name, &ran.exit, &want);
     same_fact(rt, name, "the frame", &ran.frame.bytes(), &bytes);
-    Ok(())
 }
 
 #[rattlefmt::skip]
@@ -63,7 +61,7 @@ static HEADS: [(&str, &[Insn], Exit); 6] = [
 
 /// The low 32 bits of R0 are the verdict, and a wide instruction is one step.
 #[test]
-fn one_instruction_and_an_exit(rt: HostRuntime) -> Result<(), Fail> {
+fn one_instruction_and_an_exit(rt: HostRuntime) {
     for &(name, head, want) in &HEADS {
         ends(
             &rt,
@@ -74,16 +72,15 @@ fn one_instruction_and_an_exit(rt: HostRuntime) -> Result<(), Fail> {
             &[0; 14],
             want,
             name,
-        )?;
+        );
     }
-    Ok(())
 }
 
 #[test]
-fn the_longest_run(rt: HostRuntime) -> Result<(), Fail> {
+fn the_longest_run(rt: HostRuntime) {
     let mut code = Vec::new(rt.alloc());
     for _ in 0..4095 {
-        code.push(number!(R0, 1))?;
+        code.push(number!(R0, 1)).expect(&rt, "room");
     }
     let want = exit(Verdict::Drop, 4096);
     ends(
@@ -95,7 +92,7 @@ fn the_longest_run(rt: HostRuntime) -> Result<(), Fail> {
         &[0; 14],
         want,
         "4096 slots",
-    )
+    );
 }
 
 #[rattlefmt::skip]
@@ -109,7 +106,7 @@ static LAST_BYTES: [(&str, u8, Verdict); 5] = [
 
 /// Byte 13 is the verdict, where the packet has 14 bytes.
 #[test]
-fn a_byte_that_a_test_covers(rt: HostRuntime) -> Result<(), Fail> {
+fn a_byte_that_a_test_covers(rt: HostRuntime) {
     let head = checked!(14, 1);
     let tail = [load!(Size::U8, R0, R2, 13), EXIT];
     for &(name, last, verdict) in &LAST_BYTES {
@@ -124,10 +121,9 @@ fn a_byte_that_a_test_covers(rt: HostRuntime) -> Result<(), Fail> {
             &bytes[..14],
             want,
             name,
-        )?;
-        ends(&rt, rt.alloc(), &MOMENT, &head, &tail, &bytes, want, name)?;
+        );
+        ends(&rt, rt.alloc(), &MOMENT, &head, &tail, &bytes, want, name);
     }
-    Ok(())
 }
 
 #[rattlefmt::skip]
@@ -138,7 +134,7 @@ static STRICT_ROWS: [(&str, &[u8], Exit); 2] = [
 
 /// Byte 14 is the verdict, where the packet has more than 14 bytes.
 #[test]
-fn a_byte_that_a_strict_test_covers(rt: HostRuntime) -> Result<(), Fail> {
+fn a_byte_that_a_strict_test_covers(rt: HostRuntime) {
     let head = [
         load!(Size::U32, R2, R1, 0),
         load!(Size::U32, R3, R1, 4),
@@ -149,9 +145,8 @@ fn a_byte_that_a_strict_test_covers(rt: HostRuntime) -> Result<(), Fail> {
     ];
     let tail = [load!(Size::U8, R0, R2, 14), EXIT];
     for &(name, bytes, want) in &STRICT_ROWS {
-        ends(&rt, rt.alloc(), &MOMENT, &head, &tail, bytes, want, name)?;
+        ends(&rt, rt.alloc(), &MOMENT, &head, &tail, bytes, want, name);
     }
-    Ok(())
 }
 
 #[rattlefmt::skip]
@@ -162,7 +157,7 @@ static PLACES: [(&str, u8, Exit); 2] = [
 
 /// Byte 13 says where the byte is that is the verdict.
 #[test]
-fn a_place_that_the_packet_tells(rt: HostRuntime) -> Result<(), Fail> {
+fn a_place_that_the_packet_tells(rt: HostRuntime) {
     let head = checked!(14, 6);
     let tail = [
         load!(Size::U8, R5, R2, 13),
@@ -177,9 +172,8 @@ fn a_place_that_the_packet_tells(rt: HostRuntime) -> Result<(), Fail> {
         let mut bytes = [0; 14];
         bytes[3] = 1;
         bytes[13] = place;
-        ends(&rt, rt.alloc(), &MOMENT, &head, &tail, &bytes, want, name)?;
+        ends(&rt, rt.alloc(), &MOMENT, &head, &tail, &bytes, want, name);
     }
-    Ok(())
 }
 
 #[rattlefmt::skip]
@@ -190,7 +184,7 @@ static MOMENTS: [(&str, i32, Verdict); 2] = [
 
 /// Each run has its own time and the number of its worker.
 #[test]
-fn each_run_has_its_moment(rt: HostRuntime) -> Result<(), Fail> {
+fn each_run_has_its_moment(rt: HostRuntime) {
     let moment = Moment {
         now_ns: 0xffff_ffff_0000_0001,
         worker: 3,
@@ -207,13 +201,12 @@ fn each_run_has_its_moment(rt: HostRuntime) -> Result<(), Fail> {
             &[0; 14],
             want,
             name,
-        )?;
+        );
     }
-    Ok(())
 }
 
 #[test]
-fn a_spilled_context(rt: HostRuntime) -> Result<(), Fail> {
+fn a_spilled_context(rt: HostRuntime) {
     let head = [
         put!(Size::U64, R10, -8, R1),
         load!(Size::U64, R2, R10, -8),
@@ -229,11 +222,11 @@ fn a_spilled_context(rt: HostRuntime) -> Result<(), Fail> {
         &[0; 14],
         want,
         "drop",
-    )
+    );
 }
 
 #[test]
-fn a_spilled_packet_pointer(rt: HostRuntime) -> Result<(), Fail> {
+fn a_spilled_packet_pointer(rt: HostRuntime) {
     let tail = [
         put!(Size::U64, R10, -8, R2),
         load!(Size::U64, R5, R10, -8),
@@ -252,7 +245,7 @@ fn a_spilled_packet_pointer(rt: HostRuntime) -> Result<(), Fail> {
         &bytes,
         want,
         "byte 13",
-    )
+    );
 }
 
 #[rattlefmt::skip]
@@ -264,28 +257,20 @@ static JUMPS: [(&str, i32, Insn, Exit); 4] = [
 ];
 
 #[test]
-fn jumps_over_slots(rt: HostRuntime) -> Result<(), Fail> {
+fn jumps_over_slots(rt: HostRuntime) {
     for &(name, number, jump, want) in &JUMPS {
         let head = [
             number!(R0, number),
             jump!(Test::Eq, R0, SourceOperand::Imm(2), 2),
         ];
         let tail = [number!(R0, 1), jump, number!(R0, 3), EXIT];
-        ends(&rt, rt.alloc(), &MOMENT, &head, &tail, &[0; 14], want, name)?;
+        ends(&rt, rt.alloc(), &MOMENT, &head, &tail, &[0; 14], want, name);
     }
-    Ok(())
 }
 
 #[test]
-fn stops_are_printed(rt: HostRuntime) -> Result<(), Fail> {
+fn stops_are_printed(rt: HostRuntime) {
     let stop = Stop::JournalFull { shard: 7 };
     same(&rt, "its number", &stop.number(), &60);
-    let text = format!(in rt.alloc(); "{stop}")?;
-    same(
-        &rt,
-        "its text",
-        &text.as_str(),
-        &"fault 60 JournalFull shard 7",
-    );
-    Ok(())
+    prints(&rt, rt.alloc(), &stop, "fault 60 JournalFull shard 7");
 }

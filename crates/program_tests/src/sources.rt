@@ -8,7 +8,6 @@ use source_form::{
 };
 use std::alloc::Global;
 use std::process::Abort;
-use std::test::Fail;
 use test_support::programs::FIRST_RUN;
 
 /// The first run as people write it.
@@ -64,31 +63,23 @@ out:
 ";
 
 /// Compares the exact text that a source means.
-fn is_meant(
-    rt: &impl Abort,
-    alloc: Global,
-    name: &str,
-    written: &str,
-    want: &str,
-) -> Result<(), Fail> {
-    let exact = exact_text(alloc, written)?;
+fn is_meant(rt: &impl Abort, alloc: Global, name: &str, written: &str, want: &str) {
+    let exact = exact_text(alloc, written).expect(rt, "an exact text");
     same_text(rt, name, &exact, want);
-    Ok(())
 }
 
 /// The exact text of a source's image.
-fn text_of(alloc: Global, written: &str) -> Result<String, Fail> {
-    let image = assemble_source(alloc, written)?;
-    Ok(text(alloc, &image)?)
+fn text_of(rt: &impl Abort, alloc: Global, written: &str) -> String {
+    let image = assemble_source(alloc, written).expect(rt, "an image");
+    text(alloc, &image).expect(rt, "memory")
 }
 
 #[test]
-fn first_run(rt: HostRuntime) -> Result<(), Fail> {
-    is_meant(&rt, rt.alloc(), "the example", EXAMPLE, FIRST_RUN)?;
-    is_meant(&rt, rt.alloc(), "the source", FIRST_RUN_SOURCE, FIRST_RUN)?;
-    let image = text_of(rt.alloc(), FIRST_RUN_SOURCE)?;
+fn first_run(rt: HostRuntime) {
+    is_meant(&rt, rt.alloc(), "the example", EXAMPLE, FIRST_RUN);
+    is_meant(&rt, rt.alloc(), "the source", FIRST_RUN_SOURCE, FIRST_RUN);
+    let image = text_of(&rt, rt.alloc(), FIRST_RUN_SOURCE);
     same_text(&rt, "the source's image", &image, FIRST_RUN);
-    Ok(())
 }
 
 // A line of a source, behind a first line, and the line of the exact text.
@@ -135,23 +126,22 @@ const LINES: [(&str, &str); 38] = [
 ];
 
 /// Compares the line of the exact text that a line of a source means.
-fn line_is_meant(rt: &impl Abort, alloc: Global, written: &str, want: &str) -> Result<(), Fail> {
-    let source = format!(in alloc; "version 1\n{written}")?;
-    let want = format!(in alloc; "version 1\n{want}")?;
-    is_meant(rt, alloc, written, &source, &want)
+fn line_is_meant(rt: &impl Abort, alloc: Global, written: &str, want: &str) {
+    let source = format!(in alloc; "version 1\n{written}").expect(rt, "memory");
+    let want = format!(in alloc; "version 1\n{want}").expect(rt, "memory");
+    is_meant(rt, alloc, written, &source, &want);
 }
 
 /// The same of each line.
-fn lines_are_meant(rt: &impl Abort, alloc: Global, rows: &[(&str, &str)]) -> Result<(), Fail> {
+fn lines_are_meant(rt: &impl Abort, alloc: Global, rows: &[(&str, &str)]) {
     for (written, want) in rows {
-        line_is_meant(rt, alloc, written, want)?;
+        line_is_meant(rt, alloc, written, want);
     }
-    Ok(())
 }
 
 #[test]
-fn lines(rt: HostRuntime) -> Result<(), Fail> {
-    lines_are_meant(&rt, rt.alloc(), &LINES)
+fn lines(rt: HostRuntime) {
+    lines_are_meant(&rt, rt.alloc(), &LINES);
 }
 
 // The slots: a heading has none, a wide instruction two.
@@ -167,12 +157,16 @@ const LABELS: [(&str, &str); 8] = [
     ("a: ja a\nb: ja32 b",                    "ja -1\nja32 -1\n"),
 ];
 
-#[test]
-fn labels(rt: HostRuntime) -> Result<(), Fail> {
-    for (written, want) in LABELS {
-        is_meant(&rt, rt.alloc(), written, written, want)?;
+/// Compares the exact text that each source means.
+fn labels_are_meant(rt: &impl Abort, alloc: Global, rows: &[(&str, &str)]) {
+    for (written, want) in rows {
+        is_meant(rt, alloc, written, written, want);
     }
-    Ok(())
+}
+
+#[test]
+fn labels(rt: HostRuntime) {
+    labels_are_meant(&rt, rt.alloc(), &LABELS);
 }
 
 // A bad source, the line, what is wrong, and the words for it.
@@ -255,32 +249,26 @@ fn is_refused(
     written: &str,
     fault: SourceFault,
     words: &str,
-) -> Result<(), Fail> {
+) {
     same(rt, name, &fault_of(alloc, written), &Some(fault));
-    let printed = explain(alloc, written, fault)?;
+    let printed = explain(alloc, written, fault).expect(rt, "memory");
     same_text(rt, name, &printed, words);
-    Ok(())
 }
 
 /// The same of each source with a bad line.
-fn are_refused(
-    rt: &impl Abort,
-    alloc: Global,
-    rows: &[(&str, usize, Problem, &str)],
-) -> Result<(), Fail> {
+fn are_refused(rt: &impl Abort, alloc: Global, rows: &[(&str, usize, Problem, &str)]) {
     for (written, line, problem, words) in rows {
         let fault = SourceFault::BadLine {
             line: *line,
             problem: *problem,
         };
-        is_refused(rt, alloc, written, written, fault, words)?;
+        is_refused(rt, alloc, written, written, fault, words);
     }
-    Ok(())
 }
 
 #[test]
-fn bad_lines(rt: HostRuntime) -> Result<(), Fail> {
-    are_refused(&rt, rt.alloc(), &BAD)
+fn bad_lines(rt: HostRuntime) {
+    are_refused(&rt, rt.alloc(), &BAD);
 }
 
 // A source that no image comes of though each line is right, why, and the words for it.
@@ -298,34 +286,38 @@ const NO_IMAGE: [(&str, DecodeFault, &str); 5] = [
         DecodeFault::NotInProfile { slot: 3 }, "  line 6, slot 3: images of this version have no such instruction\n"),
 ];
 
-#[test]
-fn no_image(rt: HostRuntime) -> Result<(), Fail> {
-    for (written, why, words) in NO_IMAGE {
-        let fault = SourceFault::Image(why);
-        is_refused(&rt, rt.alloc(), written, written, fault, words)?;
+/// Compares why no image comes of each source, and the words for it.
+fn make_no_image(rt: &impl Abort, alloc: Global, rows: &[(&str, DecodeFault, &str)]) {
+    for (written, why, words) in rows {
+        let fault = SourceFault::Image(*why);
+        is_refused(rt, alloc, written, written, fault, words);
     }
-    Ok(())
+}
+
+#[test]
+fn no_image(rt: HostRuntime) {
+    make_no_image(&rt, rt.alloc(), &NO_IMAGE);
 }
 
 /// After 4095 slots on the lines up to 2050, a label, and an instruction of these words.
-fn long_source(alloc: Global, last: &str) -> Result<String, Fail> {
-    let mut written = String::from_str(alloc, "version 1\n\n")?;
+fn long_source(rt: &impl Abort, alloc: Global, last: &str) -> String {
+    let mut written = String::from_str(alloc, "version 1\n\n").expect(rt, "memory");
     for _ in 0..2047 {
-        written.push_str("lddw r1, 0\n")?;
+        written.push_str("lddw r1, 0\n").expect(rt, "memory");
     }
-    written.push_str("mov r0, 2\nend:\n")?;
-    written.push_str(last)?;
-    Ok(written)
+    written.push_str("mov r0, 2\nend:\n").expect(rt, "memory");
+    written.push_str(last).expect(rt, "memory");
+    written
 }
 
 #[test]
-fn too_long(rt: HostRuntime) -> Result<(), Fail> {
-    let fits = long_source(rt.alloc(), "exit\n")?;
+fn too_long(rt: HostRuntime) {
+    let fits = long_source(&rt, rt.alloc(), "exit\n");
     same(&rt, "4096 slots", &fault_of(rt.alloc(), &fits), &None);
-    let long = long_source(rt.alloc(), "lddw r1, 0\n")?;
+    let long = long_source(&rt, rt.alloc(), "lddw r1, 0\n");
     let fault = SourceFault::Image(DecodeFault::TooLong);
     let words = "  line 2052: an image has at most 4096 slots\n";
-    is_refused(&rt, rt.alloc(), "4097 slots", &long, fault, words)
+    is_refused(&rt, rt.alloc(), "4097 slots", &long, fault, words);
 }
 
 // An instruction of each form, and jumps to all sides: to a label, into a wide instruction, and out of the program.
@@ -362,28 +354,27 @@ exit
 ";
 
 /// What `source` prints of a text's image.
-fn source_of(alloc: Global, exact: &str) -> Result<String, Fail> {
-    let image = assemble(alloc, exact)?;
-    Ok(source(alloc, &image)?)
+fn source_of(rt: &impl Abort, alloc: Global, exact: &str) -> String {
+    let image = assemble(alloc, exact).expect(rt, "an image");
+    source(alloc, &image).expect(rt, "memory")
 }
 
 /// The text of the image of what `source` prints of a text's image.
-fn there_and_back(alloc: Global, exact: &str) -> Result<String, Fail> {
-    let printed = source_of(alloc, exact)?;
-    text_of(alloc, &printed)
+fn there_and_back(rt: &impl Abort, alloc: Global, exact: &str) -> String {
+    let printed = source_of(rt, alloc, exact);
+    text_of(rt, alloc, &printed)
 }
 
 /// Compares a text with what comes of it there and back.
-fn comes_back(rt: &impl Abort, alloc: Global, name: &str, exact: &str) -> Result<(), Fail> {
-    let again = there_and_back(alloc, exact)?;
+fn comes_back(rt: &impl Abort, alloc: Global, name: &str, exact: &str) {
+    let again = there_and_back(rt, alloc, exact);
     same_text(rt, name, &again, exact);
-    Ok(())
 }
 
 #[test]
-fn each_form_there_and_back(rt: HostRuntime) -> Result<(), Fail> {
-    comes_back(&rt, rt.alloc(), "each form", FORMS)?;
-    comes_back(&rt, rt.alloc(), "the first run", FIRST_RUN)
+fn each_form_there_and_back(rt: HostRuntime) {
+    comes_back(&rt, rt.alloc(), "each form", FORMS);
+    comes_back(&rt, rt.alloc(), "the first run", FIRST_RUN);
 }
 
 const SMALL: &str =
@@ -399,37 +390,40 @@ L3:
 ";
 
 #[test]
-fn printed_source(rt: HostRuntime) -> Result<(), Fail> {
-    let printed = source_of(rt.alloc(), SMALL)?;
+fn printed_source(rt: HostRuntime) {
+    let printed = source_of(&rt, rt.alloc(), SMALL);
     same_text(&rt, "a small source", &printed, SMALL_SOURCE);
-    Ok(())
 }
 
 /// A program of 4,096 slots whose first jump goes to its last instruction.
-fn largest(alloc: Global, first: &str, last: &str) -> Result<String, Fail> {
-    let mut out = String::from_str(alloc, "version 1\n")?;
-    out.push_str(first)?;
+fn largest(rt: &impl Abort, alloc: Global, first: &str, last: &str) -> String {
+    let mut out = String::from_str(alloc, "version 1\n").expect(rt, "memory");
+    out.push_str(first).expect(rt, "memory");
     for _ in 0..4094 {
-        out.push_str("mov r0, 2\n")?;
+        out.push_str("mov r0, 2\n").expect(rt, "memory");
     }
-    out.push_str(last)?;
-    Ok(out)
+    out.push_str(last).expect(rt, "memory");
+    out
 }
 
-/// Whether this is the exact text that a source means, and comes back.
-fn is_exact(alloc: Global, written: &str, exact: &str) -> Result<(bool, bool), Fail> {
-    let is_meant = exact_text(alloc, written)?.as_str() == exact;
-    Ok((is_meant, there_and_back(alloc, exact)?.as_str() == exact))
+/// Holds whether this is the exact text that a source means.
+fn is_exact(rt: &impl Abort, alloc: Global, written: &str, exact: &str) {
+    let meant = exact_text(alloc, written).expect(rt, "an exact text");
+    holds(rt, "the text that is meant", meant.as_str() == exact);
+}
+
+/// Holds whether a text comes there and back.
+fn is_the_same_again(rt: &impl Abort, alloc: Global, exact: &str) {
+    let again = there_and_back(rt, alloc, exact);
+    holds(rt, "there and back", again.as_str() == exact);
 }
 
 #[test]
-fn a_large_source(rt: HostRuntime) -> Result<(), Fail> {
-    let exact = largest(rt.alloc(), "ja +4094\n", "exit\n")?;
-    let written = largest(rt.alloc(), "ja end\n", "end:\nexit\n")?;
-    let (is_meant, comes_back) = is_exact(rt.alloc(), &written, &exact)?;
-    holds(&rt, "the text that is meant", is_meant);
-    holds(&rt, "there and back", comes_back);
-    Ok(())
+fn a_large_source(rt: HostRuntime) {
+    let exact = largest(&rt, rt.alloc(), "ja +4094\n", "exit\n");
+    let written = largest(&rt, rt.alloc(), "ja end\n", "end:\nexit\n");
+    is_exact(&rt, rt.alloc(), &written, &exact);
+    is_the_same_again(&rt, rt.alloc(), &exact);
 }
 
 // A source, a slot, and where its instruction is.
@@ -445,17 +439,16 @@ const SLOTS: [(&str, u32, &str); 7] = [
 ];
 
 /// Compares where the instruction of each slot is.
-fn are_found(rt: &impl Abort, alloc: Global, rows: &[(&str, u32, &str)]) -> Result<(), Fail> {
+fn are_found(rt: &impl Abort, alloc: Global, rows: &[(&str, u32, &str)]) {
     for (written, slot, words) in rows {
-        let printed = slot_note(alloc, written, *slot)?;
+        let printed = slot_note(alloc, written, *slot).expect(rt, "memory");
         same_text(rt, written, &printed, words);
     }
-    Ok(())
 }
 
 #[test]
-fn slots(rt: HostRuntime) -> Result<(), Fail> {
-    are_found(&rt, rt.alloc(), &SLOTS)
+fn slots(rt: HostRuntime) {
+    are_found(&rt, rt.alloc(), &SLOTS);
 }
 
 // A file, and whether it begins as a source does.

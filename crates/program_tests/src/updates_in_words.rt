@@ -6,7 +6,6 @@ use map_updates::{MapUpdate, Misfit, Mistake, first_misfit, misfit_of, update_of
 use semantics::{Key, Value};
 use std::alloc::Global;
 use std::process::Abort;
-use std::test::Fail;
 
 /// What a row shows, the words, and the update's map, key and value.
 type Row = (
@@ -27,19 +26,18 @@ const ROWS: [Row; 5] = [
 ];
 
 /// Compares the update that the words of each row say.
-fn are_said(rt: &impl Abort, alloc: Global, rows: &[Row]) -> Result<(), Fail> {
+fn are_said(rt: &impl Abort, alloc: Global, rows: &[Row]) {
     for (name, [map, key, value], place, key_bytes, value_bytes) in rows {
-        let found = update_of(alloc, map, key, value)?;
+        let found = update_of(alloc, map, key, value).expect(rt, "an update");
         holds_of(rt, name, "map", found.map == *place);
         holds_of(rt, name, "key", found.key.as_slice() == *key_bytes);
         holds_of(rt, name, "value", found.value.as_slice() == *value_bytes);
     }
-    Ok(())
 }
 
 #[test]
-fn words_say_updates(rt: HostRuntime) -> Result<(), Fail> {
-    are_said(&rt, rt.alloc(), &ROWS)
+fn words_say_updates(rt: HostRuntime) {
+    are_said(&rt, rt.alloc(), &ROWS);
 }
 
 #[rattlefmt::skip]
@@ -69,12 +67,12 @@ fn words_are_mistaken(rt: HostRuntime) {
 }
 
 /// This many times two zeros.
-fn zeros(alloc: Global, bytes: usize) -> Result<String, Fail> {
+fn zeros(rt: &impl Abort, alloc: Global, bytes: usize) -> String {
     let mut text = String::new(alloc);
     for _ in 0..bytes {
-        text.push_str("00")?;
+        text.push_str("00").expect(rt, "memory");
     }
-    Ok(text)
+    text
 }
 
 /// Bytes of a key and of a value, and what is said of them.
@@ -86,18 +84,18 @@ const LENGTHS: [(&str, usize, usize, Option<Mistake>); 3] = [
 ];
 
 /// What is said of zeros of these numbers of bytes.
-fn mistake_of(alloc: Global, key: usize, value: usize) -> Result<Option<Mistake>, Fail> {
-    let key = zeros(alloc, key)?;
-    let value = zeros(alloc, value)?;
-    Ok(update_of(alloc, "0", &key, &value).err())
+fn mistake_of(rt: &impl Abort, alloc: Global, key: usize, value: usize) -> Option<Mistake> {
+    let key = zeros(rt, alloc, key);
+    let value = zeros(rt, alloc, value);
+    update_of(alloc, "0", &key, &value).err()
 }
 
 #[test]
-fn keys_and_values_are_short(rt: HostRuntime) -> Result<(), Fail> {
-    for (name, key, value, want) in LENGTHS {
-        same(&rt, name, &mistake_of(rt.alloc(), key, value)?, &want);
+fn keys_and_values_are_short(rt: HostRuntime) {
+    for (name, key, value, want) in &LENGTHS {
+        let found = mistake_of(&rt, rt.alloc(), *key, *value);
+        same(&rt, name, &found, want);
     }
-    Ok(())
 }
 
 const fn map(kind: MapKind, key_size: u32, value_size: u32) -> MapDef {
@@ -131,47 +129,40 @@ const FITS: [(u32, usize, usize, &str); 7] = [
 ];
 
 /// The text of a misfit.
-fn misfit_text(alloc: Global, misfit: Option<Misfit>) -> Result<String, Fail> {
+fn misfit_text(rt: &impl Abort, alloc: Global, misfit: Option<Misfit>) -> String {
     match misfit {
-        Some(misfit) => Ok(misfit.text(alloc)?),
-        None => Ok(String::new(alloc)),
+        Some(misfit) => misfit.text(alloc).expect(rt, "memory"),
+        None => String::new(alloc),
     }
 }
 
 /// Compares the text of a misfit.
-fn is_misfit_text(
-    rt: &impl Abort,
-    alloc: Global,
-    misfit: Option<Misfit>,
-    want: &str,
-) -> Result<(), Fail> {
-    let text = misfit_text(alloc, misfit)?;
+fn is_misfit_text(rt: &impl Abort, alloc: Global, misfit: Option<Misfit>, want: &str) {
+    let text = misfit_text(rt, alloc, misfit);
     same_text(rt, want, &text, want);
-    Ok(())
 }
 
 #[test]
-fn maps_take_updates(rt: HostRuntime) -> Result<(), Fail> {
+fn maps_take_updates(rt: HostRuntime) {
     let maps = [map(MapKind::Array, 4, 8), map(MapKind::LruHash, 16, 64)];
-    for (place, key, value, want) in FITS {
-        let misfit = misfit_of(&maps, &update(place, key, value));
-        is_misfit_text(&rt, rt.alloc(), misfit, want)?;
+    for (place, key, value, want) in &FITS {
+        let misfit = misfit_of(&maps, &update(*place, *key, *value));
+        is_misfit_text(&rt, rt.alloc(), misfit, want);
     }
-    Ok(())
 }
 
 /// The first misfit of a hundred updates that fit and of these.
-fn first_behind(alloc: Global, last: &[MapUpdate]) -> Result<Option<(usize, Misfit)>, Fail> {
-    let mut updates = vec![in alloc; update(0, 4, 8); 100]?;
-    updates.extend_from_slice(last)?;
-    Ok(first_misfit(&[map(MapKind::Array, 4, 8)], &updates))
+fn first_behind(rt: &impl Abort, alloc: Global, last: &[MapUpdate]) -> Option<(usize, Misfit)> {
+    let mut updates = vec![in alloc; update(0, 4, 8); 100].expect(rt, "memory");
+    updates.extend_from_slice(last).expect(rt, "memory");
+    first_misfit(&[map(MapKind::Array, 4, 8)], &updates)
 }
 
 #[test]
-fn the_first_misfit_is_found(rt: HostRuntime) -> Result<(), Fail> {
-    same(&rt, "all fit", &first_behind(rt.alloc(), &[])?, &None);
+fn the_first_misfit_is_found(rt: HostRuntime) {
+    same(&rt, "all fit", &first_behind(&rt, rt.alloc(), &[]), &None);
     let last = [update(1, 4, 8), update(0, 0, 8)];
     let want = Some((100, Misfit::NoMap { map: 1 }));
-    same(&rt, "two misfits", &first_behind(rt.alloc(), &last)?, &want);
-    Ok(())
+    let found = first_behind(&rt, rt.alloc(), &last);
+    same(&rt, "two misfits", &found, &want);
 }

@@ -6,10 +6,9 @@ use map_updates::MapUpdate;
 use semantics::Options;
 use std::alloc::{AllocError, Global};
 use std::process::Abort;
-use std::test::Fail;
 
 /// The settings' words and numbers in one line.
-fn shown(alloc: Global, settings: Settings<'_>) -> Result<String, AllocError> {
+fn shown(rt: &impl Abort, alloc: Global, settings: Settings<'_>) -> Result<String, AllocError> {
     match settings {
         Settings::Check { image, explain } => format!(in alloc; "check {image} {explain}"),
         Settings::Run {
@@ -18,8 +17,8 @@ fn shown(alloc: Global, settings: Settings<'_>) -> Result<String, AllocError> {
             worker,
             updates,
         } => {
-            let mut text = run_shown(alloc, files, now, worker)?;
-            put_updates(alloc, &mut text, &updates)?;
+            let mut text = run_shown(rt, alloc, files, now, worker);
+            put_updates(rt, alloc, &mut text, &updates);
             Ok(text)
         }
         Settings::Disasm { image, source } => format!(in alloc; "disasm {image} {source}"),
@@ -41,63 +40,74 @@ fn shown(alloc: Global, settings: Settings<'_>) -> Result<String, AllocError> {
             no_journals,
             updates,
         } => {
-            let mut text = replay_shown(alloc, files, options, ring)?;
-            text.push_str(if exact { " exact" } else { "" })?;
-            text.push_str(if summary { " summary" } else { "" })?;
-            text.push_str(if skip_long { " skip-long" } else { "" })?;
-            text.push_str(if no_journals { " no-journals" } else { "" })?;
-            text.push_str(if files.is_steering {
-                ""
-            } else {
-                " no-steering"
-            })?;
-            text.push_str(if files.report.is_some() {
-                " report "
-            } else {
-                ""
-            })?;
-            text.push_str(files.report.unwrap_or(""))?;
-            put_updates(alloc, &mut text, &updates)?;
+            let mut text = replay_shown(rt, alloc, files, options, ring);
+            put_flags(rt, &mut text, exact, summary, skip_long, no_journals);
+            put_report(rt, &mut text, files);
+            put_updates(rt, alloc, &mut text, &updates);
             Ok(text)
         }
     }
 }
 
-/// The bytes of each update.
-fn put_updates(alloc: Global, text: &mut String, updates: &[MapUpdate]) -> Result<(), AllocError> {
-    for update in updates {
-        let key = hex::encode(alloc, update.key.as_slice())?;
-        let value = hex::encode(alloc, update.value.as_slice())?;
-        let map = update.map;
-        let shown = format!(in alloc; " {map}={key}:{value}")?;
-        text.push_str(shown.as_str())?;
+/// Appends a word where it is said.
+fn put_if(rt: &impl Abort, text: &mut String, is_said: bool, word: &str) {
+    if is_said {
+        text.push_str(word).expect(rt, "memory");
     }
-    Ok(())
+}
+
+/// The flags of a replay that are given.
+fn put_flags(
+    rt: &impl Abort,
+    text: &mut String,
+    exact: bool,
+    summary: bool,
+    skip_long: bool,
+    no_journals: bool,
+) {
+    put_if(rt, text, exact, " exact");
+    put_if(rt, text, summary, " summary");
+    put_if(rt, text, skip_long, " skip-long");
+    put_if(rt, text, no_journals, " no-journals");
+}
+
+/// Whether a replay has no steering, and the file of its report.
+fn put_report(rt: &impl Abort, text: &mut String, files: ReplayFiles<'_>) {
+    put_if(rt, text, !files.is_steering, " no-steering");
+    put_if(rt, text, files.report.is_some(), " report ");
+    put_if(rt, text, true, files.report.unwrap_or(""));
+}
+
+/// The bytes of each update.
+fn put_updates(rt: &impl Abort, alloc: Global, text: &mut String, updates: &[MapUpdate]) {
+    for update in updates {
+        let key = hex::encode(alloc, update.key.as_slice()).expect(rt, "memory");
+        let value = hex::encode(alloc, update.value.as_slice()).expect(rt, "memory");
+        let map = update.map;
+        let shown = format!(in alloc; " {map}={key}:{value}").expect(rt, "memory");
+        text.push_str(shown.as_str()).expect(rt, "memory");
+    }
 }
 
 /// A run's words, each at its place.
-fn run_shown(
-    alloc: Global,
-    files: RunFiles<'_>,
-    now: u64,
-    worker: u32,
-) -> Result<String, AllocError> {
+fn run_shown(rt: &impl Abort, alloc: Global, files: RunFiles<'_>, now: u64, worker: u32) -> String {
     let RunFiles {
         image,
         frame,
         journals,
     } = files;
     let journals = journals.unwrap_or("-");
-    format!(in alloc; "run {image} {frame} {now} {worker} {journals}")
+    format!(in alloc; "run {image} {frame} {now} {worker} {journals}").expect(rt, "memory")
 }
 
 /// A replay's words, each at its place.
 fn replay_shown(
+    rt: &impl Abort,
     alloc: Global,
     files: ReplayFiles<'_>,
     options: Options,
     ring: u32,
-) -> Result<String, AllocError> {
+) -> String {
     let ReplayFiles {
         capture,
         sent,
@@ -115,9 +125,10 @@ fn replay_shown(
     let image = image.unwrap_or("-");
     let script = script.unwrap_or("-");
     let journals = journals.unwrap_or("-");
-    format!(in alloc;
+    let shown = format!(in alloc;
         "replay {capture} {sent} {image} {script} {workers} {shards} {journal} {ring} {journals}"
-    )
+    );
+    shown.expect(rt, "memory")
 }
 
 #[rattlefmt::skip]
@@ -168,24 +179,23 @@ const READ: [(&str, &str); 43] = [
 ];
 
 /// Compares the settings of a command line.
-fn is_read(rt: &impl Abort, alloc: Global, line: &str, want: &str) -> Result<(), Fail> {
-    let words: Vec<&str> = line.split(' ').collect(alloc)?;
-    let found = shown(alloc, settings(alloc, &words)?)?;
+fn is_read(rt: &impl Abort, alloc: Global, line: &str, want: &str) {
+    let words: Vec<&str> = line.split(' ').collect(alloc).expect(rt, "words");
+    let settings = settings(alloc, &words).expect(rt, "a command line");
+    let found = shown(rt, alloc, settings).expect(rt, "memory");
     same_text(rt, line, &found, want);
-    Ok(())
 }
 
 /// The same of each line.
-fn are_read(rt: &impl Abort, alloc: Global, rows: &[(&str, &str)]) -> Result<(), Fail> {
+fn are_read(rt: &impl Abort, alloc: Global, rows: &[(&str, &str)]) {
     for (line, want) in rows {
-        is_read(rt, alloc, line, want)?;
+        is_read(rt, alloc, line, want);
     }
-    Ok(())
 }
 
 #[test]
-fn reads_commands(rt: HostRuntime) -> Result<(), Fail> {
-    are_read(&rt, rt.alloc(), &READ)
+fn reads_commands(rt: HostRuntime) {
+    are_read(&rt, rt.alloc(), &READ);
 }
 
 /// A command line, the status, and what its text begins with.
@@ -258,42 +268,37 @@ const REFUSED: [(&str, u8, &str); 60] = [
     ("xlb --version",                           0, "xlb 0.1.0\n"),
 ];
 
-/// The text of a fault, and the status of it.
-fn refusal_of(alloc: Global, line: &str) -> Result<(u8, String), Fail> {
-    let words: Vec<&str> = line.split(' ').collect(alloc)?;
-    match settings(alloc, words.as_slice()) {
-        Ok(_) => Err(Fail::from("settings")),
-        Err(fault) => Ok((fault.status(), text_of(alloc, &fault)?)),
-    }
-}
-
-fn text_of(alloc: Global, fault: &WordsFault<'_>) -> Result<String, Fail> {
-    Ok(format!(in alloc; "{fault}")?)
-}
-
 /// Compares the status of a fault, and what its text begins with.
-fn is_refused(
+fn is_told(
     rt: &impl Abort,
     alloc: Global,
     line: &str,
+    fault: &WordsFault<'_>,
     status: u8,
     text: &str,
-) -> Result<(), Fail> {
-    let (found, printed) = refusal_of(alloc, line)?;
-    holds_of(rt, line, "status", found == status);
+) {
+    let printed = format!(in alloc; "{fault}").expect(rt, "memory");
+    holds_of(rt, line, "status", fault.status() == status);
     holds_of(rt, line, "text", printed.starts_with(text));
-    Ok(())
+}
+
+/// Compares the fault of a command line, which there has to be.
+fn is_refused(rt: &impl Abort, alloc: Global, line: &str, status: u8, text: &str) {
+    let words: Vec<&str> = line.split(' ').collect(alloc).expect(rt, "words");
+    match settings(alloc, words.as_slice()) {
+        Ok(_) => holds_of(rt, line, "refused", false),
+        Err(fault) => is_told(rt, alloc, line, &fault, status, text),
+    }
 }
 
 /// The same of each line.
-fn are_refused(rt: &impl Abort, alloc: Global, rows: &[(&str, u8, &str)]) -> Result<(), Fail> {
+fn are_refused(rt: &impl Abort, alloc: Global, rows: &[(&str, u8, &str)]) {
     for (line, status, text) in rows {
-        is_refused(rt, alloc, line, *status, text)?;
+        is_refused(rt, alloc, line, *status, text);
     }
-    Ok(())
 }
 
 #[test]
-fn refuses_wrong_words(rt: HostRuntime) -> Result<(), Fail> {
-    are_refused(&rt, rt.alloc(), &REFUSED)
+fn refuses_wrong_words(rt: HostRuntime) {
+    are_refused(&rt, rt.alloc(), &REFUSED);
 }

@@ -8,7 +8,6 @@ use isa::Register::{R0, R1, R2, R3, R4, R5, R6, R10};
 use isa::{AluOp, Size, SourceOperand, Test};
 use machine::Stop;
 use semantics::Verdict;
-use std::test::Fail;
 use test_support::{add, alu, jump, load, mov, number, put, store};
 
 /// Arrays of values of 256 bytes.
@@ -30,7 +29,7 @@ static PLACES: [(&str, u32, i16, u64); 5] = [
 
 /// The address is the cell that the lookup found, and the offset.
 #[test]
-fn stores_at_an_address(rt: HostRuntime) -> Result<(), Fail> {
+fn stores_at_an_address(rt: HostRuntime) {
     for &(name, offset, distance, place) in &PLACES {
         let head = [Insn::Ldval {
             dst: R6,
@@ -55,9 +54,8 @@ fn stores_at_an_address(rt: HostRuntime) -> Result<(), Fail> {
             want,
             asked,
             name,
-        )?;
+        );
     }
-    Ok(())
 }
 
 /// The address of a value in R6, and a packet of at least 14 bytes.
@@ -85,7 +83,7 @@ const AS_FAR_AS_IT_SAYS: [Insn; 5] = [
 
 /// A byte of the packet says how far on: the address keeps its cell.
 #[test]
-fn stores_as_far_as_the_packet_says(rt: HostRuntime) -> Result<(), Fail> {
+fn stores_as_far_as_the_packet_says(rt: HostRuntime) {
     let asked = Asked::Store {
         handle: 1,
         offset: 0xaa,
@@ -103,12 +101,12 @@ fn stores_as_far_as_the_packet_says(rt: HostRuntime) -> Result<(), Fail> {
         want,
         asked,
         "byte 13",
-    )
+    );
 }
 
 /// The address is the same after it was spilled.
 #[test]
-fn a_spilled_address(rt: HostRuntime) -> Result<(), Fail> {
+fn a_spilled_address(rt: HostRuntime) {
     let head = [
         Insn::Ldval {
             dst: R6,
@@ -136,7 +134,7 @@ fn a_spilled_address(rt: HostRuntime) -> Result<(), Fail> {
         want,
         asked,
         "28 bytes in",
-    )
+    );
 }
 
 #[rattlefmt::skip]
@@ -147,7 +145,7 @@ static REFUSALS: [(&str, i32, u32, u32); 2] = [
 
 /// A refused lookup stops the run, and names the first shard of the map.
 #[test]
-fn refused_addresses(rt: HostRuntime) -> Result<(), Fail> {
+fn refused_addresses(rt: HostRuntime) {
     for &(name, map, before_refusal, shard) in &REFUSALS {
         let head = [
             store!(Size::U8, R10, -1, 1),
@@ -173,7 +171,6 @@ fn refused_addresses(rt: HostRuntime) -> Result<(), Fail> {
             want,
             Asked::Nothing,
             name,
-        )?;
+        );
     }
-    Ok(())
 }

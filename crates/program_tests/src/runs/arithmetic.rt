@@ -12,7 +12,6 @@ use machine::Exit;
 use semantics::Verdict;
 use std::alloc::Global;
 use std::process::Abort;
-use std::test::Fail;
 use test_support::{lddw, number, put};
 
 const LEAST64: u64 = 0x8000000000000000;
@@ -24,15 +23,7 @@ const MINUS_ONE: u64 = 0xffffffffffffffff;
 const NUMBER: u64 = 0x1122334455667788;
 
 /// One number in R5 and one in R6, an instruction, and then R5 on the packet.
-fn gives(
-    rt: &impl Abort,
-    alloc: Global,
-    insn: Insn,
-    a: u64,
-    b: u64,
-    want: u64,
-    name: &str,
-) -> Result<(), Fail> {
+fn gives(rt: &impl Abort, alloc: Global, insn: Insn, a: u64, b: u64, want: u64, name: &str) {
     let tail = [
         lddw!(R5, a),
         lddw!(R6, b),
@@ -40,15 +31,14 @@ fn gives(
         put!(Size::U64, R2, 0, R5),
         EXIT,
     ];
-    let verified = accepted(alloc, &[], &checked!(14, 6), &tail)?;
-    let ran = ran(alloc, &verified, &MOMENT, &[0; 14])?;
+    let verified = accepted(rt, alloc, &[], &checked!(14, 6), &tail);
+    let ran = ran(rt, alloc, &verified, &MOMENT, &[0; 14]).expect(rt, "a frame");
     let exit = Exit {
         verdict: Verdict::Pass,
         steps: 11,
     };
     same(rt, name, &ran.exit, &exit);
     has_number(rt, &ran.frame, want, name);
-    Ok(())
 }
 
 #[rattlefmt::skip]
@@ -90,7 +80,7 @@ static WIDE_ROWS: [(&str, AluOp, u64, u64, u64); 34] = [
 ];
 
 #[test]
-fn arithmetic_on_64_bits(rt: HostRuntime) -> Result<(), Fail> {
+fn arithmetic_on_64_bits(rt: HostRuntime) {
     for &(name, op, a, b, want) in &WIDE_ROWS {
         let insn = Insn::Alu {
             width: Width::Bits64,
@@ -98,9 +88,8 @@ fn arithmetic_on_64_bits(rt: HostRuntime) -> Result<(), Fail> {
             dst: R5,
             source: SourceOperand::Reg(R6),
         };
-        gives(&rt, rt.alloc(), insn, a, b, want, name)?;
+        gives(&rt, rt.alloc(), insn, a, b, want, name);
     }
-    Ok(())
 }
 
 #[rattlefmt::skip]
@@ -132,7 +121,7 @@ static HALF_ROWS: [(&str, AluOp, u64, u64, u64); 24] = [
 ];
 
 #[test]
-fn arithmetic_on_32_bits(rt: HostRuntime) -> Result<(), Fail> {
+fn arithmetic_on_32_bits(rt: HostRuntime) {
     for &(name, op, a, b, want) in &HALF_ROWS {
         let insn = Insn::Alu {
             width: Width::Bits32,
@@ -140,9 +129,8 @@ fn arithmetic_on_32_bits(rt: HostRuntime) -> Result<(), Fail> {
             dst: R5,
             source: SourceOperand::Reg(R6),
         };
-        gives(&rt, rt.alloc(), insn, a, b, want, name)?;
+        gives(&rt, rt.alloc(), insn, a, b, want, name);
     }
-    Ok(())
 }
 
 #[rattlefmt::skip]
@@ -157,7 +145,7 @@ static IMMEDIATES: [(&str, Width, AluOp, u64, i32, u64); 7] = [
 ];
 
 #[test]
-fn immediates(rt: HostRuntime) -> Result<(), Fail> {
+fn immediates(rt: HostRuntime) {
     for &(name, width, op, a, immediate, want) in &IMMEDIATES {
         let insn = Insn::Alu {
             width,
@@ -165,9 +153,8 @@ fn immediates(rt: HostRuntime) -> Result<(), Fail> {
             dst: R5,
             source: SourceOperand::Imm(immediate),
         };
-        gives(&rt, rt.alloc(), insn, a, 0, want, name)?;
+        gives(&rt, rt.alloc(), insn, a, 0, want, name);
     }
-    Ok(())
 }
 
 #[rattlefmt::skip]
@@ -180,20 +167,19 @@ static NEGATIONS: [(&str, u64, u64, u64); 5] = [
 ];
 
 #[test]
-fn negation(rt: HostRuntime) -> Result<(), Fail> {
+fn negation(rt: HostRuntime) {
     for &(name, a, want, want_half) in &NEGATIONS {
         let wide = Insn::Neg {
             width: Width::Bits64,
             dst: R5,
         };
-        gives(&rt, rt.alloc(), wide, a, 0, want, name)?;
+        gives(&rt, rt.alloc(), wide, a, 0, want, name);
         let half = Insn::Neg {
             width: Width::Bits32,
             dst: R5,
         };
-        gives(&rt, rt.alloc(), half, a, 0, want_half, name)?;
+        gives(&rt, rt.alloc(), half, a, 0, want_half, name);
     }
-    Ok(())
 }
 
 #[rattlefmt::skip]
@@ -216,14 +202,14 @@ static SHORT_EXTENSIONS: [(&str, ShortExtension, u64, u64); 4] = [
 ];
 
 #[test]
-fn sign_extension(rt: HostRuntime) -> Result<(), Fail> {
+fn sign_extension(rt: HostRuntime) {
     for &(name, extension, b, want) in &EXTENSIONS {
         let insn = Insn::Movsx {
             extension,
             dst: R5,
             src: R6,
         };
-        gives(&rt, rt.alloc(), insn, NUMBER, b, want, name)?;
+        gives(&rt, rt.alloc(), insn, NUMBER, b, want, name);
     }
     for &(name, extension, b, want) in &SHORT_EXTENSIONS {
         let insn = Insn::Movsx32 {
@@ -231,9 +217,8 @@ fn sign_extension(rt: HostRuntime) -> Result<(), Fail> {
             dst: R5,
             src: R6,
         };
-        gives(&rt, rt.alloc(), insn, NUMBER, b, want, name)?;
+        gives(&rt, rt.alloc(), insn, NUMBER, b, want, name);
     }
-    Ok(())
 }
 
 #[rattlefmt::skip]
@@ -250,16 +235,15 @@ static SWAPS: [(&str, ByteOrder, SwapWidth, u64); 9] = [
 ];
 
 #[test]
-fn byte_swaps(rt: HostRuntime) -> Result<(), Fail> {
+fn byte_swaps(rt: HostRuntime) {
     for &(name, order, swap_width, want) in &SWAPS {
         let insn = Insn::End {
             order,
             swap_width,
             dst: R5,
         };
-        gives(&rt, rt.alloc(), insn, NUMBER, 0, want, name)?;
+        gives(&rt, rt.alloc(), insn, NUMBER, 0, want, name);
     }
-    Ok(())
 }
 
 #[rattlefmt::skip]
@@ -299,7 +283,7 @@ fn branches(
     b: u64,
     taken: bool,
     name: &str,
-) -> Result<(), Fail> {
+) {
     let jump = Insn::JumpIf {
         width,
         test,
@@ -308,19 +292,17 @@ fn branches(
         distance: 1,
     };
     let head = [lddw!(R5, a), lddw!(R6, b), number!(R0, 2), jump];
-    let verified = accepted(alloc, &[], &head, &[number!(R0, 1), EXIT])?;
-    let exit = ran(alloc, &verified, &MOMENT, &[0; 14])?.exit;
+    let verified = accepted(rt, alloc, &[], &head, &[number!(R0, 1), EXIT]);
+    let ran = ran(rt, alloc, &verified, &MOMENT, &[0; 14]).expect(rt, "a frame");
     let verdict = if taken { Verdict::Pass } else { Verdict::Drop };
     let steps = if taken { 5 } else { 6 };
-    same(rt, name, &exit, &Exit { verdict, steps });
-    Ok(())
+    same(rt, name, &ran.exit, &Exit { verdict, steps });
 }
 
 #[test]
-fn tests_of_jumps(rt: HostRuntime) -> Result<(), Fail> {
+fn tests_of_jumps(rt: HostRuntime) {
     for &(name, test, a, b, taken, taken_half) in &TESTS {
-        branches(&rt, rt.alloc(), Width::Bits64, test, a, b, taken, name)?;
-        branches(&rt, rt.alloc(), Width::Bits32, test, a, b, taken_half, name)?;
+        branches(&rt, rt.alloc(), Width::Bits64, test, a, b, taken, name);
+        branches(&rt, rt.alloc(), Width::Bits32, test, a, b, taken_half, name);
     }
-    Ok(())
 }

@@ -11,10 +11,9 @@ use machine::{Exit, Stop, run};
 use semantics::{Key, Value, Verdict};
 use std::alloc::Global;
 use std::process::Abort;
-use std::test::Fail;
 use test_support::{add, call, jump, lddw, load, mov, number, put, store};
 use verifier::Verified;
-use wire::Frame;
+use wire::{Frame, FrameFault};
 
 /// One hash map of keys of four bytes and values of 16.
 const HASH: [MapDef; 1] = [MapDef {
@@ -41,9 +40,9 @@ fn asks(
     asked: Asked,
     bytes: &[u8],
     name: &str,
-) -> Result<(), Fail> {
-    let verified = accepted(alloc, &HASH, head, tail)?;
-    asks_by(rt, alloc, &verified, replies, want, asked, bytes, name)
+) {
+    let verified = accepted(rt, alloc, &HASH, head, tail);
+    asks_by(rt, alloc, &verified, replies, want, asked, bytes, name).expect(rt, "a frame");
 }
 
 /// The same of a program of version 2 over arrays, which leaves the frame as it was.
@@ -57,10 +56,10 @@ pub(super) fn asks_of_arrays(
     want: Result<Exit, Stop>,
     asked: Asked,
     name: &str,
-) -> Result<(), Fail> {
-    let verified = accepted_in(alloc, Version::V2, arrays, head, tail)?;
+) {
+    let verified = accepted_in(rt, alloc, Version::V2, arrays, head, tail);
     let bytes = [0xaa; 20];
-    asks_by(rt, alloc, &verified, replies, want, asked, &bytes, name)
+    asks_by(rt, alloc, &verified, replies, want, asked, &bytes, name).expect(rt, "a frame");
 }
 
 /// The same of an accepted program.
@@ -73,7 +72,7 @@ fn asks_by(
     asked: Asked,
     bytes: &[u8],
     name: &str,
-) -> Result<(), Fail> {
+) -> Result<(), FrameFault> {
     let mut port = ScriptedPort::over(verified.image(), replies);
     let mut frame = Frame::of(alloc, &[0xaa; 20])?;
     let ended = run(verified, &mut frame, &MOMENT, &mut port);
@@ -111,7 +110,7 @@ static STORES: [(&str, Size, i16, u64, u64); 4] = [
 
 /// A store asks for the low bytes of the register.
 #[test]
-fn stores_of_a_register(rt: HostRuntime) -> Result<(), Fail> {
+fn stores_of_a_register(rt: HostRuntime) {
     for &(name, size, offset, bytes, value) in &STORES {
         let tail = [
             lddw!(R5, NUMBER),
@@ -135,9 +134,8 @@ fn stores_of_a_register(rt: HostRuntime) -> Result<(), Fail> {
             asked,
             &[0xaa; 20],
             name,
-        )?;
+        );
     }
-    Ok(())
 }
 
 #[rattlefmt::skip]
@@ -150,7 +148,7 @@ static PUTS: [(&str, Size, i32, u64, u64); 4] = [
 
 /// An immediate is sign-extended first.
 #[test]
-fn stores_of_an_immediate(rt: HostRuntime) -> Result<(), Fail> {
+fn stores_of_an_immediate(rt: HostRuntime) {
     for &(name, size, immediate, bytes, value) in &PUTS {
         let tail = [store!(size, R6, 8, immediate), number!(R0, 3), EXIT];
         let asked = Asked::Store {
@@ -169,9 +167,8 @@ fn stores_of_an_immediate(rt: HostRuntime) -> Result<(), Fail> {
             asked,
             &[0xaa; 20],
             name,
-        )?;
+        );
     }
-    Ok(())
 }
 
 #[rattlefmt::skip]
@@ -191,7 +188,7 @@ static ATOMICS: [(&str, AtomicOp, u64, Verdict); 10] = [
 /// The operations that fetch put the number before, 3, in place of the source's 2; compare-and-exchange compares with R0, here 9, and
 /// leaves its source.
 #[test]
-fn atomic_operations(rt: HostRuntime) -> Result<(), Fail> {
+fn atomic_operations(rt: HostRuntime) {
     for &(name, op, expected, verdict) in &ATOMICS {
         for (width, bytes) in [(Width::Bits32, 4), (Width::Bits64, 8)] {
             let atomic = Insn::AtomicUpdate {
@@ -220,15 +217,14 @@ fn atomic_operations(rt: HostRuntime) -> Result<(), Fail> {
                 asked,
                 &[0xaa; 20],
                 name,
-            )?;
+            );
         }
     }
-    Ok(())
 }
 
 /// Of 32 bits, an operation has the low half of each number.
 #[test]
-fn short_atomic_operations(rt: HostRuntime) -> Result<(), Fail> {
+fn short_atomic_operations(rt: HostRuntime) {
     let op = AtomicOp::CompareExchange;
     let atomic = Insn::AtomicUpdate {
         width: Width::Bits32,
@@ -261,12 +257,12 @@ fn short_atomic_operations(rt: HostRuntime) -> Result<(), Fail> {
         asked,
         &[0xaa; 20],
         "R0 has the old number",
-    )
+    );
 }
 
 /// A pointer to a value that was spilled is the same when it comes back.
 #[test]
-fn a_spilled_value(rt: HostRuntime) -> Result<(), Fail> {
+fn a_spilled_value(rt: HostRuntime) {
     let tail = [
         add!(R6, 8),
         put!(Size::U64, R10, -16, R6),
@@ -296,7 +292,7 @@ fn a_spilled_value(rt: HostRuntime) -> Result<(), Fail> {
         asked,
         &[0xaa; 20],
         "12 bytes in",
-    )
+    );
 }
 
 #[rattlefmt::skip]
@@ -325,7 +321,7 @@ static DELETIONS_BY_SPILLED: [(&str, [Insn; 8]); 2] = [
 
 /// A map and a place of the stack are what they were when they come back.
 #[test]
-fn spilled_arguments(rt: HostRuntime) -> Result<(), Fail> {
+fn spilled_arguments(rt: HostRuntime) {
     for &(name, head) in &DELETIONS_BY_SPILLED {
         let asked = Asked::Delete {
             map: 0,
@@ -341,14 +337,13 @@ fn spilled_arguments(rt: HostRuntime) -> Result<(), Fail> {
             asked,
             &[0xaa; 20],
             name,
-        )?;
+        );
     }
-    Ok(())
 }
 
 /// So is the packet's end: 20 bytes are there, and the last of them is written.
 #[test]
-fn a_spilled_packet_end(rt: HostRuntime) -> Result<(), Fail> {
+fn a_spilled_packet_end(rt: HostRuntime) {
     let head = [
         load!(Size::U32, R2, R1, 0),
         load!(Size::U32, R3, R1, 4),
@@ -373,7 +368,7 @@ fn a_spilled_packet_end(rt: HostRuntime) -> Result<(), Fail> {
         Asked::Nothing,
         &bytes,
         "the last byte",
-    )
+    );
 }
 
 fn key(bytes: &[u8]) -> Key {
@@ -411,7 +406,7 @@ static ANSWERS: [(&str, i32, Verdict); 3] = [
 ];
 
 #[test]
-fn updates(rt: HostRuntime) -> Result<(), Fail> {
+fn updates(rt: HostRuntime) {
     let value = value(&[
         5, 0, 0, 0, 0, 0, 0, 0, 255, 255, 255, 255, 255, 255, 255, 255,
     ]);
@@ -433,13 +428,12 @@ fn updates(rt: HostRuntime) -> Result<(), Fail> {
             asked,
             &[0xaa; 20],
             name,
-        )?;
+        );
     }
-    Ok(())
 }
 
 #[test]
-fn deletions(rt: HostRuntime) -> Result<(), Fail> {
+fn deletions(rt: HostRuntime) {
     for &(name, answer, verdict) in &ANSWERS {
         let replies = Replies { answer, ..REPLIES };
         let asked = Asked::Delete {
@@ -456,14 +450,13 @@ fn deletions(rt: HostRuntime) -> Result<(), Fail> {
             asked,
             &[0xaa; 20],
             name,
-        )?;
+        );
     }
-    Ok(())
 }
 
 /// The packet's start moves 4 forward, so that 16 bytes are left, and the first of them is written.
 #[test]
-fn a_moved_start(rt: HostRuntime) -> Result<(), Fail> {
+fn a_moved_start(rt: HostRuntime) {
     let head = [mov!(R6, R1), number!(R2, 4), call!(44), mov!(R1, R6)];
     let tail = [
         load!(Size::U32, R2, R1, 0),
@@ -488,7 +481,7 @@ fn a_moved_start(rt: HostRuntime) -> Result<(), Fail> {
         Asked::Nothing,
         &bytes,
         "16 bytes",
-    )
+    );
 }
 
 #[rattlefmt::skip]
@@ -499,7 +492,7 @@ static STAYS: [(&str, i32); 2] = [
 
 /// Where it cannot move, R0 is -22, and the packet as it was.
 #[test]
-fn a_start_that_stays(rt: HostRuntime) -> Result<(), Fail> {
+fn a_start_that_stays(rt: HostRuntime) {
     for &(name, distance) in &STAYS {
         let tail = [add!(R0, 25), EXIT];
         let head = [number!(R2, distance), call!(44)];
@@ -513,14 +506,13 @@ fn a_start_that_stays(rt: HostRuntime) -> Result<(), Fail> {
             Asked::Nothing,
             &[0xaa; 20],
             name,
-        )?;
+        );
     }
-    Ok(())
 }
 
 /// The second call is refused: the packet is as the run had made it by then.
 #[test]
-fn a_refusal_in_the_middle(rt: HostRuntime) -> Result<(), Fail> {
+fn a_refusal_in_the_middle(rt: HostRuntime) {
     let head = checked!(20, 1);
     let tail = [
         Insn::Ja { distance: 1 },
@@ -561,5 +553,5 @@ fn a_refusal_in_the_middle(rt: HostRuntime) -> Result<(), Fail> {
         asked,
         &bytes,
         "the store is refused",
-    )
+    );
 }

@@ -10,7 +10,6 @@ use machine::Exit;
 use semantics::Verdict;
 use std::alloc::Global;
 use std::process::Abort;
-use std::test::Fail;
 use test_support::{lddw, load, number, put, store};
 
 const NUMBER: u64 = 0x1122334455667788;
@@ -32,16 +31,15 @@ fn passes(
     steps: u64,
     want: &[u8],
     name: &str,
-) -> Result<(), Fail> {
-    let verified = accepted(alloc, &[], head, tail)?;
-    let ran = ran(alloc, &verified, &MOMENT, bytes)?;
+) {
+    let verified = accepted(rt, alloc, &[], head, tail);
+    let ran = ran(rt, alloc, &verified, &MOMENT, bytes).expect(rt, "a frame");
     let exit = Exit {
         verdict: Verdict::Pass,
         steps,
     };
     same(rt, name, &ran.exit, &exit);
     begins_with(rt, name, ran.frame.bytes(), bytes.len(), want);
-    Ok(())
 }
 
 #[rattlefmt::skip]
@@ -60,13 +58,12 @@ static STORES: [(&str, Size, i16, [u8; 16]); 5] = [
 
 /// The low bytes of a register, the lowest first; the bytes beside them stay.
 #[test]
-fn stores_of_a_register(rt: HostRuntime) -> Result<(), Fail> {
+fn stores_of_a_register(rt: HostRuntime) {
     for &(name, size, offset, want) in &STORES {
         let tail = [lddw!(R5, NUMBER), put!(size, R2, offset, R5), EXIT];
         let head = checked!(16, 3);
-        passes(&rt, rt.alloc(), &head, &tail, &[0xaa; 16], 9, &want, name)?;
+        passes(&rt, rt.alloc(), &head, &tail, &[0xaa; 16], 9, &want, name);
     }
-    Ok(())
 }
 
 #[rattlefmt::skip]
@@ -80,14 +77,13 @@ static IMMEDIATES: [(&str, Size, i32, u64); 6] = [
 ];
 
 #[test]
-fn stores_of_an_immediate(rt: HostRuntime) -> Result<(), Fail> {
+fn stores_of_an_immediate(rt: HostRuntime) {
     for &(name, size, immediate, want) in &IMMEDIATES {
         let tail = [store!(size, R2, 0, immediate), EXIT];
         let head = checked!(16, 1);
         let bytes = want.to_le_bytes();
-        passes(&rt, rt.alloc(), &head, &tail, &[0xaa; 16], 8, &bytes, name)?;
+        passes(&rt, rt.alloc(), &head, &tail, &[0xaa; 16], 8, &bytes, name);
     }
-    Ok(())
 }
 
 const BYTES: [u8; 16] = [
@@ -115,14 +111,13 @@ static LOADS: [(&str, Insn, u64); 11] = [
 ];
 
 #[test]
-fn loads_from_the_packet(rt: HostRuntime) -> Result<(), Fail> {
+fn loads_from_the_packet(rt: HostRuntime) {
     for &(name, insn, want) in &LOADS {
         let tail = [insn, put!(Size::U64, R2, 0, R5), EXIT];
         let head = checked!(16, 2);
         let bytes = want.to_le_bytes();
-        passes(&rt, rt.alloc(), &head, &tail, &BYTES, 9, &bytes, name)?;
+        passes(&rt, rt.alloc(), &head, &tail, &BYTES, 9, &bytes, name);
     }
-    Ok(())
 }
 
 #[rattlefmt::skip]
@@ -144,7 +139,7 @@ static STACK_LOADS: [(&str, i16, Insn, u64); 9] = [
 ];
 
 #[test]
-fn loads_from_the_stack(rt: HostRuntime) -> Result<(), Fail> {
+fn loads_from_the_stack(rt: HostRuntime) {
     for &(name, place, insn, want) in &STACK_LOADS {
         let tail = [
             lddw!(R5, 0x80000000f37f8180),
@@ -155,14 +150,13 @@ fn loads_from_the_stack(rt: HostRuntime) -> Result<(), Fail> {
         ];
         let head = checked!(14, 5);
         let bytes = want.to_le_bytes();
-        passes(&rt, rt.alloc(), &head, &tail, &[0; 14], 11, &bytes, name)?;
+        passes(&rt, rt.alloc(), &head, &tail, &[0; 14], 11, &bytes, name);
     }
-    Ok(())
 }
 
 /// A word of the stack is what its halves are.
 #[test]
-fn a_word_of_two_halves(rt: HostRuntime) -> Result<(), Fail> {
+fn a_word_of_two_halves(rt: HostRuntime) {
     let tail = [
         store!(Size::U32, R10, -16, 1),
         store!(Size::U32, R10, -12, -2),
@@ -181,12 +175,12 @@ fn a_word_of_two_halves(rt: HostRuntime) -> Result<(), Fail> {
         11,
         &bytes,
         "two halves",
-    )
+    );
 }
 
 /// A number over a spilled pointer is a number again.
 #[test]
-fn a_number_over_a_spilled_pointer(rt: HostRuntime) -> Result<(), Fail> {
+fn a_number_over_a_spilled_pointer(rt: HostRuntime) {
     let head = [
         number!(R0, 0),
         put!(Size::U64, R10, -8, R1),
@@ -202,5 +196,5 @@ fn a_number_over_a_spilled_pointer(rt: HostRuntime) -> Result<(), Fail> {
         5,
         &[],
         "2 passes",
-    )
+    );
 }

@@ -8,9 +8,8 @@ use ebpf_decode::{Image, Insn, MapDef, Version};
 use machine::{Exit, Moment, run};
 use std::alloc::Global;
 use std::process::Abort;
-use std::test::Fail;
 use verifier::{Verified, verify};
-use wire::Frame;
+use wire::{Frame, FrameFault};
 
 /// A run of worker 2 at the time 3.
 pub(super) const MOMENT: Moment = Moment {
@@ -20,45 +19,36 @@ pub(super) const MOMENT: Moment = Moment {
 
 /// An accepted image of version 1, of the maps and a program in two parts.
 pub(super) fn accepted(
+    rt: &impl Abort,
     alloc: Global,
     maps: &[MapDef],
     head: &[Insn],
     tail: &[Insn],
-) -> Result<Verified, Fail> {
-    accepted_in(alloc, Version::V1, maps, head, tail)
+) -> Verified {
+    accepted_in(rt, alloc, Version::V1, maps, head, tail)
 }
 
 /// The same of a version.
 pub(super) fn accepted_in(
+    rt: &impl Abort,
     alloc: Global,
     version: Version,
     maps: &[MapDef],
     head: &[Insn],
     tail: &[Insn],
-) -> Result<Verified, Fail> {
-    let code = code_of(alloc, head, tail)?;
-    let image = image_of(alloc, version, maps, code)?;
-    Ok(verify(alloc, image)?)
+) -> Verified {
+    let maps = Vec::from_slice(alloc, maps).expect(rt, "maps");
+    let code = code_of(rt, alloc, head, tail);
+    let image = Image::of(version, maps, code).expect(rt, "an image");
+    verify(alloc, image).expect(rt, "an accepted program")
 }
 
 /// A program in two parts.
-fn code_of(alloc: Global, head: &[Insn], tail: &[Insn]) -> Result<Vec<Insn>, Fail> {
+fn code_of(rt: &impl Abort, alloc: Global, head: &[Insn], tail: &[Insn]) -> Vec<Insn> {
     let mut code = Vec::new(alloc);
-    code.extend_from_slice(head)?;
-    code.extend_from_slice(tail)?;
-    Ok(code)
-}
-
-/// An image of these maps and this program.
-fn image_of(
-    alloc: Global,
-    version: Version,
-    maps: &[MapDef],
-    code: Vec<Insn>,
-) -> Result<Image, Fail> {
-    let mut all_maps = Vec::new(alloc);
-    all_maps.extend_from_slice(maps)?;
-    Ok(Image::of(version, all_maps, code)?)
+    code.extend_from_slice(head).expect(rt, "code");
+    code.extend_from_slice(tail).expect(rt, "code");
+    code
 }
 
 /// How a run ended, and the frame that it left.
@@ -70,16 +60,17 @@ pub(super) struct EndedRun {
 
 /// A run over a port of the image's maps that refuses lookups, on a frame of these bytes.
 pub(super) fn ran(
+    rt: &impl Abort,
     alloc: Global,
     verified: &Verified,
     moment: &Moment,
     bytes: &[u8],
-) -> Result<EndedRun, Fail>
+) -> Result<EndedRun, FrameFault>
     requires { moment.now.worker < 8 }
 {
     let mut port = NothingPort::over(verified.image());
     let mut frame = Frame::of(alloc, bytes)?;
-    let exit = run(verified, &mut frame, moment, &mut port)?;
+    let exit = run(verified, &mut frame, moment, &mut port).expect(rt, "an exit");
     Ok(EndedRun { exit, frame })
 }
 
