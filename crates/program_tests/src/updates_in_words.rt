@@ -10,7 +10,9 @@ use std::process::Abort;
 /// What a row shows, the words, and the update's map, key and value.
 type Row = (
     &'static str,
-    [&'static str; 3],
+    &'static str,
+    &'static str,
+    &'static str,
     u32,
     &'static [u8],
     &'static [u8],
@@ -18,16 +20,16 @@ type Row = (
 
 #[rattlefmt::skip]
 const ROWS: [Row; 5] = [
-    ("small",                ["0", "07", "00ff"],           0,          &[7],          &[0, 255]),
-    ("digits of both cases", ["3", "aBcD", "Ef"],           3,          &[0xab, 0xcd], &[0xef]),
-    ("the greatest map",     ["4294967295", "00", "00"],    4294967295, &[0],          &[0]),
-    ("a plus and zeros",     ["+007", "00", "00"],          7,          &[0],          &[0]),
-    ("no bytes",             ["1", "", ""],                 1,          &[],           &[]),
+    ("small",                "0", "07", "00ff",             0,          &[7],          &[0, 255]),
+    ("digits of both cases", "3", "aBcD", "Ef",             3,          &[0xab, 0xcd], &[0xef]),
+    ("the greatest map",     "4294967295", "00", "00",      4294967295, &[0],          &[0]),
+    ("a plus and zeros",     "+007", "00", "00",            7,          &[0],          &[0]),
+    ("no bytes",             "1", "", "",                   1,          &[],           &[]),
 ];
 
 /// Compares the update that the words of each row say.
 fn are_said(rt: &impl Abort, alloc: Global, rows: &[Row]) {
-    for (name, [map, key, value], place, key_bytes, value_bytes) in rows {
+    for (name, map, key, value, place, key_bytes, value_bytes) in rows {
         let found = update_of(alloc, map, key, value).expect(rt, "an update");
         holds_of(rt, name, "map", found.map == *place);
         holds_of(rt, name, "key", found.key.as_slice() == *key_bytes);
@@ -41,21 +43,21 @@ fn words_say_updates(rt: HostRuntime) {
 }
 
 #[rattlefmt::skip]
-const MISTAKEN: [(&str, [&str; 3], Mistake); 9] = [
-    ("no number",                  ["x", "00", "00"],          Mistake::Map),
-    ("a number of 33 bits",        ["4294967296", "00", "00"], Mistake::Map),
-    ("a negative number",          ["-1", "00", "00"],         Mistake::Map),
-    ("the map's mistake is first", ["", "0", "0"],             Mistake::Map),
-    ("an odd digit of a key",      ["0", "000", "00"],         Mistake::Key),
-    ("no digit of a key",          ["0", "0g", "00"],          Mistake::Key),
-    ("a prefix",                   ["0", "0x00", "00"],        Mistake::Key),
-    ("an odd digit of a value",    ["0", "00", "0"],           Mistake::Value),
-    ("a space in a value",         ["0", "00", "0 00"],        Mistake::Value),
+const MISTAKEN: [(&str, &str, &str, &str, Mistake); 9] = [
+    ("no number",                  "x", "00", "00",            Mistake::Map),
+    ("a number of 33 bits",        "4294967296", "00", "00",   Mistake::Map),
+    ("a negative number",          "-1", "00", "00",           Mistake::Map),
+    ("the map's mistake is first", "", "0", "0",               Mistake::Map),
+    ("an odd digit of a key",      "0", "000", "00",           Mistake::Key),
+    ("no digit of a key",          "0", "0g", "00",            Mistake::Key),
+    ("a prefix",                   "0", "0x00", "00",          Mistake::Key),
+    ("an odd digit of a value",    "0", "00", "0",             Mistake::Value),
+    ("a space in a value",         "0", "00", "0 00",          Mistake::Value),
 ];
 
 /// Compares what is wrong with the words of each row.
-fn are_mistaken(rt: &impl Abort, alloc: Global, rows: &[(&str, [&str; 3], Mistake)]) {
-    for (name, [map, key, value], want) in rows {
+fn are_mistaken(rt: &impl Abort, alloc: Global, rows: &[(&str, &str, &str, &str, Mistake)]) {
+    for (name, map, key, value, want) in rows {
         let found = update_of(alloc, map, key, value).err();
         same(rt, name, &found, &Some(*want));
     }

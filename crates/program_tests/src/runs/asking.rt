@@ -185,40 +185,72 @@ static ATOMICS: [(&str, AtomicOp, u64, Verdict); 10] = [
     ("compare and exchange", AtomicOp::CompareExchange, 9, Verdict::Pass),
 ];
 
+/// An operation on the number 3, by a source of 2 and with 9 in R0, asks so, and leaves this verdict in its source.
+fn asks_atomic(
+    rt: &impl Abort,
+    alloc: Global,
+    width: Width,
+    bytes: u64,
+    op: AtomicOp,
+    expected: u64,
+    verdict: Verdict,
+    name: &str,
+) {
+    let atomic = Insn::AtomicUpdate {
+        width,
+        op,
+        dst: R6,
+        src: R5,
+        offset: 8,
+    };
+    let tail = [number!(R0, 9), number!(R5, 2), atomic, mov!(R0, R5), EXIT];
+    let asked = Asked::Atomic {
+        handle: 1,
+        offset: 8,
+        size: bytes,
+        op,
+        value: 2,
+        expected,
+    };
+    let want = ended(verdict, 12);
+    asks(
+        rt,
+        alloc,
+        REPLIES,
+        &FOUND,
+        &tail,
+        want,
+        asked,
+        &[0xaa; 20],
+        name,
+    );
+}
+
 /// The operations that fetch put the number before, 3, in place of the source's 2; compare-and-exchange compares with R0, here 9, and
 /// leaves its source.
 #[test]
 fn atomic_operations(rt: HostRuntime) {
     for &(name, op, expected, verdict) in &ATOMICS {
-        for (width, bytes) in [(Width::Bits32, 4), (Width::Bits64, 8)] {
-            let atomic = Insn::AtomicUpdate {
-                width,
-                op,
-                dst: R6,
-                src: R5,
-                offset: 8,
-            };
-            let tail = [number!(R0, 9), number!(R5, 2), atomic, mov!(R0, R5), EXIT];
-            let asked = Asked::Atomic {
-                handle: 1,
-                offset: 8,
-                size: bytes,
-                op,
-                value: 2,
-                expected,
-            };
-            asks(
-                &rt,
-                rt.alloc(),
-                REPLIES,
-                &FOUND,
-                &tail,
-                ended(verdict, 12),
-                asked,
-                &[0xaa; 20],
-                name,
-            );
-        }
+        asks_atomic(
+            &rt,
+            rt.alloc(),
+            Width::Bits32,
+            4,
+            op,
+            expected,
+            verdict,
+            name,
+        );
+        asks_atomic(
+            &rt,
+            rt.alloc(),
+            Width::Bits64,
+            8,
+            op,
+            expected,
+            verdict,
+            name,
+        );
     }
 }
 
