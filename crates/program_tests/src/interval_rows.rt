@@ -18,8 +18,8 @@ const PAST32: u64 = 0x100000000;
 /// What a row shows, an operation, and the ends of its two intervals and of the one that it returns.
 type OperationRow = (&'static str, AluOp, u64, u64, u64, u64, u64, u64);
 
-/// What a row shows, a test, the ends of an interval, the number that they are tested against, and the ends of what is left of the interval
-/// where the test holds, and where it does not.
+/// What a row shows, a test, the ends of an interval, the number that it is tested against, and the ends of what is left of it where the
+/// test holds, and where it does not.
 type CutRow = (&'static str, Test, u64, u64, u64, u64, u64, u64, u64);
 
 fn interval(low: u64, high: u64) -> Interval {
