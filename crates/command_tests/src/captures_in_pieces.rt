@@ -2,6 +2,7 @@
 
 ghost use Rattle.std.specs.Prelude.{◌≡◌, ◌≤◌, ◌+◌, ◌-◌, ◌*◌, ◌^◌, length};
 
+use crate::asserting::holds_of;
 use folders::{CaptureReader, Folder, MemoryFolder};
 use std::alloc::Global;
 use std::process::Abort;
@@ -49,11 +50,6 @@ static HEADERS: [HeaderRow; 6] = [
     ("version 3.4",        b"\xd4\xc3\xb2\xa1\x03\0\x04\0\0\0\0\0\0\0\0\0\xff\xff\0\0\x01\0\0\0", CaptureFault::BadVersion),
     ("raw packets",        b"\xd4\xc3\xb2\xa1\x02\0\x04\0\0\0\0\0\0\0\0\0\xff\xff\0\0\x65\0\0\0", CaptureFault::BadLink),
 ];
-
-/// Stops where this does not hold.
-fn holds_of<R: Abort>(rt: &R, name: &str, what: &str, holds: bool) {
-    assert!(rt; holds, "{name}: {what}");
-}
 
 /// A folder with one file, which has these bytes.
 fn folder_of<R: Abort>(rt: &R, alloc: Global, bytes: &[u8]) -> MemoryFolder

@@ -4,7 +4,7 @@ mod long_records;
 
 use crate::asserting::{holds_of, same_text};
 use control::parse_script;
-use std::alloc::{AllocError, Global};
+use std::alloc::Global;
 use std::process::Abort;
 use traffic::{
     Backends, FrameKind, LineVerdict, RecordLine, ReportForm, case_word, least_moves, moved_places,
@@ -69,35 +69,63 @@ fn frames_are_of_their_kind(rt: HostRuntime) {
 }
 
 /// A datagram whose header says this total, and whose frame is as long.
-fn datagram(alloc: Global, total: u16) -> Result<Sent, AllocError> {
-    let mut bytes = Vec::from_slice(alloc, &DATAGRAM)?;
-    bytes[16] = (total / 256) as u8;
-    bytes[17] = (total % 256) as u8;
+fn datagram(rt: &impl Abort, alloc: Global, total: u16) -> Sent {
+    let mut frame = DATAGRAM;
+    frame[16] = (total / 256) as u8;
+    frame[17] = (total % 256) as u8;
+    let mut bytes = Vec::from_slice(alloc, &frame).expect(rt, "a frame");
     for _ in 28..total.min(2000) {
-        bytes.push(0)?;
+        bytes.push(0).expect(rt, "room");
     }
     bytes.truncate(2304);
-    Ok(Sent {
+    Sent {
         seconds: 1,
         micros: 2,
         bytes,
-    })
+    }
+}
+
+/// Datagrams of these totals.
+fn datagrams(rt: &impl Abort, alloc: Global, totals: &[u16]) -> Vec<Sent> {
+    let mut frames = Vec::new(alloc);
+    for total in totals {
+        frames.push(datagram(rt, alloc, *total)).expect(rt, "room");
+    }
+    frames
 }
 
 /// A datagram from this port in a tunnel to 192.0.2.x.
-fn tunnelled(alloc: Global, port: u8, backend: u8) -> Result<Sent, AllocError> {
-    let mut bytes = Vec::from_slice(alloc, &DATAGRAM[..34])?;
-    bytes.extend_from_slice(&DATAGRAM[14..])?;
-    bytes[17] = 48;
-    bytes[23] = 4;
-    bytes[30..34].copy_from_slice(&[192, 0, 2, backend]);
-    bytes[55] = port;
+fn tunnelled(rt: &impl Abort, alloc: Global, port: u8, backend: u8) -> Sent {
+    let mut outer = DATAGRAM;
+    outer[17] = 48;
+    outer[23] = 4;
+    outer[30..34].copy_from_slice(&[192, 0, 2, backend]);
+    let mut inner = DATAGRAM;
+    inner[35] = port;
+    let mut bytes = Vec::from_slice(alloc, &outer[..34]).expect(rt, "a header");
+    bytes
+        .extend_from_slice(&inner[14..])
+        .expect(rt, "a datagram");
     bytes.truncate(2304);
-    Ok(Sent {
+    Sent {
         seconds: 1,
         micros: 2,
         bytes,
-    })
+    }
+}
+
+/// The ports and the backends of five frames in tunnels: the third and the fourth one go elsewhere than the frame of their flow before.
+const FLOWS: [(u8, u8); 5] = [(1, 1), (2, 1), (1, 2), (1, 1), (3, 1)];
+
+/// Datagrams from these ports in tunnels to these backends.
+fn all_tunnelled(rt: &impl Abort, alloc: Global, flows: &[(u8, u8)]) -> Vec<Sent> {
+    let mut frames = Vec::new(alloc);
+    for (port, backend) in flows {
+        frames
+            .push(tunnelled(rt, alloc, *port, *backend))
+            .expect(rt, "room");
+    }
+    frames
 }
 
 /// What the summary is of a capture of three datagrams, one at the limit and one above it, and of six sent frames of three flows.
@@ -108,22 +136,15 @@ const SUMMARY: &str = "1 frame of TCP or UDP in packets of more than 1480 bytes
 2 frames sent to another address than the frame of their flow before
 ";
 
+/// The totals of the captured datagrams.
+const CAPTURED: [u16; 3] = [28, 1480, 1481];
+
 #[test]
 fn a_summary_counts_kinds_addresses_and_moves(rt: HostRuntime) {
     let alloc = rt.alloc();
-    let mut captured = Vec::new(alloc);
-    for total in [28, 1480, 1481] {
-        captured
-            .push(datagram(alloc, total).expect(&rt, "a frame"))
-            .expect(&rt, "room");
-    }
-    let mut sent = Vec::new(alloc);
-    for (port, backend) in [(1, 1), (2, 1), (1, 2), (1, 1), (3, 1)] {
-        sent.push(tunnelled(alloc, port, backend).expect(&rt, "a frame"))
-            .expect(&rt, "room");
-    }
-    sent.push(datagram(alloc, 28).expect(&rt, "a frame"))
-        .expect(&rt, "room");
+    let captured = datagrams(&rt, alloc, &CAPTURED);
+    let mut sent = all_tunnelled(&rt, alloc, &FLOWS);
+    sent.push(datagram(&rt, alloc, 28)).expect(&rt, "room");
     let text = summary(alloc, &captured, &sent).expect(&rt, "a summary");
     same_text(&rt, "a summary", text.as_str(), SUMMARY);
 }
@@ -226,27 +247,43 @@ fn cases_follow_from_kind_and_verdict(rt: HostRuntime) {
 }
 
 /// What a row shows, an address, and its number.
-const NUMBERS: [(&str, u32, Option<u32>); 4] = [
+type Numbered = (&'static str, u32, Option<u32>);
+
+const NUMBERS: [Numbered; 4] = [
     ("named twice", 10, Some(3)),
     ("three numbers", 11, None),
     ("a number with two addresses", 12, Some(5)),
     ("not named", 13, None),
 ];
 
-#[test]
-fn a_backend_has_a_number_where_only_one_has_its_address(rt: HostRuntime) {
-    let mut table = Backends::none(rt.alloc());
-    for (number, address) in [(3, 10), (4, 11), (3, 10), (5, 11), (5, 12), (6, 11)] {
-        table.name(number, address).expect(&rt, "room");
+/// The numbers and the addresses that are named, in this order.
+const NAMED: [(u32, u32); 6] = [(3, 10), (4, 11), (3, 10), (5, 11), (5, 12), (6, 11)];
+
+/// The table of backends with these numbers and addresses.
+fn backends(rt: &impl Abort, alloc: Global, named: &[(u32, u32)]) -> Backends {
+    let mut table = Backends::none(alloc);
+    for (number, address) in named {
+        table.name(*number, *address).expect(rt, "room");
     }
-    for (name, address, number) in &NUMBERS {
+    table
+}
+
+/// Compares the numbers that a table has of the rows' addresses.
+fn compare_numbers(rt: &impl Abort, table: &Backends, rows: &[Numbered]) {
+    for (name, address, number) in rows {
         holds_of(
-            &rt,
+            rt,
             *name,
             "its number",
             table.number_of(*address) == *number,
         );
     }
+}
+
+#[test]
+fn a_backend_has_a_number_where_only_one_has_its_address(rt: HostRuntime) {
+    let table = backends(&rt, rt.alloc(), &NAMED);
+    compare_numbers(&rt, &table, &NUMBERS);
 }
 
 /// Three backends come up and go down; one number comes up twice.
@@ -285,8 +322,10 @@ fn tables_have_shares_and_moves(rt: HostRuntime) {
 }
 
 /// What a row shows; two tables; how many slots change hands, and the fewest that have to.
+type Moved = (&'static str, [u32; 4], [u32; 4], u32, u128);
+
 #[rattlefmt::skip]
-const MOVES: [(&str, [u32; 4], [u32; 4], u32, u128); 5] = [
+static MOVES: [Moved; 5] = [
     ("one table",                   [1, 2, 1, 2], [1, 2, 1, 2], 0, 0),
     ("nobody before",               [0, 0, 0, 0], [1, 2, 1, 2], 4, 4),
     ("nobody afterwards",           [1, 2, 1, 2], [0, 0, 0, 0], 4, 4),
@@ -294,12 +333,17 @@ const MOVES: [(&str, [u32; 4], [u32; 4], u32, u128); 5] = [
     ("a third backend, one moved",  [1, 1, 2, 2], [2, 1, 1, 3], 3, 1),
 ];
 
+/// Compares the moves of a row.
+fn compare_moves(rt: &impl Abort, row: &Moved) {
+    let (name, old, new, moved, least) = row;
+    holds_of(rt, *name, "moved", moved_slots(old, new, 4) == *moved);
+    holds_of(rt, *name, "least", least_moves(old, new) == *least);
+}
+
 #[test]
 fn least_moves_are_what_shares_gain(rt: HostRuntime) {
     for row in &MOVES {
-        let (name, old, new, moved, least) = row;
-        holds_of(&rt, *name, "moved", moved_slots(old, new, 4) == *moved);
-        holds_of(&rt, *name, "least", least_moves(old, new) == *least);
+        compare_moves(&rt, row);
     }
     holds_of(&rt, "a share", "two", share_of(2, &[2, 1, 2, 0]) == 2);
 }
@@ -314,34 +358,30 @@ const REASONS: &str = "4 frames for 203.0.113.1 port 80 udp
 1 frame dropped, without a tunnel or a backend that is up
 ";
 
+/// The totals of these frames.
+const JUDGED: [u16; 4] = [28, 1481, 1480, 30];
+
+/// Their verdicts.
+const VERDICTS: [LineVerdict; 4] = [
+    LineVerdict::Tx,
+    LineVerdict::Drop,
+    LineVerdict::Drop,
+    LineVerdict::Pass,
+];
+
 #[test]
 fn frames_of_services_and_why_they_were_not_sent(rt: HostRuntime) {
     let alloc = rt.alloc();
     let script = parse_script(alloc, SERVICES.as_bytes()).expect(&rt, "a script");
-    let mut frames = Vec::new(alloc);
-    for total in [28, 1481, 1480, 30] {
-        frames
-            .push(datagram(alloc, total).expect(&rt, "a frame"))
-            .expect(&rt, "room");
-    }
-    let verdicts = [
-        LineVerdict::Tx,
-        LineVerdict::Drop,
-        LineVerdict::Drop,
-        LineVerdict::Pass,
-    ];
-    let text = services(alloc, &frames, &script, &verdicts).expect(&rt, "text");
+    let frames = datagrams(&rt, alloc, &JUDGED);
+    let text = services(alloc, &frames, &script, &VERDICTS).expect(&rt, "text");
     same_text(&rt, "the reasons", text.as_str(), REASONS);
 }
 
 #[test]
 fn frames_that_moved_have_their_places(rt: HostRuntime) {
     let alloc = rt.alloc();
-    let mut sent = Vec::new(alloc);
-    for (port, backend) in [(1, 1), (2, 1), (1, 2), (1, 1), (3, 1)] {
-        sent.push(tunnelled(alloc, port, backend).expect(&rt, "a frame"))
-            .expect(&rt, "room");
-    }
+    let sent = all_tunnelled(&rt, alloc, &FLOWS);
     let places = moved_places(alloc, &sent).expect(&rt, "places");
     holds_of(&rt, "moved", "how many", places.len() == 2);
     holds_of(&rt, "moved", "the first one", places[0] == 2);

@@ -4,16 +4,16 @@ ghost use Rattle.std.specs.Prelude.{◌≡◌, ◌-◌, ◌<◌, ◌^◌};
 
 use crate::asserting::{holds_of, same_bytes_of};
 use folders::{Folder, FolderFault, MemoryFolder};
-use std::alloc::{AllocError, Global};
+use std::alloc::Global;
 use std::process::Abort;
 
 /// This many bytes; each is its place modulo 251.
-fn counted(alloc: Global, count: usize) -> Result<Vec<u8>, AllocError> {
+fn counted<R: Abort>(rt: &R, alloc: Global, count: usize) -> Vec<u8> {
     let mut bytes = Vec::new(alloc);
     for place in 0..count {
-        bytes.push((place % 251) as u8)?;
+        bytes.push((place % 251) as u8).expect(rt, "room");
     }
-    Ok(bytes)
+    bytes
 }
 
 /// What a row shows, how many bytes a file has, how many are asked for, and how many are given.
@@ -39,13 +39,13 @@ fn compare_front<R: Abort>(
     most: usize,
     given: usize,
 ) {
-    let bytes = counted(alloc, count).expect(rt, "bytes");
+    let bytes = counted(rt, alloc, count);
     let mut folder = MemoryFolder::new(alloc);
     folder
         .write(alloc, "file", &bytes)
         .expect(rt, "a file in memory");
     let front = folder.read_front(alloc, "file", most).expect(rt, "a front");
-    let wanted = counted(alloc, given).expect(rt, "bytes");
+    let wanted = counted(rt, alloc, given);
     holds_of(rt, name, "length", front.length == count as u64);
     same_bytes_of(rt, name, "front", &front.bytes, &wanted);
     holds_of(rt, name, "all", front.is_whole() == (given == count));

@@ -3,7 +3,7 @@
 use super::first_path::IMAGE;
 use super::{LEGAL, Wanted, compare, over_text, put, put_digits, refused};
 use folders::MemoryFolder;
-use std::alloc::{AllocError, Global};
+use std::alloc::Global;
 use std::process::Abort;
 use std::sync::Wait;
 use std::thread::Threads;
@@ -231,32 +231,33 @@ fn audits_numbers(rt: HostRuntime) {
 }
 
 /// The journals of this many runs of one lookup each.
-fn many_runs(alloc: Global, count: u32) -> Result<String, AllocError> {
-    let mut text = String::from_str(alloc, "XLBJ 1 1 1 65536\n")?;
+fn many_runs<R: Abort>(rt: &R, alloc: Global, count: u32) -> String {
+    let mut text = String::from_str(alloc, "XLBJ 1 1 1 65536\n").expect(rt, "a header");
     for _ in 0..count {
-        text.push_str("0 w0 enter ok\n0 w0 lookup 07000000 null\n0 w0 leave ok\n")?;
+        text.push_str("0 w0 enter ok\n0 w0 lookup 07000000 null\n0 w0 leave ok\n")
+            .expect(rt, "a run");
     }
-    Ok(text)
+    text
 }
 
 #[test]
 fn audits_3000_entries(rt: HostRuntime) {
-    let text = many_runs(rt.alloc(), 1000).expect(&rt, "a file");
+    let text = many_runs(&rt, rt.alloc(), 1000);
     let map = "hash 4 8 1";
     compare_audit(&rt, rt.alloc(), "all legal", map, text.as_bytes(), LEGAL);
 }
 
 /// The same and a leave in no run.
-fn many_runs_and_a_leave(alloc: Global, count: u32) -> Result<String, AllocError> {
-    let mut text = many_runs(alloc, count)?;
-    text.push_str("0 w0 leave ok\n")?;
-    Ok(text)
+fn many_runs_and_a_leave<R: Abort>(rt: &R, alloc: Global, count: u32) -> String {
+    let mut text = many_runs(rt, alloc, count);
+    text.push_str("0 w0 leave ok\n").expect(rt, "a leave");
+    text
 }
 
 #[test]
 fn audits_the_entry_after_3000(rt: HostRuntime) {
     let alloc = rt.alloc();
-    let text = many_runs_and_a_leave(alloc, 1000).expect(&rt, "a file");
+    let text = many_runs_and_a_leave(&rt, alloc, 1000);
     let line = "line 3002: \"0 w0 leave ok\"";
     let err = format!(in alloc; "fault 53 Illegal shard 0 place 3000\n  {line}\n  {WHY}\n").expect(
         &rt, "lines",

@@ -186,8 +186,8 @@ fn served<R: Abort + Threads + Wait + Sync>(
 /// Compares what a replay of a row leaves.
 fn compare_row<R: Abort + Threads + Wait + Sync>(rt: &R, alloc: Global, row: &Row) {
     let (name, count, first, records, last, status, out, err) = *row;
-    let capture = numbered(alloc, count).expect(rt, "a capture");
-    let later = refused_file(alloc, first, records, last).expect(rt, "a file");
+    let capture = numbered(rt, alloc, count);
+    let later = refused_file(rt, alloc, first, records, last);
     let folder = put(rt, alloc, MemoryFolder::new(alloc), "capture", &capture);
     let folder = with_image(rt, alloc, name, folder, SENDS);
     let wanted = Wanted { status, out, err };

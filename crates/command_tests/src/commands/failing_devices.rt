@@ -146,15 +146,8 @@ fn compare_folder<R: Abort + Threads + Wait + Sync>(rt: &R, alloc: Global, row: 
     );
 }
 
-/// Compares a command where one call of the output fails; says whether it came to this call.
-fn compare_output<R: Abort + Threads + Wait + Sync>(
-    rt: &R,
-    alloc: Global,
-    line: &str,
-    whole: &[u8],
-    call: u64,
-) -> bool {
-    let found = left_by(rt, alloc, line, Failing { out: call, ..SOUND });
+/// Compares what a command leaves whose call of the output with this number fails; says whether it came to this call.
+fn compare_taken(rt: &impl Abort, line: &str, found: &Left, whole: &[u8], call: u64) -> bool {
     holds_of(rt, line, "a beginning", whole.starts_with(&found.out.taken));
     if found.out.failures == 0 {
         same_status(rt, line, found.status, 0);
@@ -167,15 +160,37 @@ fn compare_output<R: Abort + Threads + Wait + Sync>(
     true
 }
 
-/// How many calls of the output a command makes until it is done, with each of them failing in turn.
-fn compare_outputs<R: Abort + Threads + Wait + Sync>(rt: &R, alloc: Global, row: &Row) {
-    let whole = left_by(rt, alloc, row.0, SOUND);
+/// Compares a command where one call of the output fails; says whether it came to this call.
+fn compare_output<R: Abort + Threads + Wait + Sync>(
+    rt: &R,
+    alloc: Global,
+    line: &str,
+    whole: &[u8],
+    call: u64,
+) -> bool {
+    let found = left_by(rt, alloc, line, Failing { out: call, ..SOUND });
+    compare_taken(rt, line, &found, whole, call)
+}
+
+/// Compares a command with each call of the output failing in turn, until one is not reached any more.
+fn compare_each_output<R: Abort + Threads + Wait + Sync>(
+    rt: &R,
+    alloc: Global,
+    line: &str,
+    whole: &[u8],
+) {
     for call in 0..NEVER {
-        if !compare_output(rt, alloc, row.0, &whole.out.taken, call) {
+        if !compare_output(rt, alloc, line, whole, call) {
             return;
         }
     }
-    holds_of(rt, row.0, "an end", false);
+    holds_of(rt, line, "an end", false);
+}
+
+/// Compares a command with each call of the output that it makes until it is done failing in turn.
+fn compare_outputs<R: Abort + Threads + Wait + Sync>(rt: &R, alloc: Global, row: &Row) {
+    let whole = left_by(rt, alloc, row.0, SOUND);
+    compare_each_output(rt, alloc, row.0, &whole.out.taken);
 }
 
 /// Compares a command that is refused for a failing folder, and whose error stream fails at this call.
@@ -202,15 +217,20 @@ fn compare_error<R: Abort + Threads + Wait + Sync>(rt: &R, alloc: Global, line: 
     holds_of(rt, line, "a part", found.err.taken.len() == taken_in(call));
 }
 
+/// Compares how many calls of the folder a command makes where none fails.
+fn compare_calls<R: Abort + Threads + Wait + Sync>(rt: &R, alloc: Global, row: &Row) {
+    let left = left_by(rt, alloc, row.0, SOUND);
+    holds_of(rt, row.0, "calls", left.folder.calls == row.1);
+    same_status(rt, row.0, left.status, 0);
+}
+
 #[test]
 fn each_call_of_a_folder_fails_in_turn(rt: HostRuntime) {
     for row in &ROWS {
         for call in 0..row.1 {
             compare_folder(&rt, rt.alloc(), row, call);
         }
-        let left = left_by(&rt, rt.alloc(), row.0, SOUND);
-        holds_of(&rt, row.0, "calls", left.folder.calls == row.1);
-        same_status(&rt, row.0, left.status, 0);
+        compare_calls(&rt, rt.alloc(), row);
     }
 }
 

@@ -4,7 +4,7 @@ ghost use Rattle.std.specs.Prelude.{◌≡◌, true};
 ghost use Rattle.faults.specs.Explanations.{is_fault};
 
 use super::{Wanted, compare};
-use crate::asserting::holds_of;
+use crate::asserting::{holds_of, same_text};
 use audit::AuditFault;
 use conntrack::SteerFault;
 use control::ControlFault;
@@ -165,7 +165,7 @@ fn own_text<R: Abort>(rt: &R, alloc: Global, fault: Fault) -> String {
 fn compare_text<R: Abort>(rt: &R, alloc: Global, fault: Fault) {
     let line = fault_line(alloc, fault).expect(rt, "a line");
     let text = own_text(rt, alloc, fault);
-    assert_eq!(rt; line.as_str(), text.as_str());
+    same_text(rt, "a line", line.as_str(), text.as_str());
 }
 
 #[test]
@@ -181,7 +181,7 @@ fn compare_line<R: Abort, T: Display>(rt: &R, alloc: Global, fault: &T, number: 
 {
     let line = faults::fault_line(alloc, number, fields).expect(rt, "a line");
     let text = text_of(rt, alloc, fault);
-    assert_eq!(rt; line.as_str(), text.as_str());
+    same_text(rt, "a line", line.as_str(), text.as_str());
 }
 
 /// The faults of lookup tables.

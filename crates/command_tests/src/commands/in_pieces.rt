@@ -11,7 +11,7 @@ use super::weak_devices::{
 use super::{Wanted, put, with_image};
 use crate::asserting::{holds_of, same_bytes_of, same_status};
 use folders::{Folder, MemoryFolder};
-use std::alloc::{AllocError, Global};
+use std::alloc::Global;
 use std::process::Abort;
 use std::sync::Wait;
 use std::thread::Threads;
@@ -101,23 +101,39 @@ fn left_by<R: Abort + Threads + Wait + Sync>(
     left_over(rt, alloc, folder, &line, weakness, NEVER, NEVER)
 }
 
-/// Compares a file of a folder; none: there is no such file.
-pub(super) fn compare_file<R: Abort>(
+/// Compares the bytes of a file of a folder.
+fn has_bytes<R: Abort>(
     rt: &R,
     alloc: Global,
     name: &str,
     mut folder: MemoryFolder,
     file: &str,
-    wanted: Option<&[u8]>,
+    wanted: &[u8],
 ) {
     has_few_failures(rt, name, &folder);
-    let found = folder.read(alloc, file);
+    let found = folder.read(alloc, file).expect(rt, "a file");
+    same_bytes_of(rt, name, file, &found, wanted);
+}
+
+/// Ends the test where a folder has a file of this name.
+fn has_none<R: Abort>(rt: &R, alloc: Global, name: &str, mut folder: MemoryFolder, file: &str) {
+    has_few_failures(rt, name, &folder);
+    let is_lacking = folder.read(alloc, file).is_err();
+    holds_of(rt, name, "no file", is_lacking);
+}
+
+/// Compares a file of a folder; none: there is no such file.
+pub(super) fn compare_file<R: Abort>(
+    rt: &R,
+    alloc: Global,
+    name: &str,
+    folder: MemoryFolder,
+    file: &str,
+    wanted: Option<&[u8]>,
+) {
     match wanted {
-        Some(bytes) => {
-            let found = found.expect(rt, "a file");
-            same_bytes_of(rt, name, file, &found, bytes);
-        }
-        None => holds_of(rt, name, "no file", found.is_err()),
+        Some(bytes) => has_bytes(rt, alloc, name, folder, file, bytes),
+        None => has_none(rt, alloc, name, folder, file),
     }
 }
 
@@ -171,15 +187,17 @@ fn compare_ways<R: Abort + Threads + Wait + Sync>(
 }
 
 /// A capture of this many records. Each has a frame of 14 bytes, which ends in the record's number, that many microseconds after 1 second.
-pub(super) fn numbered(alloc: Global, count: u16) -> Result<Vec<u8>, AllocError> {
-    let mut bytes = Vec::from_slice(alloc, &HEADER)?;
+pub(super) fn numbered<R: Abort>(rt: &R, alloc: Global, count: u16) -> Vec<u8> {
+    let mut bytes = Vec::from_slice(alloc, &HEADER).expect(rt, "a header");
     for number in 0..count {
         let [low, high] = number.to_le_bytes();
         let head = [1, 0, 0, 0, low, high, 0, 0, 14, 0, 0, 0, 14, 0, 0, 0];
-        bytes.extend_from_slice(&head)?;
-        bytes.extend_from_slice(&[0, 0, 0, 0, 0, 0, 0, 0, 0, 0, 0, 0, high, low])?;
+        bytes.extend_from_slice(&head).expect(rt, "a head");
+        bytes
+            .extend_from_slice(&[0, 0, 0, 0, 0, 0, 0, 0, 0, 0, 0, 0, high, low])
+            .expect(rt, "a frame");
     }
-    Ok(bytes)
+    bytes
 }
 
 /// How many records a capture has, which are all sent, and what is printed.
@@ -201,7 +219,7 @@ fn compare_counted<R: Abort + Threads + Wait + Sync>(
     count: u16,
     out: &str,
 ) {
-    let capture = numbered(alloc, count).expect(rt, "a capture");
+    let capture = numbered(rt, alloc, count);
     let files = Files {
         text: SENDS,
         script: "",
@@ -336,7 +354,7 @@ fn compare_stopped<R: Abort + Threads + Wait + Sync>(
     row: &(&str, &str, u16, &str, &str),
 ) {
     let (name, words, count, out, err) = *row;
-    let capture = numbered(alloc, count).expect(rt, "a capture");
+    let capture = numbered(rt, alloc, count);
     let files = Files {
         text: READS_ONE,
         script: "",
@@ -364,21 +382,23 @@ const CUT: [u8; 30] = [
 ];
 
 /// A capture of a record, 1,023 numbered ones, and the same record again: it is in both pieces.
-fn in_both_pieces(alloc: Global, record: &[u8]) -> Result<Vec<u8>, AllocError> {
-    let numbered = numbered(alloc, 1023)?;
-    let mut bytes = Vec::from_slice(alloc, &HEADER)?;
-    bytes.extend_from_slice(record)?;
-    bytes.extend_from_slice(numbered.get(BEFORE..).unwrap_or(b""))?;
-    bytes.extend_from_slice(record)?;
-    Ok(bytes)
+fn in_both_pieces<R: Abort>(rt: &R, alloc: Global, record: &[u8]) -> Vec<u8> {
+    let numbered = numbered(rt, alloc, 1023);
+    let mut bytes = Vec::from_slice(alloc, &HEADER).expect(rt, "a header");
+    bytes.extend_from_slice(record).expect(rt, "a record");
+    bytes
+        .extend_from_slice(numbered.get(BEFORE..).unwrap_or(b""))
+        .expect(rt, "records");
+    bytes.extend_from_slice(record).expect(rt, "a record");
+    bytes
 }
 
 /// Records that were cut when they were captured are counted over all pieces, and are whole in what is sent.
 #[test]
 fn cut_records_are_counted(rt: HostRuntime) {
     let alloc = rt.alloc();
-    let capture = in_both_pieces(alloc, &CUT).expect(&rt, "a capture");
-    let sent = in_both_pieces(alloc, &RECORD).expect(&rt, "what is sent");
+    let capture = in_both_pieces(&rt, alloc, &CUT);
+    let sent = in_both_pieces(&rt, alloc, &RECORD);
     let files = Files {
         text: SENDS,
         script: "",
@@ -430,23 +450,26 @@ const REFUSED: [RefusedRow; 4] = [
 ];
 
 /// A file of these bytes, this many records behind them, and these at its end.
-pub(super) fn refused_file(
+pub(super) fn refused_file<R: Abort>(
+    rt: &R,
     alloc: Global,
     first: &[u8],
     count: u16,
     last: &[u8],
-) -> Result<Vec<u8>, AllocError> {
-    let mut bytes = Vec::from_slice(alloc, first)?;
-    let records = numbered(alloc, count)?;
-    bytes.extend_from_slice(records.get(BEFORE..).unwrap_or(b""))?;
-    bytes.extend_from_slice(last)?;
-    Ok(bytes)
+) -> Vec<u8> {
+    let mut bytes = Vec::from_slice(alloc, first).expect(rt, "a header");
+    let records = numbered(rt, alloc, count);
+    bytes
+        .extend_from_slice(records.get(BEFORE..).unwrap_or(b""))
+        .expect(rt, "records");
+    bytes.extend_from_slice(last).expect(rt, "an end");
+    bytes
 }
 
 /// Compares what a file that is no capture is refused with: no file is made.
 fn compare_refused<R: Abort + Threads + Wait + Sync>(rt: &R, alloc: Global, row: &RefusedRow) {
     let (name, first, count, last, err) = *row;
-    let capture = refused_file(alloc, first, count, last).expect(rt, "a file");
+    let capture = refused_file(rt, alloc, first, count, last);
     let files = Files {
         text: SENDS,
         script: "",
@@ -480,17 +503,16 @@ const RUN: &str = "0 w0 enter ok
 const ROUND: &str = "0 r reclaim freed 0\n";
 
 /// The journals of this many runs: a round comes behind each 64 of them, and behind the last one.
-fn counted_journals(alloc: Global, count: u16) -> Result<String, AllocError> {
-    let mut text = String::new(alloc);
-    text.push_str("XLBJ 1 1 1 65536\n")?;
+fn counted_journals<R: Abort>(rt: &R, alloc: Global, count: u16) -> String {
+    let mut text = String::from_str(alloc, "XLBJ 1 1 1 65536\n").expect(rt, "a header");
     for number in 0..count {
-        text.push_str(RUN)?;
+        text.push_str(RUN).expect(rt, "a run");
         if number % 64 == 63 {
-            text.push_str(ROUND)?;
+            text.push_str(ROUND).expect(rt, "a round");
         }
     }
-    text.push_str(ROUND)?;
-    Ok(text)
+    text.push_str(ROUND).expect(rt, "a round");
+    text
 }
 
 /// The journals of a replay that is made this way.
@@ -532,8 +554,8 @@ fn compare_counted_journals<R: Abort + Threads + Wait + Sync>(
     name: &str,
     count: u16,
 ) {
-    let capture = numbered(alloc, count).expect(rt, "a capture");
-    let wanted = counted_journals(alloc, count).expect(rt, "journals");
+    let capture = numbered(rt, alloc, count);
+    let wanted = counted_journals(rt, alloc, count);
     let files = Files {
         text: COUNTS_TO_THREE,
         script: "",
@@ -623,7 +645,7 @@ fn left_in_failing<R: Abort + Threads + Wait + Sync>(
     requires { folder.failures ≡ 0 }
 {
     let (name, words, call, fails_at, _status, _err, _sent) = *row;
-    let capture = numbered(alloc, 1025).expect(rt, "a capture");
+    let capture = numbered(rt, alloc, 1025);
     let folder = put(rt, alloc, folder, "capture", &capture);
     let folder = with_image(rt, alloc, name, folder, SENDS);
     let line = format!(in alloc; "xlb replay capture sent --image image {words}");
@@ -653,10 +675,7 @@ fn compare_failing_new<R: Abort + Threads + Wait + Sync>(rt: &R, alloc: Global, 
     let left = left_in_failing(rt, alloc, row, MemoryFolder::new(alloc));
     same_bytes_of(rt, name, "error", &left.err.taken, err.as_bytes());
     same_status(rt, name, left.status, status);
-    match sent {
-        Some(length) => compare_length(rt, alloc, name, left.folder.files, length),
-        None => compare_file(rt, alloc, name, left.folder.files, "sent", None),
-    }
+    compare_made(rt, alloc, name, left.folder.files, sent);
 }
 
 /// Compares how many bytes the sent file has.
@@ -670,6 +689,20 @@ fn compare_length<R: Abort>(
     has_few_failures(rt, name, &folder);
     let found = folder.read(alloc, "sent").expect(rt, "a file");
     holds_of(rt, name, "the length", found.len() == length);
+}
+
+/// The same; none: there is no such file.
+fn compare_made<R: Abort>(
+    rt: &R,
+    alloc: Global,
+    name: &str,
+    folder: MemoryFolder,
+    length: Option<usize>,
+) {
+    match length {
+        Some(length) => compare_length(rt, alloc, name, folder, length),
+        None => has_none(rt, alloc, name, folder, "sent"),
+    }
 }
 
 #[test]

@@ -3,7 +3,7 @@
 use super::replays::{SENDS, TWO_TX};
 use super::{Wanted, compare_digits, lacks, left_by, put, with_image};
 use folders::MemoryFolder;
-use std::alloc::{AllocError, Global};
+use std::alloc::Global;
 use std::process::Abort;
 use std::sync::Wait;
 use std::thread::Threads;
@@ -30,15 +30,16 @@ pub(super) const TWO_ZEROS: &str = "\
     0000000000000000000000000000";
 
 /// A capture of a record of 14 zeros, one of 2049 zeros, and the first `bytes_of_last` bytes of another one of 14 zeros.
-fn capture(alloc: Global, bytes_of_last: usize) -> Result<Vec<u8>, AllocError> {
-    let mut bytes = Vec::from_slice(alloc, &HEADER)?;
-    bytes.extend_from_slice(&RECORD)?;
-    bytes.extend_from_slice(&LONG_HEAD)?;
+fn capture<R: Abort>(rt: &R, alloc: Global, bytes_of_last: usize) -> Vec<u8> {
+    let mut bytes = Vec::from_slice(alloc, &HEADER).expect(rt, "a header");
+    bytes.extend_from_slice(&RECORD).expect(rt, "a record");
+    bytes.extend_from_slice(&LONG_HEAD).expect(rt, "a head");
     for _ in 0..2049 {
-        bytes.push(0)?;
+        bytes.push(0).expect(rt, "room");
     }
-    bytes.extend_from_slice(RECORD.get(..bytes_of_last).unwrap_or(&RECORD))?;
-    Ok(bytes)
+    let last = RECORD.get(..bytes_of_last).unwrap_or(&RECORD);
+    bytes.extend_from_slice(last).expect(rt, "a record");
+    bytes
 }
 
 /// What a row shows; how many bytes of the last record there are; the words after the files; what it comes to: its status, its report and
@@ -67,7 +68,7 @@ const ROWS: [Row; 3] = [
 /// Holds what a replay comes to against a row.
 fn compare_row<R: Abort + Threads + Wait + Sync>(rt: &R, alloc: Global, row: &Row) {
     let (name, bytes_of_last, words, status, out, err, sent) = *row;
-    let bytes = capture(alloc, bytes_of_last).expect(rt, "a capture");
+    let bytes = capture(rt, alloc, bytes_of_last);
     let folder = put(rt, alloc, MemoryFolder::new(alloc), "capture", &bytes);
     let folder = with_image(rt, alloc, name, folder, SENDS);
     let line = format!(in alloc; "xlb replay capture sent --image image {words}").expect(

@@ -3,7 +3,7 @@
 use super::first_path::IMAGE;
 use super::{Wanted, ZEROS, compare, over_text, put, put_digits, refused};
 use folders::MemoryFolder;
-use std::alloc::{AllocError, Global};
+use std::alloc::Global;
 use std::process::Abort;
 use std::sync::Wait;
 use std::thread::Threads;
@@ -114,18 +114,18 @@ fn runs_programs(rt: HostRuntime) {
 }
 
 /// This many times `mov r0, 1`, and the end.
-fn long_text(alloc: Global, count: u32) -> Result<String, AllocError> {
-    let mut text = String::from_str(alloc, "version 1\n")?;
+fn long_text<R: Abort>(rt: &R, alloc: Global, count: u32) -> String {
+    let mut text = String::from_str(alloc, "version 1\n").expect(rt, "a line");
     for _ in 0..count {
-        text.push_str("mov r0, 1\n")?;
+        text.push_str("mov r0, 1\n").expect(rt, "a line");
     }
-    text.push_str("exit\n")?;
-    Ok(text)
+    text.push_str("exit\n").expect(rt, "a line");
+    text
 }
 
 #[test]
 fn runs_4096_instructions(rt: HostRuntime) {
-    let text = long_text(rt.alloc(), 4095).expect(&rt, "a text");
+    let text = long_text(&rt, rt.alloc(), 4095);
     let wanted = Wanted {
         status: 0,
         out: "verdict drop\ninstructions 4096\nframe 0000000000000000000000000000\n",
@@ -146,7 +146,7 @@ fn runs_4096_instructions(rt: HostRuntime) {
 #[test]
 fn refuses_4097_instructions(rt: HostRuntime) {
     let alloc = rt.alloc();
-    let text = long_text(alloc, 4096).expect(&rt, "a text");
+    let text = long_text(&rt, alloc, 4096);
     let folder = put(
         &rt,
         alloc,
@@ -182,18 +182,21 @@ fn compare_size<R: Abort + Threads + Wait + Sync>(
 }
 
 /// What a run of the first image over this many zeros prints.
-fn ran_over(alloc: Global, size: u32) -> Result<String, AllocError> {
-    let mut text = String::from_str(alloc, "verdict aborted\ninstructions 17\nframe ")?;
+fn ran_over<R: Abort>(rt: &R, alloc: Global, size: u32) -> String {
+    let mut text = String::from_str(alloc, "verdict aborted\ninstructions 17\nframe ").expect(
+        rt,
+        "two lines",
+    );
     for _ in 0..size {
-        text.push_str("00")?;
+        text.push_str("00").expect(rt, "two digits");
     }
-    text.push_str("\n")?;
-    Ok(text)
+    text.push_str("\n").expect(rt, "a line feed");
+    text
 }
 
 #[test]
 fn takes_2048_bytes(rt: HostRuntime) {
-    let out = ran_over(rt.alloc(), 2048).expect(&rt, "a text");
+    let out = ran_over(&rt, rt.alloc(), 2048);
     let wanted = Wanted {
         status: 0,
         out: out.as_str(),

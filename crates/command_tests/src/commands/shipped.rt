@@ -89,8 +89,8 @@ fn compare_no_size<R: Abort + Threads + Wait + Sync>(
 
 #[test]
 fn has_no_image_of_another_size(rt: HostRuntime) {
-    for (size, next) in NO_SIZES {
-        compare_no_size(&rt, rt.alloc(), size, next);
+    for row in &NO_SIZES {
+        compare_no_size(&rt, rt.alloc(), row.0, row.1);
     }
 }
 

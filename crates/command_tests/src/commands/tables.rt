@@ -57,15 +57,24 @@ const OF_255: &str =
 const WHY_NOT_256: &str =
     "  line 1 of the script, 0 up 256 192.0.2.1: no such backend is up, or there is no such number: numbers are below 256 and below the ring's size\n";
 
-/// What a row shows; the script; the words behind it; what is to come.
+/// What a row shows; the script; the words behind it; the status, and what is printed on both streams.
+type Row = (
+    &'static str,
+    &'static str,
+    &'static str,
+    u8,
+    &'static str,
+    &'static str,
+);
+
 #[rattlefmt::skip]
-const ROWS: [(&str, &str, &str, Wanted<'static>); 6] = [
-    ("seven slots",        SCRIPT,  " --ring 7", Wanted { status: 0, out: OF_7,       err: "" }),
-    ("as a replay has it", SCRIPT,  "",          Wanted { status: 0, out: OF_251,     err: "" }),
-    ("refused commands",   REFUSED, " --ring 7", Wanted { status: 1, out: OF_REFUSED, err: WHY_REFUSED }),
-    ("no command",         "",      "",          Wanted { status: 0, out: "",         err: "" }),
-    ("the largest number", "0 up 255 192.0.2.1\n", " --ring 4093", Wanted { status: 0, out: OF_255,                   err: "" }),
-    ("a number of 256",    "0 up 256 192.0.2.1\n", " --ring 4093", Wanted { status: 1, out: "command 1 refused 91\n", err: WHY_NOT_256 }),
+const ROWS: [Row; 6] = [
+    ("seven slots",        SCRIPT,  " --ring 7", 0, OF_7,       ""),
+    ("as a replay has it", SCRIPT,  "",          0, OF_251, ""),
+    ("refused commands",   REFUSED, " --ring 7", 1, OF_REFUSED, WHY_REFUSED),
+    ("no command",         "",      "",          0, "", ""),
+    ("the largest number", "0 up 255 192.0.2.1\n", " --ring 4093", 0, OF_255, ""),
+    ("a number of 256",    "0 up 256 192.0.2.1\n", " --ring 4093", 1, "command 1 refused 91\n", WHY_NOT_256),
 ];
 
 /// Holds a row's tables against what is wanted.
@@ -88,10 +97,17 @@ fn compare_tables<R: Abort + Threads + Wait + Sync>(
     compare(rt, alloc, name, folder, &line, wanted);
 }
 
+/// A row's tables.
+fn compare_row<R: Abort + Threads + Wait + Sync>(rt: &R, alloc: Global, row: &Row) {
+    let (name, script, words, status, out, err) = *row;
+    let wanted = Wanted { status, out, err };
+    compare_tables(rt, alloc, name, script, words, wanted);
+}
+
 #[test]
 fn tables_follow_each_command(rt: HostRuntime) {
     for row in &ROWS {
-        compare_tables(&rt, rt.alloc(), row.0, row.1, row.2, row.3);
+        compare_row(&rt, rt.alloc(), row);
     }
 }
 

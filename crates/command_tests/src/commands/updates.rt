@@ -9,7 +9,7 @@ use super::{
     put_digits, with_image,
 };
 use folders::MemoryFolder;
-use std::alloc::{AllocError, Global};
+use std::alloc::Global;
 use std::process::Abort;
 use std::sync::Wait;
 use std::thread::Threads;
@@ -102,19 +102,21 @@ fn journals_have_the_updates_first(rt: HostRuntime) {
 }
 
 /// A run after this many updates of key 7; the last one sets 3.
-fn many(alloc: Global, count: u32) -> Result<String, AllocError> {
-    let mut line = String::from_str(alloc, "xlb run image frame")?;
+fn many<R: Abort>(rt: &R, alloc: Global, count: u32) -> String {
+    let mut line = String::from_str(alloc, "xlb run image frame").expect(rt, "a line");
     for _ in 1..count {
-        line.push_str(" --update 0 07000000 0100000000000000")?;
+        line.push_str(" --update 0 07000000 0100000000000000")
+            .expect(rt, "an update");
     }
-    line.push_str(" --update 0 07000000 0300000000000000")?;
-    Ok(line)
+    line.push_str(" --update 0 07000000 0300000000000000")
+        .expect(rt, "an update");
+    line
 }
 
 #[test]
 fn a_hundred_updates_are_made(rt: HostRuntime) {
     let alloc = rt.alloc();
-    let line = many(alloc, 100).expect(&rt, "a line");
+    let line = many(&rt, alloc, 100);
     let folder = assembled(&rt, alloc, "updates", ANSWERS_KEY_7, ("frame", ZEROS));
     let wanted = Wanted {
         status: 0,
@@ -204,19 +206,21 @@ fn a_replay_begins_with_its_updates(rt: HostRuntime) {
 }
 
 /// A replay of journals of 16 entries after this many updates of key 7.
-fn many_before(alloc: Global, words: &str, count: u32) -> Result<String, AllocError> {
-    let mut line = format!(in alloc; "xlb replay capture sent --image image --journal 16{words}")?;
+fn many_before<R: Abort>(rt: &R, alloc: Global, words: &str, count: u32) -> String {
+    let line = format!(in alloc; "xlb replay capture sent --image image --journal 16{words}");
+    let mut line = line.expect(rt, "a line");
     for _ in 0..count {
-        line.push_str(" --update 0 07000000 0300000000000000")?;
+        line.push_str(" --update 0 07000000 0300000000000000")
+            .expect(rt, "an update");
     }
-    Ok(line)
+    line
 }
 
 /// The first update that a journal of 16 entries has no room for.
 const FULL: &str = "fault 94 JournalFull\n  update 17 of the command line\n";
 
 fn compare_full<R: Abort + Threads + Wait + Sync>(rt: &R, alloc: Global, words: &str) {
-    let line = many_before(alloc, words, 17).expect(rt, "a line");
+    let line = many_before(rt, alloc, words, 17);
     let wanted = Wanted {
         status: 1,
         out: "",

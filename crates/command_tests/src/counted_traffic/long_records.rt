@@ -1,7 +1,7 @@
 //! Captures with records of more than 2048 bytes, and what is left of them.
 
 use crate::asserting::{holds_of, same_bytes_of};
-use std::alloc::{AllocError, Global};
+use std::alloc::Global;
 use std::process::Abort;
 use traffic::without_long_records;
 use wire::{Capture, CaptureFault, MemorySource, read_capture};
@@ -30,40 +30,42 @@ const ROWS: [Row; 10] = [
 ];
 
 /// A record: its moment has its number, as each byte that it keeps; of its frame a byte more was there.
-fn put_record(file: &mut Vec<u8>, number: u8, kept: u16) -> Result<(), AllocError> {
+fn put_record(rt: &impl Abort, file: &mut Vec<u8>, number: u8, kept: u16) {
     let original = u32::from(kept) + 1;
-    file.extend_from_slice(&[number, 1, 2, 3, number, 4, 5, 0])?;
-    file.extend_from_slice(&u32::from(kept).to_le_bytes())?;
-    file.extend_from_slice(&original.to_le_bytes())?;
+    file.extend_from_slice(&[number, 1, 2, 3, number, 4, 5, 0])
+        .expect(rt, "a moment");
+    file.extend_from_slice(&u32::from(kept).to_le_bytes())
+        .expect(rt, "a length");
+    file.extend_from_slice(&original.to_le_bytes())
+        .expect(rt, "a length");
     for _ in 0..kept {
-        file.push(number)?;
+        file.push(number).expect(rt, "room");
     }
-    Ok(())
 }
 
 /// The file of a row: of all its records, or of those that stay.
-fn file_of(alloc: Global, row: &Row, all: bool) -> Result<Vec<u8>, AllocError> {
+fn file_of(rt: &impl Abort, alloc: Global, row: &Row, all: bool) -> Vec<u8> {
     let (_, first, first_stays, second, second_stays, third, third_stays, missing, _) = *row;
-    let mut file = Vec::from_slice(alloc, &HEADER)?;
+    let mut file = Vec::from_slice(alloc, &HEADER).expect(rt, "a header");
     if all || first_stays {
-        put_record(&mut file, 1, first)?;
+        put_record(rt, &mut file, 1, first);
     }
     if all || second_stays {
-        put_record(&mut file, 2, second)?;
+        put_record(rt, &mut file, 2, second);
     }
     if all || third_stays {
-        put_record(&mut file, 3, third)?;
+        put_record(rt, &mut file, 3, third);
     }
     let left = file.len().saturating_sub(missing);
     file.truncate(left);
-    Ok(file)
+    file
 }
 
 /// Compares what is left of a row's file.
 fn compare(rt: &impl Abort, alloc: Global, row: &Row) {
     let (name, .., skipped) = *row;
-    let file = file_of(alloc, row, true).expect(rt, "memory");
-    let wanted = file_of(alloc, row, false).expect(rt, "memory");
+    let file = file_of(rt, alloc, row, true);
+    let wanted = file_of(rt, alloc, row, false);
     let shortened = without_long_records(alloc, &file).expect(rt, "memory");
     same_bytes_of(
         rt,
@@ -95,6 +97,16 @@ fn stays(rt: &impl Abort, alloc: Global, bytes: &[u8]) {
     holds_of(rt, "no whole record", "left out", shortened.skipped == 0);
 }
 
+/// A capture whose first record is longer than any file, and which has another one behind its head.
+fn endless_file(rt: &impl Abort, alloc: Global) -> Vec<u8> {
+    let mut endless = Vec::from_slice(alloc, &HEADER).expect(rt, "a header");
+    endless
+        .extend_from_slice(&[0, 0, 0, 0, 0, 0, 0, 0, 255, 255, 255, 255, 0, 0, 0, 0])
+        .expect(rt, "a head");
+    put_record(rt, &mut endless, 1, 9000);
+    endless
+}
+
 #[test]
 fn files_without_records_stay(rt: HostRuntime) {
     for length in 0..25 {
@@ -104,10 +116,7 @@ fn files_without_records_stay(rt: HostRuntime) {
             HEADER.get(..length).expect(&rt, "a length"),
         );
     }
-    let mut endless = Vec::from_slice(rt.alloc(), &HEADER).expect(&rt, "memory");
-    let put = endless.extend_from_slice(&[0, 0, 0, 0, 0, 0, 0, 0, 255, 255, 255, 255, 0, 0, 0, 0]);
-    put.expect(&rt, "memory");
-    put_record(&mut endless, 1, 9000).expect(&rt, "memory");
+    let endless = endless_file(&rt, rt.alloc());
     stays(&rt, rt.alloc(), &endless);
 }
 
@@ -120,7 +129,7 @@ fn read(alloc: Global, bytes: &mut Vec<u8>) -> Result<Capture, CaptureFault> {
 #[test]
 fn what_is_left_is_read(rt: HostRuntime) {
     let alloc = rt.alloc();
-    let mut file = file_of(alloc, &ROWS[1], true).expect(&rt, "memory");
+    let mut file = file_of(&rt, alloc, &ROWS[1], true);
     let before = read(alloc, &mut file);
     holds_of(&rt, "before", "refused", before.is_err());
     let mut shortened = without_long_records(alloc, &file).expect(&rt, "memory");

@@ -4,7 +4,6 @@ use crate::asserting::same_text;
 use mistakes::{about_capture, about_frame, about_image, about_map, about_text_as_frame};
 use std::alloc::Global;
 use std::process::Abort;
-use std::test::Fail;
 
 /// What a row shows, the file, and what is said.
 type Row = (&'static str, &'static [u8], &'static str);
@@ -156,79 +155,73 @@ const MAPS: [Row; 8] = [
 const SECOND: &[u8] =
     b"XLBP\x01\x02\x00\x00\x01\x00\x00\x00\x04\x00\x00\x00\x08\x00\x00\x00\x01\x00\x00\x00\x01\x00\x00\x00\x00\x00\x00\x00\x08\x00\x00\x00\x01\x00\x00\x00";
 
-fn images_are_said(rt: &impl Abort, alloc: Global, rows: &[Row]) -> Result<(), Fail> {
+fn images_are_said(rt: &impl Abort, alloc: Global, rows: &[Row]) {
     for (name, bytes, wanted) in rows {
-        let said = about_image(alloc, *bytes)?;
+        let said = about_image(alloc, *bytes).expect(rt, "a text");
         same_text(rt, *name, said.as_str(), *wanted);
     }
-    Ok(())
 }
 
-fn captures_are_said(rt: &impl Abort, alloc: Global, rows: &[Row]) -> Result<(), Fail> {
+fn captures_are_said(rt: &impl Abort, alloc: Global, rows: &[Row]) {
     for (name, bytes, wanted) in rows {
-        let said = about_capture(alloc, *bytes)?;
+        let said = about_capture(alloc, *bytes).expect(rt, "a text");
         same_text(rt, *name, said.as_str(), *wanted);
     }
-    Ok(())
 }
 
-fn frames_are_said(rt: &impl Abort, alloc: Global, rows: &[Row]) -> Result<(), Fail> {
+fn frames_are_said(rt: &impl Abort, alloc: Global, rows: &[Row]) {
     for (name, bytes, wanted) in rows {
-        let said = about_frame(alloc, *bytes)?;
+        let said = about_frame(alloc, *bytes).expect(rt, "a text");
         same_text(rt, *name, said.as_str(), *wanted);
     }
-    Ok(())
 }
 
-fn run_frames_are_said(rt: &impl Abort, alloc: Global, rows: &[Row]) -> Result<(), Fail> {
+fn run_frames_are_said(rt: &impl Abort, alloc: Global, rows: &[Row]) {
     for (name, bytes, wanted) in rows {
-        let said = about_text_as_frame(alloc, *bytes)?;
+        let said = about_text_as_frame(alloc, *bytes).expect(rt, "a text");
         same_text(rt, *name, said.as_str(), *wanted);
     }
-    Ok(())
 }
 
-fn maps_are_said(rt: &impl Abort, alloc: Global, rows: &[Row]) -> Result<(), Fail> {
+fn maps_are_said(rt: &impl Abort, alloc: Global, rows: &[Row]) {
     for (name, bytes, wanted) in rows {
-        let said = about_map(alloc, *bytes, 0)?;
+        let said = about_map(alloc, *bytes, 0).expect(rt, "a text");
         same_text(rt, *name, said.as_str(), *wanted);
     }
-    Ok(())
 }
 
 #[test]
-fn no_images(rt: HostRuntime) -> Result<(), Fail> {
-    images_are_said(&rt, rt.alloc(), &IMAGES)
+fn no_images(rt: HostRuntime) {
+    images_are_said(&rt, rt.alloc(), &IMAGES);
 }
 
 #[test]
-fn no_captures(rt: HostRuntime) -> Result<(), Fail> {
-    captures_are_said(&rt, rt.alloc(), &CAPTURES)
+fn no_captures(rt: HostRuntime) {
+    captures_are_said(&rt, rt.alloc(), &CAPTURES);
 }
 
 #[test]
-fn no_frames(rt: HostRuntime) -> Result<(), Fail> {
-    frames_are_said(&rt, rt.alloc(), &FRAMES)
+fn no_frames(rt: HostRuntime) {
+    frames_are_said(&rt, rt.alloc(), &FRAMES);
 }
 
 #[test]
-fn frames_of_letters(rt: HostRuntime) -> Result<(), Fail> {
-    run_frames_are_said(&rt, rt.alloc(), &RUN_FRAMES)
+fn frames_of_letters(rt: HostRuntime) {
+    run_frames_are_said(&rt, rt.alloc(), &RUN_FRAMES);
 }
 
 #[test]
-fn no_maps(rt: HostRuntime) -> Result<(), Fail> {
-    maps_are_said(&rt, rt.alloc(), &MAPS)
+fn no_maps(rt: HostRuntime) {
+    maps_are_said(&rt, rt.alloc(), &MAPS);
 }
 
 #[test]
-fn the_second_map(rt: HostRuntime) -> Result<(), Fail> {
-    let said = about_map(rt.alloc(), SECOND, 1)?;
+fn the_second_map(rt: HostRuntime) {
+    let said = about_map(rt.alloc(), SECOND, 1).expect(&rt, "a text");
     same_text(
         &rt,
         "keys of no bytes",
         said.as_str(),
         "  map 1: its keys have 0 bytes\n  expected 1 to 32 bytes\n",
     );
-    Ok(())
 }

@@ -6,7 +6,6 @@ use mistakes::{about_entry, about_journals, about_options, about_ring, about_wor
 use semantics::Options;
 use std::alloc::Global;
 use std::process::Abort;
-use std::test::Fail;
 
 /// What a row shows, the workers, shards and journal, and what is said.
 type OptionsRow = (&'static str, u32, u32, u32, &'static str);
@@ -46,39 +45,39 @@ const OPTIONS: [OptionsRow; 11] = [
          expected the shipped program, or with --program one that has its maps (docs/STEERING.md)\n"),
 ];
 
-fn options_are_said(rt: &impl Abort, alloc: Global, rows: &[OptionsRow]) -> Result<(), Fail> {
+fn options_are_said(rt: &impl Abort, alloc: Global, rows: &[OptionsRow]) {
     for (name, workers, shards, journal, wanted) in rows {
         let options = Options {
             workers: *workers,
             shards: *shards,
             journal: *journal,
         };
-        let said = about_options(alloc, options, &MAPS)?;
+        let said = about_options(alloc, options, &MAPS).expect(rt, "a text");
         same_text(rt, *name, said.as_str(), *wanted);
     }
-    Ok(())
 }
 
 #[test]
-fn options_that_open_no_maps(rt: HostRuntime) -> Result<(), Fail> {
-    options_are_said(&rt, rt.alloc(), &OPTIONS)
+fn options_that_open_no_maps(rt: HostRuntime) {
+    options_are_said(&rt, rt.alloc(), &OPTIONS);
 }
 
 #[test]
-fn no_such_worker(rt: HostRuntime) -> Result<(), Fail> {
-    let said = about_worker(rt.alloc(), 8)?;
+fn no_such_worker(rt: HostRuntime) {
+    let said = about_worker(rt.alloc(), 8).expect(&rt, "a text");
     same_text(
         &rt,
         "worker 8",
         said.as_str(),
         "  --worker 8\n  expected 0 to 7\n",
     );
-    Ok(())
 }
 
 /// What a row shows, a number of slots, and what is said.
+type RingRow = (&'static str, u32, &'static str);
+
 #[rattlefmt::skip]
-const RINGS: [(&str, u32, &str); 5] = [
+const RINGS: [RingRow; 5] = [
     ("no slot", 0, "  --ring 0\n  expected the number of slots of a lookup table: 7, 251, 4093 or 65537\n  the next larger one is 7\n"),
     ("between two sizes", 8,
         "  --ring 8\n  expected the number of slots of a lookup table: 7, 251, 4093 or 65537\n  the next larger one is 251\n"),
@@ -90,13 +89,16 @@ const RINGS: [(&str, u32, &str); 5] = [
         "  --ring 4294967295\n  expected the number of slots of a lookup table: 7, 251, 4093 or 65537\n  the largest one is 65537\n"),
 ];
 
-#[test]
-fn no_such_ring(rt: HostRuntime) -> Result<(), Fail> {
-    for (name, ring, wanted) in RINGS {
-        let said = about_ring(rt.alloc(), ring)?;
-        same_text(&rt, name, said.as_str(), wanted);
+fn rings_are_said(rt: &impl Abort, alloc: Global, rows: &[RingRow]) {
+    for (name, ring, wanted) in rows {
+        let said = about_ring(alloc, *ring).expect(rt, "a text");
+        same_text(rt, *name, said.as_str(), *wanted);
     }
-    Ok(())
+}
+
+#[test]
+fn no_such_ring(rt: HostRuntime) {
+    rings_are_said(&rt, rt.alloc(), &RINGS);
 }
 
 /// What a row shows, the file, the line at which it is refused, and what is said.
@@ -147,17 +149,16 @@ const JOURNALS: [Row; 18] = [
     ("a line that is not there", b"XLBJ 1 1 1 16\n", 2, ""),
 ];
 
-fn journals_are_said(rt: &impl Abort, alloc: Global, rows: &[Row]) -> Result<(), Fail> {
+fn journals_are_said(rt: &impl Abort, alloc: Global, rows: &[Row]) {
     for (name, bytes, line, wanted) in rows {
-        let said = about_journals(alloc, *bytes, *line)?;
+        let said = about_journals(alloc, *bytes, *line).expect(rt, "a text");
         same_text(rt, *name, said.as_str(), *wanted);
     }
-    Ok(())
 }
 
 #[test]
-fn no_journals(rt: HostRuntime) -> Result<(), Fail> {
-    journals_are_said(&rt, rt.alloc(), &JOURNALS)
+fn no_journals(rt: HostRuntime) {
+    journals_are_said(&rt, rt.alloc(), &JOURNALS);
 }
 
 /// What a row shows, the file, the line of its entry, the number of its map, and what is said.
@@ -195,15 +196,14 @@ const ENTRIES: [JournalEntryRow; 10] = [
          after the entries above it the journal is full, a map on one thread returns another reply, or this caller may not make this call\n"),
 ];
 
-fn entries_are_said(rt: &impl Abort, alloc: Global, rows: &[JournalEntryRow]) -> Result<(), Fail> {
+fn entries_are_said(rt: &impl Abort, alloc: Global, rows: &[JournalEntryRow]) {
     for (name, bytes, line, map, wanted) in rows {
-        let said = about_entry(alloc, *bytes, *line, *map, &MAPS)?;
+        let said = about_entry(alloc, *bytes, *line, *map, &MAPS).expect(rt, "a text");
         same_text(rt, *name, said.as_str(), *wanted);
     }
-    Ok(())
 }
 
 #[test]
-fn entries_that_are_not_legal(rt: HostRuntime) -> Result<(), Fail> {
-    entries_are_said(&rt, rt.alloc(), &ENTRIES)
+fn entries_that_are_not_legal(rt: HostRuntime) {
+    entries_are_said(&rt, rt.alloc(), &ENTRIES);
 }

@@ -4,7 +4,6 @@ use crate::asserting::same_text;
 use mistakes::about_script;
 use std::alloc::Global;
 use std::process::Abort;
-use std::test::Fail;
 
 /// What a row shows, the script, the line at which it is refused, and what is said.
 type Row = (&'static str, &'static [u8], usize, &'static str);
@@ -152,30 +151,29 @@ const KINDS: [Row; 4] = [
          expected a backend's number, in decimal digits\n  for example: 500 down 3\n"),
 ];
 
-fn are_said(rt: &impl Abort, alloc: Global, rows: &[Row]) -> Result<(), Fail> {
+fn are_said(rt: &impl Abort, alloc: Global, rows: &[Row]) {
     for (name, bytes, line, wanted) in rows {
-        let said = about_script(alloc, *bytes, *line)?;
+        let said = about_script(alloc, *bytes, *line).expect(rt, "a text");
         same_text(rt, *name, said.as_str(), *wanted);
     }
-    Ok(())
 }
 
 #[test]
-fn spaces_and_letters(rt: HostRuntime) -> Result<(), Fail> {
-    are_said(&rt, rt.alloc(), &SPACES)
+fn spaces_and_letters(rt: HostRuntime) {
+    are_said(&rt, rt.alloc(), &SPACES);
 }
 
 #[test]
-fn wrong_words(rt: HostRuntime) -> Result<(), Fail> {
-    are_said(&rt, rt.alloc(), &WORDS)
+fn wrong_words(rt: HostRuntime) {
+    are_said(&rt, rt.alloc(), &WORDS);
 }
 
 #[test]
-fn wrong_places(rt: HostRuntime) -> Result<(), Fail> {
-    are_said(&rt, rt.alloc(), &PLACES)
+fn wrong_places(rt: HostRuntime) {
+    are_said(&rt, rt.alloc(), &PLACES);
 }
 
 #[test]
-fn other_kinds(rt: HostRuntime) -> Result<(), Fail> {
-    are_said(&rt, rt.alloc(), &KINDS)
+fn other_kinds(rt: HostRuntime) {
+    are_said(&rt, rt.alloc(), &KINDS);
 }
