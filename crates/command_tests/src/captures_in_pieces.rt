@@ -9,7 +9,7 @@ use std::process::Abort;
 use wire::{CaptureFault, Sent};
 
 /// The header of version 2.4 for Ethernet, low byte first.
-const HEADER: [u8; 24] = [
+static HEADER: [u8; 24] = [
     0xd4, 0xc3, 0xb2, 0xa1, 2, 0, 4, 0, 0, 0, 0, 0, 0, 0, 0, 0, 0xff, 0xff, 0, 0, 1, 0, 0, 0,
 ];
 

@@ -96,12 +96,12 @@ fn datagrams(rt: &impl Abort, alloc: Global, totals: &[u16]) -> Vec<Sent> {
 
 /// A datagram from this port in a tunnel to 192.0.2.x.
 fn tunnelled(rt: &impl Abort, alloc: Global, port: u8, backend: u8) -> Sent {
-    let mut outer = DATAGRAM;
+    let mut inner = DATAGRAM;
+    inner[35] = port;
+    let mut outer = inner;
     outer[17] = 48;
     outer[23] = 4;
     outer[30..34].copy_from_slice(&[192, 0, 2, backend]);
-    let mut inner = DATAGRAM;
-    inner[35] = port;
     let mut bytes = Vec::from_slice(alloc, &outer[..34]).expect(rt, "a header");
     bytes
         .extend_from_slice(&inner[14..])

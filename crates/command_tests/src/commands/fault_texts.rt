@@ -31,7 +31,7 @@ use xlb_commands::{Fault, fault_line};
 
 /// The faults that commands print.
 #[rattlefmt::skip]
-const FAULTS: [Fault; 74] = [
+static FAULTS: [Fault; 74] = [
     Fault::Folder(FolderFault::Device),
     Fault::Folder(FolderFault::Memory),
     Fault::Output,

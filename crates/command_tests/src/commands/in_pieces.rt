@@ -165,6 +165,23 @@ fn compare_printed<R: Abort>(
     compare_file(rt, alloc, name, left.folder.files, "sent", sent);
 }
 
+/// Compares what a replay of these files comes to that is made this way.
+fn compare_way<R: Abort + Threads + Wait + Sync>(
+    rt: &R,
+    alloc: Global,
+    name: &str,
+    files: Files<'_>,
+    words: &str,
+    wanted: Wanted<'_>,
+    sent: Option<&[u8]>,
+    way: WayRow<'_>,
+) {
+    let by = way.name;
+    let title = format!(in alloc; "{name}, {by}").expect(rt, "a title");
+    let left = left_by(rt, alloc, &title, files, words, way);
+    compare_left(rt, alloc, &title, left, wanted, sent);
+}
+
 /// Compares what replays of these files come to, whichever way they are made.
 fn compare_ways<R: Abort + Threads + Wait + Sync>(
     rt: &R,
@@ -177,10 +194,7 @@ fn compare_ways<R: Abort + Threads + Wait + Sync>(
     ways: &[WayRow<'_>],
 ) {
     for way in ways {
-        let by = way.name;
-        let title = format!(in alloc; "{name}, {by}").expect(rt, "a title");
-        let left = left_by(rt, alloc, &title, files, words, *way);
-        compare_left(rt, alloc, &title, left, wanted, sent);
+        compare_way(rt, alloc, name, files, words, wanted, sent, *way);
     }
     let left = left_by(rt, alloc, name, files, words, SUMMARY);
     compare_printed(rt, alloc, name, left, wanted, sent);

@@ -1,7 +1,7 @@
 //! Replays of captures with a record of more than 2048 bytes.
 
-use super::replays::{SENDS, TWO_TX};
-use super::{Wanted, compare_digits, lacks, left_by, put, with_image};
+use super::replays::{SENDS, TWO_TX, compare_sent};
+use super::{Wanted, left_by, put, with_image};
 use folders::MemoryFolder;
 use std::alloc::Global;
 use std::process::Abort;
@@ -76,11 +76,7 @@ fn compare_row<R: Abort + Threads + Wait + Sync>(rt: &R, alloc: Global, row: &Ro
     );
     let wanted = Wanted { status, out, err };
     let folder = left_by(rt, alloc, name, folder, &line, wanted);
-    if sent.is_empty() {
-        lacks(rt, alloc, name, folder, "sent");
-    } else {
-        compare_digits(rt, alloc, name, folder, "sent", sent);
-    }
+    compare_sent(rt, alloc, name, folder, sent);
 }
 
 #[test]

@@ -300,7 +300,13 @@ fn compare_row<R: Abort + Threads + Wait + Sync>(rt: &R, alloc: Global, row: &Ro
 }
 
 /// Holds the frames that a replay sent against the wanted ones; none: there is no such file.
-fn compare_sent<R: Abort>(rt: &R, alloc: Global, name: &str, folder: MemoryFolder, sent: &str)
+pub(super) fn compare_sent<R: Abort>(
+    rt: &R,
+    alloc: Global,
+    name: &str,
+    folder: MemoryFolder,
+    sent: &str,
+)
     requires { folder.failures ≡ 0 }
 {
     if sent.is_empty() {

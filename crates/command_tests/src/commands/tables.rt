@@ -70,10 +70,10 @@ type Row = (
 #[rattlefmt::skip]
 const ROWS: [Row; 6] = [
     ("seven slots",        SCRIPT,  " --ring 7", 0, OF_7,       ""),
-    ("as a replay has it", SCRIPT,  "",          0, OF_251, ""),
+    ("as a replay has it", SCRIPT,  "",          0, OF_251,     ""),
     ("refused commands",   REFUSED, " --ring 7", 1, OF_REFUSED, WHY_REFUSED),
-    ("no command",         "",      "",          0, "", ""),
-    ("the largest number", "0 up 255 192.0.2.1\n", " --ring 4093", 0, OF_255, ""),
+    ("no command",         "",      "",          0, "",         ""),
+    ("the largest number", "0 up 255 192.0.2.1\n", " --ring 4093", 0, OF_255,                   ""),
     ("a number of 256",    "0 up 256 192.0.2.1\n", " --ring 4093", 1, "command 1 refused 91\n", WHY_NOT_256),
 ];
 

@@ -160,6 +160,13 @@ fn compare_replay<R: Abort + Threads + Wait + Sync>(rt: &R, alloc: Global, row: 
     );
     let folder = with_capture(rt, alloc);
     let folder = left_by(rt, alloc, name, folder, &line, Wanted { status, out, err });
+    lacks_if_refused(rt, alloc, name, folder, status);
+}
+
+/// Ends the test where a replay with a status above 0 has left a file of sent frames.
+fn lacks_if_refused<R: Abort>(rt: &R, alloc: Global, name: &str, folder: MemoryFolder, status: u8)
+    requires { folder.failures ≡ 0 }
+{
     if status != 0 {
         lacks(rt, alloc, name, folder, "sent");
     }

@@ -7,7 +7,7 @@ use traffic::without_long_records;
 use wire::{Capture, CaptureFault, MemorySource, read_capture};
 
 /// The header of a capture: pcap 2.4, low byte first, with a snap length of 262144 bytes.
-const HEADER: [u8; 24] = [
+static HEADER: [u8; 24] = [
     0xd4, 0xc3, 0xb2, 0xa1, 2, 0, 4, 0, 0, 0, 0, 0, 0, 0, 0, 0, 0, 0, 4, 0, 1, 0, 0, 0,
 ];
 

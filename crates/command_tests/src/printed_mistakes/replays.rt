@@ -11,7 +11,7 @@ use std::process::Abort;
 type OptionsRow = (&'static str, u32, u32, u32, &'static str);
 
 /// Two maps, of 256 and of 6 entries.
-const MAPS: [MapDef; 2] = [
+static MAPS: [MapDef; 2] = [
     MapDef {
         kind: MapKind::Hash,
         key_size: 4,
