@@ -60,8 +60,8 @@ const TWO_NUMBERS: &str =
     "0 gateway 10.0.0.9 02:00:00:00:00:0a 02:00:00:00:00:0b\n0 vip 203.0.113.1 80 udp\n0 up 0 192.0.2.1\n0 down 0\n0 up 1 192.0.2.1\n";
 
 /// What a row shows; what a replay is given: the image's text (none: the shipped program), the script, the digits of the capture, and the
-/// words after its files; the name of the report, and its lines, each with `#` in place of the steps, since those of the shipped program
-/// are not told.
+/// words after its files; the name of the report, and its lines, each with `#` in place of the steps: how many the shipped program takes is
+/// no concern of these rows.
 type Row = (
     &'static str,
     &'static str,
