@@ -134,8 +134,15 @@ pub(crate) fn judged_of<D: Folder>(
     let image = image_of(alloc, folder, name)?;
     match verify(alloc, image) {
         Ok(verified) => Ok(verified),
-        Err(reject) => Err(Refusal::from(Fault::Program(reject))),
+        Err(reject) => Err(refused_program(alloc, reject)),
     }
+}
+
+/// A program that the verifier refuses, in a command that doesn't explain it.
+fn refused_program(alloc: Global, reject: Reject) -> Refusal
+    ensures { result.fault ≡ Fault.Program reject }
+{
+    Refusal::hinted(Fault::Program(reject), hints::of_refused(alloc, reject))
 }
 
 /// The frame of a file.

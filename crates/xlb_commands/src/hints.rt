@@ -232,7 +232,15 @@ pub(crate) fn of_reject(
     }
 }
 
-/// The same, and behind it why the program may not run.
+/// Of a program that may not run, where there is no source of it: what says why.
+pub(crate) fn of_refused(alloc: Global, reject: Reject) -> Result<Option<String>, AllocError> {
+    match slot_of(reject) {
+        Some(_) => note(alloc, "  xlb check --explain IMAGE says why\n"),
+        None => Ok(None),
+    }
+}
+
+/// Of a program whose file may be a source: where its instruction is there, and behind it why the program may not run.
 pub(crate) fn of_explained(
     alloc: Global,
     source: &[u8],

@@ -222,7 +222,8 @@ const ROWS: [Row; 18] = [
         "  line 3 of the script, 0 down 0: a journal is full: --journal N, at most 1048576, --shards N, at most 8, and --no-journals make more room\n  \
          line 4 of the script, 0 up 2 10.0.0.3: a journal is full: --journal N, at most 1048576, --shards N, at most 8, \
          and --no-journals make more room\n", HEAD),
-    ("an image before a script", UNSET, "0 up\n", "", "--image image", 1, "", "fault 35 UnsetRegister slot 0 register 0\n", ""),
+    ("an image before a script", UNSET, "0 up\n", "", "--image image", 1, "",
+        "fault 35 UnsetRegister slot 0 register 0\n  xlb check --explain IMAGE says why\n", ""),
     ("a ring before a script",   "", "0 up\n", "", "--script script --ring 8", 1, "",
         "fault 73 BadSize\n  --ring 8\n  expected the number of slots of a lookup table: 7, 251, 4093 or 65537\n  the next larger one is 251\n", ""),
     ("a script before a capture", "", "0 vip 203.0.113.1 80 udp  notrack\n", "", "--script script", 1, "",

@@ -9,4 +9,4 @@ returns-in_err-image-clause-refused g c =
 
 pub returns-in-Err-clause-refused : goal.returns-in-Err-clause-refused
 returns-in-Err-clause-refused g c =
-    rejected c.in_ok-image.image c.in-Err.reject c.in_ok-image.ensures.file c.in-Err.ensures.rejected c.from.ensures
+    rejected c.in_ok-image.image c.in-Err.reject c.in_ok-image.ensures.file c.in-Err.ensures.rejected c.refused_program.ensures
