@@ -20,20 +20,19 @@ fn entry(worker: u8, call: Call, reply: Reply) -> Entry {
 /// Two workers enter, and one may load from a cell that it did not look up.
 fn entries_of<R: Abort>(rt: &R, alloc: Global, is_loaded: bool) -> EntryList {
     let shard = 0;
-    let enter = Call::Enter { shard };
-    let load = Call::Load {
-        cell: CellRef { shard, id: 0 },
-        offset: 0,
-        size: 8,
-    };
     let mut entries = EntryList::new(alloc);
     entries
-        .push(&entry(1, enter, Reply::Entered))
+        .push(&entry(1, Call::Enter { shard }, Reply::Entered))
         .expect(rt, "room");
     entries
-        .push(&entry(0, enter, Reply::Entered))
+        .push(&entry(0, Call::Enter { shard }, Reply::Entered))
         .expect(rt, "room");
     if is_loaded {
+        let load = Call::Load {
+            cell: CellRef { shard, id: 0 },
+            offset: 0,
+            size: 8,
+        };
         entries
             .push(&entry(1, load, Reply::Word { value: 0 }))
             .expect(rt, "room");

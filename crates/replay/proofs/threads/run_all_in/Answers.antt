@@ -107,6 +107,15 @@ handled_of X all = Ok all
 was_no_failure : {X : Type 0} (all : X) → handled_of X all ≡ Err NoThread → ⊥
 was_no_failure all e = cc
 
+abbrev failed_of : (X : Type 0) → ReplayFault → Result X ReplayFault
+failed_of X why = Err why
+
+same_why : {X : Type 0} (why other : ReplayFault) → failed_of X why ≡ failed_of X other → why ≡ other
+same_why why other e = cc
+
+passed_on : {X Y : Type 0} (why : ReplayFault) → failed_of X why ≡ failed_of X NoThread → failed_of Y why ≡ failed_of Y NoThread
+passed_on {X} {Y} why e = ap (failed_of Y) (same_why why NoThread e)
+
 pub returns-in-Some-close_both-clause-handed : goal.returns-in-Some-close_both-clause-handed
 returns-in-Some-close_both-clause-handed g c = λ is worker below.
     let here : workers_of c.args.setting.queues.now ≡ length c.args.states.items = c.requires.ready.passes.workers_are in
@@ -120,4 +129,4 @@ returns-in-None-clause-handed g c = λ is worker below.
 pub returns-in-Err-clause-handed : goal.returns-in-Err-clause-handed
 returns-in-Err-clause-handed g c = λ is worker below.
     let here : workers_of c.args.setting.queues.now ≡ length c.args.states.items = c.requires.ready.passes.workers_are in
-    c.end_both.ensures.put.others worker (omega (arith, below, here)) ∙ c.in-Err.ensures.handed is worker below
+    c.end_both.ensures.put.others worker (omega (arith, below, here)) ∙ c.in-Err.ensures.handed (λ same. is (passed_on c.in-Err.fault same)) worker below
