@@ -7,6 +7,7 @@ pub mod CrewParts
 pub mod HandLemmas
 pub mod DispatchLemmas
 pub mod EndLemmas
+pub mod AbandonLemmas
 pub mod TakingOut
 pub mod TakeLemmas
 pub mod Moving

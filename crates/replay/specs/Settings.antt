@@ -1,5 +1,5 @@
 -- What the threads of a replay begin with, and what they have done when all have ended.
-use Rattle.std.specs.Prelude.{◌≡◌, ◌<◌, ◌≤◌, ◌+◌, ◌∷◌, ◌++◌, ℕ, List, [], length, replicate}
+use Rattle.std.specs.Prelude.{◌≡◌, ◌⊎◌, ◌<◌, ◌≤◌, ◌+◌, ◌∷◌, ◌++◌, ℕ, List, [], length, replicate}
 use Rattle.semantics.specs.Each.{Each}
 use Rattle.wire.specs.declared.records.Sent.{Sent}
 use Rattle.rx_queues.specs.declared.job.Job.{Job}
@@ -11,8 +11,11 @@ use Rattle.rx_queues.specs.Passes.{IsPutPassOf, AreTakePasses, workers_of, recor
 use Rattle.replay.specs.declared.runner.RunEnd.{RunEnd}
 use Rattle.replay.specs.declared.threads.AllEnded.{AllEnded}
 use Rattle.replay.specs.declared.threads.Setting.{Setting}
-use Rattle.replay.specs.Actors.{OfCommandsFrom, round_jobs}
+use Rattle.replay.specs.declared.fault.ReplayFault.{ReplayFault}
+use Rattle.replay.specs.declared.fault.ReplayFault.TheVariants.{Memory, NoThread}
+use Rattle.replay.specs.Actors.{OfCommandsFrom, AreAllEnded, round_jobs}
 use Rattle.replay.specs.Crews.{IsReadyAt, AreHandled}
+use Rattle.replay.specs.Puts.{AreNonePut, AreAllPut}
 
 -- the passes of queues for N workers, a controller and a reclaimer, through which nothing was put yet
 pub record AreFreshPasses (queues : Queues) (workers : ℕ) (put : PutPass) (takes : List TakePass) : Type 0 where
@@ -48,3 +51,25 @@ pub record AreAllDone {S E F W R : Type 0} (IsNew : W → ℕ → S → Type 0) 
       AreHandled (IsNew setting.runner.now) (IsRun setting.runner.now) setting.capture.now.records.items workers ended.workers.items
   pub commands : OfCommandsFrom setting.first setting.starts.now (λ jobs. Commands (jobs ++ End ∷ []) ended.controller)
   pub rounds : Rounds (round_jobs (length setting.capture.now.records.items)) ended.reclaimer
+
+-- there was no memory to begin with, and nothing was put into any queue
+pub record IsUnbegun (workers : ℕ) (fault : ReplayFault) (puts : List (List Job)) : Type 0 where
+  pub no_memory : fault ≡ Memory
+  pub nothing : puts ≡ replicate (workers + 2) []
+
+-- a thread could not be started: the end was put into each queue, and no record
+pub record IsUnstarted (workers : ℕ) (fault : ReplayFault) (puts : List (List Job)) : Type 0 where
+  pub no_thread : fault ≡ NoThread
+  pub no_record : AreNonePut workers puts
+  pub ended : AreAllEnded (workers + 2) puts
+
+-- a thread was refused memory: each worker was handed all of its records, and every thread the end
+pub record IsShortOfMemory (frames : List (List ℕ)) (workers count : ℕ) (fault : ReplayFault) (puts : List (List Job)) : Type 0 where
+  pub no_memory : fault ≡ Memory
+  pub records : AreAllPut frames workers count puts
+  pub ended : AreAllEnded (workers + 2) puts
+
+-- why the threads of a replay were given up, by what was put into the queues
+abbrev pub IsAbandoned : List (List ℕ) → ℕ → ℕ → ReplayFault → List (List Job) → Type 0
+IsAbandoned frames workers count fault puts =
+    IsUnbegun workers fault puts ⊎ (IsUnstarted workers fault puts ⊎ IsShortOfMemory frames workers count fault puts)

@@ -153,7 +153,9 @@ pub(crate) fn account(
 pub struct Counts {
     /// Records of fewer than 14 bytes, which are not run.
     pub short: u64,
+    /// Records whose run a full journal stopped.
     pub stopped: u64,
+    /// Records whose run came to its end, by its verdict.
     pub aborted: u64,
     pub drop: u64,
     pub pass: u64,

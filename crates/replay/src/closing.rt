@@ -13,9 +13,10 @@ ghost use Rattle.replay.specs.RunsOverShards.{IsNewAt, IsRunBy, pass_in};
 
 use crate::account::{Counts, account};
 use crate::controller::Commanded;
-use crate::crew::{Handled, parted};
+use crate::crew::parted;
 use crate::first_updates::copied;
 use crate::outcome::{Applied, Outcome, RecordEnd};
+use crate::threads::AllEnded;
 use crate::worker::Working;
 use control::Script;
 use journals::Journals;
@@ -101,19 +102,19 @@ pub(crate) fn closed<B: Naming, R: Wait>(
     script: &Script,
     size: u32,
     shards: Shards<B>,
-    handled: Vec<Handled<Working<B>>>,
-    commanded: Commanded<B>,
-    reclaimed: Pass<B>,
+    ended: AllEnded<Working<B>, Commanded<B>, Pass<B>>,
 ) -> Result<Outcome, AllocError>
     requires maps { shards.maps ≡ verified.now.maps }
     requires some { (0 < shards.options.workers) × (shards.options.workers ≤ 8) }
-    requires count { length handled.items ≡ shards.options.workers }
+    requires count { length ended.workers.items ≡ shards.options.workers }
     requires handled { AreHandled IsNewAt (IsRunBy B.count B.plan (program_of verified.now shards.options.shards)) capture.now.records.items
-        shards.options.workers handled.items }
+        shards.options.workers ended.workers.items }
     requires size { IsRingSize size }
     requires serves { ServesScript shards.maps size script.now }
-    requires script { IsScriptRun B.plan shards.maps shards.options updates.now script.now size commanded.noted.items commanded.pass }
-    requires rounds { AreReclaimed B.plan B.count (rounds_of (length capture.now.records.items)) reclaimed × (reclaimed.who ≡ Reclaimer) }
+    requires script { IsScriptRun B.plan shards.maps shards.options updates.now script.now size ended.controller.noted.items
+        ended.controller.pass }
+    requires rounds { AreReclaimed B.plan B.count (rounds_of (length capture.now.records.items)) ended.reclaimer ×
+        (ended.reclaimer.who ≡ Reclaimer) }
     ensures accounted { IfOk result (IsAccounted (program_of verified.now shards.options.shards) script.now shards.options
         capture.now.records.items) }
     ensures updates { IfOk result (λ outcome. outcome.updates.items ≡ updates.now) }
@@ -122,10 +123,15 @@ pub(crate) fn closed<B: Naming, R: Wait>(
     let _ = script;
     let _ = size;
     shards.planned();
-    let (runs, working) = parted(alloc, handled)?;
+    let AllEnded {
+        workers,
+        controller,
+        reclaimer,
+    } = ended;
+    let (runs, working) = parted(alloc, workers)?;
     let (counts, sent, ends) = account(alloc, capture, runs)?;
-    let Commanded { pass, noted } = commanded;
-    let passes = all_passes(alloc, working, pass, reclaimed)?;
+    let Commanded { pass, noted } = controller;
+    let passes = all_passes(alloc, working, pass, reclaimer)?;
     let made = copied(alloc, updates)?;
     let journals = shards.close(rt, passes);
     Ok(outcome_of(counts, made, noted, sent, ends, journals))

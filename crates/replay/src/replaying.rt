@@ -1,8 +1,9 @@
 //! A whole replay.
 
-ghost use Rattle.std.specs.Prelude.{◌≡◌, ◌<◌, ◌≤◌, ◌↔◌, IfOk, OnOk, IfErr, IsErrOf};
+ghost use Rattle.std.specs.Prelude.{◌≡◌, ◌<◌, ◌≤◌, ◌+◌, ◌↔◌, [], length, replicate, IfOk, OnOk, IfErr, IsErrOf};
 ghost use Rattle.machine.specs.Running.{program_of};
 ghost use Rattle.semantics.specs.ShardPlan.{KeepsRows, recorded};
+ghost use Rattle.rx_queues.specs.Passes.{IsPutPassOf, AreTakePasses, jobs_put, workers_of, records_of, commands_of};
 ghost use Rattle.maglev.specs.RingSize.{IsRingSize};
 ghost use Rattle.replay.specs.Commands.{ServesScript};
 ghost use Rattle.shards.specs.NewShards.{IsNamed};
@@ -18,11 +19,11 @@ use crate::outcome::Outcome;
 use crate::setting::{
     new_controller, new_reclaimer, new_workers, run_threads, starts_of, table_for,
 };
-use crate::threads::{AllEnded, Setting};
+use crate::threads::Setting;
 use crate::worker::ShardRunner;
 use control::Script;
 use map_updates::MapUpdate;
-use rx_queues::Queues;
+use rx_queues::{PutPass, Queues, TakePass};
 use semantics::{Options, Recording};
 use shard_port::Gate;
 use shards::{Naming, OpenFault, Opened};
@@ -42,6 +43,28 @@ pub(crate) fn fault_of(fault: OpenFault) -> ReplayFault
     match fault {
         OpenFault::BadOptions => ReplayFault::BadOptions,
         OpenFault::Memory => ReplayFault::Memory,
+    }
+}
+
+/// Queues for as many records and commands as there are, with the right to put into each and those to take.
+fn queues_for(
+    alloc: Global,
+    workers: usize,
+    capture: &Capture,
+    starts: &[u32],
+) -> Result<(Queues, PutPass, Vec<TakePass>), ReplayFault>
+    requires workers { (0 < workers) × (workers ≤ 8) }
+    ensures workers { IfOk result (λ opened. workers_of opened.0 ≡ workers) }
+    ensures jobs { IfOk result (λ opened. (records_of opened.0 ≡ length capture.now.records.items) × (commands_of opened.0 ≡
+        length starts.now)) }
+    ensures put { IfOk result (λ opened. IsPutPassOf opened.0 opened.1 × (jobs_put opened.1 ≡ replicate (workers + 2) [])) }
+    ensures take { IfOk result (λ opened. AreTakePasses opened.0 opened.2.items) }
+    ensures served { ¬ IsErrOf result BadOptions }
+    ensures no_update { IfErr result IsOfNoUpdate }
+{
+    match Queues::open(alloc, workers, capture.records.len(), starts.len()) {
+        Ok(opened) => Ok(opened),
+        Err(fault) => Err(fault_of(fault)),
     }
 }
 
@@ -75,15 +98,7 @@ fn replay_over<'x, B: Naming + Send + Sync, R: Threads + Wait + Sync, G: Gate + 
     let states = new_workers(alloc, &mut dealer, workers)?;
     let list = starts_of(alloc, script.commands())?;
     let starts: &[u32] = &list;
-    let (queues, put, takes) = match Queues::open(
-        alloc,
-        workers,
-        capture.records.len(),
-        starts.len(),
-    ) {
-        Ok(opened) => opened,
-        Err(fault) => return Err(fault_of(fault)),
-    };
+    let (queues, put, takes) = queues_for(alloc, workers, capture, starts)?;
     let runner = ShardRunner {
         rt,
         gate,
@@ -111,21 +126,12 @@ fn replay_over<'x, B: Naming + Send + Sync, R: Threads + Wait + Sync, G: Gate + 
         first,
         runner: &runner,
     };
-    match run_threads(
+    let ended = run_threads(
         setting, updates, script, size, controller, reclaimer, put, takes, states,
-    ) {
-        Ok(
-            AllEnded {
-                workers: handled,
-                controller,
-                reclaimer,
-            },
-        ) => Ok(closed(
-            rt, alloc, verified, capture, updates, script, size, shards, handled, controller,
-            reclaimer,
-        )?),
-        Err(fault) => Err(fault),
-    }
+    )?;
+    Ok(closed(
+        rt, alloc, verified, capture, updates, script, size, shards, ended,
+    )?)
 }
 
 /// Runs the program of an accepted image on the frames of a capture, by as many workers on threads as the options say, over shared maps
@@ -147,7 +153,7 @@ fn replay_over<'x, B: Naming + Send + Sync, R: Threads + Wait + Sync, G: Gate + 
 /// Each reply to a run, to the controller and to the reclaimer goes through the gate: the actor that has it calls the gate, and holds no
 /// lock then.
 ///
-/// Where no rows of journals are kept, no journal is full before 134,217,728 calls, and all of this holds of journals that proofs alone
+/// Where no rows of journals are kept, a journal has room for 134,217,728 entries, and all of this holds of journals that proofs alone
 /// know.
 ///
 /// Refused with 51 where no shards of the image's maps can be opened with the options, or where there are commands and the image's maps

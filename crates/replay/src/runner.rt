@@ -39,8 +39,9 @@ pub enum RunEnd {
 /// What becomes of the frame of a run that came to its end.
 #[derive(Debug, Drop)]
 pub enum FrameFate {
-    /// The program answered a number that is no verdict.
+    /// The program answered a number other than 1, 2 and 3, which are DROP, PASS and TX.
     Aborted,
+    /// It goes nowhere.
     Dropped,
     /// It goes on to the host.
     Passed,

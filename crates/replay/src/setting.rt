@@ -192,5 +192,8 @@ pub(crate) fn run_threads<'x, B: Naming + Send + Sync, R: Threads + Wait + Sync,
     let _ = updates;
     let _ = script;
     let _ = size;
-    run_all(setting, controller, reclaimer, put, takes, states)
+    match run_all(setting, controller, reclaimer, put, takes, states) {
+        Ok(all) => Ok(all),
+        Err(abandoned) => Err(abandoned.fault),
+    }
 }

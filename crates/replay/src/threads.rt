@@ -8,7 +8,7 @@ ghost use Rattle.rx_queues.specs.Passes.{place_taken_from, jobs_taken, workers_o
 ghost use Rattle.replay.specs.Actors.{HasNoEnd, EndsOnce, AreAllEnded, AreBothEnded, OfCommandsFrom};
 ghost use Rattle.semantics.specs.Each.{Each};
 ghost use Rattle.replay.specs.Crews.{IsReadyAt, AreHandled};
-ghost use Rattle.replay.specs.Settings.{IsReadyToRun, AreForAll, AreAllDone};
+ghost use Rattle.replay.specs.Settings.{IsReadyToRun, AreForAll, AreAllDone, IsAbandoned};
 ghost use Rattle.replay.specs.Puts.{put_at, AreNonePut, AreAllPut};
 ghost use Rattle.replay.specs.Shares.{frames_of};
 ghost use Rattle.replay.specs.UpdateFaults.{IsOfNoUpdate};
@@ -58,6 +58,13 @@ pub struct AllEnded<S: Drop, E: Drop, F: Drop> {
     pub workers: Vec<Handled<S>>,
     pub controller: E,
     pub reclaimer: F,
+}
+
+/// Why the threads of a replay were given up, and the right to put with all that was put.
+#[derive(Drop)]
+pub struct Abandoned {
+    pub fault: ReplayFault,
+    pub put: PutPass,
 }
 
 /// The controller's and the reclaimer's rights to take, away from the workers'.
@@ -327,11 +334,54 @@ fn run_all_in<
     }
 }
 
+/// The same, which owns the right to put and returns it where it gives up. Without memory for the threads' list none is started.
+fn run_in<
+    's,
+    X,
+    S: Drop + Send + 's,
+    E: Drop + Send + 's,
+    F: Drop + Send + 's,
+    W: Runner<S> + Sync + 's,
+    C: Actor<E> + Drop + Send + 's,
+    D: Actor<F> + Drop + Send + 's,
+    R: Threads + Wait + Sync,
+>(
+    scope: &Scope<'s, X>,
+    setting: Setting<'s, W, R>,
+    controller: C,
+    reclaimer: D,
+    mut put: PutPass,
+    takes: Vec<TakePass>,
+    states: Vec<S>,
+) -> Result<AllEnded<S, E, F>, Abandoned>
+    requires ready { IsReadyToRun W.is_new W.is_idle setting put takes.items states.items }
+    requires actors { C.is_ready controller setting.queues.now (length states.items) × D.is_ready reclaimer setting.queues.now
+        (length states.items + 1) }
+    ensures done { IfOk result (AreAllDone W.is_new W.runs (C.gives controller) (D.gives reclaimer) setting.entry (length states.items)) }
+    ensures abandoned { IfErr result (λ it. IsAbandoned (frames_of setting.entry.capture.now.records.items) (length states.items)
+        (length setting.entry.capture.now.records.items) it.fault (jobs_put it.put)) }
+{
+    let Ok(lanes) = Vec::with_capacity(setting.alloc, states.len()) else {
+        return Err(Abandoned {
+            fault: ReplayFault::Memory,
+            put,
+        });
+    };
+    match run_all_in(
+        scope, setting, controller, reclaimer, &mut put, lanes, takes, states,
+    ) {
+        Ok(all) => Ok(all),
+        Err(fault) => Err(Abandoned { fault, put }),
+    }
+}
+
 /// Runs all records of a capture, each by the worker of its flow, on a thread for each of the workers' states, and beside them the
 /// controller and the reclaimer, each on a thread of its own. The controller is handed the commands from `setting.first` on, each once as
 /// many records as `setting.starts` says of it were dispatched and no later than after the last one; the reclaimer is asked for a round
-/// after every 64 records, and for one more after the workers' end. Where a thread can't be started or one of them is refused memory,
-/// those that were started have ended too.
+/// after every 64 records, and for one more after the workers' end.
+///
+/// Given up with 56 where a thread can't be started, and with 52 for lack of memory: before any thread is started, or where one of them is
+/// refused memory. What was put into the queues shows which of these it was. The threads that were started have ended.
 pub fn run_all<
     'x,
     S: Drop + Send + 'x,
@@ -348,31 +398,25 @@ pub fn run_all<
     put: PutPass,
     takes: Vec<TakePass>,
     states: Vec<S>,
-) -> Result<AllEnded<S, E, F>, ReplayFault>
+) -> Result<AllEnded<S, E, F>, Abandoned>
     requires ready { IsReadyToRun W.is_new W.is_idle setting put takes.items states.items }
     requires actors { C.is_ready controller setting.queues.now (length states.items) × D.is_ready reclaimer setting.queues.now
         (length states.items + 1) }
     ensures done { IfOk result (AreAllDone W.is_new W.runs (C.gives controller) (D.gives reclaimer) setting.entry (length states.items)) }
-    ensures served { ¬ IsErrOf result BadOptions }
-    ensures no_update { IfErr result IsOfNoUpdate }
+    ensures abandoned { IfErr result (λ it. IsAbandoned (frames_of setting.entry.capture.now.records.items) (length states.items)
+        (length setting.entry.capture.now.records.items) it.fault (jobs_put it.put)) }
 {
     thread::scope(
         thread::scope_env(),
         setting.rt,
-        |scope| -> Result<AllEnded<S, E, F>, ReplayFault>
+        |scope| -> Result<AllEnded<S, E, F>, Abandoned>
             requires ready { IsReadyToRun W.is_new W.is_idle setting put takes.items states.items }
             requires actors { C.is_ready controller setting.queues.now (length states.items) × D.is_ready reclaimer setting.queues.now
                 (length states.items + 1) }
             ensures done { IfOk result (AreAllDone W.is_new W.runs (C.gives controller) (D.gives reclaimer) setting.entry
                 (length states.items)) }
-            ensures served { ¬ IsErrOf result BadOptions }
-            ensures no_update { IfErr result IsOfNoUpdate }
-        {
-            let mut put = put;
-            let lanes = Vec::with_capacity(setting.alloc, states.len())?;
-            run_all_in(
-                scope, setting, controller, reclaimer, &mut put, lanes, takes, states,
-            )
-        },
+            ensures abandoned { IfErr result (λ it. IsAbandoned (frames_of setting.entry.capture.now.records.items) (length states.items)
+                (length setting.entry.capture.now.records.items) it.fault (jobs_put it.put)) }
+        { run_in(scope, setting, controller, reclaimer, put, takes, states) },
     )
 }

@@ -64,7 +64,7 @@ fn sent_of(alloc: Global, captured: &Sent, frame: &Frame) -> Result<Sent, AllocE
     })
 }
 
-/// What becomes of a record's frame by its verdict, for a run of `steps` steps.
+/// How the run of a record ended, by its exit: what becomes of the frame by the verdict, and after how many steps.
 pub(crate) fn end_of(
     alloc: Global,
     captured: &Sent,

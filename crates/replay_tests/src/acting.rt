@@ -238,7 +238,7 @@ fn services<R: Abort>(rt: &R, alloc: Global, count: u32) -> String {
 
 /// The map of services has 64 entries: the 65th service is refused with its answer, which is in the journal.
 #[test]
-fn the_65th_service(rt: HostRuntime) -> Result<(), Fail> {
+fn the_65th_service_is_refused(rt: HostRuntime) -> Result<(), Fail> {
     let text = services(&rt, rt.alloc(), 65);
     let mut faults = [0; 65];
     faults[64] = 93;

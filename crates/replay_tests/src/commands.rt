@@ -6,8 +6,7 @@ ghost use Rattle.conntrack.specs.SteeringMaps.{steering_maps};
 use crate::asserting::{holds, holds_at, same, same_at, same_bytes, same_fact};
 use conntrack::maps;
 use control::{
-    Command, ControlFault, Controller, MadeUpdate, Slot, UpdateList, parse_script, ring_updates,
-    round_trip,
+    ControlFault, Controller, MadeUpdate, Slot, UpdateList, parse_script, ring_updates, round_trip,
 };
 use maglev::{Ring, RingFault};
 use std::alloc::Global;
@@ -351,12 +350,18 @@ fn refusal_of(alloc: Global, size: u32) -> u8 {
     }
 }
 
+/// Two controllers of one size without backends. That they have one table is a law, which a run cannot show.
 #[test]
-fn two_controllers_with_the_same_backends(rt: HostRuntime) {
+fn new_controllers_have_room(rt: HostRuntime) {
     let one = Controller::open(rt.alloc(), 251).expect(&rt, "a controller");
     let other = Controller::open(rt.alloc(), 251).expect(&rt, "a controller");
     one.same_ring(&other);
     same(&rt, "full", &one.is_full(), &false);
+    same(&rt, "the other full", &other.is_full(), &false);
+}
+
+#[test]
+fn other_sizes_have_no_controller(rt: HostRuntime) {
     for size in NO_SIZES {
         same_at(
             &rt,

@@ -3,15 +3,16 @@
 ghost use Rattle.std.specs.Prelude.{◌≡◌, ◌<◌, ◌≤◌};
 
 use crate::asserting::{holds, same};
+use crate::replays::{capture, one_record, segment};
 use replay::{Actor, ActorEnded, FrameFate, Handled, RunEnd, Runner, Setting, run_all};
 use rx_queues::{Job, Queues, TakePass};
-use std::alloc::{AllocError, Global};
+use std::alloc::Global;
 use std::process::Abort;
 use std::sync::Wait;
 use std::sync::atomic::{AtomicU64, Ordering};
 use std::test::Fail;
 use std::thread::Threads;
-use wire::{Capture, MemorySink, MemorySource, Sent, read_capture, write_capture};
+use wire::{Capture, Sent};
 
 /// The end of a run that takes no step and passes its frame.
 fn passed() -> RunEnd {
@@ -134,26 +135,6 @@ fn actor_with_memory(first: usize) -> Hearing {
     }
 }
 
-/// A TCP segment without data from this port of 198.51.100.7 to port 80 of 203.0.113.1.
-fn segment(source_port: u16) -> [u8; 54] {
-    let [high, low] = source_port.to_be_bytes();
-    [
-        2, 0, 0, 0, 0, 1, 2, 0, 0, 0, 0, 2, 8, 0, 0x45, 0, 0, 40, 0, 1, 0, 0, 64, 6, 0, 0, 198, 51,
-        100, 7, 203, 0, 113, 1, high, low, 0, 80, 0, 0, 0, 0, 0, 0, 0, 0, 0x50, 0, 0, 0, 0, 0, 0,
-        0,
-    ]
-}
-
-/// A record of these bytes.
-fn one_record(alloc: Global, number: u32, bytes: &[u8]) -> Result<Sent, AllocError> {
-    let bytes = if bytes.len() <= 2048 { bytes } else { &[] };
-    Ok(Sent {
-        seconds: 7,
-        micros: number,
-        bytes: Vec::from_slice(alloc, bytes)?,
-    })
-}
-
 /// This many records of 40 flows in turn, each hundredth one of 13 bytes only.
 fn records<R: Abort>(rt: &R, alloc: Global, count: u32) -> Vec<Sent> {
     let mut records = Vec::new(alloc);
@@ -171,14 +152,10 @@ fn records<R: Abort>(rt: &R, alloc: Global, count: u32) -> Vec<Sent> {
     records
 }
 
-/// A capture of these records.
-fn capture<R: Abort>(rt: &R, alloc: Global, count: u32) -> Capture {
+/// The capture of this many of these records.
+fn capture_of<R: Abort>(rt: &R, alloc: Global, count: u32) -> Capture {
     let records = records(rt, alloc, count);
-    let mut sink = MemorySink::new(alloc);
-    write_capture(&mut sink, &records).expect(rt, "a file");
-    let bytes = sink.bytes();
-    let bytes = if bytes.len() <= 1_000_000 { bytes } else { &[] };
-    read_capture(alloc, &mut MemorySource::new(bytes)).expect(rt, "a capture")
+    capture(rt, alloc, &records)
 }
 
 /// How many records, over how many workers; how many runs each worker makes, and how many rounds are asked for.
@@ -221,7 +198,7 @@ fn run_beside<R: Abort + Threads + Wait + Sync>(
     requires { (0 < row.now.workers) × (row.now.workers ≤ 8) }
 {
     let states = vec![in alloc; 0; row.workers]?;
-    let capture = capture(rt, alloc, row.records);
+    let capture = capture_of(rt, alloc, row.records);
     let (queues, put, takes) = Queues::open(
         alloc,
         row.workers,
@@ -245,7 +222,7 @@ fn run_beside<R: Abort + Threads + Wait + Sync>(
         takes,
         states,
     );
-    let ended = ended.expect(rt, "an end");
+    let ended = ended.ok().expect(rt, "an end");
     are_runs(rt, &ended.workers, row.runs);
     same(
         rt,
@@ -297,7 +274,7 @@ fn refused<R: Abort + Threads + Wait + Sync>(
 ) -> Result<(u8, u64), Fail> {
     let (_, worker, run, controller, reclaimer, ..) = *refusal;
     let states = vec![in alloc; 0; 4]?;
-    let capture = capture(rt, alloc, 1000);
+    let capture = capture_of(rt, alloc, 1000);
     let (queues, put, takes) = Queues::open(alloc, 4, capture.records.len(), STARTS.len())?;
     let runner = Refusing {
         worker,
@@ -324,7 +301,7 @@ fn refused<R: Abort + Threads + Wait + Sync>(
     let ended = run_all(setting, controller, reclaimer, put, takes, states);
     let fault = match ended {
         Ok(_) => 0,
-        Err(fault) => fault.number(),
+        Err(abandoned) => abandoned.fault.number(),
     };
     Ok((fault, runner.asked.load(Ordering::SeqCst)))
 }

@@ -21,7 +21,7 @@ use std::process::Abort;
 use std::sync::Wait;
 use std::thread::Threads;
 use test_support::files::{COUNTED_TO_THREE, SERVICE};
-use test_support::programs::{COUNTS_TO_THREE, READS_BYTE_13, READS_ONE};
+use test_support::programs::{COUNTS_TO_THREE, READS_BYTE_13};
 use verifier::{Verified, verify};
 use wire::{Capture, MemorySink, MemorySource, Sent, read_capture, write_capture};
 
@@ -90,7 +90,7 @@ const NONE: Counts = Counts {
 };
 
 /// The accepted image of a text.
-fn program<R: Abort>(rt: &R, alloc: Global, text: &str) -> Verified {
+pub(crate) fn program<R: Abort>(rt: &R, alloc: Global, text: &str) -> Verified {
     let image = assemble(alloc, text).expect(rt, "an image");
     verify(alloc, image).expect(rt, "an accepted program")
 }

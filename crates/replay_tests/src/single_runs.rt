@@ -3,7 +3,7 @@
 ghost use Rattle.std.specs.Prelude.{◌≡◌, ◌≤◌, ◌<◌, length};
 
 use crate::asserting::{holds_of, same_bytes_of, same_fact};
-use disasm::assemble;
+use crate::replays::program;
 use journals::{Journals, write_journals};
 use machine::{Exit, Moment, Stop};
 use map_updates::{MapUpdate, misfit_of};
@@ -14,7 +14,7 @@ use std::alloc::Global;
 use std::process::Abort;
 use std::test::Fail;
 use test_support::programs::COUNTS_TO_THREE;
-use verifier::{Verified, verify};
+use verifier::Verified;
 use wire::{Frame, MemorySink};
 
 /// Reads element 0 of the second of two maps, and passes the frame.
@@ -293,12 +293,6 @@ fn updates_of<R: Abort>(rt: &R, alloc: Global, updates: &[UpdateRow]) -> Vec<Map
         all.push(update_of(*update)).expect(rt, "room");
     }
     all
-}
-
-/// An accepted program.
-fn program<R: Abort>(rt: &R, alloc: Global, text: &str) -> Verified {
-    let image = assemble(alloc, text).expect(rt, "an image");
-    verify(alloc, image).expect(rt, "an accepted program")
 }
 
 /// The run of a row after updates, which the image's maps have to take.

@@ -7,7 +7,7 @@ use crate::asserting::{holds_of, same_bytes_of, same_fact};
 use ebpf_decode::{Insn, MapDef, Version, decode};
 use guarantees::opened_shards_are_ready;
 use guarantees::running::worker_run;
-use isa::Register::{R0, R1, R2, R3, R6, R10};
+use isa::Register::{R0, R1, R3, R6, R10};
 use isa::{Size, SourceOperand, Test};
 use machine::{Exit, Stop};
 use semantics::{Call, Caller, CellRef, Entry, Key, Options, Reply, Verdict};

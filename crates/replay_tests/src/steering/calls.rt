@@ -3,10 +3,11 @@
 ghost use Rattle.std.specs.Prelude.{◌≡◌, ◌<◌, length};
 
 use super::asked::AllAsked;
-use super::program_runs::{changed, program};
+use super::program_runs::program;
 use super::sessions::{options, put_session, run_session};
 use super::worlds::{Keys, World};
 use crate::asserting::{holds, holds_of, same_fact};
+use crate::datagrams::with_byte;
 use semantics::Verdict;
 use shard_core::Shard;
 use shard_port::laws::opened_serve;
@@ -101,7 +102,7 @@ fn visited(
 /// Runs the program on the row's frame, and compares.
 fn costs(rt: &impl Abort, alloc: Global, verified: &Verified, row: &Row) -> Result<(), Fail> {
     let (name, at, byte, vip, noted, backends, verdict, calls) = row;
-    let mut frame = Frame::of(alloc, &changed(rt, *at, *byte))?;
+    let mut frame = Frame::of(alloc, &with_byte(rt, *at, *byte))?;
     let world = world_of(*vip, *noted, *backends);
     let (found, shards) = visited(rt, alloc, verified, &world, &mut frame)?;
     same_fact(rt, name, "the verdict", &found, verdict);

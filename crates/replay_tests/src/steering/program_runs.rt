@@ -3,7 +3,8 @@
 ghost use Rattle.std.specs.Prelude.{◌≡◌};
 
 use super::sessions::{Record, options, records_session, run_session};
-use crate::asserting::{holds, holds_of, same_bytes_of, same_fact};
+use crate::asserting::{holds_of, same_bytes_of, same_fact};
+use crate::datagrams::with_byte;
 use crate::steered_frames::SENT;
 use semantics::Verdict;
 use shard_port::laws::opened_serve;
@@ -14,14 +15,6 @@ use std::test::Fail;
 use steer::shipped;
 use verifier::{Verified, verify};
 use wire::Frame;
-
-// The datagram of `SENT`, which is from 198.51.100.7 to 203.0.113.1, port 80.
-#[rattlefmt::skip]
-const UDP: [u8; 42] = [
-    0x02, 0, 0, 0, 0, 0x01, 0x02, 0, 0, 0, 0, 0x02, 0x08, 0x00,
-    0x45, 0, 0, 0x1c, 0, 0x01, 0, 0, 0x40, 0x11, 0x14, 0x94, 198, 51, 100, 7, 203, 0, 113, 1,
-    0x9c, 0x40, 0, 0x50, 0, 0x08, 0, 0,
-];
 
 #[rattlefmt::skip]
 const SLOTS: [Record; 7] = [
@@ -82,14 +75,6 @@ const ROWS: [Row; 16] = [
     ("another type",                   &[VIP, UP, GATEWAY],                  13, 0x06, Verdict::Pass),
 ];
 
-/// The datagram with another byte at a place.
-pub(super) fn changed(rt: &impl Abort, at: usize, byte: u8) -> [u8; 42] {
-    let mut bytes = UDP;
-    holds(rt, "a byte of the datagram", at < bytes.len());
-    bytes[at] = byte;
-    bytes
-}
-
 /// The shipped program for seven slots, accepted.
 pub(super) fn program(alloc: Global) -> Result<Verified, Fail> {
     Ok(verify(alloc, shipped(alloc, 7)?)?)
@@ -123,7 +108,7 @@ fn steered(
 /// Runs the program on the row's frame, and compares.
 fn steers(rt: &impl Abort, alloc: Global, verified: &Verified, row: &Row) -> Result<(), Fail> {
     let (name, _, at, byte, verdict) = row;
-    let bytes = changed(rt, *at, *byte);
+    let bytes = with_byte(rt, *at, *byte);
     let mut frame = Frame::of(alloc, &bytes)?;
     let found = steered(rt, alloc, verified, row, &mut frame)?;
     same_fact(rt, name, "the verdict", &found, verdict);

@@ -5,7 +5,7 @@ use conntrack::{
     Assigned, BackendRecord, FlowRecord, Records, RingRecord, SteeringMap, TunnelRecord, VipRecord,
     index_key,
 };
-use wire::{Ipv4Address, fnv1a64};
+use wire::fnv1a64;
 
 /// What the maps hold, as bytes.
 #[derive(Clone, Copy, Debug)]

@@ -22,7 +22,7 @@ account-requires-clause-runs g c =
     let workers = c.args.shards.options.workers in
     let lists = c.in_ok-runs.runs.items in
     subst (λ n. AreRunsOfShares (frames_of records) n (length records) (lists_of lists)) (sym (c.in_ok-runs.ensures.count.0 ∙ c.requires.count))
-    (shares g.B.Naming.count g.B.Naming.plan (program_of c.args.verified.now c.args.shards.options.shards) records workers c.args.handled.items
+    (shares g.B.Naming.count g.B.Naming.plan (program_of c.args.verified.now c.args.shards.options.shards) records workers c.args.ended.workers.items
     (lists_of lists) c.in_ok-runs.working.items c.requires.count c.requires.handled c.in_ok-runs.ensures.parts)
 
 pub returns-clause-accounted : goal.returns-clause-accounted
@@ -37,10 +37,10 @@ returns-clause-accounted g c =
     let as_many : length lists ≡ workers = c.in_ok-runs.ensures.count.0 ∙ c.requires.count in
     let workers_passes : length (map pass_in working) ≡ workers = length-map working pass_in ∙ c.in_ok-runs.ensures.count.1 ∙ c.requires.count in
     let passes = c.in_ok-passes.passes.items in
-    let settled = all_of (AreSettled g.B.Naming.count journals) passes (map pass_in working) c.args.commanded.pass c.args.reclaimed
+    let settled = all_of (AreSettled g.B.Naming.count journals) passes (map pass_in working) c.args.ended.controller.pass c.args.ended.reclaimer
     c.in_ok-passes.ensures c.close-journals.ensures.settled in
     let one = c.close-journals.ensures.did in
-    let owned = all_of (IsOwnIn one.deeds) passes (map pass_in working) c.args.commanded.pass c.args.reclaimed c.in_ok-passes.ensures one.own in
+    let owned = all_of (IsOwnIn one.deeds) passes (map pass_in working) c.args.ended.controller.pass c.args.ended.reclaimer c.in_ok-passes.ensures one.own in
     let told = c.outcome_of.ensures in
     let updates_are : c.outcome_of.result.updates.items ≡ c.args.updates.now =
     ap (λ (list : Vec MapUpdate Global). list.items) told.updates ∙ c.in_ok-made.ensures in
@@ -57,7 +57,7 @@ returns-clause-accounted g c =
       ordered = record { within = one.within; journals_are = one.journals_are; met = one.met };
       runs = lists_of lists;
       workers = length-map lists (λ list. list.items) ∙ as_many;
-      work = work g.B.Naming.count g.B.Naming.plan program records workers c.args.handled.items (lists_of lists) working (map pass_in working) journals
+      work = work g.B.Naming.count g.B.Naming.plan program records workers c.args.ended.workers.items (lists_of lists) working (map pass_in working) journals
           one.deeds c.requires.count c.requires.handled c.in_ok-runs.ensures.parts (λ worker below. refl)
           (λ worker below. settled.first worker (omega (arith, below, workers_passes)))
           (λ worker below. owned.first worker (omega (arith, below, workers_passes)));
@@ -69,10 +69,10 @@ returns-clause-accounted g c =
           c.outcome_of.result.refused.items)
           c.requires.maps
           (script_stands g.B.Naming.plan c.args.shards.maps c.args.shards.options g.B.Naming.count c.outcome_of.result.updates.items c.args.script.now c.args.size
-          c.args.commanded.noted.items c.args.commanded.pass journals one.deeds c.outcome_of.result.refused.items c.planned.ensures.plans c.planned.ensures.options c.requires.size c.requires.serves
+          c.args.ended.controller.noted.items c.args.ended.controller.pass journals one.deeds c.outcome_of.result.refused.items c.planned.ensures.plans c.planned.ensures.options c.requires.size c.requires.serves
           (subst (λ (updates : List MapUpdate). IsScriptRun g.B.Naming.plan c.args.shards.maps c.args.shards.options updates c.args.script.now c.args.size
-          c.args.commanded.noted.items c.args.commanded.pass) (sym updates_are) c.requires.script)
+          c.args.ended.controller.noted.items c.args.ended.controller.pass) (sym updates_are) c.requires.script)
           settled.next owned.next told.refused);
-      rounds = rounds_stand g.B.Naming.plan g.B.Naming.count (rounds_of (length records)) journals one.deeds c.args.reclaimed c.requires.rounds.1
+      rounds = rounds_stand g.B.Naming.plan g.B.Naming.count (rounds_of (length records)) journals one.deeds c.args.ended.reclaimer c.requires.rounds.1
           settled.last owned.last c.requires.rounds.0;
     })

@@ -1,11 +1,17 @@
-use Rattle.std.proofs.Common.{◌≡◌, ◌+◌, ◌-◌, List, length, sym, ap, ◌∙◌, subst, arith}
-use Rattle.std.proofs.lemmas.Result.{IfOk-weaker}
+use Rattle.std.proofs.Common.{◌≡◌, ◌+◌, ◌-◌, ℕ, List, length, sym, ap, ◌∙◌, subst, arith}
 use Rattle.machine.specs.Running.{program_of}
 use Rattle.control.specs.declared.command.Command.{Command}
 use Rattle.semantics.specs.Each.{Each}
 use Rattle.replay.specs.Crews.{IsHandled}
 use Rattle.replay.specs.Parts.{rounds_of}
 use Rattle.replay.specs.RunsOverShards.{IsNewAt, IsRunBy, pass_in}
+use Rattle.rx_queues.specs.Passes.{jobs_put}
+use Rattle.replay.specs.Settings.{IsAbandoned}
+use Rattle.replay.specs.Shares.{frames_of}
+use Rattle.replay.specs.UpdateFaults.{IsOfNoUpdate}
+use Rattle.replay.specs.declared.fault.ReplayFault.TheVariants.{BadOptions}
+use Rattle.replay.specs.declared.threads.Abandoned.{Abandoned}
+use Rattle.replay.proofs.AbandonLemmas.{of_abandoned}
 use Rattle.replay.proofs.Accounts.{new_is_idle}
 use Rattle.semantics.proofs.shared.EachLemmas.{within}
 use Rattle.replay.proofs.PartLemmas.{script_run, rounds_made}
@@ -33,20 +39,17 @@ run_all-requires-clause-actors g c κs outlives =
       (c.requires.unused, ap (λ n. n + 1) workers),
     )
 
-pub returns-clause-count : goal.returns-clause-count
-returns-clause-count g c =
-    IfOk-weaker c.run_all.result _ _ (λ it all. all.count ∙ sym c.requires.options) c.run_all.ensures.done
+pub returns-in-Ok-clause-count : goal.returns-in-Ok-clause-count
+returns-in-Ok-clause-count g c = c.in-Ok.ensures.done.count ∙ sym c.requires.options
 
-pub returns-clause-handled : goal.returns-clause-handled
-returns-clause-handled g c =
-    IfOk-weaker c.run_all.result _ _
-    (λ it all. subst (λ n. Each (IsHandled IsNewAt (IsRunBy g.B.Naming.count g.B.Naming.plan
-    (program_of c.args.setting.runner.now.verified.now c.args.setting.runner.now.shards.now.options.shards)) c.args.setting.capture.now.records.items n) 0 it.workers.items)
-    (sym c.requires.options) all.handled)
-    c.run_all.ensures.done
+pub returns-in-Ok-clause-handled : goal.returns-in-Ok-clause-handled
+returns-in-Ok-clause-handled g c =
+    subst (λ n. Each (IsHandled IsNewAt (IsRunBy g.B.Naming.count g.B.Naming.plan
+    (program_of c.args.setting.runner.now.verified.now c.args.setting.runner.now.shards.now.options.shards)) c.args.setting.capture.now.records.items n) 0
+    c.in-Ok.all.workers.items) (sym c.requires.options) c.in-Ok.ensures.done.handled
 
-pub returns-clause-script : goal.returns-clause-script
-returns-clause-script g c =
+pub returns-in-Ok-clause-script : goal.returns-in-Ok-clause-script
+returns-in-Ok-clause-script g c =
     let start = c.args.controller in
     let started = c.requires.started in
     let script = c.args.script.now in
@@ -55,14 +58,26 @@ returns-clause-script g c =
     let below = started.within in
     let many = c.requires.starts in
     let all : first + count ≡ length script = omega (arith, below) in
-    IfOk-weaker c.run_all.result _ _
-    (λ it done. script_run g.B.Naming.plan c.args.setting.runner.now.shards.now.maps c.args.setting.runner.now.shards.now.options c.args.updates.now script c.args.size start
-    it.controller.noted.items it.controller.pass first count started.updates_are started.script_is started.maps_are started.options_are started.size_is started.applied all
-    (done.commands count (all ∙ sym many)))
-    c.run_all.ensures.done
+    script_run g.B.Naming.plan c.args.setting.runner.now.shards.now.maps c.args.setting.runner.now.shards.now.options c.args.updates.now script c.args.size start
+    c.in-Ok.all.controller.noted.items c.in-Ok.all.controller.pass first count started.updates_are started.script_is started.maps_are started.options_are
+    started.size_is started.applied all (c.in-Ok.ensures.done.commands count (all ∙ sym many))
 
-pub returns-clause-rounds : goal.returns-clause-rounds
-returns-clause-rounds g c =
-    IfOk-weaker c.run_all.result _ _
-    (λ it all. (rounds_made g.B.Naming.plan g.B.Naming.count (rounds_of (length c.args.setting.capture.now.records.items)) it.reclaimer all.rounds, all.rounds.who))
-    c.run_all.ensures.done
+pub returns-in-Ok-clause-rounds : goal.returns-in-Ok-clause-rounds
+returns-in-Ok-clause-rounds g c =
+    let rounds = c.in-Ok.ensures.done.rounds in
+    (rounds_made g.B.Naming.plan g.B.Naming.count (rounds_of (length c.args.setting.capture.now.records.items)) c.in-Ok.all.reclaimer rounds, rounds.who)
+
+why_abandoned : (frames : List (List ℕ)) (workers count : ℕ) (it : Abandoned) → IsAbandoned frames workers count it.fault (jobs_put it.put)
+    → IsOfNoUpdate it.fault × (it.fault ≡ BadOptions → ⊥)
+why_abandoned frames workers count it is = of_abandoned frames workers count it.fault (jobs_put it.put) is
+
+pub returns-in-Err-clause-served : goal.returns-in-Err-clause-served
+returns-in-Err-clause-served g c = λ is.
+    let records = c.args.setting.capture.now.records.items in
+    let why = (why_abandoned (frames_of records) (length c.args.states.items) (length records) c.in-Err.abandoned c.in-Err.ensures.abandoned).1 in
+    why (cc)
+
+pub returns-in-Err-clause-no_update : goal.returns-in-Err-clause-no_update
+returns-in-Err-clause-no_update g c =
+    let records = c.args.setting.capture.now.records.items in
+    (why_abandoned (frames_of records) (length c.args.states.items) (length records) c.in-Err.abandoned c.in-Err.ensures.abandoned).0
