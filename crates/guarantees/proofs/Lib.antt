@@ -12,6 +12,8 @@ pub mod SharedRuns
 pub mod BackToTraces
 pub mod OneOutcome
 pub mod RowRuns
+pub mod RowStates
+pub mod RowAlone
 pub mod DeedLemmas
 pub mod MergeEvents
 pub mod Merge

@@ -6,7 +6,9 @@ pub mod Headline
 pub mod SystemLaws
 pub mod StepLaws
 pub mod RunRows
+pub mod SafeRow
 pub mod Merging
+pub mod AloneRow
 pub mod Places
 pub mod Runs
 pub mod Guarantees

@@ -110,7 +110,7 @@ pub fn one_order_is_one_list()
 
 /// One worker behind what the controller set: these entries and then the worker's steps from idle to idle, one run after the other, are one
 /// list of events of the system, where they are a legal journal of each shard and no call of the worker met a full journal (`NoneRefused`).
-/// So what `one_order_is_one_list` asks for can be met.
+/// For one worker, what `one_order_is_one_list` asks for comes to that.
 pub fn one_worker_is_one_list()
     ensures { OneWorkerIsOneList }
 {

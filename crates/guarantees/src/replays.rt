@@ -45,7 +45,7 @@ pub fn all_are_captured(capture: &Capture)
     }
 }
 
-/// `replay`, with `headline` applied to what it ensures.
+/// `replay`, with `headline` applied to what it ensures. Refused as `replay` is.
 pub fn headline_replay<R: Threads + Wait + Sync, G: Gate + Sync>(
     rt: &R,
     alloc: Global,
@@ -77,7 +77,7 @@ pub fn headline_replay<R: Threads + Wait + Sync, G: Gate + Sync>(
 
 /// `replay`, for a program that only reads, without updates and with a script without commands: where no run was stopped, what is sent is
 /// frame by frame what the program's run over maps in which nothing has happened sends, and so the same for every number of workers. It
-/// shows that what `readers_send_as_at_opening` asks for is what `replay` gives.
+/// shows that what `readers_send_as_at_opening` asks for is what `replay` gives. Refused as `replay` is.
 pub fn reader_replay<R: Threads + Wait + Sync, G: Gate + Sync>(
     rt: &R,
     alloc: Global,

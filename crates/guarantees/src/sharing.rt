@@ -1,6 +1,9 @@
 //! A run over shards that other threads call meanwhile, as events of the system of all workers.
 
 ghost use Rattle.std.specs.Prelude.{◌≡◌, ◌<◌, ℕ, IsTrue, IfOk, IfErr};
+ghost use Rattle.machine.specs.Running.{program_of};
+ghost use Rattle.semantics.specs.MachineState.{initial_state};
+ghost use Rattle.runs.specs.FrameRuns.{HasRunTold, HasStoppedTold};
 ghost use Rattle.shard_port.specs.PassPorts.{is_worker_below, worker_of};
 ghost use Rattle.shard_port.specs.PassSessions.{IsOutsideAt};
 ghost use Rattle.guarantees.specs.SystemRuns.{setting_of, RanInSystem, HasStoppedInSystem};
@@ -17,7 +20,7 @@ use wire::Frame;
 
 /// `run_frame`, said of the system: where the run ends, it is a list of its worker's events from idle to idle, and what they write is
 /// what the worker's own entries have more. So it is where a full journal stopped it (60), up to the call that was refused. Either way
-/// the next run can begin with the pass.
+/// the next run can begin with the pass. The gate was called for each reply of the run, as `run_frame` says, and `replies` counts them.
 pub fn shared_run<B: Naming, W: Wait, G: Gate>(
     rt: &W,
     verified: &Verified,
@@ -37,6 +40,12 @@ pub fn shared_run<B: Naming, W: Wait, G: Gate>(
         frame.old.bytes B.count pass.old pass.new exit.verdict exit.steps frame.new) }
     ensures stop { IfErr result (HasStoppedInSystem (setting_of verified.now shards.now.options) (worker_of pass.old.who) moment.now
         frame.old.bytes B.plan B.count pass.old pass.new frame.new) }
+    ensures counted { IfOk result (λ exit. HasRunTold (program_of verified.now shards.now.options.shards)
+        (initial_state frame.old moment.now.worker moment.now.now_ns) B.count (worker_of pass.old.who)
+        pass.old pass.new exit.verdict exit.steps frame.new replies.old replies.new) }
+    ensures counted_to_stop { IfErr result (HasStoppedTold (program_of verified.now shards.now.options.shards)
+        (initial_state frame.old moment.now.worker moment.now.now_ns) B.plan B.count (worker_of pass.old.who) pass.old pass.new frame.new
+        replies.old replies.new) }
     ensures same_caller { pass.new.who ≡ pass.old.who }
     ensures outside { (number : ℕ) → number < B.count → IsOutsideAt (worker_of pass.old.who) pass.new number }
 {

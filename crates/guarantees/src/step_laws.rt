@@ -1,8 +1,13 @@
 //! That steps and runs of the system say something: what can come next, what cannot, and that a run of the system is its program's trace.
 
+ghost use Rattle.guarantees.specs.AloneRow.{AloneRow};
 ghost use Rattle.guarantees.specs.Moves.{StepsAreMoves};
 ghost use Rattle.guarantees.specs.RunRows.{RunRows};
+ghost use Rattle.guarantees.specs.SafeRow.{SafeRow};
 ghost use Rattle.guarantees.specs.StepLaws.{StepsAreListed, MovesLeadToOne, RunsAreTraces, RunsHaveOneOutcome};
+
+use crate::run_alone_is_one_list;
+use verifier::laws::accepted_is_safe;
 
 /// Each step is an event that can happen, and leads to what the step says, in every state of the system in which its worker is where the
 /// step begins and the shard gives the step's reply.
@@ -36,3 +41,19 @@ pub fn runs_have_one_outcome()
 pub fn runs_are_computed()
     ensures { RunRows }
 {}
+
+/// The program of that run, computed: the image format encodes it, there are entry states that let it through, so that `verify` accepts it,
+/// it only reads, and it is safe. So what the laws on accepted programs, on safe images and on readers ask for can be met.
+pub fn a_safe_program_is_computed()
+    ensures { SafeRow }
+{
+    accepted_is_safe();
+}
+
+/// One run behind an update that sets the map's number, computed: its journal is legal, and it is one list of events with the update. So
+/// what `run_alone_is_one_list` asks for can be met.
+pub fn a_run_alone_is_computed()
+    ensures { AloneRow }
+{
+    run_alone_is_one_list();
+}

@@ -23,7 +23,8 @@ use std::alloc::Global;
 use verifier::Verified;
 use wire::Capture;
 
-/// What `shipped_replay` does, by `replay_in_turn`: each command takes effect between the frames before and after it.
+/// What `shipped_replay` does, by `replay_in_turn`: each command takes effect between the frames before and after it. Refused as
+/// `replay_in_turn` is.
 pub fn exact_shipped_replay<G: Gate>(
     alloc: Global,
     verified: &Verified,
