@@ -5,7 +5,7 @@ ghost use Rattle.folders.specs.Fronts.{IsShortFront};
 
 use crate::failure::{Failure, Step, Trouble, failed};
 use crate::folder::{Folder, FolderFault, Front};
-use std::alloc::{AllocError, Global};
+use std::alloc::{Alloc, AllocError, Global};
 use std::fs::{Metadata, OpenFile};
 use std::io::{ErrorKind, Read, Write};
 use std::os::unix::fs::MetadataExt;
@@ -25,6 +25,9 @@ const LONGEST_NAME: usize = 4096;
 
 /// The ending of the name of a file that is not finished.
 const UNFINISHED: &str = ".unfinished";
+
+/// How many links are followed: as many as the system follows.
+const MOST_LINKS: u32 = 40;
 
 /// Why no more is read of these, and what to do.
 const ENDLESS: &str = "it gave more than 1073741824 bytes: save it as a file, and name that";
@@ -206,6 +209,49 @@ fn is_one_node(found: &Metadata, other: &Metadata) -> bool {
     found.dev() == other.dev() && found.ino() == other.ino()
 }
 
+/// Whether a name is that of a link.
+fn is_link<R: Files>(rt: &R, name: &str) -> bool {
+    match fs::symlink_metadata(rt, name) {
+        Ok(found) => found.is_symlink(),
+        Err(_) => false,
+    }
+}
+
+/// Where a link leads: to its text, which is counted from the link's folder unless it begins with a slash.
+fn behind_link<R: Files + Alloc>(rt: &R, name: &str) -> Option<String<R::A>> {
+    let target = fs::read_link(rt, name).ok()?;
+    let text = target.as_str();
+    let (folder, _) = parts_of(name);
+    if text.starts_with('/') {
+        format!(in rt.alloc(); "{text}").ok()
+    } else {
+        format!(in rt.alloc(); "{folder}/{text}").ok()
+    }
+}
+
+/// The name that is no link to which links lead from this one. None where they have no end, or memory is refused.
+fn behind_links<R: Files + Alloc>(rt: &R, name: &str) -> Option<String<R::A>> {
+    let mut end = format!(in rt.alloc(); "{name}").ok()?;
+    'links: for _ in 0..MOST_LINKS {
+        if !is_link(rt, end.as_str()) {
+            return Some(end);
+        }
+        end = behind_link(rt, end.as_str())?;
+    }
+    None
+}
+
+/// Whether two names that lead to nothing would be those of one file. Where a link's end is not found they are taken for one.
+fn may_be_one_place<R: Files + Alloc>(rt: &R, name: &str, other: &str) -> bool {
+    if !is_link(rt, name) && !is_link(rt, other) {
+        return is_one_place(rt, name, other);
+    }
+    match (behind_links(rt, name), behind_links(rt, other)) {
+        (Some(end), Some(other_end)) => is_one_place(rt, end.as_str(), other_end.as_str()),
+        _ => true,
+    }
+}
+
 /// Whether two names that nothing has would be those of one file: the same name in one folder.
 fn is_one_place<R: Files>(rt: &R, name: &str, other: &str) -> bool {
     let (folder, last) = parts_of(name);
@@ -220,10 +266,10 @@ fn is_one_place<R: Files>(rt: &R, name: &str, other: &str) -> bool {
 }
 
 /// Whether two different names are those of one ordinary file, or would be if it were made.
-fn is_one_file<R: Files>(rt: &R, name: &str, other: &str) -> bool {
+fn is_one_file<R: Files + Alloc>(rt: &R, name: &str, other: &str) -> bool {
     match (fs::metadata(rt, name), fs::metadata(rt, other)) {
         (Ok(found), Ok(other_found)) => found.is_file() && is_one_node(&found, &other_found),
-        (Err(_), Err(_)) => is_one_place(rt, name, other),
+        (Err(_), Err(_)) => may_be_one_place(rt, name, other),
         _ => false,
     }
 }
@@ -574,7 +620,7 @@ impl<R: Files, I, O> FileFolder<'_, R, I, O> {
     }
 }
 
-impl<R: Files, I: Read, O: Write> Folder for FileFolder<'_, R, I, O> {
+impl<R: Files + Alloc, I: Read, O: Write> Folder for FileFolder<'_, R, I, O> {
     ghost holds = { λ _ _ _. Unit {0} };
 
     ghost are_one = { λ _ _ _. Unit {0} };

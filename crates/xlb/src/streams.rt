@@ -26,7 +26,7 @@ fn written_to(word: &str) -> &str {
     }
 }
 
-/// The same of an option.
+/// The file of an option that is read, if there is one.
 fn option_read<'a>(word: Option<&'a str>) -> Option<&'a str> {
     match word {
         Some(word) => Some(read_from(word)),
@@ -34,6 +34,7 @@ fn option_read<'a>(word: Option<&'a str>) -> Option<&'a str> {
     }
 }
 
+/// The file of an option that is written, if there is one.
 fn option_written<'a>(word: Option<&'a str>) -> Option<&'a str> {
     match word {
         Some(word) => Some(written_to(word)),

@@ -255,7 +255,9 @@ fn rejected_for(alloc: Global, source: &[u8], reject: Reject, reasons: String) -
     )
 }
 
-/// Judges an image, or the image that a source means.
+/// Judges an image, or the image that a source means. Refused with 7 or 8 where the file is not read, with 10 to 20 where it is no
+/// image, or with 21 to 23 where it is a source that means none, with 30 to 49 where the image may not run, and with 8 where memory is
+/// refused for the line. No file changes.
 pub fn check<D: Folder>(alloc: Global, folder: &mut D, image: &str) -> Result<String, Refusal>
     requires { D.failure_count folder.old < 2 ^ 64 - 1 }
     ensures done { IfOk result (λ text. IsChecked (D.holds folder.old) image.now (string_bytes text)) }
@@ -270,7 +272,8 @@ pub fn check<D: Folder>(alloc: Global, folder: &mut D, image: &str) -> Result<St
     }
 }
 
-/// Judges an image, or the image that a source means, and says why.
+/// Judges an image, or the image that a source means, and says why: of one that may not run in the notes of the refusal. Refused as by
+/// `check`, and with 8 where memory is refused for what is said, before the image is judged. No file changes.
 pub fn check_explained<D: Folder>(
     alloc: Global,
     folder: &mut D,
@@ -294,7 +297,8 @@ pub fn check_explained<D: Folder>(
     }
 }
 
-/// The source form of an image.
+/// The source form of an image. Refused with 7 or 8 where the file is not read, with 10 to 20 where it is no image, and with 8 where
+/// memory is refused for the text. No file changes.
 pub fn disassemble_source<D: Folder>(
     alloc: Global,
     folder: &mut D,
@@ -310,7 +314,7 @@ pub fn disassemble_source<D: Folder>(
     Ok(source(alloc, &image)?)
 }
 
-/// The text of an image.
+/// The text of an image. Refused as by `disassemble_source`.
 pub fn disassemble<D: Folder>(alloc: Global, folder: &mut D, image: &str) -> Result<String, Refusal>
     requires { D.failure_count folder.old < 2 ^ 64 - 1 }
     ensures done { IfOk result (λ text. IsDisassembled (D.holds folder.old) image.now (string_bytes text)) }
@@ -322,7 +326,9 @@ pub fn disassemble<D: Folder>(alloc: Global, folder: &mut D, image: &str) -> Res
     Ok(text(alloc, &image)?)
 }
 
-/// Whether the journals of a file are legal for the maps of an image.
+/// Whether the journals of a file are legal for the maps of an image. Refused with 7 or 8 where a file is not read, with 10 to 20 where
+/// the first is no image, with 52 or 55 where the second has no journals of its maps, with 52 or 53 where they are not legal, and with
+/// 8 where memory is refused for the line. No file changes.
 pub fn audit_file<D: Folder>(
     alloc: Global,
     folder: &mut D,
@@ -451,7 +457,8 @@ pub(crate) fn write_image<D: Folder>(
     }
 }
 
-/// Writes the image of a text.
+/// Writes the image of a text. Refused with 7 or 8 where the text is not read, and with 21 to 23 where it spells no image: then no file
+/// changes. Refused with 7 or 8 where the image is not written; then no other file changes.
 pub fn assemble_file<D: Folder>(
     alloc: Global,
     folder: &mut D,
@@ -472,7 +479,7 @@ pub fn assemble_file<D: Folder>(
     }
 }
 
-/// Writes the image of a text in the source form.
+/// Writes the image of a text in the source form. Refused as by `assemble_file`.
 pub fn assemble_source_file<D: Folder>(
     alloc: Global,
     folder: &mut D,

@@ -10,10 +10,17 @@ ghost use Rattle.xlb_commands.specs.Refused.{HasFailed, IsUnserved, AreUnwritten
 ghost use Rattle.xlb_commands.specs.Replays.{HasBytes};
 
 use crate::fault::{Fault, Refusal};
+use crate::printable::printable;
 use folders::{Folder, FolderFault, Front};
 use journals::{FileFault, Journals, write_journals};
-use std::alloc::Global;
+use std::alloc::{AllocError, Global};
 use wire::MemorySink;
+
+/// The folder's line on its last failure, with escapes for what a terminal would not show of the name.
+fn complaint<D: Folder>(alloc: Global, folder: &D, name: &str) -> Result<String, AllocError> {
+    let line = folder.complaint(alloc, name)?;
+    printable(alloc, line.as_str())
+}
 
 /// Why a file was not read or written, with the system's word for it.
 pub(crate) fn unserved<D: Folder>(
@@ -26,7 +33,7 @@ pub(crate) fn unserved<D: Folder>(
 {
     match fault {
         FolderFault::Device => {
-            Refusal::noted(Fault::Folder(fault), folder.complaint(alloc, name))
+            Refusal::noted(Fault::Folder(fault), complaint(alloc, folder, name))
         }
         FolderFault::Memory => Refusal::from(Fault::Folder(fault)),
     }

@@ -1,5 +1,6 @@
 //! Lines for people below a fault's line: what the file is, and where it is wrong.
 
+use crate::printable::printable;
 use audit::AuditFault;
 use control::ControlFault;
 use ebpf_decode::image::MAGIC;
@@ -186,12 +187,22 @@ fn of_source_form(alloc: Global, text: &str, exact: usize) -> Result<Option<Stri
     )
 }
 
+/// What is wrong with a source, with escapes for what a terminal would not show.
+fn explained(
+    alloc: Global,
+    source: &str,
+    fault: SourceFault,
+) -> Result<Option<String>, AllocError> {
+    let line = explain(alloc, source, fault)?;
+    Ok(Some(printable(alloc, line.as_str())?))
+}
+
 /// Of a text that is right in the source form, or whose line is wrong there too.
 fn of_source(alloc: Global, text: &str, exact: usize) -> Result<Option<String>, AllocError> {
     match assemble_source(alloc, text) {
         Ok(_) | Err(SourceFault::Image(_)) => of_source_form(alloc, text, exact),
         Err(SourceFault::BadLine { line, problem }) if line == exact => {
-            Ok(Some(explain(alloc, text, SourceFault::BadLine { line, problem })?))
+            explained(alloc, text, SourceFault::BadLine { line, problem })
         }
         Err(_) => Ok(None),
     }
@@ -208,7 +219,7 @@ pub(crate) fn of_source_fault(
             Ok(Some(about_map_line(alloc, source, map)?))
         }
         SourceFault::Memory => Ok(None),
-        _ => Ok(Some(explain(alloc, source, fault)?)),
+        _ => explained(alloc, source, fault),
     }
 }
 

@@ -8,7 +8,7 @@ use semantics::{Call, Entry, Reply};
 use std::alloc::{AllocError, Global};
 use traffic::share_of;
 
-/// The number in the four bytes at a place, the low byte first; 0 where there are fewer.
+/// The number in the four bytes at a place, the low byte first. Bytes that are not there count as 0.
 fn number_at(bytes: &[u8], place: usize) -> u32 {
     let mut number = 0u32;
     for at in 0..4u32 {
@@ -18,7 +18,7 @@ fn number_at(bytes: &[u8], place: usize) -> u32 {
     number
 }
 
-/// The address in the first four bytes.
+/// The address whose bytes a number has, the first one lowest.
 fn address_of(alloc: Global, record: u32) -> Result<String, AllocError> {
     let [first, second, third, last] = record.to_le_bytes();
     format!(in alloc; "{first}.{second}.{third}.{last}")

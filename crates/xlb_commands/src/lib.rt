@@ -12,6 +12,7 @@ mod in_pieces;
 mod last_table;
 mod notes;
 mod one_run;
+mod printable;
 mod progress;
 mod record_report;
 mod records;

@@ -55,7 +55,7 @@ impl<'a> Notes<'a> {
 }
 
 impl Notes<'_> {
-    /// The lines of a replay, or none.
+    /// The lines of a replay; an empty text where there is nothing to say.
     pub(crate) fn text(
         &self,
         alloc: Global,
@@ -158,7 +158,7 @@ impl Notes<'_> {
 /// The most commands that have lines of their own.
 const MOST_LINES: usize = 10;
 
-/// The same lines of commands that the lookup tables of a script name as refused.
+/// The lines of the commands that were refused while the lookup tables of a script were made.
 pub(crate) fn about_refused(
     alloc: Global,
     script: &Script,
@@ -230,6 +230,8 @@ fn why_refused(fault: ControlFault) -> &'static str {
         ControlFault::UnknownBackend =>
             "no such backend is up, or there is no such number: numbers are below 256 and below the ring's size",
         ControlFault::BackendTwice => "this number or this address is up",
+        ControlFault::Refused { answer } if answer == -12 =>
+            "the map refused it: no cell is free until retired ones are reclaimed",
         ControlFault::Refused { .. } => "the map refused it: it is full",
         ControlFault::JournalFull =>
             "a journal is full: --journal N, at most 1048576, --shards N, at most 8, and --no-journals make more room",

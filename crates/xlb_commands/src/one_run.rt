@@ -24,7 +24,7 @@ use map_updates::{MapUpdate, Misfit, first_misfit};
 use runs::{RunFault, SingleRun, run_alone};
 use semantics::{MOST_WORKERS, Options};
 use shards::OpenFault;
-use std::alloc::{AllocError, Global};
+use std::alloc::Global;
 use verifier::Verified;
 use wire::Frame;
 
@@ -74,6 +74,12 @@ pub enum RunAnswer {
 
 /// Runs an image on one frame, with maps in which nothing has happened but these updates, and writes the journals where a file is named for
 /// them. Updates that the image's maps do not take are a mistake of the command line: then no frame is read.
+///
+/// Refused, in this order: with 7 or 8 where the image is not read, 10 to 20 where it is none, 30 to 49 where it may not run; with 7 or
+/// 8 where the frame is not read, 6, 8 or 9 where it is none; with 51 where there is no such worker; with 51 or 52 where the maps are
+/// not opened, 93 for the first update that a map refuses, 94 for the first for which a journal is full; with 60 where a full journal
+/// stops the run; with 52 or 8 where memory is refused for the journals' bytes or the lines. Until then no file changes. Last, with 7
+/// or 8 where the journals are not written.
 pub fn run_once<D: Folder>(
     alloc: Global,
     folder: &mut D,

@@ -44,7 +44,8 @@ pub(crate) fn shipped_program(alloc: Global, ring: u32) -> Result<Verified, Refu
     }
 }
 
-/// Writes the image of the shipped program to a file.
+/// Writes the image of the shipped program to a file. Refused with 73 where no lookup table has `ring` slots, and with 74 where memory
+/// is refused for the program: then no file changes. Refused with 7 or 8 where the image is not written; then no other file changes.
 pub fn write_shipped<D: Folder>(
     alloc: Global,
     folder: &mut D,

@@ -18,7 +18,7 @@ use maglev::is_ring_size;
 use std::alloc::{AllocError, Global};
 use traffic::tables_of;
 
-/// Whether a lookup table has this size.
+/// Refused with 73 where no lookup table has this size.
 fn sized(alloc: Global, ring: u32) -> Result<(), Refusal>
     ensures size { OnOk result (IsRingSize ring) }
     ensures refused { IfErr result (λ refusal. (¬ IsRingSize ring) × (refusal.fault ≡ Fault.Script scripts.BadSize)) }
