@@ -7,7 +7,7 @@ use std::process::Command;
 use std::time::Instant;
 
 /// How many look-ups are timed at a time, as crates/bench_parts has it, and how often.
-const LOOKUPS: usize = 2_000_000;
+const LOOKUPS: usize = 2_097_152;
 const TIMES: usize = 3;
 
 /// What is timed: look-ups of a hash shard that find their key or not, a look-up of an LRU shard that finds its key and so uses it, and an

@@ -9,8 +9,8 @@ use plain_maps::HashShard;
 use std::alloc::{AllocError, Global};
 use std::time::Instant;
 
-/// How many look-ups are timed at a time.
-const LOOKUPS: u32 = 2_000_000;
+/// How many look-ups are timed at a time: a multiple of each number of keys, since the keys are gone over in whole rounds.
+const LOOKUPS: u32 = 2_097_152;
 
 /// The factor and the start of the shards' hash.
 const FACTOR: u64 = 0x9e37_79b9_7f4a_7c15;

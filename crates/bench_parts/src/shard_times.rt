@@ -10,7 +10,6 @@ use isa::AtomicOp;
 use journal::{AtomicChange, CellRange};
 use semantics::{Caller, JournalFull, ShardPlan};
 use shard_core::Shard;
-use std::alloc::Global;
 use std::time::Instant;
 
 /// Who makes the calls.
