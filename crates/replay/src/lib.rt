@@ -83,3 +83,4 @@ pub use runner::{FrameFate, Ran, RunEnd, Runner};
 pub use shard_port::{Gate, NoGate};
 pub use single_thread::replay_in_turn;
 pub use threads::{Abandoned, AllEnded, Setting, run_all};
+pub use updates::SharedUpdates;
