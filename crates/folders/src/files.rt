@@ -5,10 +5,11 @@ ghost use Rattle.folders.specs.Fronts.{IsShortFront};
 
 use crate::failure::{Failure, Step, Trouble, failed};
 use crate::folder::{Folder, FolderFault, Front};
+use crate::links::is_one_file;
+use crate::making::{Making, begun, make, not_begun, put_all};
 use std::alloc::{Alloc, AllocError, Global};
-use std::fs::{Metadata, OpenFile};
+use std::fs::{File, OpenFile};
 use std::io::{ErrorKind, Read, Write};
-use std::os::unix::fs::MetadataExt;
 use std::rt::Files;
 use std::{fs, io};
 use wire::MOST_GIVEN;
@@ -20,23 +21,11 @@ const MOST_OF_STREAM: u64 = 1 << 30;
 /// read no further has whole slots.
 const MORE: u64 = 8;
 
-/// The longest name that the system takes.
-const LONGEST_NAME: usize = 4096;
-
-/// The ending of the name of a file that is not finished.
-const UNFINISHED: &str = ".unfinished";
-
-/// How many links are followed: as many as the system follows.
-const MOST_LINKS: u32 = 40;
-
 /// Why no more is read of these, and what to do.
 const ENDLESS: &str = "it gave more than 1073741824 bytes: save it as a file, and name that";
 
 /// Why no more is read of a file in pieces.
 const TOO_LONG: &str = "it has more than 1099511627776 bytes";
-
-/// Why a file is not made on.
-const NOT_BEGUN: &str = "it is not begun";
 
 /// A device or a pipe whose front was read, and which has more.
 #[derive(Drop)]
@@ -69,7 +58,7 @@ pub struct FileFolder<'a, R: Files, I, O> {
     /// How many bytes were read of it.
     given: u64,
     /// The file that is made in pieces.
-    making: Option<Making<R::File>>,
+    making: Option<Making>,
     failures: u64,
     /// The last call that failed.
     last: Option<Failure>,
@@ -187,274 +176,7 @@ fn size_of<F: OpenFile>(file: &F) -> Option<u64> {
     }
 }
 
-/// No file is begun that could be made on.
-fn not_begun() -> Failure {
-    Failure {
-        step: Step::Making,
-        error: io::Error::new(ErrorKind::NotFound, NOT_BEGUN),
-    }
-}
-
-/// The folder of a name, and the name in it.
-fn parts_of(name: &str) -> (&str, &str) {
-    match name.rsplit_once('/') {
-        Some(("", last)) => ("/", last),
-        Some((folder, last)) => (folder, last),
-        None => (".", name),
-    }
-}
-
-/// Whether two names lead to one and the same node of a file system.
-fn is_one_node(found: &Metadata, other: &Metadata) -> bool {
-    found.dev() == other.dev() && found.ino() == other.ino()
-}
-
-/// Whether a name is that of a link.
-fn is_link<R: Files>(rt: &R, name: &str) -> bool {
-    match fs::symlink_metadata(rt, name) {
-        Ok(found) => found.is_symlink(),
-        Err(_) => false,
-    }
-}
-
-/// Where a link leads: to its text, which is counted from the link's folder unless it begins with a slash.
-fn behind_link<R: Files + Alloc>(rt: &R, name: &str) -> Option<String<R::A>> {
-    let target = fs::read_link(rt, name).ok()?;
-    let text = target.as_str();
-    let (folder, _) = parts_of(name);
-    if text.starts_with('/') {
-        format!(in rt.alloc(); "{text}").ok()
-    } else {
-        format!(in rt.alloc(); "{folder}/{text}").ok()
-    }
-}
-
-/// The name that is no link to which links lead from this one. None where they have no end, or memory is refused.
-fn behind_links<R: Files + Alloc>(rt: &R, name: &str) -> Option<String<R::A>> {
-    let mut end = format!(in rt.alloc(); "{name}").ok()?;
-    'links: for _ in 0..MOST_LINKS {
-        if !is_link(rt, end.as_str()) {
-            return Some(end);
-        }
-        end = behind_link(rt, end.as_str())?;
-    }
-    None
-}
-
-/// Whether two names that lead to nothing would be those of one file. Where a link's end is not found they are taken for one.
-fn may_be_one_place<R: Files + Alloc>(rt: &R, name: &str, other: &str) -> bool {
-    if !is_link(rt, name) && !is_link(rt, other) {
-        return is_one_place(rt, name, other);
-    }
-    match (behind_links(rt, name), behind_links(rt, other)) {
-        (Some(end), Some(other_end)) => is_one_place(rt, end.as_str(), other_end.as_str()),
-        _ => true,
-    }
-}
-
-/// Whether two names that nothing has would be those of one file: the same name in one folder.
-fn is_one_place<R: Files>(rt: &R, name: &str, other: &str) -> bool {
-    let (folder, last) = parts_of(name);
-    let (other_folder, other_last) = parts_of(other);
-    if last != other_last {
-        return false;
-    }
-    match (fs::metadata(rt, folder), fs::metadata(rt, other_folder)) {
-        (Ok(found), Ok(other_found)) => is_one_node(&found, &other_found),
-        _ => false,
-    }
-}
-
-/// Whether two different names are those of one ordinary file, or would be if it were made.
-fn is_one_file<R: Files + Alloc>(rt: &R, name: &str, other: &str) -> bool {
-    match (fs::metadata(rt, name), fs::metadata(rt, other)) {
-        (Ok(found), Ok(other_found)) => found.is_file() && is_one_node(&found, &other_found),
-        (Err(_), Err(_)) => may_be_one_place(rt, name, other),
-        _ => false,
-    }
-}
-
-/// Writes all bytes to a writer.
-fn put_all<K: Write>(writer: &mut K, bytes: &[u8]) -> Result<(), Failure> {
-    let mut at = 0;
-    'writing: while at < bytes.len() {
-        match writer.write(&bytes[at..]) {
-            Ok(0) => {
-                let error = io::Error::new(ErrorKind::WriteZero, "nothing more is taken");
-                return Err(Failure {
-                    step: Step::Writing,
-                    error,
-                });
-            }
-            Ok(count) => at += count,
-            Err(error) => {
-                return Err(Failure {
-                    step: Step::Writing,
-                    error,
-                });
-            }
-        }
-    }
-    Ok(())
-}
-
-/// Makes a file of the bytes under its own name.
-fn make_in_place<R: Files>(rt: &R, name: &str, bytes: &[u8]) -> Result<(), Failure> {
-    match fs::create(rt, name) {
-        Ok(mut file) => put_all(&mut file, bytes),
-        Err(error) => Err(Failure {
-            step: Step::Making,
-            error,
-        }),
-    }
-}
-
-/// Whether a name is that of nothing, or of an ordinary file that may be written: a device or a link stays what it is.
-fn may_be_replaced<R: Files>(rt: &R, name: &str) -> bool {
-    match fs::symlink_metadata(rt, name) {
-        Ok(found) => found.is_file() && !found.permissions().readonly(),
-        Err(error) => error.kind() == ErrorKind::NotFound,
-    }
-}
-
-/// Gives an unfinished file the permissions of the file that it replaces, where there is one.
-fn take_permissions<R: Files>(rt: &R, unfinished: &str, name: &str) -> io::Result<()> {
-    match fs::symlink_metadata(rt, name) {
-        Ok(found) => fs::set_permissions(rt, unfinished, found.permissions()),
-        Err(_) => Ok(()),
-    }
-}
-
-/// What was done with an unfinished file, which is removed where it failed.
-fn removed_where_failed<R: Files>(
-    rt: &R,
-    unfinished: &str,
-    done: Result<(), Failure>,
-) -> Result<(), Failure>
-    ensures { result ≡ done }
-{
-    if done.is_err() {
-        let _ = fs::remove_file(rt, unfinished);
-    }
-    done
-}
-
-/// Gives a file another name, in place of a file that has it.
-fn named<R: Files>(rt: &R, unfinished: &str, name: &str) -> Result<(), Failure> {
-    let done = match take_permissions(rt, unfinished, name) {
-        Ok(()) => fs::rename(rt, unfinished, name),
-        Err(error) => Err(error),
-    };
-    match done {
-        Ok(()) => Ok(()),
-        Err(error) => Err(Failure {
-            step: Step::Making,
-            error,
-        }),
-    }
-}
-
-/// The name of a file while it is unfinished, if it has room.
-fn unfinished_name<'a>(room: &'a mut [u8; LONGEST_NAME], name: &str) -> Option<&'a str> {
-    let end = name.len();
-    if end > LONGEST_NAME - UNFINISHED.len() {
-        return None;
-    }
-    room[..end].copy_from_slice(name.as_bytes());
-    room[end..end + UNFINISHED.len()].copy_from_slice(UNFINISHED.as_bytes());
-    str::from_utf8(&room[..end + UNFINISHED.len()]).ok()
-}
-
-/// A new file beside this name, and the name that it has until it is finished. None where the name is no ordinary file's or no new file can
-/// be made beside it: then the bytes are written under the name itself.
-fn beside<'a, R: Files>(
-    rt: &R,
-    room: &'a mut [u8; LONGEST_NAME],
-    name: &str,
-) -> Option<(R::File, &'a str)> {
-    let unfinished = unfinished_name(room, name)?;
-    if !may_be_replaced(rt, name) {
-        return None;
-    }
-    match fs::File::create_new(rt, unfinished) {
-        Ok(file) => Some((file, unfinished)),
-        Err(_) => None,
-    }
-}
-
-/// Writes the bytes to an unfinished file, and then renames it.
-fn fill<R: Files>(
-    rt: &R,
-    mut file: R::File,
-    unfinished: &str,
-    name: &str,
-    bytes: &[u8],
-) -> Result<(), Failure> {
-    put_all(&mut file, bytes)?;
-    named(rt, unfinished, name)
-}
-
-/// Makes a file of the bytes: beside its name, so that whoever finds the name finds all bytes; or under its name, where that is no ordinary
-/// file's or no new file can be made beside it. Takes no memory.
-fn make<R: Files>(rt: &R, name: &str, bytes: &[u8]) -> Result<(), Failure> {
-    let mut room = [0; LONGEST_NAME];
-    match beside(rt, &mut room, name) {
-        Some((file, unfinished)) => {
-            removed_where_failed(rt, unfinished, fill(rt, file, unfinished, name, bytes))
-        }
-        None => make_in_place(rt, name, bytes),
-    }
-}
-
-/// A file that is made in pieces. Until it is finished it has a name of its own.
-#[derive(Drop)]
-struct Making<F: Drop> {
-    file: F,
-    name: String,
-    unfinished: String,
-}
-
-/// Begins a file beside its name; none where it can only be written in place.
-fn begun<R: Files>(rt: &R, alloc: Global, name: &str) -> Result<Option<Making<R::File>>, Trouble> {
-    let own = String::from_str(alloc, name)?;
-    let mut room = [0; LONGEST_NAME];
-    let Some((file, unfinished)) = beside(rt, &mut room, name) else {
-        return Ok(None);
-    };
-    match String::from_str(alloc, unfinished) {
-        Ok(unfinished) => Ok(Some(Making {
-            file,
-            name: own,
-            unfinished,
-        })),
-        Err(_) => {
-            let _ = fs::remove_file(rt, unfinished);
-            Err(Trouble::Memory)
-        }
-    }
-}
-
-impl<F: Write + Drop> Making<F> {
-    /// Puts bytes at the end. Where that fails the file is removed.
-    fn add<R: Files>(&mut self, rt: &R, bytes: &[u8]) -> Result<(), Failure> {
-        let done = put_all(&mut self.file, bytes);
-        removed_where_failed(rt, self.unfinished.as_str(), done)
-    }
-
-    /// Renames the file to its name. If that fails it is removed.
-    fn finish<R: Files>(self, rt: &R) -> Result<(), Failure> {
-        let unfinished = self.unfinished.as_str();
-        let done = named(rt, unfinished, self.name.as_str());
-        removed_where_failed(rt, unfinished, done)
-    }
-
-    /// Removes the file.
-    fn give_up<R: Files>(self, rt: &R) {
-        let _ = fs::remove_file(rt, self.unfinished.as_str());
-    }
-}
-
-impl<R: Files, I: Read, O: Write> FileFolder<'_, R, I, O> {
+impl<R: Files<File = File> + Alloc, I: Read, O: Write> FileFolder<'_, R, I, O> {
     /// Reads on a device or a pipe, which is the standard input where there is no file.
     fn read_stream(
         &mut self,
@@ -595,11 +317,14 @@ impl<R: Files, I: Read, O: Write> FileFolder<'_, R, I, O> {
     }
 
     /// Makes a file of the bytes, or writes them to the standard output.
-    fn put(&mut self, name: &str, bytes: &[u8]) -> Result<(), Failure>
+    fn put(&mut self, name: &str, bytes: &[u8]) -> Result<(), Trouble>
         ensures steady { self.new.failures ≡ self.old.failures }
     {
         if name == STANDARD_OUTPUT {
-            put_all(&mut self.output, bytes)
+            match put_all(&mut self.output, bytes) {
+                Ok(()) => Ok(()),
+                Err(failure) => Err(Trouble::Device(failure)),
+            }
         } else {
             make(self.rt, name, bytes)
         }
@@ -620,7 +345,7 @@ impl<R: Files, I, O> FileFolder<'_, R, I, O> {
     }
 }
 
-impl<R: Files + Alloc, I: Read, O: Write> Folder for FileFolder<'_, R, I, O> {
+impl<R: Files<File = File> + Alloc, I: Read, O: Write> Folder for FileFolder<'_, R, I, O> {
     ghost holds = { λ _ _ _. Unit {0} };
 
     ghost are_one = { λ _ _ _. Unit {0} };
@@ -652,7 +377,8 @@ impl<R: Files + Alloc, I: Read, O: Write> Folder for FileFolder<'_, R, I, O> {
     fn write(&mut self, _alloc: Global, name: &str, bytes: &[u8]) -> Result<(), FolderFault> {
         match self.put(name, bytes) {
             Ok(()) => Ok(()),
-            Err(failure) => Err(self.fail(failure)),
+            Err(Trouble::Device(failure)) => Err(self.fail(failure)),
+            Err(Trouble::Memory) => Err(FolderFault::Memory),
         }
     }
 

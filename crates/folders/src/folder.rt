@@ -135,7 +135,7 @@ pub trait Folder {
         ensures counted { OnErr result (failure_count self.new ≡ failure_count self.old + 1) };
 
     /// Begins to make a file in pieces, in place of one that was begun before, which is removed. `false` where it can only be written
-    /// whole: a device, a link, the standard output, and wherever the type needs to. Then, and after a fault, no file is begun.
+    /// whole: a device, a pipe, the standard output, and wherever the type needs to. Then, and after a fault, no file is begun.
     fn begin(&mut self, alloc: Global, name: &str) -> Result<bool, FolderFault>
         requires { failure_count self.old < 2 ^ 64 - 1 }
         ensures begun { IfOk result (λ in_pieces. IsTrue in_pieces → is_begun self.new name.now []) }

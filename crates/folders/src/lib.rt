@@ -5,6 +5,8 @@ mod capture_reader;
 mod failure;
 mod files;
 mod folder;
+mod links;
+mod making;
 mod memory_folder;
 mod window;
 

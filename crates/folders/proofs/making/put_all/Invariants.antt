@@ -1,5 +1,5 @@
 use Rattle.std.proofs.Common.{length, ◌-◌, ◌≤◌}
-use Rattle.folders.proofs.files.put_all.Given as goal
+use Rattle.folders.proofs.making.put_all.Given as goal
 
 abbrev pub invariant-writing : goal.invariant-writing
 invariant-writing g l = l.at ≤ length l.bytes

@@ -1,0 +1,319 @@
+//! Files that get their name when all of their bytes are there.
+//!
+//! A file is made beside its name (`NAME.unfinished`) and then renamed, so whoever finds the name finds all bytes. A command that is ended
+//! leaves the unfinished file; the next one that makes a file of this name takes it over, unless the other one still runs: a lock on the
+//! open file, which ends with its command, says so. Devices, pipes and the standard output alone are written in place.
+
+ghost use Rattle.std.specs.Prelude.{◌≡◌};
+
+use crate::failure::{Failure, Step, Trouble};
+use crate::links::{end_of, is_link, is_one_node, parts_of};
+use std::alloc::{Alloc, Global};
+use std::fs::{File, OpenOptions};
+use std::io::{ErrorKind, Write};
+use std::rt::Files;
+use std::{fs, io};
+
+/// The longest name that the system takes.
+const LONGEST_NAME: usize = 4096;
+
+/// The most bytes of a name in its folder that are in the name of its unfinished file: with the ending, no more than the system takes.
+const LONGEST_BESIDE: usize = 244;
+
+/// The ending of the name of a file that is not finished.
+const UNFINISHED: &str = ".unfinished";
+
+/// Why a file is not made on.
+const NOT_BEGUN: &str = "it is not begun";
+
+/// Why a file is not made.
+const NO_ROOM: &str = "its name has no room for the ending .unfinished";
+
+const READ_ONLY: &str = "it may not be written";
+
+const IN_USE: &str = "another command is making it: its .unfinished is in use";
+
+const NO_FILE: &str = "its .unfinished is no ordinary file";
+
+/// A file that could not be made.
+fn not_made(error: io::Error) -> Failure {
+    Failure {
+        step: Step::Making,
+        error,
+    }
+}
+
+/// A file that is not made for this reason.
+fn refused(kind: ErrorKind, why: &'static str) -> Failure {
+    not_made(io::Error::new(kind, why))
+}
+
+/// No file is begun that could be made on.
+pub(crate) fn not_begun() -> Failure {
+    refused(ErrorKind::NotFound, NOT_BEGUN)
+}
+
+/// Writes all bytes to a writer.
+pub(crate) fn put_all<K: Write>(writer: &mut K, bytes: &[u8]) -> Result<(), Failure> {
+    let mut at = 0;
+    'writing: while at < bytes.len() {
+        match writer.write(&bytes[at..]) {
+            Ok(0) => {
+                let error = io::Error::new(ErrorKind::WriteZero, "nothing more is taken");
+                return Err(Failure {
+                    step: Step::Writing,
+                    error,
+                });
+            }
+            Ok(count) => at += count,
+            Err(error) => {
+                return Err(Failure {
+                    step: Step::Writing,
+                    error,
+                });
+            }
+        }
+    }
+    Ok(())
+}
+
+/// Whether a name leads to a device or a pipe. These are written in place: each stays what it is.
+fn is_device<R: Files>(rt: &R, name: &str) -> bool {
+    match fs::metadata(rt, name) {
+        Ok(found) => !found.is_file() && !found.is_dir(),
+        Err(_) => false,
+    }
+}
+
+/// Writes the bytes to a device or a pipe.
+fn make_in_place<R: Files>(rt: &R, name: &str, bytes: &[u8]) -> Result<(), Failure> {
+    match File::create(rt, name) {
+        Ok(mut file) => put_all(&mut file, bytes),
+        Err(error) => Err(not_made(error)),
+    }
+}
+
+/// Refuses what no file may replace: a folder, and a file that may not be written.
+fn may_be_replaced<R: Files>(rt: &R, name: &str) -> Result<(), Failure> {
+    match fs::symlink_metadata(rt, name) {
+        Ok(found) if found.is_dir() => Err(not_made(io::Error::from(ErrorKind::IsADirectory))),
+        Ok(found) if found.permissions().readonly() => {
+            Err(refused(ErrorKind::PermissionDenied, READ_ONLY))
+        }
+        Ok(_) => Ok(()),
+        Err(error) if error.kind() == ErrorKind::NotFound => Ok(()),
+        Err(error) => Err(not_made(error)),
+    }
+}
+
+/// Gives an unfinished file the permissions of the file that it replaces, where there is one.
+fn take_permissions<R: Files>(rt: &R, unfinished: &str, name: &str) -> io::Result<()> {
+    match fs::symlink_metadata(rt, name) {
+        Ok(found) => fs::set_permissions(rt, unfinished, found.permissions()),
+        Err(_) => Ok(()),
+    }
+}
+
+/// What was done with an unfinished file, which is removed where it failed.
+fn removed_where_failed<R: Files>(
+    rt: &R,
+    unfinished: &str,
+    done: Result<(), Failure>,
+) -> Result<(), Failure>
+    ensures { result ≡ done }
+{
+    if done.is_err() {
+        let _ = fs::remove_file(rt, unfinished);
+    }
+    done
+}
+
+/// Gives a file another name, in place of a file that has it.
+fn named<R: Files>(rt: &R, unfinished: &str, name: &str) -> Result<(), Failure> {
+    let done = match take_permissions(rt, unfinished, name) {
+        Ok(()) => fs::rename(rt, unfinished, name),
+        Err(error) => Err(error),
+    };
+    match done {
+        Ok(()) => Ok(()),
+        Err(error) => Err(not_made(error)),
+    }
+}
+
+/// The name of a file while it is unfinished: with the ending, or the beginning of a long one with it.
+fn unfinished_name<'a>(room: &'a mut [u8; LONGEST_NAME], name: &str) -> Result<&'a str, Failure> {
+    let (_, last) = parts_of(name);
+    let cut = last.len().saturating_sub(LONGEST_BESIDE);
+    let end = name.len().saturating_sub(cut);
+    if end > LONGEST_NAME - UNFINISHED.len() {
+        return Err(refused(ErrorKind::InvalidFilename, NO_ROOM));
+    }
+    room[..end].copy_from_slice(&name.as_bytes()[..end]);
+    room[end..end + UNFINISHED.len()].copy_from_slice(UNFINISHED.as_bytes());
+    match str::from_utf8(&room[..end + UNFINISHED.len()]) {
+        Ok(unfinished) => Ok(unfinished),
+        Err(_) => Err(refused(ErrorKind::InvalidFilename, NO_ROOM)),
+    }
+}
+
+/// Whether a name is that of this open file, which is an ordinary one.
+fn has_name<R: Files>(rt: &R, file: &File, name: &str) -> bool {
+    match (file.metadata(), fs::symlink_metadata(rt, name)) {
+        (Ok(opened), Ok(found)) => found.is_file() && is_one_node(&opened, &found),
+        _ => false,
+    }
+}
+
+/// A file that a command left unfinished, without its bytes. Refused where another command has it open: that it is locked, or was renamed
+/// or removed before it could be locked here, shows that.
+fn taken_over<R: Files<File = File>>(rt: &R, unfinished: &str) -> Result<File, Failure> {
+    match fs::symlink_metadata(rt, unfinished) {
+        Ok(found) if !found.is_file() => return Err(refused(ErrorKind::AlreadyExists, NO_FILE)),
+        Ok(_) => {}
+        Err(error) => return Err(not_made(error)),
+    }
+    let file = match OpenOptions::new().write(true).open(rt, unfinished) {
+        Ok(file) => file,
+        Err(error) => return Err(not_made(error)),
+    };
+    if file.try_lock().is_err() || !has_name(rt, &file, unfinished) {
+        return Err(refused(ErrorKind::ResourceBusy, IN_USE));
+    }
+    match file.set_len(0) {
+        Ok(()) => Ok(file),
+        Err(error) => Err(not_made(error)),
+    }
+}
+
+/// A new file that is locked as long as it is open, where the file system has locks.
+fn locked(file: File) -> Result<File, Failure> {
+    match file.try_lock() {
+        Err(fs::TryLockError::WouldBlock) => Err(refused(ErrorKind::ResourceBusy, IN_USE)),
+        _ => Ok(file),
+    }
+}
+
+/// An empty file beside this name, and the name that it has until it is finished.
+fn beside<'a, R: Files<File = File>>(
+    rt: &R,
+    room: &'a mut [u8; LONGEST_NAME],
+    name: &str,
+) -> Result<(File, &'a str), Failure> {
+    may_be_replaced(rt, name)?;
+    let unfinished = unfinished_name(room, name)?;
+    let file = match File::create_new(rt, unfinished) {
+        Ok(file) => locked(file)?,
+        Err(error) if error.kind() == ErrorKind::AlreadyExists => taken_over(rt, unfinished)?,
+        Err(error) => return Err(not_made(error)),
+    };
+    Ok((file, unfinished))
+}
+
+/// Writes the bytes to an unfinished file, and then renames it.
+fn fill<R: Files>(
+    rt: &R,
+    mut file: File,
+    unfinished: &str,
+    name: &str,
+    bytes: &[u8],
+) -> Result<(), Failure> {
+    put_all(&mut file, bytes)?;
+    named(rt, unfinished, name)
+}
+
+/// Makes a file of the bytes beside its name, which is no link's.
+fn make_beside<R: Files<File = File>>(rt: &R, name: &str, bytes: &[u8]) -> Result<(), Failure> {
+    let mut room = [0; LONGEST_NAME];
+    let (file, unfinished) = beside(rt, &mut room, name)?;
+    removed_where_failed(rt, unfinished, fill(rt, file, unfinished, name, bytes))
+}
+
+/// Makes a file of the bytes, so that whoever finds its name finds all bytes; a link stays, and what it leads to is made. A device or a pipe
+/// takes them in place. Memory is asked for where links are followed.
+pub(crate) fn make<R: Files<File = File> + Alloc>(
+    rt: &R,
+    name: &str,
+    bytes: &[u8],
+) -> Result<(), Trouble> {
+    let done = if is_device(rt, name) {
+        make_in_place(rt, name, bytes)
+    } else if is_link(rt, name) {
+        let end = end_of(rt, name)?;
+        make_beside(rt, end.as_str(), bytes)
+    } else {
+        make_beside(rt, name, bytes)
+    };
+    match done {
+        Ok(()) => Ok(()),
+        Err(failure) => Err(Trouble::Device(failure)),
+    }
+}
+
+/// A file that is made in pieces. Until it is finished it has a name of its own.
+#[derive(Drop)]
+pub(crate) struct Making {
+    file: File,
+    name: String,
+    unfinished: String,
+}
+
+/// Begins a file beside its name, which is no link's.
+fn begun_beside<R: Files<File = File>>(
+    rt: &R,
+    alloc: Global,
+    name: &str,
+) -> Result<Making, Trouble> {
+    let own = String::from_str(alloc, name)?;
+    let mut room = [0; LONGEST_NAME];
+    let (file, unfinished) = match beside(rt, &mut room, name) {
+        Ok(begun) => begun,
+        Err(failure) => return Err(Trouble::Device(failure)),
+    };
+    match String::from_str(alloc, unfinished) {
+        Ok(unfinished) => Ok(Making {
+            file,
+            name: own,
+            unfinished,
+        }),
+        Err(_) => {
+            let _ = fs::remove_file(rt, unfinished);
+            Err(Trouble::Memory)
+        }
+    }
+}
+
+/// Begins a file beside its name, or beside the name that a link leads to; none where it is a device or a pipe, which is written in place.
+pub(crate) fn begun<R: Files<File = File> + Alloc>(
+    rt: &R,
+    alloc: Global,
+    name: &str,
+) -> Result<Option<Making>, Trouble> {
+    if is_device(rt, name) {
+        return Ok(None);
+    }
+    if is_link(rt, name) {
+        let end = end_of(rt, name)?;
+        return Ok(Some(begun_beside(rt, alloc, end.as_str())?));
+    }
+    Ok(Some(begun_beside(rt, alloc, name)?))
+}
+
+impl Making {
+    /// Puts bytes at the end. Where that fails the file is removed.
+    pub(crate) fn add<R: Files>(&mut self, rt: &R, bytes: &[u8]) -> Result<(), Failure> {
+        let done = put_all(&mut self.file, bytes);
+        removed_where_failed(rt, self.unfinished.as_str(), done)
+    }
+
+    /// Renames the file to its name. If that fails it is removed.
+    pub(crate) fn finish<R: Files>(self, rt: &R) -> Result<(), Failure> {
+        let unfinished = self.unfinished.as_str();
+        let done = named(rt, unfinished, self.name.as_str());
+        removed_where_failed(rt, unfinished, done)
+    }
+
+    /// Removes the file.
+    pub(crate) fn give_up<R: Files>(self, rt: &R) {
+        let _ = fs::remove_file(rt, self.unfinished.as_str());
+    }
+}
