@@ -12,6 +12,7 @@ use semantics::{Call, Caller, CellRef, JournalFull, Reply};
 impl Shard {
     /// Makes the call for a caller that may make it: one step of the one-thread shard, and one entry with its reply. Takes no
     /// memory. Refused where the journal is full for the call, which it never is for a Leave; then nothing is changed.
+    #[inline(always)]
     pub fn apply(&mut self, who: Caller, call: &Call) -> Result<Reply, JournalFull>
         requires { Meets self.old.plan (reverse self.old.journal) who call.now }
         ensures replied { IfOk result (λ reply. reply ≡ sequential_reply self.old call.now) }

@@ -71,6 +71,7 @@ impl<'a> PlainPort<'a> {
 
     /// Makes a run's call, at the shard that the call names: entered before, if the worker is not inside. Refused where the
     /// shard's journal is full for the Enter or for the call.
+    #[inline(always)]
     fn ask(&mut self, call: &Call) -> Result<Reply, JournalFull>
         requires may { IsTrue (may_ask_at self.old.worker (slice_get self.old.shards.now (shard_of_call call.now)) call.now) }
         requires sets_bytes { SetsBytes call.now }
@@ -270,6 +271,7 @@ fn enter(shard: &mut Shard, worker: u8) -> Result<(), JournalFull>
 
 /// Makes the call for the worker, which enters first if it is not inside. Refused where the journal is full for the Enter or
 /// for the call; it may have entered then.
+#[inline(always)]
 fn ask(shard: &mut Shard, worker: u8, call: &Call) -> Result<Reply, JournalFull>
     requires { IsTrue (may_ask worker shard.old call.now) }
     ensures answered { IfOk result (λ reply. IsAnswered worker shard.old call.now reply shard.new) }
@@ -284,6 +286,7 @@ fn ask(shard: &mut Shard, worker: u8, call: &Call) -> Result<Reply, JournalFull>
 }
 
 /// Makes the call for the worker at the shard that the call names. Refused as at one shard, with the shard's number.
+#[inline(always)]
 fn ask_at(shards: &mut PlainShards, worker: u8, call: &Call) -> Result<Reply, JournalFull>
     requires { IsTrue (may_ask_at worker (slice_get shards.old (shard_of_call call.now)) call.now) }
     ensures answered { IfOk result (λ reply. IsAnsweredAmong worker shards.old call.now reply shards.new) }
