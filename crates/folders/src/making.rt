@@ -1,6 +1,6 @@
 //! Files that get their name when all of their bytes are there.
 //!
-//! A file is made beside its name (`NAME.unfinished`) and then renamed, so whoever finds the name finds all bytes. A command that is ended
+//! A file is made beside its name (`NAME.unfinished`) and then renamed, so a file of that name has all bytes. A command that is ended
 //! leaves the unfinished file; the next one that makes a file of this name takes it over, unless the other one still runs: a lock on the
 //! open file, which ends with its command, says so. Devices, pipes and the standard output alone are written in place.
 
@@ -228,7 +228,7 @@ fn make_beside<R: Files<File = File>>(rt: &R, name: &str, bytes: &[u8]) -> Resul
     removed_where_failed(rt, unfinished, fill(rt, file, unfinished, name, bytes))
 }
 
-/// Makes a file of the bytes, so that whoever finds its name finds all bytes; a link stays, and what it leads to is made. A device or a pipe
+/// Makes a file of the bytes, so that a file of its name has all bytes; a link stays, and what it leads to is made. A device or a pipe
 /// takes them in place. Memory is asked for where links are followed.
 pub(crate) fn make<R: Files<File = File> + Alloc>(
     rt: &R,

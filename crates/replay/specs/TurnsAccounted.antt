@@ -1,5 +1,5 @@
--- A replay on one thread is accounted for as one on threads is: there is one order of all deeds, which the turns make one after the other,
--- and each caller has its part of it.
+-- A replay on one thread is accounted for as one on threads is: there is one order of all deeds, and each caller has its part of it. That
+-- this order is the turns' own is not said.
 use Rattle.std.specs.Prelude.{List}
 use Rattle.wire.specs.declared.records.Sent.{Sent}
 use Rattle.semantics.specs.declared.options.Options.{Options}

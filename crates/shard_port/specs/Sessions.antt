@@ -84,7 +84,7 @@ LeavesOthersAlone =
     (worker other number : ℕ) (shard : JournaledShard) (exchanges : List Exchange) → IsFalse (worker == other) →
     is_in other (with_entries shard (session worker shard.plan.number (entries_at worker number exchanges))) ≡ is_in other shard
 
--- shards that were opened are those of the maps, and stay that by every call that sets bytes, whoever makes it
+-- shards that were opened are those of the maps, and stay that by every call that sets bytes, of any caller
 abbrev pub OpenedServe : Type 0
 OpenedServe = (maps : List MapDef) (options : Options) (shards : List JournaledShard) → AreOpened maps options shards →
     ServesMaps maps options shards

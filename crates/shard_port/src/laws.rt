@@ -42,7 +42,7 @@ pub fn opened_are_outside()
     ensures { OpenedAreOutside }
 {}
 
-/// Shards of the maps stay that by every call that sets bytes, whoever makes it.
+/// Shards of the maps stay that by every call that sets bytes, of any caller.
 pub fn calls_keep_serving()
     ensures { CallsKeepServing }
 {}

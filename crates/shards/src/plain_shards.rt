@@ -81,7 +81,7 @@ impl PlainShards {
         &mut self.shards[number as usize]
     }
 
-    /// The shards by their numbers, for whoever has them shared.
+    /// The shards by their numbers, for a caller that shares them.
     pub fn into_list(self) -> Vec<Shard>
         ensures { result.items ≡ self }
     {

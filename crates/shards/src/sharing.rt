@@ -3,22 +3,21 @@
 //! # One word a shard
 //!
 //! A shard is in the slot of an atomic table with one word that is used. The word is four times the number of the journal's entries, plus
-//! the *phase* of the lock: 0 free, 1 taken, 2 taken while others may sleep, 3 closed for good. Whoever takes the lock takes the shard out
-//! of its slot: from then on it is plain memory, which only that caller reads and writes. Whoever gives the shard back puts the new length
-//! into the word in the same step.
+//! the *phase* of the lock: 0 free, 1 taken, 2 taken while others may sleep, 3 closed for good. A caller that takes the lock takes the shard out
+//! of its slot: from then on it is plain memory, which only that caller reads and writes. A caller that gives the shard back puts the new
+//! length into the word in the same step.
 //!
 //! A call is three steps (`lock`):
 //!
 //! - *Take*: read the word; if the phase is 0, a compare-exchange makes it 1. Where it is not, or another was faster: look again, or
-//! *wait*.
+//!   *wait*.
 //! - The call itself, on plain memory, without an atomic step.
 //! - *Give*: one swap writes four times the new length. If the word found had phase 2, one sleeper is woken.
 //!
-//! Whoever finds the phase other than 0 looks a dozen times more, with longer and longer pauses, since a call has the shard for some 50 ns;
-//! then it
-//! *waits*. To *wait* is to *mark* the word, a compare-exchange from phase 1 to phase 2, and then to sleep until the word changes. Who has
+//! A caller that finds the phase other than 0 looks a dozen times more, with longer and longer pauses, since a call has the shard for some
+//! 50 ns; then it *waits*. To *wait* is to *mark* the word, a compare-exchange from phase 1 to phase 2, and then to sleep until the word changes. A caller that
 //! waited takes the lock with phase 2 and not 1: others may still sleep, and its give wakes the next of them. So a wake is never lost:
-//! whoever sleeps has seen phase 2, and each give that finds phase 2 wakes one.
+//! each sleeper has seen phase 2, and each give that finds phase 2 wakes one.
 //!
 //! An Enter and the call behind it are made under one hold (`enter_then`), and one swap counts both: a give may bring any number of
 //! entries, if one caller made them all.
