@@ -15,9 +15,9 @@
 //! - *Give*: one swap writes four times the new length. If the word found had phase 2, one sleeper is woken.
 //!
 //! A caller that finds the phase other than 0 looks a dozen times more, with longer and longer pauses, since a call has the shard for some
-//! 50 ns; then it *waits*. To *wait* is to *mark* the word, a compare-exchange from phase 1 to phase 2, and then to sleep until the word changes. A caller that
-//! waited takes the lock with phase 2 and not 1: others may still sleep, and its give wakes the next of them. So a wake is never lost:
-//! each sleeper has seen phase 2, and each give that finds phase 2 wakes one.
+//! 50 ns; then it *waits*. To *wait* is to *mark* the word, a compare-exchange from phase 1 to phase 2, and then to sleep until the word
+//! changes. A caller that waited takes the lock with phase 2 and not 1: others may still sleep, and its give wakes the next of them. So a
+//! wake is never lost: each sleeper has seen phase 2, and each give that finds phase 2 wakes one.
 //!
 //! An Enter and the call behind it are made under one hold (`enter_then`), and one swap counts both: a give may bring any number of
 //! entries, if one caller made them all.
