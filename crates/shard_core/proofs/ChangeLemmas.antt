@@ -1,5 +1,5 @@
 -- What an Update and a Delete ask of cells and keys, and leave of them.
-use Rattle.std.proofs.Common.{◌≡◌, ◌≢◌, ◌⊎◌, ℕ, zero, suc, ◌+◌, ◌*◌, ◌/◌, ◌%◌, ◌<◌, ◌≤◌, Bool, true, false, cond, not, nat_le, ℤ, pos, negsuc, List, [], ◌∷◌, length, Option, Some, None, arith, refl, sym, ◌∙◌, ap, subst, inl, inr}
+use Rattle.std.proofs.Common.{◌≡◌, ◌≢◌, ◌⊎◌, ℕ, zero, suc, ◌+◌, ◌*◌, ◌/◌, ◌%◌, ◌<◌, ◌≤◌, Bool, true, false, cond, not, nat_lt, nat_le, ℤ, pos, negsuc, List, [], ◌∷◌, length, Option, Some, None, arith, refl, sym, ◌∙◌, ap, subst, inl, inr}
 use Rattle.std.specs.Prelude.{◌==◌, ◌&&◌, IsTrue, is_some, filter, find, option_map, bytes_eq, if◌then◌else◌}
 use Rattle.std.specs.List.{AllByRecursion}
 use Rattle.std.proofs.lemmas.Nat.{div-add-mod'}
@@ -381,12 +381,12 @@ deleted_by plan history cells cells_after keys keys_after key keyed legal conten
     (fits_removed keys keys_after plan key removed contents.fits)
     (keys_removed keys keys_after history (shard_after plan history).present key by.0 by.1 (keys_differ plan history legal) (apart_after plan history).present removed contents.has))
 
-pub contents_deleted : (plan : ShardPlan) (entry : Entry) (history : List Entry) (cells cells_after : CellTable) (keys keys_after : KeyTable) (readers : ReaderEpochs) (number : ℕ) (key : List ℕ) (code : ℤ) → IsNoUse entry → IsLegalHistory plan history
+pub contents_deleted : (plan : ShardPlan) (entry : Entry) (history : List Entry) (cells cells_after : CellTable) (keys keys_after : KeyTable) (readers readers_after : ReaderEpochs) (number : ℕ) (key : List ℕ) (code : ℤ) → IsNoUse entry → IsLegalHistory plan history
     → IsContents plan (epoch_at plan history) history (shard_after plan history) cells keys → readers ≡ readers_of plan history → code ≡ delete_answer plan (shard_after plan history) key
     → ((cell : ℕ) → code ≡ pos 0 → cell_in keys key ≡ Some cell → cells_after ≡ with_retired cells cell readers.present) → (code ≡ pos 0 → IsRemoved key keys keys_after)
-    → (code ≢ pos 0 → (cells_after ≡ cells) × (keys_after ≡ keys))
+    → (code ≢ pos 0 → (cells_after ≡ cells) × (keys_after ≡ keys) × (readers_after ≡ readers))
     → IsContents plan (epoch_at plan history) (entry ∷ history) (shard_after_call plan history (shard_after plan history) (Delete number key)) cells_after keys_after
-contents_deleted plan entry history cells cells_after keys keys_after readers number key code no_use legal contents are answered retired removed refused = by_answer (zero_or_other code)
+contents_deleted plan entry history cells cells_after keys keys_after readers readers_after number key code no_use legal contents are answered retired removed refused = by_answer (zero_or_other code)
   where
     by_answer : (code ≡ pos 0) ⊎ (code ≢ pos 0) → IsContents plan (epoch_at plan history) (entry ∷ history) (shard_after_call plan history (shard_after plan history) (Delete number key)) cells_after keys_after
     by_answer (inl is_zero) =

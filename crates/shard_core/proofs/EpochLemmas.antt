@@ -21,7 +21,7 @@ use Rattle.semantics.specs.SequentialShard.{SequentialShard, cell_of_key, withou
 use Rattle.semantics.proofs.shared.LawLemmas.{updated_where-keeps, after_eviction-keeps}
 use Rattle.semantics.proofs.shared.HoldingLemmas.{each_weaker}
 use Rattle.semantics.proofs.shared.UseLemmas.{first_parts}
-use Rattle.shard_core.specs.Sections.{ReaderEpochs, epoch_of, retires, one_if, epoch_at, entered_epochs, readers_of}
+use Rattle.shard_core.specs.Sections.{ReaderEpochs, epoch_of, with_next_epoch, retires, one_if, epoch_at, entered_epochs, readers_of}
 use Rattle.shard_core.proofs.FlagLemmas.{KeepsSections}
 use Rattle.shard_core.proofs.StateLemmas.{apart_after}
 
@@ -189,7 +189,8 @@ entered_at_kept worker who call reply older keeps = by_own (is_worker worker who
 
 -- the readers after a call that neither begins nor ends a section
 abbrev pub with_retirement : Bool → ReaderEpochs → ReaderEpochs
-with_retirement goes readers = record readers { present = readers.present + one_if goes }
+with_retirement true readers = with_next_epoch readers
+with_retirement false readers = readers
 
 pub readers_kept : (plan : ShardPlan) (who : Caller) (call : Call) (reply : Reply) (older : List Entry) → KeepsSections call →
     readers_of plan (record { who = who; call = call; reply = reply } ∷ older) ≡ with_retirement (retires plan older call) (readers_of plan older)
@@ -199,7 +200,12 @@ readers_kept plan who call reply older keeps =
     each_same (λ worker. option_map (epoch_at plan (entry ∷ older)) (entered_at worker (entry ∷ older))) (λ worker. option_map (epoch_at plan (entry ∷ older)) (entered_at worker older))
     (λ worker. ap (option_map (epoch_at plan (entry ∷ older))) (entered_at_kept worker who call reply older keeps)) worker_numbers
     ∙ entered_epochs_before plan entry older in
-    rw (present_after plan entry older, same) refl
+    rw (present_after plan entry older, same) (by_goes (retires plan older call))
+  where
+    by_goes : (goes : Bool) → record { present = epoch_at plan older (length older) + one_if goes; epochs = entered_epochs (epoch_at plan older) older } ≡ with_retirement goes (readers_of plan older)
+    by_goes true = refl
+    by_goes false = (let none : epoch_at plan older (length older) + 0 ≡ epoch_at plan older (length older) = omega arith in
+        ap (λ n. record { present = n; epochs = entered_epochs (epoch_at plan older) older }) none)
 
 -- an Enter sets its worker's epoch, a Leave clears it
 entered_begun : (epochs : ℕ → ℕ) (number shard : ℕ) (reply : Reply) (older : List Entry) → number < 8 →
@@ -283,13 +289,11 @@ none_where (Some place) is = cc
 pub outside_by_epoch : (plan : ShardPlan) (worker : ℕ) (history : List Entry) → worker < 8 → is_inside worker history ≡ false → epoch_of (readers_of plan history) worker ≡ None
 outside_by_epoch plan worker history below outside = none_where (epoch_of (readers_of plan history) worker) (inside_by_epoch plan worker history below ∙ outside)
 
-counted : (epochs : ℕ → ℕ) (history : List Entry) (ns : List ℕ) → count_by is_some (map (λ worker. option_map epochs (entered_at worker history)) ns) ≡ count_by (λ worker. is_inside worker history) ns
-counted epochs history [] = refl
-counted epochs history (n ∷ ns) = rw (some_same epochs (entered_at n history)) (rw (counted epochs history ns) refl)
-
 -- how many are inside
 pub inside_count_by_epoch : (plan : ShardPlan) (history : List Entry) → count_by is_some (readers_of plan history).epochs ≡ inside_count history
-inside_count_by_epoch plan history = counted (epoch_at plan history) history worker_numbers
+inside_count_by_epoch plan history =
+    let same : (worker : ℕ) → is_some (option_map (epoch_at plan history) (entered_at worker history)) ≡ is_inside worker history = λ worker. some_same (epoch_at plan history) (entered_at worker history) in
+    rw (same 0, same 1, same 2, same 3, same 4, same 5, same 6, same 7) refl
 
 -- ---- what was retired before the floor
 

@@ -123,11 +123,11 @@ kept_of_one_less Array state place gone id keyed there kept = absurd (keyed refl
 kept_of_one_less Hash state place gone id keyed there kept = kept_of_retired state place gone id there kept
 kept_of_one_less LruHash state place gone id keyed there kept = kept_of_retired state place gone id there kept
 
-balance_of_retired : (kind : MapKind) (plan : ShardPlan) (state : SequentialShard) (cells : CellTable) (place : ℕ) (gone : PresentKey) → (kind ≡ Array → ⊥) → length (filter (λ (one : PresentKey). not (one.cell == gone.cell)) state.present) + 1 ≡ length state.present
-    → IsBalanced kind plan state cells → IsBalanced kind plan (without_key state place gone) (with_retired cells gone.cell place)
-balance_of_retired Array plan state cells place gone keyed fewer balance = absurd (keyed refl)
-balance_of_retired Hash plan state cells place gone keyed fewer balance = (balance.0, omega (arith, balance.1, fewer))
-balance_of_retired LruHash plan state cells place gone keyed fewer balance = (balance.0, omega (arith, balance.1, fewer))
+balance_of_retired : (kind : MapKind) (plan : ShardPlan) (state : SequentialShard) (cells : CellTable) (place stamp : ℕ) (gone : PresentKey) → (kind ≡ Array → ⊥) → length (filter (λ (one : PresentKey). not (one.cell == gone.cell)) state.present) + 1 ≡ length state.present
+    → IsBalanced kind plan state cells → IsBalanced kind plan (without_key state place gone) (with_retired cells gone.cell stamp)
+balance_of_retired Array plan state cells place stamp gone keyed fewer balance = absurd (keyed refl)
+balance_of_retired Hash plan state cells place stamp gone keyed fewer balance = (balance.0, omega (arith, balance.1, fewer))
+balance_of_retired LruHash plan state cells place stamp gone keyed fewer balance = (balance.0, omega (arith, balance.1, fewer))
 
 pub contents_retired : (epochs : ℕ → ℕ) (plan : ShardPlan) (history : List Entry) (state : SequentialShard) (cells : CellTable) (keys keys_after : KeyTable) (key : List ℕ) (gone : PresentKey) (place : ℕ) → IsKeyed keys
     → find (λ (one : PresentKey). bytes_eq one.key key) state.present ≡ Some gone
@@ -144,7 +144,7 @@ contents_retired epochs plan history state cells keys keys_after key gone place 
           (λ id. kept_of_one_less plan.definition.kind state place gone id kind (found_any key gone state.present found)) contents.mirrored;
       retired = ap (λ all. all ++ (record { id = gone.cell; stamp = epochs place }) ∷ []) contents.retired ∙ sym (oldest_cons epochs (record { cell = gone.cell; since = place }) state.retired);
       id_room = contents.id_room;
-      balance = balance_of_retired plan.definition.kind plan state cells place gone kind left.count contents.balance;
+      balance = balance_of_retired plan.definition.kind plan state cells place (epochs place) gone kind left.count contents.balance;
       fits = fits;
       has = has;
     }

@@ -86,37 +86,21 @@ few_stamps plan journal cells keys readers shard =
 
 -- ---- who enters and who leaves
 
-pub outside_worker : (plan : ShardPlan) (history : List Entry) (who : Caller) (worker : ℕ) → plan.workers ≤ 8 → IsTrue (is_outside_worker plan history who) → Some worker ≡ worker_of who → (worker < 8) × (is_inside worker history ≡ false)
-outside_worker plan history Controller worker few met is = cc
-outside_worker plan history Reclaimer worker few met is = cc
-outside_worker plan history (Worker number) worker few met is =
+pub outside_below : (plan : ShardPlan) (history : List Entry) (who : Caller) (worker : ℕ) → plan.workers ≤ 8 → IsTrue (is_outside_worker plan history who) → Some worker ≡ worker_of who → worker < 8
+outside_below plan history Controller worker few met is = cc
+outside_below plan history Reclaimer worker few met is = cc
+outside_below plan history (Worker number) worker few met is =
     let same : worker ≡ number = cc in
     let known : IsTrue (nat_lt number plan.workers) = first_true (nat_lt number plan.workers) (if is_inside number history then false else true) met in
-    let below : number < 8 = grind (arith, nat_tests) in
-    rw same (below, not_true (is_inside number history) (second_true (nat_lt number plan.workers) (if is_inside number history then false else true) met))
-  where
-    not_true : (test : Bool) → (if test then false else true) ≡ true → test ≡ false
-    not_true true is = cc
-    not_true false is = refl
+    grind (arith, nat_tests)
 
-pub inside_worker : (plan : ShardPlan) (history : List Entry) (who : Caller) (worker : ℕ) → plan.workers ≤ 8 → IsTrue (is_inside_worker plan history who) → Some worker ≡ worker_of who → (worker < 8) × (is_inside worker history ≡ true)
-inside_worker plan history Controller worker few met is = cc
-inside_worker plan history Reclaimer worker few met is = cc
-inside_worker plan history (Worker number) worker few met is =
+pub inside_below : (plan : ShardPlan) (history : List Entry) (who : Caller) (worker : ℕ) → plan.workers ≤ 8 → IsTrue (is_inside_worker plan history who) → Some worker ≡ worker_of who → worker < 8
+inside_below plan history Controller worker few met is = cc
+inside_below plan history Reclaimer worker few met is = cc
+inside_below plan history (Worker number) worker few met is =
     let same : worker ≡ number = cc in
     let known : IsTrue (nat_lt number plan.workers) = first_true (nat_lt number plan.workers) (is_inside number history) met in
-    let below : number < 8 = grind (arith, nat_tests) in
-    rw same (below, second_true (nat_lt number plan.workers) (is_inside number history) met)
-
-pub no_worker_outside : (plan : ShardPlan) (history : List Entry) (who : Caller) → IsTrue (is_outside_worker plan history who) → None ≡ worker_of who → ⊥
-no_worker_outside plan history Controller met is = cc
-no_worker_outside plan history Reclaimer met is = cc
-no_worker_outside plan history (Worker number) met is = cc
-
-pub no_worker_inside : (plan : ShardPlan) (history : List Entry) (who : Caller) → IsTrue (is_inside_worker plan history who) → None ≡ worker_of who → ⊥
-no_worker_inside plan history Controller met is = cc
-no_worker_inside plan history Reclaimer met is = cc
-no_worker_inside plan history (Worker number) met is = cc
+    grind (arith, nat_tests)
 
 pub entered_readers : (plan : ShardPlan) (history : List Entry) (who : Caller) (worker shard : ℕ) (readers : ReaderEpochs) → Some worker ≡ worker_of who → worker < 8 → readers ≡ readers_of plan history →
     record readers { epochs = slice_set readers.epochs worker (Some readers.present) } ≡ readers_of plan (record { who = who; call = Enter shard; reply = Entered } ∷ history)

@@ -42,7 +42,7 @@ invariant_of-self c =
       met = met;
       has_room = has_room;
       replied = ap Answer (rw (← c.self.view_is) at c.delete_answer-code.ensures);
-      contents = contents_deleted inside.plan _ (reverse inside.journal.entries) inside.cells c.retire_key.new.cells inside.keys c.retire_key.new.keys inside.readers inside.plan.number c.args.key.now c.delete_answer-code.result
+      contents = contents_deleted inside.plan _ (reverse inside.journal.entries) inside.cells c.retire_key.new.cells inside.keys c.retire_key.new.keys inside.readers c.retire_key.new.readers inside.plan.number c.args.key.now c.delete_answer-code.result
           (λ q. refl) c.self.invariant.legal c.self.invariant.contents c.self.invariant.readers_are (rw (← c.self.view_is) at c.delete_answer-code.ensures) (rw same at c.retire_key.ensures.cells) (rw same at c.retire_key.ensures.keys) (rw same at c.retire_key.ensures.refused);
       readers = readers_deleted inside.plan (reverse inside.journal.entries) inside.cells c.retire_key.new.cells inside.keys c.retire_key.new.keys inside.readers c.retire_key.new.readers inside.plan.number c.args.key.now c.delete_answer-code.result
           c.self.invariant.contents c.self.invariant.readers_are (rw (← c.self.view_is) at c.delete_answer-code.ensures) (rw same at c.retire_key.ensures.readers) (rw same at c.retire_key.ensures.refused);
