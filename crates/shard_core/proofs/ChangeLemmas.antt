@@ -424,8 +424,11 @@ contents_reclaimed plan entry history cells keys number floor none contents is =
 
 -- ---- the present epoch after an Update and a Delete
 
-retired_later : (count : ℕ) → nat_lt count count ≡ false
-retired_later count = le-ltb count count (omega arith)
+as_many_retired : (count : ℕ) → nat_lt count count ≡ false
+as_many_retired count = le-ltb count count (omega arith)
+
+one_more_retired : (count : ℕ) → nat_lt count (suc count) ≡ true
+one_more_retired count = lt-ltb count (suc count) (omega arith)
 
 -- an Update that is answered 0 retires a cell exactly where a key goes for the new one
 put_retires : (plan : ShardPlan) (history : List Entry) (cells cells_after : CellTable) (keys keys_after : KeyTable) (readers_after : ReaderEpochs) (key value : List ℕ) (flags : ℕ) (found : Option ℕ) → IsPlan plan
@@ -433,12 +436,12 @@ put_retires : (plan : ShardPlan) (history : List Entry) (cells cells_after : Cel
     → cell_in keys key ≡ found → IsPut found key value cells keys (readers_of plan history) cells_after keys_after readers_after
     → readers_after ≡ with_retirement (nat_lt (length (shard_after plan history).retired) (length (with_value plan history (shard_after plan history) key value found).retired)) (readers_of plan history)
 put_retires plan history cells cells_after keys keys_after readers_after key value flags (Some cell) is contents done found put =
-    put.2 ∙ rw (retired_later (length (shard_after plan history).retired)) refl
+    put.2 ∙ rw (as_many_retired (length (shard_after plan history).retired)) refl
 put_retires plan history cells cells_after (Indices indices) keys_after readers_after key value flags None is contents done found put = absurd put.1
 put_retires plan history cells cells_after (Hashed table) keys_after readers_after key value flags None is contents done found put =
     let absent : cell_of_key plan (shard_after plan history) key ≡ None = sym (cell_in_is (Hashed table) plan history (shard_after plan history) key contents.fits contents.has) ∙ found in
     let tests = hash_zero plan (shard_after plan history) (update_flags_of flags) contents.fits.0 (sym (absent_answer Hash plan (shard_after plan history) key flags contents.fits.0 absent) ∙ done) in
-    put.2 ∙ rw (not_full plan history (shard_after plan history) tests.0) (rw (retired_later (length (shard_after plan history).retired)) refl)
+    put.2 ∙ rw (not_full plan history (shard_after plan history) tests.0) (rw (as_many_retired (length (shard_after plan history).retired)) refl)
 put_retires plan history cells cells_after (Recent table) keys_after readers_after key value flags None is contents done found put = by_full (is_full_of table) refl
   where
     full_is : is_full_of_keys plan (shard_after plan history) ≡ is_full_of table
@@ -448,14 +451,15 @@ put_retires plan history cells cells_after (Recent table) keys_after readers_aft
         → readers_after ≡ with_retirement (nat_lt (length (shard_after plan history).retired) (length (with_value plan history (shard_after plan history) key value None).retired)) (readers_of plan history)
     by_full false not_yet =
         let none : victim_cell (Recent table) ≡ None = rw not_yet refl in
-        put.2 ∙ rw (none, not_full plan history (shard_after plan history) (full_is ∙ not_yet)) (rw (retired_later (length (shard_after plan history).retired)) refl)
+        put.2 ∙ rw (none, not_full plan history (shard_after plan history) (full_is ∙ not_yet)) (rw (as_many_retired (length (shard_after plan history).retired)) refl)
     by_full true full =
         let long : capacity plan ≤ length table.entries = (let test : nat_le table.capacity (length table.entries) ≡ true = full in let fits = contents.fits.2 in grind (arith, nat_tests)) in
         let last = some_last table.entries (let some : 0 < capacity plan = some_capacity plan is in omega (arith, some, long)) in
         let least : least_recently_used history (shard_after plan history).present ≡ Some (of_last last.0 last.1) = victim_is_least history (shard_after plan history).present table.entries contents.has last.0 last.1 last.2 in
         let goes : victim_cell (Recent table) ≡ Some last.1 = rw (full, last.2) refl in
-        put.2 ∙ rw (goes, evicted_is plan history (shard_after plan history) (of_last last.0 last.1) (full_is ∙ full) least)
-        (rw (lt-ltb (length (shard_after plan history).retired) (suc (length (shard_after plan history).retired)) (omega arith)) refl)
+        let longer : nat_lt (length (shard_after plan history).retired) (length (with_value plan history (shard_after plan history) key value None).retired) ≡ true =
+        rw (evicted_is plan history (shard_after plan history) (of_last last.0 last.1) (full_is ∙ full) least) (one_more_retired (length (shard_after plan history).retired)) in
+        put.2 ∙ ap (λ victim. with_epoch_after victim (readers_of plan history)) goes ∙ ap (λ goes. with_retirement goes (readers_of plan history)) (sym longer)
 
 pub readers_updated : (plan : ShardPlan) (history : List Entry) (cells cells_after : CellTable) (keys keys_after : KeyTable) (readers readers_after : ReaderEpochs) (number : ℕ) (key value : List ℕ) (flags : ℕ) (code : ℤ) → IsPlan plan
     → IsContents plan (epoch_at plan history) history (shard_after plan history) cells keys → readers ≡ readers_of plan history → code ≡ update_answer plan (shard_after plan history) key flags
@@ -476,7 +480,7 @@ readers_updated plan history cells cells_after keys keys_after readers readers_a
         let other : update_answer plan (shard_after plan history) key flags ≢ pos 0 = λ same. other_than (answered ∙ same) in
         (refused other_than).2 ∙ are
         ∙ rw (none_left (update_answer plan (shard_after plan history) key flags) (with_value plan history (shard_after plan history) key value (cell_of_key plan (shard_after plan history) key)) (shard_after plan history) other)
-        (rw (retired_later (length (shard_after plan history).retired)) refl)
+        (rw (as_many_retired (length (shard_after plan history).retired)) refl)
 
 pub readers_deleted : (plan : ShardPlan) (history : List Entry) (cells cells_after : CellTable) (keys keys_after : KeyTable) (readers readers_after : ReaderEpochs) (number : ℕ) (key : List ℕ) (code : ℤ)
     → IsContents plan (epoch_at plan history) history (shard_after plan history) cells keys → readers ≡ readers_of plan history → code ≡ delete_answer plan (shard_after plan history) key
@@ -489,9 +493,9 @@ readers_deleted plan history cells cells_after keys keys_after readers readers_a
         let zero_answer : delete_answer plan (shard_after plan history) key ≡ pos 0 = sym answered ∙ is_zero in
         let by = gone_by plan history cells keys key (deleted_keyed plan history cells keys key code contents answered is_zero) contents zero_answer in
         ended is_zero ∙ ap (with_epoch_after (cell_in keys key)) are ∙ rw (zero_answer, by.1, by.2)
-        (rw (lt-ltb (length (shard_after plan history).retired) (suc (length (shard_after plan history).retired)) (omega arith)) refl)
+        (rw (one_more_retired (length (shard_after plan history).retired)) refl)
     by_answer (inr other_than) =
         let other : delete_answer plan (shard_after plan history) key ≢ pos 0 = λ same. other_than (answered ∙ same) in
         (refused other_than).2 ∙ are
         ∙ rw (none_left (delete_answer plan (shard_after plan history) key) (without_found (shard_after plan history) (length history) (present_key (shard_after plan history) key)) (shard_after plan history) other)
-        (rw (retired_later (length (shard_after plan history).retired)) refl)
+        (rw (as_many_retired (length (shard_after plan history).retired)) refl)

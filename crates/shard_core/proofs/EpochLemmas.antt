@@ -1,6 +1,6 @@
 -- How the epochs of places, and of those who are inside, follow the journal, and what they say of retired cells.
-use Rattle.std.proofs.Common.{◌≡◌, ℕ, zero, suc, ◌+◌, ◌<◌, ◌≤◌, Bool, true, false, not, ◌&&◌, nat_lt, List, [], ◌∷◌, length, map, filter, get_or, set, Option, Some, None, arith, refl, sym, ◌∙◌, ap}
-use Rattle.std.specs.Prelude.{◌==◌, count_by, is_some, option_map, bytes_eq, if◌then◌else◌}
+use Rattle.std.proofs.Common.{◌≡◌, ℕ, zero, suc, ◌+◌, ◌<◌, ◌≤◌, Bool, true, false, not, ◌&&◌, nat_lt, List, [], ◌∷◌, length, map, get_or, set, Option, Some, None, arith, refl, sym, ◌∙◌, ap}
+use Rattle.std.specs.Prelude.{count_by, is_some, option_map, if◌then◌else◌}
 use Rattle.std.specs.List.{list_all, AllByRecursion}
 use Rattle.std.proofs.lemmas.Bool.{lt-ltb, ltb-true, le-ltb, ltb-false}
 use Rattle.std.proofs.lemmas.List.Folds.{list_all-map}
@@ -17,7 +17,7 @@ use Rattle.semantics.specs.declared.plan.PresentKey.{PresentKey}
 use Rattle.semantics.specs.declared.plan.RetiredCell.{RetiredCell}
 use Rattle.semantics.specs.Sections.{section_change}
 use Rattle.semantics.specs.Reclamation.{is_worker, entered_where, entered_by, entered_at, is_inside, worker_numbers, inside_count, began_after, is_reclaimable}
-use Rattle.semantics.specs.SequentialShard.{SequentialShard, cell_of_key, without_found, after_eviction, with_new_key, with_value, update_answer, delete_answer, present_key, shard_after_call, shard_after}
+use Rattle.semantics.specs.SequentialShard.{SequentialShard, cell_of_key, without_found, with_new_key, with_value, update_answer, delete_answer, present_key, shard_after_call, shard_after}
 use Rattle.semantics.proofs.shared.LawLemmas.{updated_where-keeps, after_eviction-keeps}
 use Rattle.semantics.proofs.shared.HoldingLemmas.{each_weaker}
 use Rattle.semantics.proofs.shared.UseLemmas.{first_parts}

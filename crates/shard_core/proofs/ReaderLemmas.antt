@@ -1,5 +1,5 @@
 -- What the counts of a book say of the workers inside: that there is room for one more, and which of them entered after a stamp.
-use Rattle.std.proofs.Common.{◌≡◌, ℕ, ◌+◌, ◌-◌, ◌<◌, ◌≤◌, Bool, true, false, true≢false, cond, ◌&&◌, nat_lt, List, [], ◌∷◌, length, get_or, set, eq-eqb, Option, Some, None, arith, refl, sym, ◌∙◌, ap, inl, inr}
+use Rattle.std.proofs.Common.{◌≡◌, ℕ, ◌+◌, ◌<◌, Bool, true, cond, nat_lt, List, [], ◌∷◌, length, get_or, set, eq-eqb, Option, Some, None, arith, refl, sym, ◌∙◌, ap, inl, inr}
 use Rattle.std.specs.Prelude.{◌==◌, ◌↔◌, count_by, is_some}
 use Rattle.std.specs.List.{list_all}
 use Rattle.std.proofs.lemmas.Bool.{cases_Bool, cases_lt, eqb-true, lt-ltb, le-ltb, ltb-true}
@@ -7,7 +7,7 @@ use Rattle.std.proofs.lemmas.List.{length-set}
 use Rattle.std.proofs.lemmas.List.Sums.{sum_by-set, sum_by-cons, count_by-le-length}
 use Rattle.semantics.specs.Reclamation.{began_after}
 use Rattle.semantics.proofs.shared.ConditionLemmas.{first_true, second_true}
-use Rattle.epochs.specs.EpochCounts.{EpochCounts, runs_in, run_count, one_at, AllEnteredAfter}
+use Rattle.epochs.specs.EpochCounts.{EpochCounts, run_count, AllEnteredAfter}
 use Rattle.shard_core.specs.Sections.{is_of_epoch, one_if, IsCounted}
 
 -- with a worker outside there is room for a run more

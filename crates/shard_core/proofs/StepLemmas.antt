@@ -1,5 +1,5 @@
 -- What one step leaves of a shard.
-use Rattle.std.proofs.Common.{◌≡◌, ℕ, ◌*◌, ◌<◌, ◌≤◌, ◌^◌, Bool, true, false, not, nat_lt, List, [], ◌∷◌, ◌++◌, length, reverse, map, filter, take, drop, Some, None, arith, refl, sym, ◌∙◌, ap, subst}
+use Rattle.std.proofs.Common.{◌≡◌, ℕ, ◌*◌, ◌<◌, ◌≤◌, ◌^◌, true, false, not, nat_lt, List, [], ◌∷◌, ◌++◌, length, reverse, map, filter, take, drop, Some, None, arith, refl, sym, ◌∙◌, ap, subst}
 use Rattle.std.specs.Prelude.{IsTrue, IsFalse, is_some, slice_set, if◌then◌else◌}
 use Rattle.std.specs.List.{AllByRecursion}
 use Rattle.std.proofs.lemmas.Bool.{le-ltb}
@@ -24,7 +24,7 @@ use Rattle.semantics.specs.SequentialShard.{SequentialShard, cell_bytes, number_
 use Rattle.semantics.specs.Cells.{worker_of}
 use Rattle.semantics.specs.Reclamation.{is_inside, is_reclaimable}
 use Rattle.semantics.specs.History.{is_outside_worker, is_inside_worker, meets, journal_is_full, IsLegalHistory}
-use Rattle.semantics.proofs.shared.ConditionLemmas.{first_true, second_true}
+use Rattle.semantics.proofs.shared.ConditionLemmas.{first_true}
 use Rattle.semantics.proofs.shared.HoldingLemmas.{each_weaker}
 use Rattle.journal.specs.Journaled.{Journaled, with_entry}
 use Rattle.map_cells.specs.CellTable.{CellTable, cell_at, bytes_of_cell, number_at, with_number}

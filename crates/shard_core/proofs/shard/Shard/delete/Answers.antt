@@ -1,11 +1,10 @@
-use Rattle.std.proofs.Common.{reverse, length, refl, sym, ◌∙◌, ap, ◌≡◌, w32, rules}
+use Rattle.std.proofs.Common.{reverse, refl, sym, ◌∙◌, ap, ◌≡◌, w32, rules}
 use mir.Val.{to_z, of_z, SFits}
 use Rattle.std.proofs.lemmas.Int.{to_z-of_z}
 use Rattle.std.specs.Prelude.{IsTrue, IsFalse}
 use Rattle.semantics.specs.declared.call.Call.TheVariants.{Delete}
 use Rattle.semantics.specs.declared.call.Reply.TheVariants.{Answer}
 use Rattle.semantics.specs.History.{meets, journal_is_full}
-use Rattle.std.proofs.lemmas.List.{length-reverse}
 use Rattle.journal.specs.Entries.{delete_entry}
 use Rattle.shard_core.proofs.ChangeLemmas.{can_retire, deleted_keyed, contents_deleted, readers_deleted}
 use Rattle.shard_core.proofs.StepLemmas.{step_taken, few_stamps}

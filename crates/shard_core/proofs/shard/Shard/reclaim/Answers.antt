@@ -1,4 +1,4 @@
-use Rattle.std.proofs.Common.{reverse, refl, sym, ◌∙◌, ap, ◌≡◌, subst}
+use Rattle.std.proofs.Common.{reverse, refl, sym, ◌∙◌, ap, subst}
 use Rattle.std.specs.Prelude.{IsTrue, IsFalse}
 use Rattle.semantics.specs.declared.call.Call.TheVariants.{Reclaim}
 use Rattle.semantics.specs.declared.call.Reply.TheVariants.{Freed}
