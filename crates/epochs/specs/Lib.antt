@@ -1,2 +1,1 @@
 pub mod EpochCounts
-pub mod EnterPlaces

@@ -1,7 +1,5 @@
 //! Runs inside, counted by the epoch in which they entered.
 
-ghost use Rattle.std.specs.Prelude.{◌≡◌, ◌<◌, ◌≤◌, ◌+◌, ◌⊎◌, ◌↔◌, ℕ, length, slice_index_or, sum_by};
-
 /// How many runs are inside that entered in one epoch. A part with no runs is unused.
 #[derive(Clone, Copy, Debug, PartialEq, Eq)]
 pub struct EpochRuns {

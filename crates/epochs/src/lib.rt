@@ -1,12 +1,11 @@
 //! When a retired cell may be freed (epoch-based reclamation): no reader is left that entered before its retirement.
 //!
-//! `places` is what a shard of a map counts its readers by: its journal numbers all events, so an epoch is a place in it, and of each of at
-//! most eight workers the place of its Enter is kept. `EpochBook` is for whoever has no such numbers: it makes stamps itself, and counts
-//! readers by epoch.
+//! An `EpochBook` counts the runs inside a shard by the epoch in which each entered. A retirement ends an epoch, and its stamp is the
+//! epoch that it ends: so a stamp is below the floor, the oldest epoch that has a run inside, exactly where every run inside entered after
+//! that retirement.
 #![tactic(auto)]
 
 pub mod book;
 pub mod counts;
-pub mod places;
 
 pub use book::EpochBook;

@@ -33,8 +33,8 @@ one_more_filled value places ids count =
 
 -- ---- the same cells
 
-pub contents_with : (plan : ShardPlan) (history later : List Entry) (state : SequentialShard) (cells : CellTable) (keys keys_after : KeyTable) → IsContents plan history state cells keys → FitsPlan keys_after plan → HasKeys keys_after later state.present
-    → IsContents plan later state cells keys_after
+pub contents_with : (plan : ShardPlan) {epochs : ℕ → ℕ} (history later : List Entry) (state : SequentialShard) (cells : CellTable) (keys keys_after : KeyTable) → IsContents plan epochs history state cells keys → FitsPlan keys_after plan → HasKeys keys_after later state.present
+    → IsContents plan epochs later state cells keys_after
 contents_with plan history later state cells keys keys_after contents fits has = record {
   sized = contents.sized;
   counted = contents.counted;
@@ -47,13 +47,13 @@ contents_with plan history later state cells keys keys_after contents fits has =
 }
 
 -- after an entry that uses no key
-pub contents_on : (plan : ShardPlan) (entry : Entry) (history : List Entry) (state : SequentialShard) (cells : CellTable) (keys : KeyTable) → IsNoUse entry → IsContents plan history state cells keys → IsContents plan (entry ∷ history) state cells keys
+pub contents_on : (plan : ShardPlan) {epochs : ℕ → ℕ} (entry : Entry) (history : List Entry) (state : SequentialShard) (cells : CellTable) (keys : KeyTable) → IsNoUse entry → IsContents plan epochs history state cells keys → IsContents plan epochs (entry ∷ history) state cells keys
 contents_on plan entry history state cells keys none contents =
     contents_with plan history (entry ∷ history) state cells keys keys contents contents.fits (keys_on keys entry history state.present none contents.has)
 
 -- and after a Lookup
-pub contents_looked : (plan : ShardPlan) (who : Caller) (number : ℕ) (key : List ℕ) (found : Option ℕ) (history : List Entry) (state : SequentialShard) (cells : CellTable) (keys keys_after : KeyTable) → found ≡ cell_in keys key → keys_after ≡ touched_in key keys
-    → (found ≡ None → keys_after ≡ keys) → IsContents plan history state cells keys → IsContents plan (record { who = who; call = Lookup number key; reply = lookup_reply plan found } ∷ history) state cells keys_after
+pub contents_looked : (plan : ShardPlan) {epochs : ℕ → ℕ} (who : Caller) (number : ℕ) (key : List ℕ) (found : Option ℕ) (history : List Entry) (state : SequentialShard) (cells : CellTable) (keys keys_after : KeyTable) → found ≡ cell_in keys key → keys_after ≡ touched_in key keys
+    → (found ≡ None → keys_after ≡ keys) → IsContents plan epochs history state cells keys → IsContents plan epochs (record { who = who; call = Lookup number key; reply = lookup_reply plan found } ∷ history) state cells keys_after
 contents_looked plan who number key None history state cells keys keys_after is touched unchanged contents =
     rw (unchanged refl) (contents_on plan (record { who = who; call = Lookup number key; reply = Null }) history state cells keys (λ q. no_use_by_lookup q key number Null refl) contents)
 contents_looked plan who number key (Some cell) history state cells keys keys_after is touched unchanged contents =
@@ -64,7 +64,7 @@ contents_looked plan who number key (Some cell) history state cells keys keys_af
 
 -- ---- a kept cell is read
 
-pub kept_bytes : (plan : ShardPlan) (history : List Entry) (state : SequentialShard) (cells : CellTable) (keys : KeyTable) (cell : ℕ) → IsContents plan history state cells keys → IsTrue (is_kept plan state cell) → cell_at cells cell ≡ Some (cell_bytes state cell)
+pub kept_bytes : (plan : ShardPlan) {epochs : ℕ → ℕ} (history : List Entry) (state : SequentialShard) (cells : CellTable) (keys : KeyTable) (cell : ℕ) → IsContents plan epochs history state cells keys → IsTrue (is_kept plan state cell) → cell_at cells cell ≡ Some (cell_bytes state cell)
 kept_bytes plan history state cells keys cell contents kept = contents.mirrored cell kept
 
 -- ---- and written
@@ -79,8 +79,8 @@ balance_of_written Array plan state cells cell bytes balance = tt
 balance_of_written Hash plan state cells cell bytes balance = balance
 balance_of_written LruHash plan state cells cell bytes balance = balance
 
-pub contents_written : (plan : ShardPlan) (history later : List Entry) (state : SequentialShard) (cells : CellTable) (keys keys_after : KeyTable) (cell : ℕ) (bytes : List ℕ) → IsTrue (is_kept plan state cell) → IsContents plan history state cells keys
-    → FitsPlan keys_after plan → HasKeys keys_after later state.present → IsContents plan later (with_cell state cell bytes) (with_bytes cells cell bytes) keys_after
+pub contents_written : (plan : ShardPlan) {epochs : ℕ → ℕ} (history later : List Entry) (state : SequentialShard) (cells : CellTable) (keys keys_after : KeyTable) (cell : ℕ) (bytes : List ℕ) → IsTrue (is_kept plan state cell) → IsContents plan epochs history state cells keys
+    → FitsPlan keys_after plan → HasKeys keys_after later state.present → IsContents plan epochs later (with_cell state cell bytes) (with_bytes cells cell bytes) keys_after
 contents_written plan history later state cells keys keys_after cell bytes kept contents fits has =
     let within : cell < length cells.cells = within_table cells.cells cell (cell_bytes state cell) (contents.mirrored cell kept) in
     record {
@@ -117,10 +117,10 @@ balance_of_created Array plan state cells key value keyed free balance = absurd 
 balance_of_created Hash plan state cells key value keyed free balance = (balance.0, omega (arith, free, balance.1))
 balance_of_created LruHash plan state cells key value keyed free balance = (balance.0, omega (arith, free, balance.1))
 
-pub contents_created : (plan : ShardPlan) (entry : Entry) (history : List Entry) (state : SequentialShard) (cells : CellTable) (keys keys_after : KeyTable) (key value : List ℕ) → 0 < cells.free → IsUseOf entry key
+pub contents_created : (plan : ShardPlan) {epochs : ℕ → ℕ} (entry : Entry) (history : List Entry) (state : SequentialShard) (cells : CellTable) (keys keys_after : KeyTable) (key value : List ℕ) → 0 < cells.free → IsUseOf entry key
     → cell_of_present state.present key ≡ None → AllByRecursion (λ (one : PresentKey). length state.cells ≡ one.cell → ⊥) state.present
-    → IsInserted key (length cells.cells) keys keys_after → IsContents plan history state cells keys
-    → IsContents plan (entry ∷ history) (with_new_key state key value) (with_new_cell cells value) keys_after
+    → IsInserted key (length cells.cells) keys keys_after → IsContents plan epochs history state cells keys
+    → IsContents plan epochs (entry ∷ history) (with_new_key state key value) (with_new_cell cells value) keys_after
 contents_created plan entry history state cells keys keys_after key value free used absent other inserted contents =
     let keyed : plan.definition.kind ≡ Array → ⊥ = keyed_kind keys plan (inserted_keyed keys keys_after key (length cells.cells) inserted) contents.fits in
     record {

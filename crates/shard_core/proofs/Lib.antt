@@ -1,6 +1,7 @@
 mod FlagLemmas
 mod RoomLemmas
-mod PlaceLemmas
+mod EpochLemmas
+mod ReaderLemmas
 mod MirrorLemmas
 mod StateLemmas
 mod KeyLemmas

@@ -1,5 +1,5 @@
 -- A shard in which nothing has happened.
-use Rattle.std.proofs.Common.{◌≡◌, ℕ, zero, suc, ◌+◌, ◌<◌, ◌≤◌, nat_lt, List, [], ◌∷◌, length, replicate, get_or, Some, None, arith, refl, sym, ◌∙◌}
+use Rattle.std.proofs.Common.{◌≡◌, ℕ, zero, suc, ◌+◌, ◌<◌, ◌≤◌, nat_lt, List, [], length, replicate, get_or, Some, None, arith, refl, sym, ◌∙◌}
 use Rattle.std.specs.Prelude.{IsTrue}
 use Rattle.std.proofs.lemmas.List.{length-replicate}
 use Rattle.std.proofs.lemmas.Bool.Decides.{nat_tests}
@@ -13,6 +13,7 @@ use Rattle.journal.specs.Journaled.{Journaled, opened_journal}
 use Rattle.map_cells.specs.CellTable.{CellTable}
 use Rattle.shard_core.specs.declared.keys.KeyTable.{KeyTable}
 use Rattle.shard_core.specs.KeyTables.{FitsPlan, HasKeys}
+use Rattle.shard_core.specs.Sections.{no_readers}
 use Rattle.shard_core.specs.Contents.{opened_table}
 use Rattle.shard_core.specs.ShardFields.{Mirrors, IsBalanced, IsShard}
 
@@ -65,14 +66,13 @@ balance_opened LruHash plan = (refl, omega arith)
 
 pub shard_opened : (plan : ShardPlan) (journal : Journaled) (cells : CellTable) (keys : KeyTable) → IsPlan plan
     → journal ≡ opened_journal plan.number plan.reserve plan.definition.key_size plan.definition.value_size → cells ≡ opened_table plan.definition.kind plan → FitsPlan keys plan → HasKeys keys [] []
-    → IsShard plan journal cells keys (None ∷ None ∷ None ∷ None ∷ None ∷ None ∷ None ∷ None ∷ []) 0
+    → IsShard plan journal cells keys no_readers
 shard_opened plan journal cells keys is same_journal same_cells fits none =
     rw (same_journal, same_cells) (record {
       plan_is = is;
       journal_is = record { number = refl; reserve = refl; key_size = refl; value_size = refl };
       legal = tt;
-      entered_is = refl;
-      inside_is = refl;
+      readers_are = refl;
       contents = record {
         sized = sized_opened plan.definition.kind plan;
         counted = counted_opened plan.definition.kind plan;

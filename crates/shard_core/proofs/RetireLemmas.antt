@@ -27,45 +27,44 @@ use Rattle.shard_core.proofs.KeyLemmas.{IsNoUse, keyed_kind, keys_on}
 
 -- ---- the retired cells, the oldest first
 
-abbrev pub oldest_first : List RetiredCell → List Retired
-oldest_first gone = reverse (map waiting gone)
+abbrev pub oldest_first : (ℕ → ℕ) → List RetiredCell → List Retired
+oldest_first epochs gone = reverse (map (waiting epochs) gone)
 
-oldest_cons : (one : RetiredCell) (others : List RetiredCell) → oldest_first (one ∷ others) ≡ oldest_first others ++ waiting one ∷ []
-oldest_cons one others = reverse-append (waiting one ∷ []) (map waiting others)
+oldest_cons : (epochs : ℕ → ℕ) (one : RetiredCell) (others : List RetiredCell) → oldest_first epochs (one ∷ others) ≡ oldest_first epochs others ++ waiting epochs one ∷ []
+oldest_cons epochs one others = reverse-append (waiting epochs one ∷ []) (map (waiting epochs) others)
 
-same_count : (gone : List RetiredCell) → length (map waiting gone) ≡ length gone
-same_count [] = refl
-same_count (one ∷ others) = ap suc (same_count others)
+same_count : (epochs : ℕ → ℕ) (gone : List RetiredCell) → length (map (waiting epochs) gone) ≡ length gone
+same_count epochs [] = refl
+same_count epochs (one ∷ others) = ap suc (same_count epochs others)
 
-pub oldest_count : (gone : List RetiredCell) → length (oldest_first gone) ≡ length gone
-oldest_count gone = length-reverse (map waiting gone) ∙ same_count gone
+pub oldest_count : (epochs : ℕ → ℕ) (gone : List RetiredCell) → length (oldest_first epochs gone) ≡ length gone
+oldest_count epochs gone = length-reverse (map (waiting epochs) gone) ∙ same_count epochs gone
 
 -- what holds of each holds at each place
-pub each_oldest : (P : Retired → Type 0) (gone : List RetiredCell) → AllByRecursion (λ one. P (waiting one)) gone → (k : ℕ) → k < length (oldest_first gone) → P (get_or (oldest_first gone) k unused_retired)
-each_oldest P [] each k within = absurd (omega (arith, within))
-each_oldest P (one ∷ others) each k within = rw (oldest_cons one others) (by_place (nat_lt k (length (oldest_first others))) refl (each_oldest P others each.1 k))
+pub each_oldest : (epochs : ℕ → ℕ) (P : Retired → Type 0) (gone : List RetiredCell) → AllByRecursion (λ one. P (waiting epochs one)) gone → (k : ℕ) → k < length (oldest_first epochs gone) → P (get_or (oldest_first epochs gone) k unused_retired)
+each_oldest epochs P [] each k within = absurd (omega (arith, within))
+each_oldest epochs P (one ∷ others) each k within = rw (oldest_cons epochs one others) (by_place (nat_lt k (length (oldest_first epochs others))) refl (each_oldest epochs P others each.1 k))
   where
-    by_place : (test : Bool) → nat_lt k (length (oldest_first others)) ≡ test → (k < length (oldest_first others) → P (get_or (oldest_first others) k unused_retired))
-        → P (get_or (oldest_first others ++ waiting one ∷ []) k unused_retired)
+    by_place : (test : Bool) → nat_lt k (length (oldest_first epochs others)) ≡ test → (k < length (oldest_first epochs others) → P (get_or (oldest_first epochs others) k unused_retired))
+        → P (get_or (oldest_first epochs others ++ waiting epochs one ∷ []) k unused_retired)
     by_place true is before =
-        let here : k < length (oldest_first others) = grind (arith, nat_tests) in
-        subst P (sym (get_or_append_left (oldest_first others) (waiting one ∷ []) unused_retired k here)) (before here)
+        let here : k < length (oldest_first epochs others) = grind (arith, nat_tests) in
+        subst P (sym (get_or_append_left (oldest_first epochs others) (waiting epochs one ∷ []) unused_retired k here)) (before here)
     by_place false is before =
-        let long : length (oldest_first (one ∷ others)) ≡ length (oldest_first others) + 1 = ap length (oldest_cons one others) ∙ length-append (oldest_first others) (waiting one ∷ []) in
-        let past : length (oldest_first others) ≤ k = grind (arith, nat_tests) in
-        let last : length (oldest_first others) ≡ k = omega (arith, long, past, within) in
-        subst P (sym (get_or_push (oldest_first others) (waiting one) unused_retired k last)) each.0
+        let long : length (oldest_first epochs (one ∷ others)) ≡ length (oldest_first epochs others) + 1 = ap length (oldest_cons epochs one others) ∙ length-append (oldest_first epochs others) (waiting epochs one ∷ []) in
+        let past : length (oldest_first epochs others) ≤ k = grind (arith, nat_tests) in
+        let last : length (oldest_first epochs others) ≡ k = omega (arith, long, past, within) in
+        subst P (sym (get_or_push (oldest_first epochs others) (waiting epochs one) unused_retired k last)) each.0
 
 -- ---- a retirement
 
-pub not_retired : (cell : ℕ) (cells : CellTable) (gone : List RetiredCell) → cells.retired ≡ oldest_first gone → AllByRecursion (λ (one : RetiredCell). one.cell ≡ cell → ⊥) gone → IsNotRetired cells cell
-not_retired cell cells gone same each =
-    subst (λ all. (k : ℕ) → k < length all → (retired_at all k).id ≢ cell) (sym same) (each_oldest (λ one. one.id ≢ cell) gone each)
+pub not_retired : (epochs : ℕ → ℕ) (cell : ℕ) (cells : CellTable) (gone : List RetiredCell) → cells.retired ≡ oldest_first epochs gone → AllByRecursion (λ (one : RetiredCell). one.cell ≡ cell → ⊥) gone → IsNotRetired cells cell
+not_retired epochs cell cells gone same each =
+    subst (λ all. (k : ℕ) → k < length all → (retired_at all k).id ≢ cell) (sym same) (each_oldest epochs (λ one. one.id ≢ cell) gone each)
 
-pub latest_stamp : (place : ℕ) (cells : CellTable) (gone : List RetiredCell) → cells.retired ≡ oldest_first gone → AllByRecursion (λ (one : RetiredCell). one.since < place) gone → IsLatestStamp cells place
-latest_stamp place cells gone same each =
-    subst (λ all. (k : ℕ) → k < length all → (retired_at all k).stamp ≤ place) (sym same)
-    (each_oldest (λ one. one.stamp ≤ place) gone (each_weaker (λ (one : RetiredCell). one.since < place) (λ (one : RetiredCell). one.since ≤ place) (λ one before. omega (arith, before)) gone each))
+pub latest_stamp : (epochs : ℕ → ℕ) (stamp : ℕ) (cells : CellTable) (gone : List RetiredCell) → cells.retired ≡ oldest_first epochs gone → AllByRecursion (λ (one : RetiredCell). epochs one.since ≤ stamp) gone → IsLatestStamp cells stamp
+latest_stamp epochs stamp cells gone same each =
+    subst (λ all. (k : ℕ) → k < length all → (retired_at all k).stamp ≤ stamp) (sym same) (each_oldest epochs (λ one. one.stamp ≤ stamp) gone each)
 
 second_or : (a b c : Bool) → (a ≡ true → b ≡ true) → (a || c) ≡ true → (b || c) ≡ true
 second_or true b c more is = rw (more refl) refl
@@ -124,18 +123,18 @@ kept_of_one_less Array state place gone id keyed there kept = absurd (keyed refl
 kept_of_one_less Hash state place gone id keyed there kept = kept_of_retired state place gone id there kept
 kept_of_one_less LruHash state place gone id keyed there kept = kept_of_retired state place gone id there kept
 
-balance_of_retired : (kind : MapKind) (plan : ShardPlan) (state : SequentialShard) (cells : CellTable) (place : ℕ) (gone : PresentKey) → (kind ≡ Array → ⊥) → length (filter (λ (one : PresentKey). not (one.cell == gone.cell)) state.present) + 1 ≡ length state.present
-    → IsBalanced kind plan state cells → IsBalanced kind plan (without_key state place gone) (with_retired cells gone.cell place)
-balance_of_retired Array plan state cells place gone keyed fewer balance = absurd (keyed refl)
-balance_of_retired Hash plan state cells place gone keyed fewer balance = (balance.0, omega (arith, balance.1, fewer))
-balance_of_retired LruHash plan state cells place gone keyed fewer balance = (balance.0, omega (arith, balance.1, fewer))
+balance_of_retired : (kind : MapKind) (plan : ShardPlan) (state : SequentialShard) (cells : CellTable) (place stamp : ℕ) (gone : PresentKey) → (kind ≡ Array → ⊥) → length (filter (λ (one : PresentKey). not (one.cell == gone.cell)) state.present) + 1 ≡ length state.present
+    → IsBalanced kind plan state cells → IsBalanced kind plan (without_key state place gone) (with_retired cells gone.cell stamp)
+balance_of_retired Array plan state cells place stamp gone keyed fewer balance = absurd (keyed refl)
+balance_of_retired Hash plan state cells place stamp gone keyed fewer balance = (balance.0, omega (arith, balance.1, fewer))
+balance_of_retired LruHash plan state cells place stamp gone keyed fewer balance = (balance.0, omega (arith, balance.1, fewer))
 
-pub contents_retired : (plan : ShardPlan) (history : List Entry) (state : SequentialShard) (cells : CellTable) (keys keys_after : KeyTable) (key : List ℕ) (gone : PresentKey) (place : ℕ) → IsKeyed keys
+pub contents_retired : (epochs : ℕ → ℕ) (plan : ShardPlan) (history : List Entry) (state : SequentialShard) (cells : CellTable) (keys keys_after : KeyTable) (key : List ℕ) (gone : PresentKey) (place : ℕ) → IsKeyed keys
     → find (λ (one : PresentKey). bytes_eq one.key key) state.present ≡ Some gone
     → ArePairwise (λ (one other : PresentKey). one.key ≡ other.key → ⊥) state.present → ArePairwise (λ (one other : PresentKey). one.cell ≡ other.cell → ⊥) state.present
-    → IsContents plan history state cells keys → FitsPlan keys_after plan → HasKeys keys_after history (filter (λ (one : PresentKey). not (one.cell == gone.cell)) state.present)
-    → IsContents plan history (without_key state place gone) (with_retired cells gone.cell place) keys_after
-contents_retired plan history state cells keys keys_after key gone place keyed found differ apart contents fits has =
+    → IsContents plan epochs history state cells keys → FitsPlan keys_after plan → HasKeys keys_after history (filter (λ (one : PresentKey). not (one.cell == gone.cell)) state.present)
+    → IsContents plan epochs history (without_key state place gone) (with_retired cells gone.cell (epochs place)) keys_after
+contents_retired epochs plan history state cells keys keys_after key gone place keyed found differ apart contents fits has =
     let left : IsGone key gone state.present = key_gone key gone state.present found differ apart in
     let kind : plan.definition.kind ≡ Array → ⊥ = keyed_kind keys plan keyed contents.fits in
     record {
@@ -143,24 +142,24 @@ contents_retired plan history state cells keys keys_after key gone place keyed f
       counted = contents.counted;
       mirrored = mirrors_fewer (is_kept plan state) (is_kept plan (without_key state place gone)) cells.cells state.cells
           (λ id. kept_of_one_less plan.definition.kind state place gone id kind (found_any key gone state.present found)) contents.mirrored;
-      retired = ap (λ all. all ++ (record { id = gone.cell; stamp = place }) ∷ []) contents.retired ∙ sym (oldest_cons (record { cell = gone.cell; since = place }) state.retired);
+      retired = ap (λ all. all ++ (record { id = gone.cell; stamp = epochs place }) ∷ []) contents.retired ∙ sym (oldest_cons epochs (record { cell = gone.cell; since = place }) state.retired);
       id_room = contents.id_room;
-      balance = balance_of_retired plan.definition.kind plan state cells place gone kind left.count contents.balance;
+      balance = balance_of_retired plan.definition.kind plan state cells place (epochs place) gone kind left.count contents.balance;
       fits = fits;
       has = has;
     }
 
 -- ---- a Reclaim
 
-filter_oldest : (test : Retired → Bool) (gone : List RetiredCell) → filter test (oldest_first gone) ≡ oldest_first (filter (λ one. test (waiting one)) gone)
-filter_oldest test [] = refl
-filter_oldest test (one ∷ others) =
-    ap (filter test) (oldest_cons one others) ∙ filter-append test (oldest_first others) (waiting one ∷ []) ∙ by_test (test (waiting one)) (filter_oldest test others)
+filter_oldest : (epochs : ℕ → ℕ) (test : Retired → Bool) (gone : List RetiredCell) → filter test (oldest_first epochs gone) ≡ oldest_first epochs (filter (λ one. test (waiting epochs one)) gone)
+filter_oldest epochs test [] = refl
+filter_oldest epochs test (one ∷ others) =
+    ap (filter test) (oldest_cons epochs one others) ∙ filter-append test (oldest_first epochs others) (waiting epochs one ∷ []) ∙ by_test (test (waiting epochs one)) (filter_oldest epochs test others)
   where
-    by_test : (t : Bool) → filter test (oldest_first others) ≡ oldest_first (filter (λ one. test (waiting one)) others)
-        → filter test (oldest_first others) ++ cond t (waiting one ∷ []) [] ≡ oldest_first (cond t (one ∷ filter (λ one. test (waiting one)) others) (filter (λ one. test (waiting one)) others))
-    by_test true before = ap (λ front. front ++ waiting one ∷ []) before ∙ sym (oldest_cons one (filter (λ one. test (waiting one)) others))
-    by_test false before = append_nothing (filter test (oldest_first others)) ∙ before
+    by_test : (t : Bool) → filter test (oldest_first epochs others) ≡ oldest_first epochs (filter (λ one. test (waiting epochs one)) others)
+        → filter test (oldest_first epochs others) ++ cond t (waiting epochs one ∷ []) [] ≡ oldest_first epochs (cond t (one ∷ filter (λ one. test (waiting epochs one)) others) (filter (λ one. test (waiting epochs one)) others))
+    by_test true before = ap (λ front. front ++ waiting epochs one ∷ []) before ∙ sym (oldest_cons epochs one (filter (λ one. test (waiting epochs one)) others))
+    by_test false before = append_nothing (filter test (oldest_first epochs others)) ∙ before
       where
         append_nothing : (xs : List Retired) → xs ++ [] ≡ xs
         append_nothing [] = refl
@@ -171,19 +170,19 @@ filter_same first second [] each = refl
 filter_same first second (one ∷ others) each = rw (each.0) (rw (filter_same first second others each.1) refl)
 
 -- the retired cells that are below the floor are those that may be freed
-pub record IsFloorFor (floor : ℕ) (history : List Entry) (gone : List RetiredCell) : Type 0 where
-  pub tells : AllByRecursion (λ (one : RetiredCell). is_below floor (waiting one) ≡ is_reclaimable history one) gone
+pub record IsFloorFor (epochs : ℕ → ℕ) (floor : ℕ) (history : List Entry) (gone : List RetiredCell) : Type 0 where
+  pub tells : AllByRecursion (λ (one : RetiredCell). is_below floor (waiting epochs one) ≡ is_reclaimable history one) gone
 
-pub freed_are : (floor : ℕ) (history : List Entry) (gone : List RetiredCell) → IsFloorFor floor history gone → filter (is_below floor) (oldest_first gone) ≡ oldest_first (filter (is_reclaimable history) gone)
-freed_are floor history gone is =
-    filter_oldest (is_below floor) gone ∙ ap oldest_first (filter_same (λ one. is_below floor (waiting one)) (is_reclaimable history) gone is.tells)
+pub freed_are : (epochs : ℕ → ℕ) (floor : ℕ) (history : List Entry) (gone : List RetiredCell) → IsFloorFor epochs floor history gone → filter (is_below floor) (oldest_first epochs gone) ≡ oldest_first epochs (filter (is_reclaimable history) gone)
+freed_are epochs floor history gone is =
+    filter_oldest epochs (is_below floor) gone ∙ ap (oldest_first epochs) (filter_same (λ one. is_below floor (waiting epochs one)) (is_reclaimable history) gone is.tells)
 
-left_are : (floor : ℕ) (history : List Entry) (gone : List RetiredCell) → IsFloorFor floor history gone
-    → filter (λ one. not (is_below floor one)) (oldest_first gone) ≡ oldest_first (filter (λ (one : RetiredCell). not (is_reclaimable history one)) gone)
-left_are floor history gone is =
-    filter_oldest (λ one. not (is_below floor one)) gone ∙
-    ap oldest_first (filter_same (λ one. not (is_below floor (waiting one))) (λ (one : RetiredCell). not (is_reclaimable history one)) gone
-    (each_weaker (λ (one : RetiredCell). is_below floor (waiting one) ≡ is_reclaimable history one) (λ (one : RetiredCell). not (is_below floor (waiting one)) ≡ not (is_reclaimable history one)) (λ one same. ap not same) gone is.tells))
+left_are : (epochs : ℕ → ℕ) (floor : ℕ) (history : List Entry) (gone : List RetiredCell) → IsFloorFor epochs floor history gone
+    → filter (λ one. not (is_below floor one)) (oldest_first epochs gone) ≡ oldest_first epochs (filter (λ (one : RetiredCell). not (is_reclaimable history one)) gone)
+left_are epochs floor history gone is =
+    filter_oldest epochs (λ one. not (is_below floor one)) gone ∙
+    ap (oldest_first epochs) (filter_same (λ one. not (is_below floor (waiting epochs one))) (λ (one : RetiredCell). not (is_reclaimable history one)) gone
+    (each_weaker (λ (one : RetiredCell). is_below floor (waiting epochs one) ≡ is_reclaimable history one) (λ (one : RetiredCell). not (is_below floor (waiting epochs one)) ≡ not (is_reclaimable history one)) (λ one same. ap not same) gone is.tells))
 
 any_apart : (cell id : ℕ) (xs : List RetiredCell) → AllByRecursion (λ (other : RetiredCell). cell ≡ other.cell → ⊥) xs → list_any (λ (one : RetiredCell). one.cell == id) xs ≡ true → cell ≡ id → ⊥
 any_apart cell id [] each found same = cc
@@ -247,9 +246,9 @@ none_append : (id : ℕ) (xs ys : List Retired) → IsNone id xs → IsNone id y
 none_append id [] ys none others = others
 none_append id (x ∷ xs) ys none others = (none.0, none_append id xs ys none.1 others)
 
-none_oldest : (id : ℕ) (gone : List RetiredCell) → AllByRecursion (λ (one : RetiredCell). one.cell ≡ id → ⊥) gone → IsNone id (oldest_first gone)
-none_oldest id [] each = tt
-none_oldest id (one ∷ others) each = subst (IsNone id) (sym (oldest_cons one others)) (none_append id (oldest_first others) (waiting one ∷ []) (none_oldest id others each.1) ((λ same. each.0 (sym same)), tt))
+none_oldest : (epochs : ℕ → ℕ) (id : ℕ) (gone : List RetiredCell) → AllByRecursion (λ (one : RetiredCell). one.cell ≡ id → ⊥) gone → IsNone id (oldest_first epochs gone)
+none_oldest epochs id [] each = tt
+none_oldest epochs id (one ∷ others) each = subst (IsNone id) (sym (oldest_cons epochs one others)) (none_append id (oldest_first epochs others) (waiting epochs one ∷ []) (none_oldest epochs id others each.1) ((λ same. each.0 (sym same)), tt))
 
 each_passing : (P : RetiredCell → Type 0) (test : RetiredCell → Bool) (xs : List RetiredCell) → AllByRecursion (λ x. test x ≡ true → P x) xs → AllByRecursion P (filter test xs)
 each_passing P test [] each = tt
@@ -262,22 +261,22 @@ each_passing P test (x ∷ xs) each = by_test (test x) refl (each_passing P test
 abbrev pub after_reclaim : List Entry → SequentialShard → SequentialShard
 after_reclaim history state = record state { retired = filter (λ retired. not (is_reclaimable history retired)) state.retired }
 
-kept_of_freed : (history : List Entry) (state : SequentialShard) (id : ℕ) → IsSound state → ArePairwise (λ (one other : RetiredCell). one.cell ≡ other.cell → ⊥) state.retired
-    → IsTrue (is_kept_of_kind Hash (after_reclaim history state) id) → IsTrue (is_kept_of_kind Hash state id) × IsNone id (oldest_first (filter (is_reclaimable history) state.retired))
-kept_of_freed history state id sound pairs kept = by_present (list_any (λ (one : PresentKey). one.cell == id) state.present) refl kept
+kept_of_freed : (epochs : ℕ → ℕ) (history : List Entry) (state : SequentialShard) (id : ℕ) → IsSound state → ArePairwise (λ (one other : RetiredCell). one.cell ≡ other.cell → ⊥) state.retired
+    → IsTrue (is_kept_of_kind Hash (after_reclaim history state) id) → IsTrue (is_kept_of_kind Hash state id) × IsNone id (oldest_first epochs (filter (is_reclaimable history) state.retired))
+kept_of_freed epochs history state id sound pairs kept = by_present (list_any (λ (one : PresentKey). one.cell == id) state.present) refl kept
   where
     by_present : (there : Bool) → list_any (λ (one : PresentKey). one.cell == id) state.present ≡ there
         → (there || list_any (λ (one : RetiredCell). one.cell == id) (filter (λ (one : RetiredCell). not (is_reclaimable history one)) state.retired)) ≡ true
-        → ((list_any (λ (one : PresentKey). one.cell == id) state.present || list_any (λ (one : RetiredCell). one.cell == id) state.retired) ≡ true) × IsNone id (oldest_first (filter (is_reclaimable history) state.retired))
+        → ((list_any (λ (one : PresentKey). one.cell == id) state.present || list_any (λ (one : RetiredCell). one.cell == id) state.retired) ≡ true) × IsNone id (oldest_first epochs (filter (is_reclaimable history) state.retired))
     by_present true is kept = (
       rw is refl,
-      none_oldest id (filter (is_reclaimable history) state.retired)
+      none_oldest epochs id (filter (is_reclaimable history) state.retired)
           (each_passing (λ (one : RetiredCell). one.cell ≡ id → ⊥) (is_reclaimable history) state.retired
           (each_weaker (λ (one : RetiredCell). one.cell ≡ id → ⊥) (λ (one : RetiredCell). is_reclaimable history one ≡ true → one.cell ≡ id → ⊥) (λ one apart freed. apart) state.retired (present_apart id state.present state.retired sound.apart is))),
     )
     by_present false is kept = (
       rw is (any_of_filter (λ (one : RetiredCell). one.cell == id) (λ (one : RetiredCell). not (is_reclaimable history one)) state.retired kept),
-      none_oldest id (filter (is_reclaimable history) state.retired)
+      none_oldest epochs id (filter (is_reclaimable history) state.retired)
           (each_passing (λ (one : RetiredCell). one.cell ≡ id → ⊥) (is_reclaimable history) state.retired (waiting_apart history id state.retired pairs kept)),
     )
 
@@ -291,22 +290,22 @@ balance_of_freed floor history plan state cells same balance =
 no_change : (floor : ℕ) (history : List Entry) (plan : ShardPlan) (state : SequentialShard) (cells : CellTable) → state.retired ≡ [] → cells.retired ≡ [] → without_cells (filter (is_below floor) cells.retired) cells.cells ≡ cells.cells
 no_change floor history plan state cells none same = rw same refl
 
-mirrored_freed : (floor : ℕ) (history : List Entry) (state : SequentialShard) (cells : CellTable) → filter (is_below floor) cells.retired ≡ oldest_first (filter (is_reclaimable history) state.retired)
+mirrored_freed : (epochs : ℕ → ℕ) (floor : ℕ) (history : List Entry) (state : SequentialShard) (cells : CellTable) → filter (is_below floor) cells.retired ≡ oldest_first epochs (filter (is_reclaimable history) state.retired)
     → IsSound state → ArePairwise (λ (one other : RetiredCell). one.cell ≡ other.cell → ⊥) state.retired
     → Mirrors (is_kept_of_kind Hash state) cells.cells state.cells → Mirrors (is_kept_of_kind Hash (after_reclaim history state)) (without_cells (filter (is_below floor) cells.retired) cells.cells) state.cells
-mirrored_freed floor history state cells freed sound pairs mirrored =
+mirrored_freed epochs floor history state cells freed sound pairs mirrored =
     subst (λ gone. Mirrors (is_kept_of_kind Hash (after_reclaim history state)) (without_cells gone cells.cells) state.cells) (sym freed)
-    (mirrors_without (is_kept_of_kind Hash state) (is_kept_of_kind Hash (after_reclaim history state)) (oldest_first (filter (is_reclaimable history) state.retired)) cells.cells state.cells
-    (λ id. kept_of_freed history state id sound pairs) mirrored)
+    (mirrors_without (is_kept_of_kind Hash state) (is_kept_of_kind Hash (after_reclaim history state)) (oldest_first epochs (filter (is_reclaimable history) state.retired)) cells.cells state.cells
+    (λ id. kept_of_freed epochs history state id sound pairs) mirrored)
 
-mirrored_of_freed : (kind : MapKind) (floor : ℕ) (history : List Entry) (plan : ShardPlan) (state : SequentialShard) (cells : CellTable) → filter (is_below floor) cells.retired ≡ oldest_first (filter (is_reclaimable history) state.retired)
-    → IsSound state → ArePairwise (λ (one other : RetiredCell). one.cell ≡ other.cell → ⊥) state.retired → (kind ≡ Array → state.retired ≡ []) → cells.retired ≡ oldest_first state.retired
+mirrored_of_freed : (epochs : ℕ → ℕ) (kind : MapKind) (floor : ℕ) (history : List Entry) (plan : ShardPlan) (state : SequentialShard) (cells : CellTable) → filter (is_below floor) cells.retired ≡ oldest_first epochs (filter (is_reclaimable history) state.retired)
+    → IsSound state → ArePairwise (λ (one other : RetiredCell). one.cell ≡ other.cell → ⊥) state.retired → (kind ≡ Array → state.retired ≡ []) → cells.retired ≡ oldest_first epochs state.retired
     → Mirrors (is_kept_of_kind kind state) cells.cells state.cells → Mirrors (is_kept_of_kind kind (after_reclaim history state)) (without_cells (filter (is_below floor) cells.retired) cells.cells) state.cells
-mirrored_of_freed Array floor history plan state cells freed sound pairs array retired mirrored =
+mirrored_of_freed epochs Array floor history plan state cells freed sound pairs array retired mirrored =
     let none : state.retired ≡ [] = array refl in
-    subst (λ table. Mirrors (is_kept_of_kind Array state) table state.cells) (sym (no_change floor history plan state cells none (retired ∙ ap oldest_first none))) mirrored
-mirrored_of_freed Hash floor history plan state cells freed sound pairs array retired mirrored = mirrored_freed floor history state cells freed sound pairs mirrored
-mirrored_of_freed LruHash floor history plan state cells freed sound pairs array retired mirrored = mirrored_freed floor history state cells freed sound pairs mirrored
+    subst (λ table. Mirrors (is_kept_of_kind Array state) table state.cells) (sym (no_change floor history plan state cells none (retired ∙ ap (oldest_first epochs) none))) mirrored
+mirrored_of_freed epochs Hash floor history plan state cells freed sound pairs array retired mirrored = mirrored_freed epochs floor history state cells freed sound pairs mirrored
+mirrored_of_freed epochs LruHash floor history plan state cells freed sound pairs array retired mirrored = mirrored_freed epochs floor history state cells freed sound pairs mirrored
 
 balance_of_kind_freed : (kind : MapKind) (floor : ℕ) (history : List Entry) (plan : ShardPlan) (state : SequentialShard) (cells : CellTable) → length (filter (is_below floor) cells.retired) ≡ length (filter (is_reclaimable history) state.retired)
     → IsBalanced kind plan state cells → IsBalanced kind plan (after_reclaim history state) (freed_below floor cells)
@@ -314,18 +313,18 @@ balance_of_kind_freed Array floor history plan state cells same balance = tt
 balance_of_kind_freed Hash floor history plan state cells same balance = balance_of_freed floor history plan state cells same balance
 balance_of_kind_freed LruHash floor history plan state cells same balance = balance_of_freed floor history plan state cells same balance
 
-pub contents_freed : (plan : ShardPlan) (entry : Entry) (history : List Entry) (state : SequentialShard) (cells : CellTable) (keys : KeyTable) (floor : ℕ) → IsNoUse entry → IsFloorFor floor history state.retired
+pub contents_freed : (epochs : ℕ → ℕ) (plan : ShardPlan) (entry : Entry) (history : List Entry) (state : SequentialShard) (cells : CellTable) (keys : KeyTable) (floor : ℕ) → IsNoUse entry → IsFloorFor epochs floor history state.retired
     → IsSound state → ArePairwise (λ (one other : RetiredCell). one.cell ≡ other.cell → ⊥) state.retired → (plan.definition.kind ≡ Array → state.retired ≡ [])
-    → IsContents plan history state cells keys → IsContents plan (entry ∷ history) (after_reclaim history state) (freed_below floor cells) keys
-contents_freed plan entry history state cells keys floor none is sound pairs array contents =
-    let freed : filter (is_below floor) cells.retired ≡ oldest_first (filter (is_reclaimable history) state.retired) = ap (filter (is_below floor)) contents.retired ∙ freed_are floor history state.retired is in
+    → IsContents plan epochs history state cells keys → IsContents plan epochs (entry ∷ history) (after_reclaim history state) (freed_below floor cells) keys
+contents_freed epochs plan entry history state cells keys floor none is sound pairs array contents =
+    let freed : filter (is_below floor) cells.retired ≡ oldest_first epochs (filter (is_reclaimable history) state.retired) = ap (filter (is_below floor)) contents.retired ∙ freed_are epochs floor history state.retired is in
     record {
       sized = contents.sized;
       counted = length-without (filter (is_below floor) cells.retired) cells.cells ∙ contents.counted;
-      mirrored = mirrored_of_freed plan.definition.kind floor history plan state cells freed sound pairs array contents.retired contents.mirrored;
-      retired = ap (filter (λ one. not (is_below floor one))) contents.retired ∙ left_are floor history state.retired is;
+      mirrored = mirrored_of_freed epochs plan.definition.kind floor history plan state cells freed sound pairs array contents.retired contents.mirrored;
+      retired = ap (filter (λ one. not (is_below floor one))) contents.retired ∙ left_are epochs floor history state.retired is;
       id_room = contents.id_room;
-      balance = balance_of_kind_freed plan.definition.kind floor history plan state cells (ap length freed ∙ oldest_count (filter (is_reclaimable history) state.retired)) contents.balance;
+      balance = balance_of_kind_freed plan.definition.kind floor history plan state cells (ap length freed ∙ oldest_count epochs (filter (is_reclaimable history) state.retired)) contents.balance;
       fits = contents.fits;
       has = keys_on keys entry history state.present none contents.has;
     }

@@ -4,12 +4,12 @@
 //!
 //! A worker that looked a key up holds the key's cell until its Leave, and reads and writes its bytes through a handle. Meanwhile the
 //! controller may delete the key, or a new key may evict it. So a cell that loses its key is not freed at once: it is *retired*, and
-//! stamped with the place of that entry in the journal (`contents`, `map_cells`). Its bytes stay, and no new key gets it.
+//! stamped with the present *epoch*, which the retirement ends (`contents`, `map_cells`). Its bytes stay, and no new key gets it.
 //!
-//! For each worker inside, the shard keeps the place of the worker's Enter (`places`). A worker that entered after a retirement cannot have
-//! looked the cell up, because the key was gone by then. So a retired cell is free for use where every worker inside entered later: where
-//! its stamp is below the lowest of the kept places, the *floor*. A Reclaim frees exactly these cells. With no worker inside the floor is
-//! the journal's present length.
+//! For each worker inside, the shard keeps the epoch of the worker's Enter, and counts the workers of each epoch (`readers`, `epochs`). A
+//! worker that entered after a retirement cannot have looked the cell up, because the key was gone by then. So a retired cell is free for
+//! use where every worker inside entered later: where its stamp is below the *floor*, the oldest epoch that has a worker inside. A Reclaim
+//! frees exactly these cells. With no worker inside the floor is the present epoch, which is above every stamp.
 //!
 //! Two things follow. A held cell is never freed: its holder's Enter is older than the retirement. And nothing is lost: when the workers
 //! that were inside have left, the next Reclaim frees the cell. Each key of a hash or LRU map has two cells, so that one may wait for its
@@ -27,6 +27,7 @@ mod contents;
 pub mod keys;
 pub mod laws;
 mod ranges;
+pub mod readers;
 pub mod shard;
 
 pub use journal::{AtomicChange, CellRange, Journal};

@@ -1,18 +1,18 @@
 //! One shard of a map: a part of the map's keys, and the journal of all calls on it.
 //!
 //! It consists of its *plan* (which map, which part of it, and the limits), the *journal* of all calls that were served, the *cells*, each
-//! with the bytes of one value, the *keys*, each with its cell, and for each worker inside the place of its Enter in the journal.
+//! with the bytes of one value, the *keys*, each with its cell, and the *readers*: for each worker inside the epoch of its Enter.
 //!
 //! Each call is one step and one entry. First it asks whether the journal has room for its entry beside one for the Leave of each worker
 //! inside; if not, the call is refused, and nothing is changed. A Leave need not ask, since its Enter left it room. Then it changes cells
 //! and keys as the one-thread shard of `semantics` would, and appends an entry with the caller, the call and the reply.
 //!
 //! A key that is deleted, or evicted for a new one, has its cell *retired*: no Lookup finds the cell any more, and no new key gets it, but
-//! its bytes are kept, with the place of that entry in the journal as its stamp. Who may still hold it is each worker that found it since
-//! its last Enter and has not left: it goes on reading and writing these bytes. A Reclaim frees a retired cell exactly where every run
-//! inside began after the retirement, and so cannot have found it. Epochs count that (`epochs::places`), and here the epochs are the
-//! journal's own places: the stamp is below the *floor*, the lowest place of an Enter of a worker inside, or the journal's length where
-//! nobody is inside. A freed cell serves a new key, under a new id.
+//! its bytes are kept, with a stamp. Who may still hold it is each worker that found it since its last Enter and has not left: it goes on
+//! reading and writing these bytes. A Reclaim frees a retired cell exactly where every run inside began after the retirement, and so
+//! cannot have found it. Epochs count that (`epochs::EpochBook`): each retirement ends an epoch, which is its stamp, and the stamp is below
+//! the *floor*, the oldest epoch in which a worker inside entered, exactly where all of them entered after it. A freed cell serves a new
+//! key, under a new id.
 //!
 //! No call takes memory: `open` takes all that the shard will ever need, which is the journal's room, the keys' tables, and one cell for
 //! each index of an array or two for each key of the other maps. Where all cells have a key or wait, a new key is answered -12 until a
@@ -32,7 +32,7 @@ ghost use Rattle.shard_core.specs.Calls.{atomic_call, update_call, delete_call, 
 use crate::contents::{open_cells, put_value, retire_key};
 use crate::keys::KeyTable;
 use crate::ranges::{change_number, number_in, put_number};
-use epochs::places::{Places, count, floor, set};
+use crate::readers::Readers;
 use isa::AtomicOp;
 use journal::{AtomicChange, CellRange, Journal};
 use map_cells::Cells;
@@ -49,10 +49,7 @@ pub struct Shard {
     pub(crate) journal: Journal,
     cells: Cells,
     keys: KeyTable,
-    /// Of each worker inside, the place of its Enter in the journal.
-    entered: Places,
-    /// How many workers are inside.
-    inside: usize,
+    readers: Readers,
 }
 
 impl Model for Shard {
@@ -63,7 +60,7 @@ impl Model for Shard {
 
     ghost view = { λ shard. record { plan = shard.plan; journal = shard.journal.entries } };
 
-    ghost invariant = { λ shard. IsShard shard.plan shard.journal shard.cells shard.keys shard.entered shard.inside };
+    ghost invariant = { λ shard. IsShard shard.plan shard.journal shard.cells shard.keys shard.readers };
 }
 
 impl Shard {
@@ -87,8 +84,7 @@ impl Shard {
             journal,
             cells,
             keys,
-            entered: [None; 8],
-            inside: 0,
+            readers: Readers::new(),
         })
     }
 
@@ -114,7 +110,7 @@ impl Shard {
     pub fn few_held(&self)
         ensures { FewAreHeld self.now.plan (reverse self.now.journal) }
     {
-        let _inside = self.inside;
+        let _inside = self.readers.count();
     }
 
     /// Whether the worker is inside a read-side section: it has an Enter with no later Leave.
@@ -122,7 +118,7 @@ impl Shard {
         requires { worker < 8 }
         ensures { result ≡ is_inside worker (reverse self.now.journal) }
     {
-        self.entered[worker as usize].is_some()
+        self.readers.is_inside(worker)
     }
 
     /// Whether the journal has no room for a call that is no Leave: for its entry, one more for each run inside, and one more
@@ -131,7 +127,8 @@ impl Shard {
         ensures { result ≡ nat_lt self.now.plan.reserve
             (length (reverse self.now.journal) + inside_count (reverse self.now.journal) + entering + 1) }
     {
-        lacks_room(&self.plan, self.journal.len(), self.inside, entering)
+        let inside = self.readers.count();
+        lacks_room(&self.plan, self.journal.len(), inside, entering)
     }
 
     /// Whether the journal is full for this call: the entries, one more for each run inside, one for a run that would enter,
@@ -139,7 +136,8 @@ impl Shard {
     pub fn is_full(&self, call: &Call) -> bool
         ensures { result ≡ journal_is_full self.now.plan (reverse self.now.journal) call.now }
     {
-        is_full_with(&self.plan, self.journal.len(), self.inside, call)
+        let inside = self.readers.count();
+        is_full_with(&self.plan, self.journal.len(), inside, call)
     }
 
     /// The refusal of a full journal.
@@ -164,9 +162,10 @@ impl Shard {
         if self.lacks_room(1) {
             return Err(self.full());
         }
-        let place = self.journal.len() as u64;
-        set(&mut self.entered, &who, Some(place));
-        self.inside = count(&self.entered);
+        let Some(worker) = who.worker() else {
+            unreachable!()
+        };
+        self.readers.enter(worker);
         self.journal.append_enter(who);
         Ok(())
     }
@@ -177,8 +176,10 @@ impl Shard {
         ensures entered { self.new ≡ after_call self.old who (leave_call self.old) Left }
         ensures legal { IsLegalJournal self.new.plan self.new.journal }
     {
-        set(&mut self.entered, &who, None);
-        self.inside = count(&self.entered);
+        let Some(worker) = who.worker() else {
+            unreachable!()
+        };
+        self.readers.leave(worker);
         self.journal.append_leave(who);
     }
 
@@ -315,8 +316,14 @@ impl Shard {
             return Err(self.full());
         }
         let code = self.update_answer(key, flags);
-        let place = self.journal.len() as u64;
-        put_value(code, &mut self.cells, &mut self.keys, key, value, place);
+        put_value(
+            code,
+            &mut self.cells,
+            &mut self.keys,
+            &mut self.readers,
+            key,
+            value,
+        );
         self.journal.append_update(who, key, value, flags, code);
         Ok(code)
     }
@@ -336,8 +343,13 @@ impl Shard {
             return Err(self.full());
         }
         let code = self.delete_answer(key);
-        let place = self.journal.len() as u64;
-        retire_key(code, &mut self.cells, &mut self.keys, key, place);
+        retire_key(
+            code,
+            &mut self.cells,
+            &mut self.keys,
+            &mut self.readers,
+            key,
+        );
         self.journal.append_delete(who, key, code);
         Ok(code)
     }
@@ -356,7 +368,7 @@ impl Shard {
         if self.lacks_room(0) {
             return Err(self.full());
         }
-        let floor = floor(&self.entered, self.journal.len() as u64);
+        let floor = self.readers.floor();
         let count = self.cells.free(floor);
         self.journal.append_reclaim(who, count);
         Ok(count)

@@ -8,4 +8,4 @@ pub retire-requires-clause-room : goal.retire-requires-clause-room
 retire-requires-clause-room c = (c.requires.victim c.in-Some.cell (sym c.in-Some.ensures.cell)).room
 
 pub retire-requires-clause-latest : goal.retire-requires-clause-latest
-retire-requires-clause-latest c = (c.requires.victim c.in-Some.cell (sym c.in-Some.ensures.cell)).latest
+retire-requires-clause-latest c = rw c.stamp.ensures.stamp ((c.requires.victim c.in-Some.cell (sym c.in-Some.ensures.cell)).latest)

@@ -12,5 +12,4 @@ retire-requires-clause-room c =
     (c.requires.retired c.in-Some.cell (sym (to_z-of_z w32 c.args.code c.ranges.code) ∙ ap (to_z w32) c.if-code-ne0.false) (sym c.in-Some.ensures.cell)).room
 
 pub retire-requires-clause-latest : goal.retire-requires-clause-latest
-retire-requires-clause-latest c =
-    (c.requires.retired c.in-Some.cell (sym (to_z-of_z w32 c.args.code c.ranges.code) ∙ ap (to_z w32) c.if-code-ne0.false) (sym c.in-Some.ensures.cell)).latest
+retire-requires-clause-latest c = rw c.stamp.ensures.stamp ((c.requires.retired c.in-Some.cell (sym (to_z-of_z w32 c.args.code c.ranges.code) ∙ ap (to_z w32) c.if-code-ne0.false) (sym c.in-Some.ensures.cell)).latest)

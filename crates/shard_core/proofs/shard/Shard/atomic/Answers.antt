@@ -6,7 +6,7 @@ use Rattle.semantics.specs.History.{meets, journal_is_full}
 use Rattle.semantics.specs.SequentialShard.{shard_after}
 use Rattle.journal.specs.Entries.{atomic_entry}
 use Rattle.shard_core.proofs.AskedLemmas.{atomic_asked}
-use Rattle.shard_core.proofs.StepLemmas.{step_taken, table_keeps, kept_number, contents_changed}
+use Rattle.shard_core.proofs.StepLemmas.{step_taken, nothing_retired, table_keeps, kept_number, contents_changed}
 use Rattle.shard_core.proofs.shard.Shard.atomic.Goals as goal
 
 pub change_number-old-requires-clause-kept : goal.change_number-old-requires-clause-kept
@@ -79,7 +79,7 @@ invariant_of-self c =
     let asked = atomic_asked inside.plan (reverse inside.journal.entries) c.args.who inside.plan.number range.cell range.offset range.size change.op change.value change.expected
     c.self.invariant.plan_is c.self.invariant.legal met in
     let number = kept_number inside.plan (reverse inside.journal.entries) (shard_after inside.plan (reverse inside.journal.entries)) inside.cells inside.keys range.cell range.offset range.size c.self.invariant.contents asked.range.kept in
-    rw (c.append_atomic.ensures, c.change_number-old.ensures.table) (step_taken inside.plan inside.journal inside.cells _ inside.keys inside.keys inside.entered inside.inside c.args.who
+    rw (c.append_atomic.ensures, c.change_number-old.ensures.table) (step_taken inside.plan inside.journal inside.cells _ inside.keys inside.keys inside.readers inside.readers c.args.who
     (Atomic (record { shard = inside.plan.number; id = range.cell }) range.offset range.size change.op change.value change.expected) (Word c.change_number-old.result)
     (atomic_entry inside.journal.shard c.args.who range change c.change_number-old.result) c.self.invariant
     (record {
@@ -87,6 +87,7 @@ invariant_of-self c =
       has_room = has_room;
       replied = ap Word (c.change_number-old.ensures.old ∙ number);
       contents = contents_changed inside.plan _ (reverse inside.journal.entries) (shard_after inside.plan (reverse inside.journal.entries)) inside.cells inside.keys range.cell range.offset range.size change.op change.value change.expected c.in-Some.op (λ q. refl) asked.range.kept (sym c.in-Some.ensures) c.self.invariant.contents;
+      readers = nothing_retired inside.plan (reverse inside.journal.entries) (Atomic (record { shard = inside.plan.number; id = range.cell }) range.offset range.size change.op change.value change.expected) inside.readers c.self.invariant.readers_are (omega arith);
       keeps = λ _ _. refl;
     }) (ap (λ shard. atomic_entry shard c.args.who range change c.change_number-old.result) c.self.invariant.journal_is.number))
 
@@ -112,7 +113,7 @@ returns-clause-legal c =
     let asked = atomic_asked inside.plan (reverse inside.journal.entries) c.args.who inside.plan.number range.cell range.offset range.size change.op change.value change.expected
     c.self.invariant.plan_is c.self.invariant.legal met in
     let number = kept_number inside.plan (reverse inside.journal.entries) (shard_after inside.plan (reverse inside.journal.entries)) inside.cells inside.keys range.cell range.offset range.size c.self.invariant.contents asked.range.kept in
-    rw c.append_atomic.ensures ((step_taken inside.plan inside.journal inside.cells _ inside.keys inside.keys inside.entered inside.inside c.args.who
+    rw c.append_atomic.ensures ((step_taken inside.plan inside.journal inside.cells _ inside.keys inside.keys inside.readers inside.readers c.args.who
     (Atomic (record { shard = inside.plan.number; id = range.cell }) range.offset range.size change.op change.value change.expected) (Word c.change_number-old.result)
     (atomic_entry inside.journal.shard c.args.who range change c.change_number-old.result) c.self.invariant
     (record {
@@ -120,5 +121,6 @@ returns-clause-legal c =
       has_room = has_room;
       replied = ap Word (c.change_number-old.ensures.old ∙ number);
       contents = contents_changed inside.plan _ (reverse inside.journal.entries) (shard_after inside.plan (reverse inside.journal.entries)) inside.cells inside.keys range.cell range.offset range.size change.op change.value change.expected c.in-Some.op (λ q. refl) asked.range.kept (sym c.in-Some.ensures) c.self.invariant.contents;
+      readers = nothing_retired inside.plan (reverse inside.journal.entries) (Atomic (record { shard = inside.plan.number; id = range.cell }) range.offset range.size change.op change.value change.expected) inside.readers c.self.invariant.readers_are (omega arith);
       keeps = λ _ _. refl;
     }) (ap (λ shard. atomic_entry shard c.args.who range change c.change_number-old.result) c.self.invariant.journal_is.number)).legal)
