@@ -1,4 +1,4 @@
-//! Tests of the public calls of `test_support`, `epochs`, `map_cells`, `plain_maps`, `lru_maps`, `journal`, `shard_core`, `journals`,
+//! Tests of the public calls of `test_support`, `map_cells`, `plain_maps`, `lru_maps`, `journal`, `shard_core`, `journals`,
 //! `audit`, `shards` and `shard_port`.
 #![tactic(auto)]
 
@@ -8,8 +8,6 @@ mod asserting;
 mod audited_journals;
 #[cfg(test)]
 mod cell_places;
-#[cfg(test)]
-mod counted_runs;
 #[cfg(test)]
 mod journal_rows;
 #[cfg(test)]
