@@ -29,14 +29,16 @@ use Rattle.replay.specs.Accounts.{runs_at}
 use Rattle.replay.specs.RunJobs.{records_of}
 use Rattle.replay.specs.RunsInOrder.{IsRunAt, IsChainOfRuns}
 use Rattle.replay.specs.Shares.{frames_of, frame_at, is_short, is_handed, share}
-use Rattle.replay.specs.Accounted.{IsWorkOf, IsOrderOfJournals}
+use Rattle.control.specs.declared.command.Command.{Command}
+use Rattle.replay.specs.declared.outcome.Outcome.{Outcome}
+use Rattle.replay.specs.Accounted.{IsWorkOf, IsOrderOfJournals, IsAccounted}
 use Rattle.replay.specs.RunsOverShards.{start_of, IsExit, IsStopIn, StopsFor, IsRunIn}
 use Rattle.guarantees.specs.ReaderReplays.{IsCaptured}
 use Rattle.guarantees.specs.SystemLaws.{RunsAreOfTheSystem, StoppedRunsAreOfTheSystem}
 use Rattle.guarantees.specs.SystemRuns.{setting_of}
-use Rattle.guarantees.specs.Merging.{IsOneList}
+use Rattle.guarantees.specs.Merging.{IsOrderOfMoves, IsOneList}
 use Rattle.guarantees.specs.ReplayMoves.{HasMoves}
-use Rattle.guarantees.specs.Headline.{moment_of, IsRunOfImage, IsStopOfImage, IsEitherOfImage, ReplaysKeepIt}
+use Rattle.guarantees.specs.Headline.{moment_of, IsRunOfImage, IsStopOfImage, IsEitherOfImage, AreOfRuns, Headline, ReplaysKeepIt}
 use Rattle.guarantees.proofs.DeedLemmas.{is_deed_by, chosen_reversed, made_reversed}
 use Rattle.guarantees.proofs.EveryEntry.{all_both, all_reverse}
 use Rattle.guarantees.proofs.LegalEntries.{entry_is_step}
@@ -166,55 +168,79 @@ work_of ran stopped verified options few plan count worker below journals order 
 
 -- ---- all callers at once
 
-one_list : (verified : Verified) (options : Options) → AreOptions verified.maps options → (plan : ℕ → ShardPlan) (count : ℕ) →
+order_of_moves : (verified : Verified) (options : Options) → AreOptions verified.maps options → (plan : ℕ → ShardPlan) (count : ℕ) →
     ArePlans verified.maps options count plan → (runs : List (List Ran)) (journals : JournalsView) →
     ((number : ℕ) → number < count → IsLegalJournal (plan number) (entries_at journals number)) → (order : List Deed) →
     IsOrderOfJournals plan count journals order → (moves : HasMoves (setting_of verified options) count runs journals order) →
-    IsOneList (setting_of verified options) count (λ number. entries_at journals number) moves.moves (entries_made (reverse order))
-one_list verified options fit plan count plans runs journals legal order ordered moves =
-    one_order_is_one_list (setting_of verified options) plan count (λ number. entries_at journals number) moves.moves (reverse order)
-    (record {
-      options = fit;
-      count_is = plans.count_is;
-      plans = plans.each;
-      within = all_reverse (λ (deed : Deed). shard_of_deed deed < count) order ordered.within;
-      journals = λ number below. made_reversed number order ∙ sym (ordered.journals_are number below);
-      legal = legal;
-      met = subst (AreMet plan) (sym (reverse-reverse order)) ordered.met;
-      own = λ worker below. (moves.of_worker worker below).did ∙ sym (chosen_reversed (is_deed_by worker) order);
-      steps = λ worker below. (moves.of_worker worker below).steps;
-      of_others = moves.of_others;
-    })
+    IsOrderOfMoves (setting_of verified options) plan count (λ number. entries_at journals number) moves.moves (reverse order)
+order_of_moves verified options fit plan count plans runs journals legal order ordered moves = record {
+  options = fit;
+  count_is = plans.count_is;
+  plans = plans.each;
+  within = all_reverse (λ (deed : Deed). shard_of_deed deed < count) order ordered.within;
+  journals = λ number below. made_reversed number order ∙ sym (ordered.journals_are number below);
+  legal = legal;
+  met = subst (AreMet plan) (sym (reverse-reverse order)) ordered.met;
+  own = λ worker below. (moves.of_worker worker below).did ∙ sym (chosen_reversed (is_deed_by worker) order);
+  steps = λ worker below. (moves.of_worker worker below).steps;
+  of_others = moves.of_others;
+}
+
+-- what an account comes to, with the runs as runs of the image
+module _ (ran : RunsAreOfTheSystem) (stopped : StoppedRunsAreOfTheSystem) (verified : Verified) (safe : IsSafeImage verified.maps verified.code)
+    (script : List Command) (options : Options) (records : List Sent) (outcome : Outcome) (fit : AreOptions verified.maps options)
+    (captured : AllByRecursion IsCaptured records) (accounted : IsAccounted (program_of verified options.shards) script options records outcome) where
+  pub work : (worker : ℕ) → worker < options.workers →
+      IsWorkOf (IsRunAt (IsEitherOfImage verified options accounted.plan accounted.count worker) records)
+      (share (frames_of records) options.workers worker (length records)) worker (runs_at accounted.runs worker) accounted.count outcome.journals accounted.order
+  work worker below = work_of ran stopped verified options fit.at_most_eight accounted.plan accounted.count worker below outcome.journals accounted.order records
+      captured (runs_at accounted.runs worker) (accounted.work worker below)
+
+  pub moves : HasMoves (setting_of verified options) accounted.count accounted.runs outcome.journals accounted.order
+  moves = has_moves verified options accounted.plan accounted.count records accounted.runs outcome.journals accounted.order work
+
+  pub moves_of_work : (worker : ℕ) → worker < options.workers →
+      AreOfRuns verified options accounted.plan accounted.count worker records accounted.runs outcome.journals accounted.order work (moves.moves worker)
+  unfolding moves
+  moves_of_work = moves_are_of_runs verified options accounted.plan accounted.count records accounted.runs outcome.journals accounted.order work
+
+  pub order_is : IsOrderOfMoves (setting_of verified options) accounted.plan accounted.count (λ number. entries_at outcome.journals number) moves.moves
+      (reverse accounted.order)
+  order_is = order_of_moves verified options fit accounted.plan accounted.count accounted.plans accounted.runs outcome.journals accounted.legal
+      accounted.order accounted.ordered moves
+
+  -- with this list of events
+  abbrev pub headline_with : IsOneList (setting_of verified options) accounted.count (λ number. entries_at outcome.journals number) moves.moves
+      (entries_made (reverse accounted.order)) → Headline verified script options records outcome
+  headline_with list = record {
+    safe = safe;
+    count = accounted.count;
+    count_is = accounted.count_is;
+    plan = accounted.plan;
+    plans = accounted.plans;
+    legal = accounted.legal;
+    own_place = λ number below earlier later entry place. entry_is_step (accounted.plan number) earlier later entry
+        (subst (IsLegalJournal (accounted.plan number)) place (accounted.legal number below));
+    runs = accounted.runs;
+    workers = accounted.workers;
+    order = accounted.order;
+    ordered = accounted.ordered;
+    commands = accounted.commands;
+    rounds = accounted.rounds;
+    work = work;
+    moves = moves;
+    of_runs = moves_of_work;
+    list = list;
+    sent = accounted.sent;
+    counts = accounted.counts;
+    each_once = accounted.each_once;
+    ends = accounted.ends;
+  }
 
 pub replays_keep_it : RunsAreOfTheSystem → StoppedRunsAreOfTheSystem → (verified : Verified) → IsSafeImage verified.maps verified.code →
     ReplaysKeepIt verified
 replays_keep_it ran stopped verified safe script options records outcome fit captured accounted =
-    let work : (worker : ℕ) → worker < options.workers →
-    IsWorkOf (IsRunAt (IsEitherOfImage verified options accounted.plan accounted.count worker) records)
-    (share (frames_of records) options.workers worker (length records)) worker (runs_at accounted.runs worker) accounted.count outcome.journals accounted.order =
-    λ worker below. work_of ran stopped verified options fit.at_most_eight accounted.plan accounted.count worker below outcome.journals accounted.order records
-    captured (runs_at accounted.runs worker) (accounted.work worker below) in
-    let moves : HasMoves (setting_of verified options) accounted.count accounted.runs outcome.journals accounted.order =
-    has_moves verified options accounted.plan accounted.count records accounted.runs outcome.journals accounted.order work in
-    record {
-      safe = safe;
-      count = accounted.count;
-      count_is = accounted.count_is;
-      plan = accounted.plan;
-      plans = accounted.plans;
-      legal = accounted.legal;
-      own_place = λ number below earlier later entry place. entry_is_step (accounted.plan number) earlier later entry
-          (subst (IsLegalJournal (accounted.plan number)) place (accounted.legal number below));
-      runs = accounted.runs;
-      workers = accounted.workers;
-      order = accounted.order;
-      ordered = accounted.ordered;
-      commands = accounted.commands;
-      rounds = accounted.rounds;
-      work = work;
-      moves = moves;
-      of_runs = moves_are_of_runs verified options accounted.plan accounted.count records accounted.runs outcome.journals accounted.order work;
-      list = one_list verified options fit accounted.plan accounted.count accounted.plans accounted.runs outcome.journals accounted.legal accounted.order
-          accounted.ordered moves;
-      sent = accounted.sent;
-    }
+    headline_with ran stopped verified safe script options records outcome fit captured accounted
+    (one_order_is_one_list (setting_of verified options) accounted.plan accounted.count (λ number. entries_at outcome.journals number)
+    (moves ran stopped verified safe script options records outcome fit captured accounted).moves (reverse accounted.order)
+    (order_is ran stopped verified safe script options records outcome fit captured accounted))

@@ -31,3 +31,12 @@ pub mod OpenedRuns
 pub mod OpenedReplays
 pub mod ReplayMoves
 pub mod HeadlineRuns
+pub mod EndLemmas
+pub mod AnswerLemmas
+pub mod ReplayRowLemmas
+pub mod RunEnds
+pub mod RecordEnds
+pub mod SizedUpdates
+pub mod DeedAnswers
+pub mod OneReplay
+pub mod MergeCalls

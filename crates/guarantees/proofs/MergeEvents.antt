@@ -14,7 +14,9 @@ use Rattle.semantics.specs.declared.call.Entry.{Entry}
 use Rattle.guarantees.specs.Steps.{AskedOfShard, Nothing, Writes, Refused, Move, AreSteps, entries_asked, deeds_asked, deeds_in}
 use Rattle.guarantees.specs.Moves.{IsMove, IsAskedSo, after_asked, is_event_of}
 use Rattle.guarantees.specs.Merging.{events_of, IsWrittenNext, AreWrittenInOrder}
+use Rattle.guarantees.specs.Events.{Ending, ending_in, ended_by}
 use Rattle.guarantees.proofs.MoveLemmas.{steps_are_moves}
+use Rattle.guarantees.proofs.EndLemmas.{ends_of_asked, ends_in, Walk, end_is}
 
 -- ---- lists of events, the oldest first
 
@@ -85,7 +87,7 @@ another : (worker other one : ℕ) → other ≢ worker → (one == worker) ≡ 
 another worker other one apart is =
     ne_eqb one other (λ same. apart (sym same ∙ eqb-true one worker is))
 
-not_anothers : (worker other : ℕ) (event : SystemEvent) → other ≢ worker → is_event_of worker event ≡ true → is_event_of other event ≡ false
+pub not_anothers : (worker other : ℕ) (event : SystemEvent) → other ≢ worker → is_event_of worker event ≡ true → is_event_of other event ≡ false
 not_anothers worker other (BeginsRun one frame now told) apart is = another worker other one apart is
 not_anothers worker other (DoesInstruction one) apart is = another worker other one apart is
 not_anothers worker other (CallsShard one) apart is = another worker other one apart is
@@ -137,7 +139,7 @@ same_asked worker (Refused call) (Refused another) deed is also =
 -- ---- up to a worker's next deed
 
 pub record Advance (setting : Setting) (count worker : ℕ) (before : SystemState) (moves : List Move) (asked : AskedOfShard)
-    (later : List Deed) : Type 0
+    (later : List Deed) (ends : List Ending) : Type 0
   where
     pub done : List Move
     pub rest : List Move
@@ -149,15 +151,18 @@ pub record Advance (setting : Setting) (count worker : ℕ) (before : SystemStat
     pub histories : after.histories ≡ (after_asked before asked).histories
     pub eight : length after.workers ≡ length before.workers
     pub others : (other : ℕ) → other ≢ worker → worker_state after other ≡ worker_state before other
-    pub steps : AreSteps setting count worker (worker_state after worker) rest Idle
+    pub rest_ends : List Ending
+    pub ended : ended_by setting worker before (events_of done) ++ rest_ends ≡ ends
+    pub walk : Walk setting count worker (worker_state after worker) rest rest_ends
     pub deeds : deeds_in worker rest ≡ later
 
 -- an event that asks nothing, and then the rest
 over_one : (setting : Setting) (count worker : ℕ) (before : SystemState) (move : Move) (moves : List Move) (asked : AskedOfShard)
-    (later : List Deed) (next : WorkerState) → move.asked ≡ Nothing → worker < length before.workers →
-    IsMove setting worker (worker_state before worker) move next →
-    Advance setting count worker (with_worker before worker next) moves asked later → Advance setting count worker before (move ∷ moves) asked later
-over_one setting count worker before move moves asked later next none few means rest =
+    (later : List Deed) (next : WorkerState) (here ends : List Ending) → move.asked ≡ Nothing → worker < length before.workers →
+    IsMove setting worker (worker_state before worker) move next → ending_in setting worker before move.event ≡ here →
+    Advance setting count worker (with_worker before worker next) moves asked later ends →
+    Advance setting count worker before (move ∷ moves) asked later (here ++ ends)
+over_one setting count worker before move moves asked later next here ends none few means end rest =
     let quiet : IsAskedSo setting before move.asked = subst (λ (one : AskedOfShard). IsAskedSo setting before one) (sym none) tt in
     let leads : after_event setting before move.event ≡ with_worker before worker next =
     means.leads before refl quiet ∙ ap (λ (one : AskedOfShard). with_worker (after_asked before one) worker next) none in
@@ -181,17 +186,22 @@ over_one setting count worker before move moves asked later next none few means 
       histories = rest.histories ∙ asked_histories before worker next asked;
       eight = rest.eight ∙ length-set before.workers worker next;
       others = λ other apart. rest.others other apart ∙ state_elsewhere before worker other next apart;
-      steps = rest.steps;
+      rest_ends = rest.rest_ends;
+      ended = ap (λ (first : List Ending). (first ++ ended_by setting worker (after_event setting before move.event) (events_of rest.done)) ++ rest.rest_ends) end
+          ∙ ap (λ (one : SystemState). (here ++ ended_by setting worker one (events_of rest.done)) ++ rest.rest_ends) leads
+          ∙ append_assoc here (ended_by setting worker (with_worker before worker next) (events_of rest.done)) rest.rest_ends
+          ∙ ap (λ (list : List Ending). here ++ list) rest.ended;
+      walk = rest.walk;
       deeds = rest.deeds;
     }
 
 -- the event that does the deed
 the_deed : (setting : Setting) (count worker : ℕ) (before : SystemState) (move : Move) (moves : List Move) (asked : AskedOfShard)
-    (later : List Deed) (next : WorkerState) → move.asked ≡ asked → worker < length before.workers →
-    IsMove setting worker (worker_state before worker) move next →
-    IsAskedSo setting before asked → AreSteps setting count worker next moves Idle → deeds_in worker moves ≡ later →
-    Advance setting count worker before (move ∷ moves) asked later
-the_deed setting count worker before move moves asked later next same few means asks steps deeds =
+    (later : List Deed) (next : WorkerState) (here ends : List Ending) → move.asked ≡ asked → worker < length before.workers →
+    IsMove setting worker (worker_state before worker) move next → ending_in setting worker before move.event ≡ here →
+    IsAskedSo setting before asked → Walk setting count worker next moves ends → deeds_in worker moves ≡ later →
+    Advance setting count worker before (move ∷ moves) asked later (here ++ ends)
+the_deed setting count worker before move moves asked later next here ends same few means end asks walk deeds =
     let so : IsAskedSo setting before move.asked = subst (λ (one : AskedOfShard). IsAskedSo setting before one) (sym same) asks in
     let workers : (after_asked before asked).workers ≡ before.workers = asked_workers before asked in
     let leads : after_event setting before move.event ≡ with_worker (after_asked before asked) worker next =
@@ -215,57 +225,75 @@ the_deed setting count worker before move moves asked later next same few means 
       eight = length-set (after_asked before asked).workers worker next ∙ ap length workers;
       others = λ other apart. state_elsewhere (after_asked before asked) worker other next apart
           ∙ ap (λ list. worker_state (record { workers = list; histories = before.histories }) other) workers;
-      steps = subst (λ here. AreSteps setting count worker here moves Idle) (sym (state_there (after_asked before asked) worker next room)) steps;
+      rest_ends = ends;
+      ended = ap (λ (first : List Ending). (first ++ []) ++ ends) end ∙ ap (λ (list : List Ending). list ++ ends) (append-nil here);
+      walk = subst (λ one. Walk setting count worker one moves ends) (sym (state_there (after_asked before asked) worker next room)) walk;
       deeds = deeds;
     }
 
-abbrev AdvancesFrom : Setting → ℕ → ℕ → AskedOfShard → Deed → List Deed → List Move → SystemState → Type 0
-AdvancesFrom setting count worker asked deed later moves before =
+by_deed : (setting : Setting) (count worker : ℕ) (asked : AskedOfShard) (later : List Deed) (move : Move) (moves : List Move)
+    (before : SystemState) → worker < length before.workers → IsAskedSo setting before asked →
+    (steps : AreSteps setting count worker (worker_state before worker) (move ∷ moves) Idle) → move.asked ≡ asked → deeds_in worker moves ≡ later →
+    Advance setting count worker before (move ∷ moves) asked later (ends_in setting count worker (worker_state before worker) (move ∷ moves) Idle steps)
+by_deed setting count worker asked later move moves before few asks steps same rest =
+    let so : IsAskedSo setting before move.asked = subst (λ (one : AskedOfShard). IsAskedSo setting before one) (sym same) asks in
+    the_deed setting count worker before move moves asked later steps.0 (ends_of_asked setting (worker_state before worker) move.event move.asked)
+    (ends_in setting count worker steps.0 moves Idle steps.2) same few
+    (steps_are_moves setting count worker (worker_state before worker) move steps.0 steps.1)
+    (end_is setting count worker (worker_state before worker) move steps.0 steps.1 before refl so) asks
+    (record { steps = steps.2; ends_are = refl }) rest
+
+abbrev AdvancesFrom : Setting → ℕ → ℕ → AskedOfShard → Deed → List Deed → List Move → List Ending → SystemState → Type 0
+AdvancesFrom setting count worker asked deed later moves ends before =
     worker < length before.workers → deeds_asked worker asked ≡ deed ∷ [] → IsAskedSo setting before asked →
-    deeds_in worker moves ≡ deed ∷ later → AreSteps setting count worker (worker_state before worker) moves Idle →
-    Advance setting count worker before moves asked later
+    deeds_in worker moves ≡ deed ∷ later → Walk setting count worker (worker_state before worker) moves ends →
+    Advance setting count worker before moves asked later ends
 
 advance_by : (setting : Setting) (count worker : ℕ) (asked : AskedOfShard) (deed : Deed) (later : List Deed) (move : Move)
     (moves : List Move) (before : SystemState) →
-    ((onward : SystemState) → AdvancesFrom setting count worker asked deed later moves onward) →
+    ((onward : SystemState) (ends : List Ending) → AdvancesFrom setting count worker asked deed later moves ends onward) →
     worker < length before.workers → deeds_asked worker asked ≡ deed ∷ [] → IsAskedSo setting before asked →
     deeds_in worker (move ∷ moves) ≡ deed ∷ later → (steps : AreSteps setting count worker (worker_state before worker) (move ∷ moves) Idle) →
-    (own : AskedOfShard) → move.asked ≡ own → Advance setting count worker before (move ∷ moves) asked later
+    (own : AskedOfShard) → move.asked ≡ own →
+    Advance setting count worker before (move ∷ moves) asked later (ends_in setting count worker (worker_state before worker) (move ∷ moves) Idle steps)
 advance_by setting count worker asked deed later move moves before onward few one asks made steps Nothing is =
-    over_one setting count worker before move moves asked later steps.0 is few
+    let quiet : IsAskedSo setting before move.asked = subst (λ (one : AskedOfShard). IsAskedSo setting before one) (sym is) tt in
+    let rest : List Ending = ends_in setting count worker steps.0 moves Idle steps.2 in
+    over_one setting count worker before move moves asked later steps.0 (ends_of_asked setting (worker_state before worker) move.event move.asked) rest is few
     (steps_are_moves setting count worker (worker_state before worker) move steps.0 steps.1)
-    (onward (with_worker before worker steps.0)
+    (end_is setting count worker (worker_state before worker) move steps.0 steps.1 before refl quiet)
+    (onward (with_worker before worker steps.0) rest
     (subst (λ (n : ℕ). worker < n) (sym (length-set before.workers worker steps.0)) few) one
     (asked_with setting before worker steps.0 asked asks)
     (ap (λ (own : AskedOfShard). deeds_asked worker own ++ deeds_in worker moves) (sym is) ∙ made)
-    (subst (λ here. AreSteps setting count worker here moves Idle) (sym (state_there before worker steps.0 few)) steps.2))
+    (subst (λ here. Walk setting count worker here moves rest) (sym (state_there before worker steps.0 few))
+    (record { steps = steps.2; ends_are = refl })))
 advance_by setting count worker asked deed later move moves before onward few one asks made steps (Writes entry) is =
     let all : Wrote entry ∷ deeds_in worker moves ≡ deed ∷ later =
     ap (λ (own : AskedOfShard). deeds_asked worker own ++ deeds_in worker moves) (sym is) ∙ made in
     let same : Wrote entry ≡ deed = cc in
     let rest : deeds_in worker moves ≡ later = cc in
-    the_deed setting count worker before move moves asked later steps.0
-    (is ∙ same_asked worker (Writes entry) asked deed (ap (λ (one : Deed). one ∷ []) same) one) few
-    (steps_are_moves setting count worker (worker_state before worker) move steps.0 steps.1) asks steps.2 rest
+    by_deed setting count worker asked later move moves before few asks steps
+    (is ∙ same_asked worker (Writes entry) asked deed (ap (λ (one : Deed). one ∷ []) same) one) rest
 advance_by setting count worker asked deed later move moves before onward few one asks made steps (Refused call) is =
     let all : MetFull (Worker worker) call ∷ deeds_in worker moves ≡ deed ∷ later =
     ap (λ (own : AskedOfShard). deeds_asked worker own ++ deeds_in worker moves) (sym is) ∙ made in
     let same : MetFull (Worker worker) call ≡ deed = cc in
     let rest : deeds_in worker moves ≡ later = cc in
-    the_deed setting count worker before move moves asked later steps.0
-    (is ∙ same_asked worker (Refused call) asked deed (ap (λ (one : Deed). one ∷ []) same) one) few
-    (steps_are_moves setting count worker (worker_state before worker) move steps.0 steps.1) asks steps.2 rest
+    by_deed setting count worker asked later move moves before few asks steps
+    (is ∙ same_asked worker (Refused call) asked deed (ap (λ (one : Deed). one ∷ []) same) one) rest
 
 pub advance : (setting : Setting) (count worker : ℕ) (asked : AskedOfShard) (deed : Deed) (later : List Deed) (moves : List Move)
-    (before : SystemState) → AdvancesFrom setting count worker asked deed later moves before
-advance setting count worker asked deed later [] before few one asks made steps = absurd cc
-advance setting count worker asked deed later (move ∷ moves) before few one asks made steps =
-    advance_by setting count worker asked deed later move moves before
-    (λ onward. advance setting count worker asked deed later moves onward) few one asks made steps move.asked refl
+    (before : SystemState) (ends : List Ending) → AdvancesFrom setting count worker asked deed later moves ends before
+advance setting count worker asked deed later [] before ends few one asks made walk = absurd cc
+advance setting count worker asked deed later (move ∷ moves) before ends few one asks made walk =
+    subst (λ (list : List Ending). Advance setting count worker before (move ∷ moves) asked later list) walk.ends_are
+    (advance_by setting count worker asked deed later move moves before
+    (λ onward. advance setting count worker asked deed later moves onward) few one asks made walk.steps move.asked refl)
 
 -- ---- a worker without further deeds
 
-pub record RunsOut (setting : Setting) (worker : ℕ) (before : SystemState) (moves : List Move) : Type 0 where
+pub record RunsOut (setting : Setting) (worker : ℕ) (before : SystemState) (moves : List Move) (ends : List Ending) : Type 0 where
   pub own : AreOwn worker (events_of moves)
   pub after : SystemState
   pub happen : HappenFrom setting before (events_of moves) after
@@ -273,28 +301,32 @@ pub record RunsOut (setting : Setting) (worker : ℕ) (before : SystemState) (mo
   pub histories : after.histories ≡ before.histories
   pub eight : length after.workers ≡ length before.workers
   pub others : (other : ℕ) → other ≢ worker → worker_state after other ≡ worker_state before other
+  pub ended : ended_by setting worker before (events_of moves) ≡ ends
   pub idle : worker_state after worker ≡ Idle
 
-abbrev RunsOutFrom : Setting → ℕ → ℕ → List Move → SystemState → Type 0
-RunsOutFrom setting count worker moves before =
-    worker < length before.workers → deeds_in worker moves ≡ [] → AreSteps setting count worker (worker_state before worker) moves Idle →
-    RunsOut setting worker before moves
+abbrev RunsOutFrom : Setting → ℕ → ℕ → List Move → List Ending → SystemState → Type 0
+RunsOutFrom setting count worker moves ends before =
+    worker < length before.workers → deeds_in worker moves ≡ [] → Walk setting count worker (worker_state before worker) moves ends →
+    RunsOut setting worker before moves ends
 
 out_by : (setting : Setting) (count worker : ℕ) (move : Move) (moves : List Move) (before : SystemState) →
-    ((onward : SystemState) → RunsOutFrom setting count worker moves onward) → worker < length before.workers →
+    ((onward : SystemState) (ends : List Ending) → RunsOutFrom setting count worker moves ends onward) → worker < length before.workers →
     deeds_in worker (move ∷ moves) ≡ [] → (steps : AreSteps setting count worker (worker_state before worker) (move ∷ moves) Idle) →
-    (own : AskedOfShard) → move.asked ≡ own → RunsOut setting worker before (move ∷ moves)
+    (own : AskedOfShard) → move.asked ≡ own →
+    RunsOut setting worker before (move ∷ moves) (ends_in setting count worker (worker_state before worker) (move ∷ moves) Idle steps)
 out_by setting count worker move moves before onward few none steps Nothing is =
     let means : IsMove setting worker (worker_state before worker) move steps.0 =
     steps_are_moves setting count worker (worker_state before worker) move steps.0 steps.1 in
     let quiet : IsAskedSo setting before move.asked = subst (λ (one : AskedOfShard). IsAskedSo setting before one) (sym is) tt in
     let leads : after_event setting before move.event ≡ with_worker before worker steps.0 =
     means.leads before refl quiet ∙ ap (λ (one : AskedOfShard). with_worker (after_asked before one) worker steps.0) is in
-    let rest : RunsOut setting worker (with_worker before worker steps.0) moves =
-    onward (with_worker before worker steps.0)
+    let ends : List Ending = ends_in setting count worker steps.0 moves Idle steps.2 in
+    let rest : RunsOut setting worker (with_worker before worker steps.0) moves ends =
+    onward (with_worker before worker steps.0) ends
     (subst (λ (n : ℕ). worker < n) (sym (length-set before.workers worker steps.0)) few)
     (ap (λ (own : AskedOfShard). deeds_asked worker own ++ deeds_in worker moves) (sym is) ∙ none)
-    (subst (λ here. AreSteps setting count worker here moves Idle) (sym (state_there before worker steps.0 few)) steps.2) in
+    (subst (λ here. Walk setting count worker here moves ends) (sym (state_there before worker steps.0 few))
+    (record { steps = steps.2; ends_are = refl })) in
     record {
       own = (means.own, rest.own);
       after = rest.after;
@@ -309,6 +341,10 @@ out_by setting count worker move moves before onward few none steps Nothing is =
       histories = rest.histories;
       eight = rest.eight ∙ length-set before.workers worker steps.0;
       others = λ other apart. rest.others other apart ∙ state_elsewhere before worker other steps.0 apart;
+      ended = ap (λ (first : List Ending). first ++ ended_by setting worker (after_event setting before move.event) (events_of moves))
+          (end_is setting count worker (worker_state before worker) move steps.0 steps.1 before refl quiet)
+          ∙ ap (λ (one : SystemState). ends_of_asked setting (worker_state before worker) move.event move.asked ++ ended_by setting worker one (events_of moves)) leads
+          ∙ ap (λ (list : List Ending). ends_of_asked setting (worker_state before worker) move.event move.asked ++ list) rest.ended;
       idle = rest.idle;
     }
 out_by setting count worker move moves before onward few none steps (Writes entry) is =
@@ -320,8 +356,9 @@ out_by setting count worker move moves before onward few none steps (Refused cal
     ap (λ (own : AskedOfShard). deeds_asked worker own ++ deeds_in worker moves) (sym is) ∙ none in
     absurd cc
 
-pub runs_out : (setting : Setting) (count worker : ℕ) (moves : List Move) (before : SystemState) → RunsOutFrom setting count worker moves before
-runs_out setting count worker [] before few none steps = record {
+pub runs_out : (setting : Setting) (count worker : ℕ) (moves : List Move) (before : SystemState) (ends : List Ending) →
+    RunsOutFrom setting count worker moves ends before
+runs_out setting count worker [] before ends few none walk = record {
   own = tt;
   after = before;
   happen = refl;
@@ -329,7 +366,9 @@ runs_out setting count worker [] before few none steps = record {
   histories = refl;
   eight = refl;
   others = λ other apart. refl;
-  idle = steps;
+  ended = walk.ends_are;
+  idle = walk.steps;
 }
-runs_out setting count worker (move ∷ moves) before few none steps =
-    out_by setting count worker move moves before (λ onward. runs_out setting count worker moves onward) few none steps move.asked refl
+runs_out setting count worker (move ∷ moves) before ends few none walk =
+    subst (λ (list : List Ending). RunsOut setting worker before (move ∷ moves) list) walk.ends_are
+    (out_by setting count worker move moves before (λ onward. runs_out setting count worker moves onward) few none walk.steps move.asked refl)

@@ -59,7 +59,7 @@ turned_away setting system worker call entered next turns =
 
 -- ---- moves
 
-own_event : (worker : ℕ) → IsTrue (worker == worker)
+pub own_event : (worker : ℕ) → IsTrue (worker == worker)
 own_event worker = grind (arith, nat_tests)
 
 begins_so : (setting : Setting) (worker now told : ℕ) (frame : List ℕ) → worker < setting.options.workers → IsInputFrame frame →

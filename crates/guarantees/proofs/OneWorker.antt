@@ -216,7 +216,7 @@ one_worker_is_one_list setting plan count worker set moves options count_is plan
 
 -- ---- one run
 
-over_is_not : (entered : List ℕ) (here : InRun) → run_over entered ≡ running here → ⊥
+pub over_is_not : (entered : List ℕ) (here : InRun) → run_over entered ≡ running here → ⊥
 over_is_not [] here is = absurd cc
 over_is_not (shard ∷ entered) here is = absurd cc
 

@@ -28,7 +28,7 @@ use Rattle.runs.specs.FrameRuns.{HasRun, HasStopped}
 use Rattle.replay.specs.declared.runner.RunEnd.{RunEnd}
 use Rattle.replay.specs.declared.runner.RunEnd.TheVariants.{Stopped, Exited}
 use Rattle.replay.specs.declared.runner.Ran.{Ran}
-use Rattle.replay.specs.Accounts.{runs_at, sent_of, sent_frames}
+use Rattle.replay.specs.Accounts.{runs_at, counts_of, frames_in, sent_of, sent_frames, ends_of}
 use Rattle.replay.specs.RunsInOrder.{IsRunAt, IsChainOfRuns}
 use Rattle.replay.specs.Shares.{frames_of, share}
 use Rattle.control.specs.declared.command.Command.{Command}
@@ -169,8 +169,12 @@ pub record Headline (verified : Verified) (script : List Command) (options : Opt
   pub list :
       IsOneList (setting_of verified options) count (λ number. entries_at outcome.journals number) moves.moves
       (entries_made (reverse order))
-  -- the frames that were sent are those of these runs
+  -- the frames that were sent, the numbers of the report, in which each record is counted once, and what became of each record are those of
+  -- these runs
   pub sent : sent_frames outcome.sent.items ≡ sent_of (frames_of records) options.workers runs (length records)
+  pub counts : outcome.counts ≡ counts_of (frames_of records) options.workers runs (length records)
+  pub each_once : frames_in outcome.counts ≡ length records
+  pub ends : outcome.ends.items ≡ ends_of (frames_of records) options.workers runs (length records)
 
 -- it holds of every replay that accounts for its records, as `replay` ensures it
 abbrev pub ReplaysKeepIt : Verified → Type 0

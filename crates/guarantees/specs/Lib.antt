@@ -15,3 +15,8 @@ pub mod Guarantees
 pub mod SameRuns
 pub mod ReaderRuns
 pub mod ReaderReplays
+pub mod Events
+pub mod Replay
+pub mod ReplayRows
+pub mod ReplayOf
+pub mod OneReplay

@@ -2,7 +2,12 @@
 //! what the public calls of the crates below ensure. What a single call promises by itself is that call's contract; docs/GUARANTEES.md
 //! says where.
 //!
-//! `headline` comes first. Its statement is in twelve files, about 1,400 lines, to be read in this order: `specs/Headline.antt` here;
+//! `headline` and `replays_are_one_list` come first. The second is the shorter to read: a replay is one list of events, in the words of the
+//! model alone (`specs/Replay.antt` and `specs/Events.antt` here). It rests on 31 files, 327 definitions, 1,298 lines of definitions, as
+//! `scripts/statement IsReplay` prints them in the order of reading; most of them are eBPF and its maps.
+//!
+//! The statement of `headline` rests on 75 files, 537 definitions, 2,135 lines of definitions (`scripts/statement Headline`). Twelve files
+//! come first, in this order: `specs/Headline.antt` here;
 //! `specs/Merging.antt` (its first half), `specs/ReplayMoves.antt`, `specs/SystemRuns.antt` and `specs/Steps.antt` here (one list of all
 //! events, the moves of a worker, runs and steps of the system); `Safety`, `System`, `RunTrace` and `History` of crates/semantics/specs;
 //! `specs/Deeds.antt` of crates/shards, `specs/FrameRuns.antt` of crates/runs and `specs/Accounted.antt` of crates/replay. Each file says
@@ -14,6 +19,7 @@
 //! without locks, `readers` of programs that only read.
 #![tactic(auto)]
 
+mod fits;
 pub mod one_caller;
 pub mod place_laws;
 pub mod readers;
@@ -24,6 +30,7 @@ pub mod step_laws;
 
 ghost use Rattle.semantics.specs.Safety.{IsSafeImage};
 ghost use Rattle.guarantees.specs.Headline.{ReplaysKeepIt};
+ghost use Rattle.guarantees.specs.OneReplay.{ReplaysAreOneList};
 ghost use Rattle.guarantees.specs.Guarantees.{EntriesAreSteps, EntriesAreAnswered};
 ghost use Rattle.guarantees.specs.SystemLaws.{RunsAreOfTheSystem, StoppedRunsAreOfTheSystem};
 ghost use Rattle.guarantees.specs.Merging.{OneOrderIsOneList, OneWorkerIsOneList, RunAloneIsOneList};
@@ -54,8 +61,25 @@ use verifier::laws::accepted_is_safe;
 /// The order fits each shard and each caller: shard by shard it is the journal; of each worker it has what its runs did, of the controller
 /// the updates before the first record and those of the script's commands, each with its answer, and of the reclaimer its rounds, looks at
 /// full journals among them, each in the caller's own order over all shards.
+///
+/// The report is of the same runs: its numbers, in which each record is counted once, what became of each record and the frames that are
+/// sent are those of the runs whose steps are in the list of events.
 pub fn headline(verified: &Verified)
     ensures { ReplaysKeepIt verified.now }
+{
+    accepted_images_are_safe(verified);
+    runs_are_of_the_system();
+    stopped_runs_are_of_the_system();
+}
+
+/// **A replay is one list of events**, in the words of the model alone (`specs/Events.antt` and `specs/Replay.antt`). The list of events that
+/// the headline has begins, worker by worker, a run on each record of the worker's share, in the capture's order, at the record's moment,
+/// and nothing else. Its controller makes the updates before the first record and then the calls of the commands, in the script's order
+/// over all shards, and its reclaimer its rounds, calls that met a full journal among them; and they make no other. Everything that is
+/// handed back is what comes of this list: how each run ends (its verdict, its frame and its number of instructions, or at which full
+/// journal it was stopped), the answer to each call, the numbers of the report, what is sent, and the journals.
+pub fn replays_are_one_list(verified: &Verified)
+    ensures { ReplaysAreOneList verified.now }
 {
     accepted_images_are_safe(verified);
     runs_are_of_the_system();
@@ -103,7 +127,8 @@ pub fn entries_are_answered()
 /// One order of what all callers did makes one list of events. If a list of entries, and of looks at full journals, is shard by shard the
 /// shard's legal journal and worker by worker what that worker did, each look met a full journal, and each worker's own steps lead from
 /// idle to idle, then one list of events of the system can all happen from the opening on; it has each worker's own events in their order;
-/// after it the histories are the journals, and every worker is idle. A look by the controller or the reclaimer is no event.
+/// after it the histories are the journals, and every worker is idle. Whether a look by the controller or the reclaimer is an event is not
+/// said here; in a replay's list it is one (`replays_are_one_list`).
 pub fn one_order_is_one_list()
     ensures { OneOrderIsOneList }
 {}

@@ -12,10 +12,12 @@ ghost use Rattle.replay.specs.Accounted.{IsAccounted};
 ghost use Rattle.replay.specs.Parts.{AreBadOptions};
 ghost use Rattle.replay.specs.UpdateFaults.{OfUpdate, IsWhyByPass};
 ghost use Rattle.guarantees.specs.Headline.{Headline};
+ghost use Rattle.guarantees.specs.OneReplay.{IsOneReplay};
 ghost use Rattle.guarantees.specs.ReaderReplays.{IsCaptured, all_sent_at_opening};
 
-use crate::headline;
+use crate::fits::commands_fit;
 use crate::readers::readers_send_as_at_opening;
+use crate::{headline, replays_are_one_list};
 use control::Script;
 use map_updates::MapUpdate;
 use replay::{Outcome, ReplayFault, replay};
@@ -45,7 +47,7 @@ pub fn all_are_captured(capture: &Capture)
     }
 }
 
-/// `replay`, with `headline` applied to what it ensures. Refused as `replay` is.
+/// `replay`, with `headline` and `replays_are_one_list` applied to what it ensures. Refused as `replay` is.
 pub fn headline_replay<R: Threads + Wait + Sync, G: Gate + Sync>(
     rt: &R,
     alloc: Global,
@@ -62,11 +64,14 @@ pub fn headline_replay<R: Threads + Wait + Sync, G: Gate + Sync>(
         capture.now.records.items) }
     ensures updates { IfOk result (λ outcome. outcome.updates.items ≡ updates.now) }
     ensures headline { IfOk result (Headline verified.now script.now (recorded recording options) capture.now.records.items) }
+    ensures one_list { IfOk result (IsOneReplay verified.now script.now (recorded recording options) capture.now.records.items) }
     ensures served { OnOk result (KeepsRows options.journal) }
     ensures refused { IfErr result (OfUpdate (IsWhyByPass verified.now.maps (recorded recording options) updates.now)) }
     ensures bad_options { IsErrOf result BadOptions ↔ AreBadOptions verified.now.maps options script.now }
 {
     headline(verified);
+    replays_are_one_list(verified);
+    commands_fit(script);
     all_are_captured(capture);
     let replayed = replay(
         rt, alloc, verified, capture, updates, script, options, recording, gate,

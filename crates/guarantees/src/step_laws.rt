@@ -2,6 +2,7 @@
 
 ghost use Rattle.guarantees.specs.AloneRow.{AloneRow};
 ghost use Rattle.guarantees.specs.Moves.{StepsAreMoves};
+ghost use Rattle.guarantees.specs.ReplayRows.{ReplayRows};
 ghost use Rattle.guarantees.specs.RunRows.{RunRows};
 ghost use Rattle.guarantees.specs.SafeRow.{SafeRow};
 ghost use Rattle.guarantees.specs.StepLaws.{StepsAreListed, MovesLeadToOne, RunsAreTraces, RunsHaveOneOutcome};
@@ -57,3 +58,11 @@ pub fn a_run_alone_is_computed()
 {
     run_alone_is_one_list();
 }
+
+/// Two replays as lists of events, computed: in one a command takes a key away while a run holds its cell, in the other a journal is full for
+/// a run, an update and a round. And what is none: a list without the run, or with the run twice; one whose run ends with another verdict,
+/// frame or number of instructions; a report with other numbers; a list without a call of the command, or with a call or a look at a full
+/// journal that nobody asked.
+pub fn replays_are_computed()
+    ensures { ReplayRows }
+{}

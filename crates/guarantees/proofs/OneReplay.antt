@@ -1,0 +1,358 @@
+-- The replay that the headline is of, as one list of events: what is begun, called and gone over in it, and what comes of it.
+use Rattle.std.proofs.Common.{◌≡◌, ℕ, zero, suc, ◌<◌, ◌≤◌, ◌==◌, Bool, true, false, not, ◌&&◌, nat_lt, List, [], ◌∷◌, ◌++◌, length, reverse, Some, refl, sym, ◌∙◌, ap, subst, arith, ⊎_elim}
+use Rattle.std.specs.Prelude.{map, filter, slice_get, if◌then◌else◌}
+use Rattle.std.specs.List.{AllByRecursion}
+use Rattle.std.proofs.lemmas.Bool.{cases_lt}
+use Rattle.std.proofs.lemmas.Bool.Decides.{nat_tests}
+use Rattle.std.proofs.lemmas.List.{length-map, reverse-reverse}
+use Rattle.wire.specs.FrameView.{FrameView}
+use Rattle.wire.specs.declared.records.Sent.{Sent}
+use Rattle.semantics.specs.declared.call.Caller.TheVariants.{Controller, Reclaimer}
+use Rattle.semantics.specs.declared.options.Options.{Options}
+use Rattle.semantics.specs.declared.plan.ShardPlan.{ShardPlan}
+use Rattle.semantics.specs.declared.verdict.Verdict.{Verdict}
+use Rattle.semantics.specs.ShardPlan.{AreOptions}
+use Rattle.semantics.specs.History.{shard_of_call}
+use Rattle.semantics.specs.Safety.{IsSafeImage}
+use Rattle.semantics.specs.System.{Setting, Idle, history_of, system_after}
+use Rattle.verifier.specs.Verified.{Verified}
+use Rattle.machine.specs.declared.exit.Stop.{Stop}
+use Rattle.machine.specs.declared.exit.Stop.TheVariants.{JournalFull}
+use Rattle.machine.specs.declared.moment.Moment.{Moment}
+use Rattle.machine.specs.Running.{program_of}
+use Rattle.journals.specs.JournalsView.{JournalsView, entries_at}
+use Rattle.shards.specs.declared.deeds.Deed.{Deed}
+use Rattle.shards.specs.Deeds.{shard_of_deed, deeds_of}
+use Rattle.shards.specs.declared.deeds.OrderPart.TheVariants.{ByCaller}
+use Rattle.shards.specs.Passes.{PassView}
+use Rattle.control.specs.Controlling.{opened_controller}
+use Rattle.control.specs.declared.command.Command.{Command}
+use Rattle.control.specs.ScriptText.{CommandFits}
+use Rattle.replay.specs.declared.outcome.Outcome.{Outcome}
+use Rattle.replay.specs.declared.runner.FrameFate.{FrameFate}
+use Rattle.replay.specs.declared.runner.FrameFate.TheVariants.{Aborted, Dropped, Passed, Sent as IsSent}
+use Rattle.replay.specs.declared.runner.Ran.{Ran}
+use Rattle.replay.specs.declared.runner.RunEnd.{RunEnd}
+use Rattle.replay.specs.declared.runner.RunEnd.TheVariants.{Stopped as WasStopped, Exited as HasExited}
+use Rattle.replay.specs.Accounted.{IsWorkOf, IsAccounted}
+use Rattle.replay.specs.Accounts.{runs_at, sent_frames, verdict_for}
+use Rattle.replay.specs.Commands.{AnsweredUpdate, CommandDone, all_set, made_deeds, commands_deeds}
+use Rattle.replay.specs.Parts.{rounds_of as rounds_for}
+use Rattle.replay.specs.Rounds.{keyed_below}
+use Rattle.replay.specs.RunJobs.{records_of}
+use Rattle.replay.specs.RunsInOrder.{IsRunAt, IsChainOfRuns}
+use Rattle.replay.specs.Shares.{frames_of, frame_at, is_short, worker_of_frame, share}
+use Rattle.guarantees.specs.Events.{Ending, Exited, Stopped, begun_by}
+use Rattle.guarantees.specs.Headline.{moment_of, IsRunOfImage, IsEitherOfImage}
+use Rattle.guarantees.specs.Merging.{events_of}
+use Rattle.guarantees.specs.OneReplay.{IsOneReplay, ReplaysAreOneList}
+use Rattle.guarantees.specs.ReaderReplays.{IsCaptured}
+use Rattle.guarantees.specs.Replay.{Captured, RecordEnd, IsReplay, input_of, is_run_by, runner_of, keyed_shards, rounds_over, shard_count, frames_sent}
+use Rattle.guarantees.specs.ReplayOf.{captured_of, asked_of, totals_in, result_of}
+use Rattle.guarantees.specs.Steps.{Move}
+use Rattle.guarantees.specs.SystemLaws.{RunsAreOfTheSystem, StoppedRunsAreOfTheSystem}
+use Rattle.guarantees.specs.SystemRuns.{setting_of, HasStoppedInSystem}
+use Rattle.guarantees.proofs.AnswerLemmas.{begun_among}
+use Rattle.guarantees.proofs.DeedAnswers.{heard_is, all_askable, calls_are, answers_are, made_as_many, commands_as_many, keyed_are, rounds_are}
+use Rattle.guarantees.proofs.EndLemmas.{Walk}
+use Rattle.guarantees.proofs.HeadlineRuns.{work, moves, moves_of_work, order_is, headline_with}
+use Rattle.guarantees.proofs.Merge.{IsListWithEnds, heard, one_list_with_ends, answer_of_deed, call_of_deed}
+use Rattle.guarantees.proofs.RecordEnds.{first_all, placed, picked, of_sent, IsEndingOf, IsRunOfRecord, AreRunsEnded, all_ends, runners_are, totals_are, told_are, sent_are, ends_are, share_is, spread_below}
+use Rattle.guarantees.proofs.RunEnds.{ending_at_stop, ending_of, endings_of, captured_in, walk_of, begun_in}
+use Rattle.guarantees.proofs.SizedUpdates.{commands_may_look}
+
+-- ---- how a run ended, in both words
+
+stopped_so : (setting : Setting) (worker : ℕ) (moment : Moment) (frame : List ℕ) (plan : ℕ → ShardPlan) (count : ℕ) (before after : PassView)
+    (kept_back : FrameView) (stop : Stop) → (stopped : HasStoppedInSystem setting worker moment frame plan count before after kept_back stop) →
+    (shard : ℕ) × (ending_at_stop setting worker moment frame plan count before after kept_back stop stopped ≡ Stopped shard)
+unfolding ending_at_stop
+stopped_so setting worker moment frame plan count before after kept_back (JournalFull shard) stopped = (shard_of_call stopped.of_system.refused, refl)
+
+same_some : (one other : ℕ) → Some one ≡ Some other → one ≡ other
+same_some one other same = cc
+
+module _ (verified : Verified) (options : Options) (plan : ℕ → ShardPlan) (count worker : ℕ) where
+  steps_are : (captured : Sent) (before : PassView) (steps : ℕ) (fate : FrameFate) (after : PassView) →
+      (run : IsRunOfImage verified options count worker captured before (HasExited steps fate) after) → run.of_system.last.steps ≡ steps
+  steps_are captured before steps fate after run = sym (same_some steps run.steps run.counted ∙ run.of_system.counted)
+
+  exited_so : (captured : Sent) (before : PassView) (steps : ℕ) (fate : FrameFate) (after : PassView) →
+      (run : IsRunOfImage verified options count worker captured before (HasExited steps fate) after) → run.verdict ≡ verdict_for fate →
+      Exited run.verdict run.of_system.last.frame.bytes run.of_system.last.steps ≡ Exited (verdict_for fate) run.of_system.last.frame.bytes steps
+  exited_so captured before steps fate after run verdict =
+      λ i. Exited (verdict i) run.of_system.last.frame.bytes (steps_are captured before steps fate after run i)
+
+  told_so : (captured : Sent) (before : PassView) (end : RunEnd) (after : PassView) →
+      (run : IsEitherOfImage verified options plan count worker captured before end after) →
+      IsEndingOf captured end (ending_of verified options plan count worker captured before end after run)
+  unfolding ending_of
+  told_so captured before WasStopped after run =
+      stopped_so (setting_of verified options) worker (moment_of captured worker) captured.bytes.items plan count before after run.frame run.stop run.of_system
+  told_so captured before (HasExited steps Aborted) after run =
+      (run.of_system.last.frame.bytes, exited_so captured before steps Aborted after run run.told, tt)
+  told_so captured before (HasExited steps Dropped) after run =
+      (run.of_system.last.frame.bytes, exited_so captured before steps Dropped after run run.told, tt)
+  told_so captured before (HasExited steps Passed) after run =
+      (run.of_system.last.frame.bytes, exited_so captured before steps Passed after run run.told, tt)
+  told_so captured before (HasExited steps (IsSent out)) after run = (
+    run.of_system.last.frame.bytes,
+    exited_so captured before steps (IsSent out) after run run.told.0,
+    (run.told.1.seconds, run.told.1.micros, run.told.1.bytes_are ∙ ap (λ (frame : FrameView). frame.bytes) run.of_system.sent_is),
+  )
+
+  -- ---- the runs of a worker, by their places
+
+  abbrev IsChain : List Sent → PassView → List Ran → PassView → Type 0
+  IsChain records before runs after = IsChainOfRuns (IsRunAt (IsEitherOfImage verified options plan count worker) records) before runs after
+
+  run_at : (records : List Sent) (before : PassView) (runs : List Ran) (after : PassView) → (chain : IsChain records before runs after) →
+      (place number : ℕ) → slice_get (records_of runs) place ≡ Some number →
+      IsRunOfRecord records runs (endings_of verified options plan count worker records before runs after chain) place number
+  unfolding endings_of
+  run_at records before [] after chain place number there = absurd cc
+  run_at records before (ran ∷ later) after chain zero number there =
+      let same : ran.number ≡ number = cc there in
+      record {
+        end = ran.end;
+        ends_so = refl;
+        sent = chain.1.sent;
+        known = ap (slice_get records) (sym same) ∙ chain.1.known;
+        ending = ending_of verified options plan count worker chain.1.sent before ran.end chain.0 chain.1.run;
+        there = refl;
+        told = told_so chain.1.sent before ran.end chain.0 chain.1.run;
+      }
+  run_at records before (ran ∷ later) after chain (suc place) number there =
+      let rest = run_at records chain.0 later after chain.2 place number there in
+      record {
+        end = rest.end;
+        ends_so = rest.ends_so;
+        sent = rest.sent;
+        known = rest.known;
+        ending = rest.ending;
+        there = rest.there;
+        told = rest.told;
+      }
+
+  as_many : (records : List Sent) (before : PassView) (runs : List Ran) (after : PassView) → (chain : IsChain records before runs after) →
+      length (endings_of verified options plan count worker records before runs after chain) ≡ length (records_of runs)
+  unfolding endings_of
+  as_many records before [] after chain = refl
+  as_many records before (ran ∷ later) after chain = ap suc (as_many records chain.0 later after chain.2)
+
+  captured_are : (records : List Sent) (before : PassView) (runs : List Ran) (after : PassView) → (chain : IsChain records before runs after) →
+      captured_in verified options plan count worker records before runs after chain ≡ picked records (records_of runs)
+  unfolding captured_in
+  captured_are records before [] after chain = refl
+  captured_are records before (ran ∷ later) after chain =
+      ap (λ (list : List Captured). captured_of chain.1.sent ∷ list) (captured_are records chain.0 later after chain.2)
+      ∙ ap (λ (list : List Sent). map captured_of list ++ picked records (records_of later)) (sym (placed records ran.number chain.1.sent chain.1.known))
+
+-- ---- workers that there are not run nothing
+
+not_below : (workers worker one : ℕ) → one < workers → workers ≤ worker → (one == worker) ≡ false
+not_below workers worker one below past = grind (arith, nat_tests, below, past)
+
+no_share : (frames : List (List ℕ)) (workers worker count : ℕ) → 0 < workers → workers ≤ worker → share frames workers worker count ≡ []
+no_share frames workers worker zero some past = refl
+no_share frames workers worker (suc count) some past =
+    ap (λ (test : Bool). if not (is_short (frame_at frames count)) && test then share frames workers worker count ++ count ∷ []
+    else share frames workers worker count)
+    (not_below workers worker (worker_of_frame (frame_at frames count) workers) (spread_below (frame_at frames count) workers some) past)
+    ∙ none (not (is_short (frame_at frames count))) (share frames workers worker count)
+    ∙ no_share frames workers worker count some past
+  where
+    none : (test : Bool) (list : List ℕ) → (if test && false then list ++ count ∷ [] else list) ≡ list
+    none true list = refl
+    none false list = refl
+
+-- ---- the whole replay
+
+less : (worker workers : ℕ) → nat_lt worker workers ≡ true → worker < workers
+less worker workers is = grind (arith, nat_tests, is)
+
+module _ (ran : RunsAreOfTheSystem) (stopped : StoppedRunsAreOfTheSystem) (verified : Verified) (safe : IsSafeImage verified.maps verified.code)
+    (script : List Command) (options : Options) (records : List Sent) (outcome : Outcome) (fit : AreOptions verified.maps options)
+    (captured : AllByRecursion IsCaptured records) (sized : AllByRecursion CommandFits script)
+    (accounted : IsAccounted (program_of verified options.shards) script options records outcome) where
+  abbrev setting : Setting
+  setting = setting_of verified options
+
+  abbrev worked : (worker : ℕ) → worker < options.workers →
+      IsWorkOf (IsRunAt (IsEitherOfImage verified options accounted.plan accounted.count worker) records)
+      (share (frames_of records) options.workers worker (length records)) worker (runs_at accounted.runs worker) accounted.count outcome.journals accounted.order
+  worked = work ran stopped verified safe script options records outcome fit captured accounted
+
+  abbrev moved : ℕ → List Move
+  moved = (moves ran stopped verified safe script options records outcome fit captured accounted).moves
+
+  abbrev own_below : (worker : ℕ) → nat_lt worker options.workers ≡ true → worker < options.workers
+  own_below worker is =
+      (moves_of_work ran stopped verified safe script options records outcome fit captured accounted worker (less worker options.workers is)).below
+
+  -- how the runs of a worker ended
+  ends_if : (worker : ℕ) (test : Bool) → nat_lt worker options.workers ≡ test → List Ending
+  ends_if worker true is =
+      let did = worked worker (own_below worker is) in
+      endings_of verified options accounted.plan accounted.count worker records did.handled.before (runs_at accounted.runs worker) did.after did.handled.chain
+  ends_if worker false is = []
+
+  ends : ℕ → List Ending
+  ends worker = ends_if worker (nat_lt worker options.workers) refl
+
+  each_if : (worker : ℕ) (test : Bool) → (is : nat_lt worker options.workers ≡ test) → worker < options.workers → (place number : ℕ) →
+      slice_get (records_of (runs_at accounted.runs worker)) place ≡ Some number →
+      IsRunOfRecord records (runs_at accounted.runs worker) (ends_if worker test is) place number
+  unfolding ends_if
+  each_if worker true is below place number there =
+      let did = worked worker (own_below worker is) in
+      run_at verified options accounted.plan accounted.count worker records did.handled.before (runs_at accounted.runs worker) did.after did.handled.chain place
+      number there
+  each_if worker false is below place number there = absurd (grind (arith, nat_tests, is, below))
+
+  as_many_if : (worker : ℕ) (test : Bool) → (is : nat_lt worker options.workers ≡ test) →
+      length (ends_if worker test is) ≡ length (share (frames_of records) options.workers worker (length records))
+  unfolding ends_if
+  as_many_if worker true is =
+      let did = worked worker (own_below worker is) in
+      as_many verified options accounted.plan accounted.count worker records did.handled.before (runs_at accounted.runs worker) did.after did.handled.chain
+      ∙ ap length did.handled.records_are
+  as_many_if worker false is =
+      let past : options.workers ≤ worker = grind (arith, nat_tests, is) in
+      ap length (sym (no_share (frames_of records) options.workers worker (length records) fit.some_worker past))
+
+  are_ended : AreRunsEnded records options.workers accounted.runs ends
+  unfolding ends
+  are_ended = record {
+    some = fit.some_worker;
+    shares = λ worker below. (worked worker below).handled.records_are;
+    each = λ worker below. each_if worker (nat_lt worker options.workers) refl below;
+    as_many = λ worker. as_many_if worker (nat_lt worker options.workers) refl;
+  }
+
+  -- the worker's moves, with these ends, and what they begin
+  walk_if : (worker : ℕ) (test : Bool) → (is : nat_lt worker options.workers ≡ test) →
+      Walk setting accounted.count worker Idle (moved worker) (ends_if worker test is)
+  unfolding ends_if
+  walk_if worker true is =
+      let did = worked worker (own_below worker is) in
+      let own = moves_of_work ran stopped verified safe script options records outcome fit captured accounted worker (less worker options.workers is) in
+      subst (λ (list : List Move). Walk setting accounted.count worker Idle list
+      (endings_of verified options accounted.plan accounted.count worker records did.handled.before (runs_at accounted.runs worker) did.after did.handled.chain))
+      (sym own.are)
+      (walk_of verified options accounted.plan accounted.count worker records did.handled.before (runs_at accounted.runs worker) did.after did.handled.chain)
+  walk_if worker false is =
+      let past : options.workers ≤ worker = grind (arith, nat_tests, is) in
+      subst (λ (list : List Move). Walk setting accounted.count worker Idle list [])
+      (sym ((moves ran stopped verified safe script options records outcome fit captured accounted).of_others worker past))
+      (record { steps = refl; ends_are = refl })
+
+  walks : (worker : ℕ) → Walk setting accounted.count worker Idle (moved worker) (ends worker)
+  unfolding ends
+  walks worker = walk_if worker (nat_lt worker options.workers) refl
+
+  abbrev own_of : ℕ → Captured → Bool
+  own_of worker one = is_run_by (λ frame. worker_of_frame frame options.workers) worker one
+
+  share_in : (worker : ℕ) →
+      picked records (share (frames_of records) options.workers worker (length records)) ≡ filter (own_of worker) (map captured_of records)
+  share_in worker =
+      share_is records options.workers accounted.runs ends are_ended worker (length records) (omega arith)
+      ∙ ap (λ (list : List Sent). filter (own_of worker) (map captured_of list)) (first_all records)
+
+  begun_is : (worker : ℕ) (test : Bool) → (is : nat_lt worker options.workers ≡ test) →
+      begun_by worker (events_of (moved worker)) ≡ map (input_of worker) (filter (own_of worker) (map captured_of records))
+  begun_is worker true is =
+      let did = worked worker (own_below worker is) in
+      let own = moves_of_work ran stopped verified safe script options records outcome fit captured accounted worker (less worker options.workers is) in
+      ap (λ (list : List Move). begun_by worker (events_of list)) own.are
+      ∙ begun_in verified options accounted.plan accounted.count worker records did.handled.before (runs_at accounted.runs worker) did.after did.handled.chain
+      ∙ ap (map (input_of worker))
+      (captured_are verified options accounted.plan accounted.count worker records did.handled.before (runs_at accounted.runs worker) did.after
+      did.handled.chain
+      ∙ ap (picked records) did.handled.records_are ∙ share_in worker)
+  begun_is worker false is =
+      let past : options.workers ≤ worker = grind (arith, nat_tests, is) in
+      ap (λ (list : List Move). begun_by worker (events_of list))
+      ((moves ran stopped verified safe script options records outcome fit captured accounted).of_others worker past)
+      ∙ ap (map (input_of worker))
+      (ap (picked records) (sym (no_share (frames_of records) options.workers worker (length records) fit.some_worker past)) ∙ share_in worker)
+
+  -- ---- the statement
+
+  abbrev record_ends : List RecordEnd
+  record_ends = all_ends (frames_of records) options.workers ends (length records)
+
+  sent_both : (list : List Sent) → map captured_of list ≡ map of_sent (sent_frames list)
+  sent_both [] = refl
+  sent_both (one ∷ list) = ap (λ (more : List Captured). captured_of one ∷ more) (sent_both list)
+
+  abbrev with_ends : IsListWithEnds setting accounted.plan accounted.count (λ number. entries_at outcome.journals number) moved ends (reverse accounted.order)
+  with_ends = one_list_with_ends setting accounted.plan accounted.count (λ number. entries_at outcome.journals number) moved ends (reverse accounted.order)
+      (order_is ran stopped verified safe script options records outcome fit captured accounted) walks
+
+  abbrev done : List CommandDone
+  done = accounted.commands.done
+
+  abbrev made : List AnsweredUpdate
+  made = all_set outcome.updates.items
+
+  abbrev controller_deeds : List Deed
+  controller_deeds = made_deeds verified.maps options made ++ commands_deeds verified.maps options done
+
+  heard_controller : heard accounted.plan Controller (reverse accounted.order) ≡ controller_deeds
+  heard_controller = heard_is accounted.plan Controller accounted.order controller_deeds accounted.commands.did
+      (all_askable accounted.plan verified.maps options made done
+      (commands_may_look accounted.plan verified.maps options accounted.count accounted.commands.size accounted.plans fit script sized
+      accounted.commands.serves accounted.commands.noted done accounted.commands.are_noted (opened_controller accounted.commands.size)
+      accounted.commands.state accounted.commands.are_done refl))
+
+  abbrev reclaimer_deeds : List Deed
+  reclaimer_deeds = reverse (deeds_of (ByCaller Reclaimer) accounted.order)
+
+  abbrev rounds : ℕ
+  rounds = rounds_for (length records)
+
+  reclaimer_is : map shard_of_deed (heard accounted.plan Reclaimer (reverse accounted.order)) ≡ rounds_over (keyed_below accounted.plan accounted.count) rounds
+  reclaimer_is =
+      let all = rounds_are setting accounted.plan accounted.count accounted.plans.each accounted.count rounds reclaimer_deeds (omega arith) accounted.rounds.did in
+      ap (map shard_of_deed)
+      (heard_is accounted.plan Reclaimer accounted.order reclaimer_deeds (sym (reverse-reverse (deeds_of (ByCaller Reclaimer) accounted.order))) all.may)
+      ∙ all.shards_are
+
+  are_replay : IsReplay setting (asked_of verified options records outcome done) (result_of outcome done record_ends) with_ends.list.events
+  are_replay = record {
+    can = with_ends.list.can;
+    begun = λ worker. begun_among worker with_ends.list.events ∙ ap (begun_by worker) (with_ends.list.of_each worker)
+        ∙ begun_is worker (nat_lt worker options.workers) refl;
+    called = with_ends.called ∙ ap (map call_of_deed) heard_controller ∙ calls_are verified.maps options made done;
+    gone_over = with_ends.gone_over ∙ reclaimer_is
+        ∙ ap (λ (shards : List ℕ). rounds_over shards rounds)
+        (keyed_are setting accounted.plan accounted.count accounted.plans.each accounted.count (omega arith)
+        ∙ ap (keyed_shards setting) accounted.plans.count_is)
+        ∙ ap (λ (number : ℕ). rounds_over (keyed_shards setting (shard_count setting)) (rounds_for number)) (sym (length-map records captured_of));
+    runners = runners_are records options.workers accounted.runs ends are_ended (length records) (omega arith)
+        ∙ ap (λ (list : List Sent). map (runner_of (λ frame. worker_of_frame frame options.workers)) (map captured_of list)) (first_all records);
+    ended = λ worker. with_ends.ended worker ∙ sym (ends_are records options.workers accounted.runs ends are_ended worker);
+    totals = ap totals_in accounted.counts ∙ totals_are records options.workers accounted.runs ends are_ended (length records) (omega arith);
+    sent = sent_both outcome.sent.items ∙ ap (map of_sent) accounted.sent
+        ∙ sent_are records options.workers accounted.runs ends are_ended (length records) (omega arith)
+        ∙ ap (λ (list : List Sent). frames_sent (map captured_of list) record_ends) (first_all records);
+    answers = with_ends.answers ∙ ap (map answer_of_deed) heard_controller ∙ answers_are verified.maps options made done;
+    of_calls = record { first = made_as_many verified.maps options made; each = commands_as_many verified.maps options done };
+    left = λ shard below. with_ends.list.histories shard (let same = accounted.plans.count_is in omega (arith, same, below));
+    idle = with_ends.list.idle;
+  }
+
+  one_replay : IsOneReplay verified script options records outcome
+  one_replay = record {
+    kept = headline_with ran stopped verified safe script options records outcome fit captured accounted with_ends.list;
+    ends = record_ends;
+    are_told = told_are records options.workers accounted.runs ends are_ended (length records) (omega arith) ∙ sym accounted.ends;
+    are = are_replay;
+  }
+
+pub replays_are_one_list : RunsAreOfTheSystem → StoppedRunsAreOfTheSystem → (verified : Verified) → IsSafeImage verified.maps verified.code →
+    ReplaysAreOneList verified
+replays_are_one_list ran stopped verified safe script options records outcome fit captured sized accounted =
+    one_replay ran stopped verified safe script options records outcome fit captured sized accounted

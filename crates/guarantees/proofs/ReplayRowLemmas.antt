@@ -1,0 +1,112 @@
+-- Two computed replays, and lists of events that are none.
+use Rattle.std.proofs.Common.{◌≡◌, ◌≢◌, ℕ, zero, suc, ◌<◌, ◌≤◌, ◌==◌, false, List, [], ◌∷◌, ◌++◌, replicate, refl, sym, ◌∙◌, ap, arith}
+use Rattle.std.specs.Prelude.{All, length, reverse}
+use Rattle.std.proofs.lemmas.Bool.Decides.{nat_tests}
+use Rattle.ebpf_decode.specs.InstructionEncoding.{slot_count}
+use Rattle.semantics.specs.declared.call.Call.{Call}
+use Rattle.semantics.specs.System.{SystemState, Reclaims, WorkerState, Idle, worker_state, history_of, IsInputFrame, opening_system, system_after}
+use Rattle.semantics.specs.SystemRows.{frame_of}
+use Rattle.semantics.proofs.shared.ConditionLemmas.{tested_bytes}
+use Rattle.semantics.proofs.shared.SystemSteps.{same_everywhere}
+use Rattle.guarantees.specs.Events.{begun_by, ended_by}
+use Rattle.guarantees.specs.Replay.{inputs_of, ends_by, IsReplay}
+use Rattle.guarantees.specs.ReplayRows.{row_setting, held_asked, held_events, held_result, held_ending, full_asked, full_events, full_result, ReplayRows}
+
+input_of : (bytes : List ℕ) → 14 ≤ length bytes → length bytes ≤ 2048 → All (λ byte. byte < 256) bytes → IsInputFrame bytes
+input_of bytes least greatest all = record { least = least; greatest = greatest; bytes = all }
+
+frame_zero : IsInputFrame (frame_of 0)
+frame_zero = input_of (frame_of 0) (omega arith) (omega arith) (tested_bytes (frame_of 0) refl)
+
+all_idle : (system : SystemState) (worker : ℕ) → system.workers ≡ replicate 8 Idle → worker_state system worker ≡ Idle
+all_idle system worker are = ap (λ (list : List WorkerState). worker_state (record { workers = list; histories = system.histories }) worker) are ∙ same_everywhere 8 worker Idle
+
+another : (worker : ℕ) → (0 == suc worker) ≡ false
+another worker = grind (arith, nat_tests)
+
+held_begun : (worker : ℕ) → begun_by worker (held_events) ≡ inputs_of held_asked worker
+held_begun zero = refl
+held_begun (suc worker) = rw (another worker) refl
+
+held_ended : (worker : ℕ) → ended_by row_setting worker (opening_system row_setting) (held_events) ≡ ends_by worker (held_result held_ending).ends
+unfolding slot_count
+held_ended zero = refl
+held_ended (suc worker) = rw (another worker) refl
+
+held_left : (shard : ℕ) → shard < 1 → reverse (history_of (system_after row_setting (reverse (held_events))) shard) ≡ (held_result held_ending).journals shard
+unfolding slot_count
+held_left zero below = refl
+held_left (suc shard) below = absurd (omega (arith, below))
+
+held_is : IsReplay row_setting held_asked (held_result held_ending) (held_events)
+unfolding slot_count
+held_is = record {
+  can = (refl, (refl, (refl, (refl, (refl, (refl, ((refl, refl), ((refl, refl), (refl, (refl, (refl, (refl, (refl, (refl, ((omega arith, refl, frame_zero, omega arith, omega arith), ((refl, refl), tt))))))))))))))));
+  begun = held_begun;
+  called = refl;
+  gone_over = refl;
+  runners = refl;
+  ended = held_ended;
+  totals = refl;
+  sent = refl;
+  answers = refl;
+  of_calls = record { first = refl; each = refl };
+  left = held_left;
+  idle = λ worker. all_idle (system_after row_setting (reverse (held_events))) worker refl;
+}
+
+full_begun : (worker : ℕ) → begun_by worker (full_events (Reclaims 0 ∷ [])) ≡ inputs_of full_asked worker
+full_begun zero = refl
+full_begun (suc worker) = rw (another worker) refl
+
+full_ended : (worker : ℕ) → ended_by row_setting worker (opening_system row_setting) (full_events (Reclaims 0 ∷ [])) ≡ ends_by worker (full_result).ends
+unfolding slot_count
+full_ended zero = refl
+full_ended (suc worker) = rw (another worker) refl
+
+full_left : (shard : ℕ) → shard < 1 → reverse (history_of (system_after row_setting (reverse (full_events (Reclaims 0 ∷ [])))) shard) ≡ (full_result).journals shard
+unfolding slot_count
+full_left zero below = refl
+full_left (suc shard) below = absurd (omega (arith, below))
+
+full_is : IsReplay row_setting full_asked (full_result) (full_events (Reclaims 0 ∷ []))
+unfolding slot_count
+full_is = record {
+  can = (refl, (refl, (refl, ((refl, refl), ((refl, refl), ((refl, refl), ((refl, refl), ((refl, refl), ((refl, refl), ((refl, refl), ((refl, refl), ((refl, refl), ((refl, refl), ((refl, refl), ((refl, refl), ((refl, refl), ((refl, refl), ((refl, refl), (refl, (refl, (refl, (refl, (refl, ((omega arith, refl, frame_zero, omega arith, omega arith), tt))))))))))))))))))))))));
+  begun = full_begun;
+  called = refl;
+  gone_over = refl;
+  runners = refl;
+  ended = full_ended;
+  totals = refl;
+  sent = refl;
+  answers = refl;
+  of_calls = record { first = refl; each = refl };
+  left = full_left;
+  idle = λ worker. all_idle (system_after row_setting (reverse (full_events (Reclaims 0 ∷ [])))) worker refl;
+}
+
+-- ---- what is none
+
+none_or_one : {A : Type 0} (x : A) → [] ≡ x ∷ [] → ⊥
+none_or_one x is = cc
+
+one_or_two : {A : Type 0} (x y z : A) → x ∷ y ∷ [] ≡ z ∷ [] → ⊥
+one_or_two x y z is = cc
+
+the_one : {A : Type 0} (x y : A) → x ∷ [] ≡ y ∷ [] → y ≡ x
+the_one x y is = cc
+
+pub replay_rows : ReplayRows
+unfolding slot_count
+replay_rows = record {
+  held = held_is;
+  full = full_is;
+  no_run = λ is. none_or_one _ (is.begun 0);
+  run_twice = λ is. one_or_two _ _ _ (is.begun 0);
+  another_end = λ ending apart is. apart (the_one held_ending ending (is.ended 0));
+  other_totals = λ totals apart events is. apart is.totals;
+  no_call = λ is. let two : 1 ≡ 3 = ap (λ (calls : List Call). length calls) is.called in omega (arith, two);
+  unasked_call = λ is. let two : 16 ≡ 15 = ap (λ (calls : List Call). length calls) is.called in omega (arith, two);
+  unasked_round = λ is. one_or_two _ _ _ is.gone_over;
+}

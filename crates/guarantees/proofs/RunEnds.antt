@@ -1,0 +1,243 @@
+-- The moves of a worker's runs, with what these are begun on and how they end.
+use Rattle.std.proofs.Common.{◌≡◌, ℕ, ◌==◌, Bool, true, List, [], ◌∷◌, ◌++◌, refl, sym, ◌∙◌, ap, subst, append_assoc}
+use Rattle.std.specs.Prelude.{map, if◌then◌else◌}
+use Rattle.wire.specs.FrameView.{FrameView}
+use Rattle.wire.specs.declared.records.Sent.{Sent}
+use Rattle.semantics.specs.declared.options.Options.{Options}
+use Rattle.semantics.specs.declared.plan.ShardPlan.{ShardPlan}
+use Rattle.semantics.specs.declared.verdict.Verdict.{Verdict}
+use Rattle.semantics.specs.MachineState.{MachineState}
+use Rattle.semantics.specs.History.{shard_of_call}
+use Rattle.semantics.specs.Step.{Step}
+use Rattle.semantics.specs.System.{Setting, SystemEvent, WorkerState, Idle, run_over}
+use Rattle.verifier.specs.Verified.{Verified}
+use Rattle.machine.specs.declared.exit.Stop.{Stop}
+use Rattle.machine.specs.declared.exit.Stop.TheVariants.{JournalFull}
+use Rattle.machine.specs.declared.moment.Moment.{Moment}
+use Rattle.shards.specs.Passes.{PassView}
+use Rattle.replay.specs.declared.runner.Ran.{Ran}
+use Rattle.replay.specs.declared.runner.RunEnd.{RunEnd}
+use Rattle.replay.specs.declared.runner.RunEnd.TheVariants.{Stopped as WasStopped, Exited as HasExited}
+use Rattle.replay.specs.RunsInOrder.{IsRunAt, IsChainOfRuns}
+use Rattle.guarantees.specs.Events.{Input, Ending, Exited, Stopped, begun_by, exit_at, exit_of}
+use Rattle.guarantees.specs.Replay.{Captured, input_of}
+use Rattle.guarantees.specs.ReplayOf.{captured_of}
+use Rattle.guarantees.specs.Steps.{Refused, Move, begins, does, asks, leave, IsStep, RunBegins, RunGoesOn, RunEnds, CallIsServed, ShardIsEntered, CallIsRefused, EnterIsRefused, ShardIsLeft, AreSteps, InRun, running, AreStepsOfRun, beginning, leavings}
+use Rattle.guarantees.specs.SystemRuns.{setting_of, RanInSystem, HasStoppedInSystem}
+use Rattle.guarantees.specs.Merging.{events_of}
+use Rattle.guarantees.specs.Headline.{moment_of, IsRunOfImage, IsEitherOfImage, moves_of_run, moves_to_stop, moves_of_either, moves_of_runs}
+use Rattle.guarantees.proofs.MoveLemmas.{own_event}
+use Rattle.guarantees.proofs.EndLemmas.{ends_of_asked, ends_in, Walk}
+use Rattle.guarantees.proofs.AnswerLemmas.{then_begun}
+use Rattle.guarantees.proofs.OneWorker.{over_is_not}
+
+-- ---- walks, one behind the other
+
+pub then_walk : (setting : Setting) (count worker : ℕ) (moves later : List Move) (before : WorkerState) (first second : List Ending) →
+    Walk setting count worker before moves first → Walk setting count worker Idle later second →
+    Walk setting count worker before (moves ++ later) (first ++ second)
+then_walk setting count worker [] later before first second walk more =
+    subst (λ (ends : List Ending). Walk setting count worker before later (ends ++ second)) walk.ends_are
+    (subst (λ (state : WorkerState). Walk setting count worker state later second) (sym walk.steps) more)
+then_walk setting count worker (move ∷ moves) later before first second walk more =
+    let here : List Ending = ends_of_asked setting before move.event move.asked in
+    let own : List Ending = ends_in setting count worker walk.steps.0 moves Idle walk.steps.2 in
+    let rest = then_walk setting count worker moves later walk.steps.0 own second (record { steps = walk.steps.2; ends_are = refl }) more in
+    record {
+      steps = (walk.steps.0, walk.steps.1, rest.steps);
+      ends_are = ap (λ (ends : List Ending). here ++ ends) rest.ends_are ∙ sym (append_assoc here own second)
+          ∙ ap (λ (ends : List Ending). ends ++ second) walk.ends_are;
+    }
+
+-- a step within a run ends none
+no_end_within : (setting : Setting) (count worker : ℕ) (before : WorkerState) (move : Move) (after : WorkerState) →
+    IsStep setting count worker before move after → (here : InRun) → after ≡ running here →
+    ends_of_asked setting before move.event move.asked ≡ []
+no_end_within setting count worker before move after (RunBegins frame now told few input early low) here is = refl
+no_end_within setting count worker before move after (RunGoesOn state next entered step) here is = ap exit_at step
+no_end_within setting count worker before move after (RunEnds state last verdict entered step) here is = absurd (over_is_not entered here is)
+no_end_within setting count worker before move after (CallIsServed state entered call next reply step within inside formed) here is = refl
+no_end_within setting count worker before move after (ShardIsEntered state entered call next step within outside) here is = refl
+no_end_within setting count worker before move after (CallIsRefused state entered call next step within inside) here is =
+    absurd (over_is_not entered here is)
+no_end_within setting count worker before move after (EnterIsRefused state entered call next step within outside) here is =
+    absurd (over_is_not entered here is)
+no_end_within setting count worker before move after (ShardIsLeft shard entered within inside) here is = refl
+
+as_walk : (setting : Setting) (count worker : ℕ) (moves later : List Move) (before after : InRun) (ends : List Ending) →
+    AreStepsOfRun setting count worker before moves after → Walk setting count worker (running after) later ends →
+    Walk setting count worker (running before) (moves ++ later) ends
+as_walk setting count worker [] later before after ends steps walk =
+    subst (λ (here : InRun). Walk setting count worker (running here) later ends) (sym steps) walk
+as_walk setting count worker (move ∷ moves) later before after ends steps walk =
+    let rest = as_walk setting count worker moves later steps.0 after ends steps.2 walk in
+    record {
+      steps = (running steps.0, steps.1, rest.steps);
+      ends_are = ap (λ (list : List Ending). list ++ ends_in setting count worker (running steps.0) (moves ++ later) Idle rest.steps)
+          (no_end_within setting count worker (running before) move (running steps.0) steps.1 steps.0 refl)
+          ∙ rest.ends_are;
+    }
+
+leaving_ends_none : (setting : Setting) (count worker : ℕ) (left : List ℕ) (before : WorkerState) →
+    (steps : AreSteps setting count worker before (leavings worker left) Idle) →
+    ends_in setting count worker before (leavings worker left) Idle steps ≡ []
+leaving_ends_none setting count worker [] before steps = refl
+leaving_ends_none setting count worker (shard ∷ left) before steps = leaving_ends_none setting count worker left steps.0 steps.2
+
+-- ---- what they begin
+
+begins_none : (setting : Setting) (count worker : ℕ) (before : WorkerState) (move : Move) (after : WorkerState) →
+    IsStep setting count worker before move after → (here : InRun) → before ≡ running here → (later : List SystemEvent) →
+    begun_by worker (move.event ∷ later) ≡ begun_by worker later
+begins_none setting count worker before move after (RunBegins frame now told few input early low) here is later = absurd cc
+begins_none setting count worker before move after (RunGoesOn state next entered step) here is later = refl
+begins_none setting count worker before move after (RunEnds state last verdict entered step) here is later = refl
+begins_none setting count worker before move after (CallIsServed state entered call next reply step within inside formed) here is later = refl
+begins_none setting count worker before move after (ShardIsEntered state entered call next step within outside) here is later = refl
+begins_none setting count worker before move after (CallIsRefused state entered call next step within inside) here is later = refl
+begins_none setting count worker before move after (EnterIsRefused state entered call next step within outside) here is later = refl
+begins_none setting count worker before move after (ShardIsLeft shard entered within inside) here is later = refl
+
+run_begins_none : (setting : Setting) (count worker : ℕ) (moves later : List Move) (before after : InRun) →
+    AreStepsOfRun setting count worker before moves after →
+    begun_by worker (events_of (moves ++ later)) ≡ begun_by worker (events_of later)
+run_begins_none setting count worker [] later before after steps = refl
+run_begins_none setting count worker (move ∷ moves) later before after steps =
+    begins_none setting count worker (running before) move (running steps.0) steps.1 before refl (events_of (moves ++ later))
+    ∙ run_begins_none setting count worker moves later steps.0 after steps.2
+
+leaving_begins_none : (worker : ℕ) (left : List ℕ) → begun_by worker (events_of (leavings worker left)) ≡ []
+leaving_begins_none worker [] = refl
+leaving_begins_none worker (shard ∷ left) = leaving_begins_none worker left
+
+begins_one : (worker : ℕ) (frame : List ℕ) (now : ℕ) (moves : List Move) → begun_by worker (events_of moves) ≡ [] →
+    begun_by worker (events_of (begins worker frame now worker ∷ moves)) ≡ record { frame = frame; now = now; told = worker } ∷ []
+begins_one worker frame now moves none =
+    ap (λ (test : Bool). if test then record { frame = frame; now = now; told = worker } ∷ begun_by worker (events_of moves)
+    else begun_by worker (events_of moves)) (own_event worker)
+    ∙ ap (λ (list : List Input). record { frame = frame; now = now; told = worker } ∷ list) none
+
+-- ---- one run
+
+-- a worker's moves from idle to idle, with what they begin and how that ends
+pub record IsRunOn (setting : Setting) (count worker : ℕ) (input : Input) (moves : List Move) (ending : Ending) : Type 0 where
+  pub walk : Walk setting count worker Idle moves (ending ∷ [])
+  pub begun : begun_by worker (events_of moves) ≡ input ∷ []
+
+ran_so : (setting : Setting) (count worker : ℕ) (moment : Moment) (frame : List ℕ) (before after : PassView) (sent : FrameView)
+    (verdict : Verdict) (steps : ℕ) → moment.worker ≡ worker → (ran : RanInSystem setting worker moment frame count before after verdict steps sent) →
+    IsRunOn setting count worker (record { frame = frame; now = moment.now_ns; told = worker })
+    (begins worker frame moment.now_ns moment.worker ∷ ran.of_system.run ++ does worker ∷ leavings worker ran.of_system.left)
+    (Exited verdict ran.last.frame.bytes ran.last.steps)
+ran_so setting count worker moment frame before after sent verdict steps own ran =
+    let is = ran.of_system in
+    let last : Ending = Exited verdict ran.last.frame.bytes ran.last.steps in
+    let ending : List Move = does worker ∷ leavings worker is.left in
+    let rest : Walk setting count worker (running is.ending) ending (last ∷ []) = record {
+      steps = (run_over is.ending.entered, is.ends, is.leaves);
+      ends_are = ap (λ (step : Step). exit_at step ++ ends_in setting count worker (run_over is.ending.entered) (leavings worker is.left) Idle is.leaves) is.exits
+          ∙ ap (λ (list : List Ending). last ∷ list) (leaving_ends_none setting count worker is.left (run_over is.ending.entered) is.leaves);
+    } in
+    let walk = as_walk setting count worker is.run ending (beginning frame moment.worker moment.now_ns) is.ending (last ∷ []) is.goes_on rest in
+    record {
+      walk = record { steps = (running (beginning frame moment.worker moment.now_ns), is.begins_so, walk.steps); ends_are = walk.ends_are };
+      begun = ap (λ (told : ℕ). begun_by worker (events_of (begins worker frame moment.now_ns told ∷ is.run ++ ending))) own
+          ∙ begins_one worker frame moment.now_ns (is.run ++ ending)
+          (run_begins_none setting count worker is.run ending (beginning frame moment.worker moment.now_ns) is.ending is.goes_on
+          ∙ leaving_begins_none worker is.left);
+    }
+
+-- how a stopped run ended
+unfoldable pub ending_at_stop : (setting : Setting) (worker : ℕ) (moment : Moment) (frame : List ℕ) (plan : ℕ → ShardPlan) (count : ℕ)
+    (before after : PassView) (kept_back : FrameView) (stop : Stop) →
+    HasStoppedInSystem setting worker moment frame plan count before after kept_back stop → Ending
+ending_at_stop setting worker moment frame plan count before after kept_back (JournalFull shard) stopped =
+    Stopped (shard_of_call stopped.of_system.refused)
+
+stopped_so : (setting : Setting) (count worker : ℕ) (plan : ℕ → ShardPlan) (moment : Moment) (frame : List ℕ) (before after : PassView)
+    (kept_back : FrameView) (stop : Stop) → moment.worker ≡ worker →
+    (stopped : HasStoppedInSystem setting worker moment frame plan count before after kept_back stop) →
+    IsRunOn setting count worker (record { frame = frame; now = moment.now_ns; told = worker })
+    (moves_to_stop setting worker moment frame plan count before after kept_back stop stopped)
+    (ending_at_stop setting worker moment frame plan count before after kept_back stop stopped)
+unfolding ending_at_stop
+stopped_so setting count worker plan moment frame before after kept_back (JournalFull shard) own stopped =
+    let is = stopped.of_system in
+    let last : Ending = Stopped (shard_of_call is.refused) in
+    let waiting : InRun = record { state = stopped.waiting; entered = is.entered } in
+    let ending : List Move = asks worker (Refused is.refused) ∷ leavings worker is.left in
+    let rest : Walk setting count worker (running waiting) ending (last ∷ []) = record {
+      steps = (run_over is.entered, is.refuses, is.leaves);
+      ends_are = ap (λ (list : List Ending). last ∷ list) (leaving_ends_none setting count worker is.left (run_over is.entered) is.leaves);
+    } in
+    let walk = as_walk setting count worker is.run ending (beginning frame moment.worker moment.now_ns) waiting (last ∷ []) is.goes_on rest in
+    record {
+      walk = record { steps = (running (beginning frame moment.worker moment.now_ns), is.begins_so, walk.steps); ends_are = walk.ends_are };
+      begun = ap (λ (told : ℕ). begun_by worker (events_of (begins worker frame moment.now_ns told ∷ is.run ++ ending))) own
+          ∙ begins_one worker frame moment.now_ns (is.run ++ ending)
+          (run_begins_none setting count worker is.run ending (beginning frame moment.worker moment.now_ns) waiting is.goes_on
+          ∙ leaving_begins_none worker is.left);
+    }
+
+module _ (verified : Verified) (options : Options) (plan : ℕ → ShardPlan) (count worker : ℕ) where
+  unfoldable pub ending_of : (captured : Sent) (before : PassView) (end : RunEnd) (after : PassView) →
+      IsEitherOfImage verified options plan count worker captured before end after → Ending
+  ending_of captured before WasStopped after run =
+      ending_at_stop (setting_of verified options) worker (moment_of captured worker) captured.bytes.items plan count before after run.frame run.stop
+      run.of_system
+  ending_of captured before (HasExited steps fate) after run =
+      Exited run.verdict run.of_system.last.frame.bytes run.of_system.last.steps
+
+  run_so : (captured : Sent) (before : PassView) (end : RunEnd) (after : PassView) →
+      (run : IsEitherOfImage verified options plan count worker captured before end after) →
+      IsRunOn (setting_of verified options) count worker (input_of worker (captured_of captured))
+      (moves_of_either verified options plan count worker captured before end after run) (ending_of captured before end after run)
+  unfolding ending_of
+  run_so captured before WasStopped after run =
+      stopped_so (setting_of verified options) count worker plan (moment_of captured worker) captured.bytes.items before after run.frame run.stop refl
+      run.of_system
+  run_so captured before (HasExited steps fate) after run =
+      ran_so (setting_of verified options) count worker (moment_of captured worker) captured.bytes.items before after run.frame run.verdict run.steps refl
+      run.of_system
+
+  -- ---- all runs of a worker
+
+  abbrev IsChain : List Sent → PassView → List Ran → PassView → Type 0
+  IsChain records before runs after = IsChainOfRuns (IsRunAt (IsEitherOfImage verified options plan count worker) records) before runs after
+
+  unfoldable pub endings_of : (records : List Sent) (before : PassView) (runs : List Ran) (after : PassView) → IsChain records before runs after → List Ending
+  endings_of records before [] after chain = []
+  endings_of records before (ran ∷ later) after chain =
+      ending_of chain.1.sent before ran.end chain.0 chain.1.run ∷ endings_of records chain.0 later after chain.2
+
+  unfoldable pub captured_in : (records : List Sent) (before : PassView) (runs : List Ran) (after : PassView) → IsChain records before runs after → List Captured
+  captured_in records before [] after chain = []
+  captured_in records before (ran ∷ later) after chain = captured_of chain.1.sent ∷ captured_in records chain.0 later after chain.2
+
+  pub walk_of : (records : List Sent) (before : PassView) (runs : List Ran) (after : PassView) → (chain : IsChain records before runs after) →
+      Walk (setting_of verified options) count worker Idle (moves_of_runs verified options plan count worker records before runs after chain)
+      (endings_of records before runs after chain)
+  unfolding endings_of
+  walk_of records before [] after chain = record { steps = refl; ends_are = refl }
+  walk_of records before (ran ∷ later) after chain =
+      let one = run_so chain.1.sent before ran.end chain.0 chain.1.run in
+      then_walk (setting_of verified options) count worker (moves_of_either verified options plan count worker chain.1.sent before ran.end chain.0 chain.1.run)
+      (moves_of_runs verified options plan count worker records chain.0 later after chain.2) Idle
+      (ending_of chain.1.sent before ran.end chain.0 chain.1.run ∷ []) (endings_of records chain.0 later after chain.2) one.walk
+      (walk_of records chain.0 later after chain.2)
+
+  events_both : (first second : List Move) → events_of (first ++ second) ≡ events_of first ++ events_of second
+  events_both [] second = refl
+  events_both (move ∷ first) second = ap (λ (list : List SystemEvent). move.event ∷ list) (events_both first second)
+
+  pub begun_in : (records : List Sent) (before : PassView) (runs : List Ran) (after : PassView) → (chain : IsChain records before runs after) →
+      begun_by worker (events_of (moves_of_runs verified options plan count worker records before runs after chain))
+      ≡ map (input_of worker) (captured_in records before runs after chain)
+  unfolding captured_in
+  begun_in records before [] after chain = refl
+  begun_in records before (ran ∷ later) after chain =
+      let first : List Move = moves_of_either verified options plan count worker chain.1.sent before ran.end chain.0 chain.1.run in
+      let second : List Move = moves_of_runs verified options plan count worker records chain.0 later after chain.2 in
+      ap (begun_by worker) (events_both first second) ∙ then_begun worker (events_of first) (events_of second)
+      ∙ ap (λ (list : List Input). list ++ begun_by worker (events_of second)) (run_so chain.1.sent before ran.end chain.0 chain.1.run).begun
+      ∙ ap (λ (list : List Input). input_of worker (captured_of chain.1.sent) ∷ list) (begun_in records chain.0 later after chain.2)
