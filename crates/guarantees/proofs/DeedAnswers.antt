@@ -1,16 +1,15 @@
 -- What the controller's and the reclaimer's deeds are as events: the calls of the commands with their answers, and the shards of the rounds.
-use Rattle.std.proofs.Common.{◌≡◌, ◌⊎◌, ⊎_elim, ℕ, zero, suc, ◌<◌, ◌≤◌, ◌==◌, Bool, true, false, ◌&&◌, List, [], ◌∷◌, ◌++◌, length, reverse, Option, Some, None, refl, sym, ◌∙◌, ap, subst, arith}
+use Rattle.std.proofs.Common.{◌≡◌, ⊎_elim, ℕ, zero, suc, ◌<◌, ◌≤◌, ◌==◌, Bool, true, false, ◌&&◌, List, [], ◌∷◌, ◌++◌, length, reverse, Option, Some, None, refl, sym, ◌∙◌, ap, subst, arith}
 use Rattle.std.specs.Prelude.{map, filter, IfSome, if◌then◌else◌}
 use Rattle.std.specs.List.{AllByRecursion, flat_map}
 use Rattle.std.proofs.lemmas.Bool.Decides.{nat_tests}
-use Rattle.std.proofs.lemmas.List.{map-append, length-append, length-map, reverse-reverse}
+use Rattle.std.proofs.lemmas.List.{map-append, length-append, reverse-reverse}
 use Rattle.ebpf_decode.specs.declared.map.MapDef.{MapDef}
 use Rattle.ebpf_decode.specs.declared.map.MapKind.{MapKind}
 use Rattle.ebpf_decode.specs.declared.map.MapKind.TheVariants.{Array, Hash, LruHash}
 use Rattle.semantics.specs.declared.call.Caller.{Caller}
 use Rattle.semantics.specs.declared.call.Caller.TheVariants.{Controller, Reclaimer}
 use Rattle.semantics.specs.declared.call.Call.{Call}
-use Rattle.semantics.specs.declared.call.Call.TheVariants.{Reclaim}
 use Rattle.semantics.specs.declared.call.Reply.{Reply}
 use Rattle.semantics.specs.declared.call.Reply.TheVariants.{Answer}
 use Rattle.semantics.specs.declared.options.Options.{Options}
@@ -18,7 +17,6 @@ use Rattle.semantics.specs.declared.plan.ShardPlan.{ShardPlan}
 use Rattle.semantics.specs.ShardPlan.{plan_at}
 use Rattle.semantics.specs.System.{Setting}
 use Rattle.shards.specs.declared.deeds.Deed.{Deed}
-use Rattle.shards.specs.declared.deeds.Deed.TheVariants.{Wrote, MetFull}
 use Rattle.shards.specs.declared.deeds.OrderPart.TheVariants.{ByCaller}
 use Rattle.shards.specs.Deeds.{is_deed_of, shard_of_deed, deeds_of}
 use Rattle.control.specs.MapUpdates.{UpdateBytes}
@@ -28,7 +26,7 @@ use Rattle.guarantees.specs.Replay.{is_keyed, is_of_keyed, keyed_shards, rounds_
 use Rattle.guarantees.specs.ReplayOf.{call_of, calls_made, stopped_call, command_calls, answers_made, stopped_answer, command_answers}
 use Rattle.guarantees.proofs.DeedLemmas.{chosen_reversed}
 use Rattle.guarantees.proofs.EveryEntry.{all_both}
-use Rattle.guarantees.proofs.Merge.{is_askable, is_heard, heard, call_of_deed, answer_of_deed}
+use Rattle.guarantees.proofs.Merge.{is_askable, heard, call_of_deed, answer_of_deed}
 use Rattle.guarantees.proofs.MoveLemmas.{numbered}
 use Rattle.guarantees.proofs.SizedUpdates.{IsAskable}
 

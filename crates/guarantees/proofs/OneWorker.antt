@@ -19,7 +19,7 @@ use Rattle.shards.specs.Deeds.{shard_of_deed, is_of_shard, entries_made, AreMet,
 use Rattle.shard_port.specs.PassDeeds.{rising}
 use Rattle.shard_port.specs.PassSessions.{session_at}
 use Rattle.guarantees.specs.Steps.{begins, does, InRun, running, AreStepsOfRun, beginning, leavings, entries_on}
-use Rattle.guarantees.specs.Steps.{AskedOfShard, Nothing, Writes, Refused, Move, IsStep, RunBegins, RunGoesOn, RunEnds, CallIsServed, ShardIsEntered, CallIsRefused, EnterIsRefused, ShardIsLeft, AreSteps, entries_asked, entries_in, deeds_asked, deeds_in}
+use Rattle.guarantees.specs.Steps.{AskedOfShard, Nothing, Writes, Refused, Move, IsStep, RunBegins, RunGoesOn, RunEnds, CallIsServed, ShardIsEntered, CallIsRefused, EnterIsRefused, ShardIsLeft, AreSteps, entries_in, deeds_asked, deeds_in}
 use Rattle.guarantees.specs.Merging.{is_refusal, NoneRefused, moves_of, IsOneList, OneWorkerIsOneList}
 use Rattle.guarantees.specs.Merging.{IsSetBefore, set_and_done, RunAloneIsOneList}
 use Rattle.guarantees.proofs.DeedLemmas.{is_deed_by}

@@ -1,5 +1,5 @@
 -- What became of each record, by the runs of the workers: in the words of the statement and in those of a replay's account.
-use Rattle.std.proofs.Common.{◌≡◌, ◌⊎◌, ℕ, zero, suc, ◌+◌, ◌%◌, ◌<◌, ◌≤◌, ◌==◌, Bool, true, false, not, ◌&&◌, nat_lt, List, [], ◌∷◌, ◌++◌, length, refl, sym, ◌∙◌, ap, subst, arith, inl, inr, append_assoc, append-nil}
+use Rattle.std.proofs.Common.{◌≡◌, ℕ, zero, suc, ◌+◌, ◌%◌, ◌<◌, ◌≤◌, ◌==◌, Bool, true, false, not, ◌&&◌, nat_lt, List, [], ◌∷◌, ◌++◌, length, refl, sym, ◌∙◌, ap, subst, arith, append_assoc, append-nil}
 use Rattle.std.specs.Prelude.{map, filter, Option, Some, None, slice_get, if◌then◌else◌}
 use Rattle.std.proofs.lemmas.Bool.Decides.{nat_tests}
 use Rattle.std.proofs.lemmas.List.{map-append, length-append, length-map}
@@ -8,17 +8,15 @@ use Rattle.std.proofs.Math.Nat.{mod-lt}
 use Rattle.wire.specs.declared.records.Sent.{Sent}
 use Rattle.wire.specs.Fnv.{fnv1a64_of}
 use Rattle.wire.specs.FlowForm.{flow_bytes_of}
-use Rattle.semantics.specs.declared.verdict.Verdict.{Verdict}
 use Rattle.semantics.specs.declared.verdict.Verdict.TheVariants as verdicts
 use Rattle.replay.specs.declared.account.Counts.{Counts}
 use Rattle.replay.specs.declared.outcome.RecordEnd.{RecordEnd as Told}
-use Rattle.replay.specs.declared.outcome.RecordEnd.TheVariants as told
 use Rattle.replay.specs.declared.runner.FrameFate.{FrameFate}
 use Rattle.replay.specs.declared.runner.FrameFate.TheVariants.{Aborted, Dropped, Passed, Sent as IsSent}
 use Rattle.replay.specs.declared.runner.Ran.{Ran as OneRun}
 use Rattle.replay.specs.declared.runner.RunEnd.{RunEnd}
 use Rattle.replay.specs.declared.runner.RunEnd.TheVariants.{Stopped as WasStopped, Exited as HasExited}
-use Rattle.replay.specs.Accounts.{SentFrame, runs_at, end_at, fate_of, counted, counts_of, sent_frame, sent_frames, sent_by, sent_of, verdict_for, record_end, ends_of}
+use Rattle.replay.specs.Accounts.{SentFrame, runs_at, end_at, fate_of, counted, counts_of, sent_by, sent_of, verdict_for, record_end, ends_of}
 use Rattle.replay.specs.RunJobs.{records_of}
 use Rattle.replay.specs.Shares.{frames_of, frame_at, is_short, is_spread_by_flow, worker_of_frame, is_handed, share}
 use Rattle.replay.proofs.shared.AccountLemmas.{handed_own}

@@ -1,12 +1,11 @@
 -- The moves of a worker's runs, with what these are begun on and how they end.
-use Rattle.std.proofs.Common.{◌≡◌, ℕ, ◌==◌, Bool, true, List, [], ◌∷◌, ◌++◌, refl, sym, ◌∙◌, ap, subst, append_assoc}
+use Rattle.std.proofs.Common.{◌≡◌, ℕ, Bool, List, [], ◌∷◌, ◌++◌, refl, sym, ◌∙◌, ap, subst, append_assoc}
 use Rattle.std.specs.Prelude.{map, if◌then◌else◌}
 use Rattle.wire.specs.FrameView.{FrameView}
 use Rattle.wire.specs.declared.records.Sent.{Sent}
 use Rattle.semantics.specs.declared.options.Options.{Options}
 use Rattle.semantics.specs.declared.plan.ShardPlan.{ShardPlan}
 use Rattle.semantics.specs.declared.verdict.Verdict.{Verdict}
-use Rattle.semantics.specs.MachineState.{MachineState}
 use Rattle.semantics.specs.History.{shard_of_call}
 use Rattle.semantics.specs.Step.{Step}
 use Rattle.semantics.specs.System.{Setting, SystemEvent, WorkerState, Idle, run_over}
@@ -19,13 +18,13 @@ use Rattle.replay.specs.declared.runner.Ran.{Ran}
 use Rattle.replay.specs.declared.runner.RunEnd.{RunEnd}
 use Rattle.replay.specs.declared.runner.RunEnd.TheVariants.{Stopped as WasStopped, Exited as HasExited}
 use Rattle.replay.specs.RunsInOrder.{IsRunAt, IsChainOfRuns}
-use Rattle.guarantees.specs.Events.{Input, Ending, Exited, Stopped, begun_by, exit_at, exit_of}
+use Rattle.guarantees.specs.Events.{Input, Ending, Exited, Stopped, begun_by, exit_at}
 use Rattle.guarantees.specs.Replay.{Captured, input_of}
 use Rattle.guarantees.specs.ReplayOf.{captured_of}
-use Rattle.guarantees.specs.Steps.{Refused, Move, begins, does, asks, leave, IsStep, RunBegins, RunGoesOn, RunEnds, CallIsServed, ShardIsEntered, CallIsRefused, EnterIsRefused, ShardIsLeft, AreSteps, InRun, running, AreStepsOfRun, beginning, leavings}
+use Rattle.guarantees.specs.Steps.{Refused, Move, begins, does, asks, IsStep, RunBegins, RunGoesOn, RunEnds, CallIsServed, ShardIsEntered, CallIsRefused, EnterIsRefused, ShardIsLeft, AreSteps, InRun, running, AreStepsOfRun, beginning, leavings}
 use Rattle.guarantees.specs.SystemRuns.{setting_of, RanInSystem, HasStoppedInSystem}
 use Rattle.guarantees.specs.Merging.{events_of}
-use Rattle.guarantees.specs.Headline.{moment_of, IsRunOfImage, IsEitherOfImage, moves_of_run, moves_to_stop, moves_of_either, moves_of_runs}
+use Rattle.guarantees.specs.Headline.{moment_of, IsEitherOfImage, moves_to_stop, moves_of_either, moves_of_runs}
 use Rattle.guarantees.proofs.MoveLemmas.{own_event}
 use Rattle.guarantees.proofs.EndLemmas.{ends_of_asked, ends_in, Walk}
 use Rattle.guarantees.proofs.AnswerLemmas.{then_begun}

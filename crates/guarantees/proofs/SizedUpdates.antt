@@ -1,6 +1,6 @@
 -- The updates of a script's commands are ones that the shards of steering's maps serve; so the controller may look at a journal for each.
 use Rattle.std.proofs.Common.{◌≡◌, ◌⊎◌, ⊎_elim, ℕ, ℤ, zero, suc, ◌+◌, ◌/◌, ◌%◌, ◌^◌, ◌<◌, ◌==◌, Bool, true, false, ◌&&◌, nat_lt, List, [], ◌∷◌, ◌++◌, length, Option, Some, None, refl, sym, ◌∙◌, ap, subst, arith}
-use Rattle.std.specs.Prelude.{slice_get, slice_index, map, IfSome, if◌then◌else◌}
+use Rattle.std.specs.Prelude.{slice_get, slice_index, IfSome, if◌then◌else◌}
 use Rattle.std.specs.List.{AllByRecursion, filter, find}
 use Rattle.std.proofs.Math.Nat.{mod-lt}
 use Rattle.std.proofs.lemmas.List.{length-append}
@@ -34,7 +34,7 @@ use Rattle.control.specs.declared.update.Update.TheVariants.{Vip, Ring, Backend,
 use Rattle.control.specs.MapUpdates.{UpdateBytes, map_update}
 use Rattle.control.specs.RingChanges.{changes_below, slot_updates}
 use Rattle.control.specs.ScriptText.{AreBytes as HasBytes, ActionFits, CommandFits}
-use Rattle.control.specs.Controlling.{ControllerState, has_number, with_backend, up_after, down_update, first_updates, updates_of}
+use Rattle.control.specs.Controlling.{ControllerState, has_number, up_after, down_update, first_updates, updates_of}
 use Rattle.replay.specs.declared.outcome.Applied.{Applied}
 use Rattle.replay.specs.SharedUpdates.{shard_of}
 use Rattle.replay.specs.Commands.{CommandDone, IsDoneBy, AreDone, AreNotedOf, IsCarriedOut, IsNothing, IsTurnedDown, IsCutShort}

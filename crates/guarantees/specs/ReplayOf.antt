@@ -6,7 +6,6 @@ use Rattle.semantics.specs.declared.call.Call.{Call}
 use Rattle.semantics.specs.declared.call.Reply.{Reply}
 use Rattle.semantics.specs.declared.call.Reply.TheVariants.{Answer}
 use Rattle.semantics.specs.declared.options.Options.{Options}
-use Rattle.semantics.specs.declared.verdict.Verdict.{Verdict}
 use Rattle.verifier.specs.Verified.{Verified}
 use Rattle.journals.specs.JournalsView.{entries_at}
 use Rattle.control.specs.MapUpdates.{UpdateBytes}
@@ -17,7 +16,7 @@ use Rattle.replay.specs.declared.outcome.RecordEnd.TheVariants as told
 use Rattle.replay.specs.Commands.{AnsweredUpdate, CommandDone, all_set}
 use Rattle.replay.specs.SharedUpdates.{shard_of, update_call}
 use Rattle.replay.specs.Shares.{worker_of_frame}
-use Rattle.guarantees.specs.Events.{Ending, Exited, Stopped}
+use Rattle.guarantees.specs.Events.{Exited, Stopped}
 use Rattle.guarantees.specs.Replay.{Captured, Asked, RecordEnd, Short, Ran, Totals, Result}
 
 -- ---- what was asked

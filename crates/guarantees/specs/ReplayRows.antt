@@ -1,18 +1,16 @@
 -- Two replays, computed: and what is none. In the first a command deletes a key whose cell a run holds; in the second a journal is full.
-use Rattle.std.specs.Prelude.{◌≡◌, ◌≢◌, ℕ, pos, List, [], ◌∷◌, ◌++◌, replicate, Option, Some, None}
+use Rattle.std.specs.Prelude.{◌≢◌, ℕ, pos, List, [], ◌∷◌, ◌++◌, replicate, Option, Some, None}
 use Rattle.ebpf_decode.specs.declared.map.MapKind.TheVariants.{Hash}
 use Rattle.semantics.specs.declared.call.Call.{Call}
 use Rattle.semantics.specs.declared.call.Call.TheVariants.{Enter, Leave, Lookup, Load, Update, Delete, Reclaim}
 use Rattle.semantics.specs.declared.call.Reply.{Reply}
 use Rattle.semantics.specs.declared.call.Reply.TheVariants.{Entered, Left, Cell, Word, Answer, Freed}
-use Rattle.semantics.specs.declared.call.Entry.{Entry}
-use Rattle.semantics.specs.declared.verdict.Verdict.{Verdict}
 use Rattle.semantics.specs.declared.verdict.Verdict.TheVariants.{Pass}
 use Rattle.semantics.specs.System.{Setting, SystemEvent, BeginsRun, DoesInstruction, CallsShard, LeavesShard, Controls, Reclaims}
 use Rattle.semantics.specs.SystemRows.{setting_over, looking_up, frame_of, key_of, value_of, cell_at, instructions}
 use Rattle.semantics.specs.SystemRows.{by_worker, by_controller, by_reclaimer}
 use Rattle.guarantees.specs.Events.{Ending, Exited, Stopped}
-use Rattle.guarantees.specs.Replay.{Captured, Asked, RecordEnd, Short, Ran, Totals, Result, IsReplay, totals_of}
+use Rattle.guarantees.specs.Replay.{Captured, Asked, Short, Ran, Totals, Result, IsReplay}
 
 abbrev pub row_setting : Setting
 row_setting = setting_over Hash looking_up

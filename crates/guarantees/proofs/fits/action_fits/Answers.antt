@@ -1,4 +1,3 @@
-use Rattle.std.proofs.Common.{rules, ◌≡◌}
 use Rattle.control.specs.ScriptText.{ActionFits}
 use Rattle.guarantees.proofs.fits.action_fits.Goals as goal
 
