@@ -110,13 +110,13 @@ fn a_text_without_instructions_is_22(rt: HostRuntime) {
 }
 
 /// What becomes of a beginning of the first image: the number of the fault, and the slot that it names.
-fn end_of(alloc: Global, bytes: &[u8]) -> (u8, u32) {
+fn end_of(alloc: Global, bytes: &[u8]) -> (u8, usize) {
     match decode(alloc, bytes) {
-        Err(DecodeFault::WideCut { slot }) => (19, slot),
+        Err(DecodeFault::WideCut { slot }) => (19, slot as usize),
         Err(fault) => (fault.number(), 0),
         Ok(image) => match verify(alloc, image) {
-            Err(Reject::JumpOutside { slot }) => (31, slot),
-            Err(Reject::FallsOff { slot }) => (33, slot),
+            Err(Reject::JumpOutside { slot }) => (31, slot as usize),
+            Err(Reject::FallsOff { slot }) => (33, slot as usize),
             Err(reject) => (reject.number(), 0),
             Ok(_) => (0, 0),
         },
@@ -124,11 +124,11 @@ fn end_of(alloc: Global, bytes: &[u8]) -> (u8, u32) {
 }
 
 /// A head and a map have 24 bytes. The jump in slot 5 leads past the end up to 17 slots, and slots 10 and 11 are one instruction.
-fn wanted_end(length: usize) -> (u8, u32) {
+fn wanted_end(length: usize) -> (u8, usize) {
     if length < 24 {
         return (10, 0);
     }
-    let slots = ((length - 24) / 8) as u32;
+    let slots = (length - 24) / 8;
     if length == 24 {
         (12, 0)
     } else if length % 8 != 0 {

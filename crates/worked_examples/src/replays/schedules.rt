@@ -49,7 +49,7 @@ impl Gate for Meeting {
 }
 
 /// A gate that holds the workers below this number until this many have met.
-fn meeting(held: u8, wanted: u64, limit: u32) -> Meeting {
+fn gate_of(held: u8, wanted: u64, limit: u32) -> Meeting {
     Meeting {
         held,
         wanted,
@@ -162,7 +162,7 @@ fn meet<R: Threads + Abort + Wait + Sync>(
     held: u8,
 ) {
     let capture = segments(rt, alloc, first, workers, 1);
-    let gate = meeting(held, u64::from(workers), 10_000_000);
+    let gate = gate_of(held, u64::from(workers), 10_000_000);
     let verified = reads_one(rt, alloc);
     let count = u32::from(workers);
     let outcome = replayed(rt, alloc, &verified, &capture, "", count, 65536, &gate);
@@ -195,7 +195,7 @@ fn fills<R: Threads + Abort + Wait + Sync>(
     last: &str,
 ) {
     let capture = segments(rt, alloc, 40000, 1, frames);
-    let gate = meeting(0, 1, 1_000_000);
+    let gate = gate_of(0, 1, 1_000_000);
     let verified = reads_one(rt, alloc);
     let outcome = replayed(rt, alloc, &verified, &capture, "", 1, journal, &gate);
     same(rt, "passed and stopped", &outcome.counts, &want);
@@ -226,7 +226,7 @@ fn runs_stop_where_the_journal_is_full(rt: HostRuntime) {
 #[test]
 fn a_held_worker_runs_all_its_frames(rt: HostRuntime) {
     let capture = segments(&rt, rt.alloc(), 40000, 1, 100);
-    let gate = meeting(1, 2, 1_000_000);
+    let gate = gate_of(1, 2, 1_000_000);
     let verified = reads_one(&rt, rt.alloc());
     let outcome = replayed(&rt, rt.alloc(), &verified, &capture, "", 1, 65536, &gate);
     same(&rt, "all pass", &outcome.counts, &counts(100, 0));
@@ -251,7 +251,7 @@ fn a_down_meets_a_full_journal(rt: HostRuntime) {
     let image = shipped(alloc, 7).expect(&rt, "an image");
     let verified = verify(alloc, image).expect(&rt, "an accepted program");
     let capture = segments(&rt, alloc, 40000, 1, 3);
-    let gate = meeting(0, 1, 1_000_000);
+    let gate = gate_of(0, 1, 1_000_000);
     let script = FOURTH_TABLE;
     let outcome = replayed(&rt, alloc, &verified, &capture, script, 1, 24, &gate);
     same(&rt, "all pass", &outcome.counts, &counts(3, 0));

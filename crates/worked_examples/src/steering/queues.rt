@@ -1,26 +1,24 @@
 //! The queue of a worker.
 
-ghost use Rattle.std.specs.Prelude.{◌≡◌, ◌≤◌};
+ghost use Rattle.std.specs.Prelude.{◌≡◌, ◌≤◌, IfOk};
 ghost use Rattle.rx_queues.specs.Passes.{workers_of, records_of, IsPutPassOf, IsTakePassOf};
 
 use crate::asserting::same;
-use rx_queues::{Caller, Job, PutPass, Queues, TakePass};
+use rx_queues::{Caller, Job, OpenFault, PutPass, Queues, TakePass};
 use std::alloc::Global;
-use std::process::Abort;
 use std::sync::Wait;
 
 const WORKER: Caller = Caller::Worker { number: 0 };
 
 /// The queues of one worker for 100 frames, and the rights to put and to take from the worker's.
-fn opened(rt: &impl Abort, alloc: Global) -> (Queues, PutPass, TakePass)
-    ensures jobs { (workers_of result.0.now ≡ 1) × (records_of result.0.now ≡ 100) }
-    ensures put { IsPutPassOf result.0.now result.1 }
-    ensures take { IsTakePassOf result.0.now result.2 }
+fn opened(alloc: Global) -> Result<(Queues, PutPass, TakePass), OpenFault>
+    ensures jobs { IfOk result (λ opened. (workers_of opened.0 ≡ 1) × (records_of opened.0 ≡ 100)) }
+    ensures put { IfOk result (λ opened. IsPutPassOf opened.0 opened.1) }
+    ensures take { IfOk result (λ opened. IsTakePassOf opened.0 opened.2) }
 {
-    let opened = Queues::open(alloc, 1, 100, 100);
-    let (queues, put, mut takes) = opened.expect(rt, "queues");
+    let (queues, put, mut takes) = Queues::open(alloc, 1, 100, 100)?;
     let take = takes.remove(0);
-    (queues, put, take)
+    Ok((queues, put, take))
 }
 
 /// Puts the frames of these numbers, up to the first that comes back. Says how many were put.
@@ -60,7 +58,7 @@ fn take_frames<R: Wait>(
 
 #[test]
 fn a_queue_has_room_for_64_jobs(rt: HostRuntime) {
-    let (queues, mut put, mut take) = opened(&rt, rt.alloc());
+    let (queues, mut put, mut take) = opened(rt.alloc()).expect(&rt, "queues");
     let count = put_frames(&rt, &queues, &mut put, 100);
     same(&rt, "jobs that were put", &count, &64);
     let count = take_frames(&rt, &queues, &mut take, 0, 1);
