@@ -10,17 +10,12 @@ use wire::Frame;
 
 /// How far the start of a frame of 42 bytes 0xab moves; the answer, the frame's length and its headroom after it.
 #[rattlefmt::skip]
-static MOVES: [(&str, i32, i32, usize, usize); 13] = [
-    ("20 back",                   -20,       0,   62, 236),
+static MOVES: [(&str, i32, i32, usize, usize); 8] = [
     ("1 back",                    -1,        0,   43, 255),
-    ("the whole headroom",        -256,      0,  298,   0),
-    ("past the headroom",         -257,    -22,   42, 256),
     ("2 ^ 31 - 1 back",           -2147483647, -22, 42, 256),
     ("2 ^ 31 back",               i32::MIN, -22,  42, 256),
     ("nowhere",                   0,         0,   42, 256),
     ("1 forward",                 1,         0,   41, 257),
-    ("an Ethernet header is left", 28,       0,   14, 284),
-    ("13 bytes would be left",    29,      -22,   42, 256),
     ("nothing would be left",     42,      -22,   42, 256),
     ("past the frame",            43,      -22,   42, 256),
     ("2 ^ 31 - 1 forward",        i32::MAX, -22,  42, 256),

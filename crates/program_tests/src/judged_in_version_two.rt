@@ -3,15 +3,13 @@
 use crate::judged_programs::is_judged;
 use ebpf_decode::{Insn, MapDef, MapKind, Version};
 use isa::Register::{R0, R1, R2, R3, R4, R5, R6, R10};
-use isa::{AluOp, AtomicOp, Size, SourceOperand, Test, Width};
-use test_support::{address, alu, atomic, jump, load, store};
+use isa::{AluOp, Size, SourceOperand, Test};
+use test_support::{address, alu, jump, load, store};
 use verifier::*;
 
 const EXIT: Insn = Insn::Exit;
 
 const NUMBER: Insn = alu!(AluOp::Mov, R5, SourceOperand::Imm(3));
-
-const ADD_COUNT: Insn = atomic!(Width::Bits64, AtomicOp::AtomicAdd, R6, 0, R5);
 
 const FIRST: Insn = load!(Size::U64, R0, R6, 0);
 
@@ -26,15 +24,10 @@ const FRAME_POINTER: Insn = Insn::Ldval {
 };
 
 #[rattlefmt::skip]
-static ADDRESSES: [(&str, MapKind, &[Insn], Result<bool, Reject>); 9] = [
-    ("a count and a load, with no null test",  MapKind::Array,   &[address!(0, 0), NUMBER, ADD_COUNT, FIRST, EXIT], Ok(false)),
+static ADDRESSES: [(&str, MapKind, &[Insn], Result<bool, Reject>); 4] = [
     ("a load alone only reads",                MapKind::Array,   &[address!(0, 0), FIRST, EXIT],                    Ok(true)),
     ("an address in the middle",               MapKind::Array,   &[address!(0, 4), MIDDLE, EXIT],                   Ok(true)),
     ("past the middle, at a distance",         MapKind::Array,   &[address!(0, 0), SECOND, EXIT],                   Ok(true)),
-    ("the end may be named, not loaded from",  MapKind::Array,   &[address!(0, 8), FIRST, EXIT],      Err(Reject::ValueBounds { slot: 2 })),
-    ("past the end",                           MapKind::Array,   &[address!(0, 9), FIRST, EXIT],      Err(Reject::ValueBounds { slot: 0 })),
-    ("no such map",                            MapKind::Array,   &[address!(1, 0), FIRST, EXIT],      Err(Reject::UnknownMap { slot: 0 })),
-    ("a map that is no array",                 MapKind::Hash,    &[address!(0, 9), FIRST, EXIT],      Err(Reject::NotArrayMap { slot: 0 })),
     ("R10 before the map",                     MapKind::LruHash, &[FRAME_POINTER, FIRST, EXIT],       Err(Reject::ReadOnlyFp { slot: 0 })),
 ];
 
@@ -75,42 +68,9 @@ const BYTE: Insn = load!(Size::U8, R5, R2, 13);
 
 const ADD_BYTE: Insn = alu!(AluOp::Add, R6, SourceOperand::Reg(R5));
 
-const AND_254: Insn = alu!(AluOp::And, R5, SourceOperand::Imm(254));
-
-const AND_252: Insn = alu!(AluOp::And, R5, SourceOperand::Imm(252));
-
 const STORE_1: Insn = store!(Size::U8, R6, 0, 3);
 
-const STORE_2: Insn = store!(Size::U16, R6, 0, 3);
-
-const ADD_SHORT: Insn = atomic!(Width::Bits32, AtomicOp::AtomicAdd, R6, 0, R5);
-
 const READ: Insn = load!(Size::U8, R0, R6, 0);
-
-#[rattlefmt::skip]
-static INTERVALS: [(&str, &[Insn], Result<bool, Reject>); 6] = [
-    ("a byte at any of 256",
-        &[address!(0, 0), START, END, PLACE, ADD_14, PASS, JGT_4, BYTE, ADD_BYTE, STORE_1, READ, EXIT], Ok(false)),
-    ("two bytes may end past the value", &[address!(0, 0), START, END, PLACE, ADD_14, PASS, JGT_4, BYTE, ADD_BYTE, STORE_2, READ, EXIT],
-        Err(Reject::ValueBounds { slot: 10 })),
-    ("two bytes at any of 254",
-        &[address!(0, 0), START, END, PLACE, ADD_14, PASS, JGT_5, BYTE, AND_254, ADD_BYTE, STORE_2, READ, EXIT], Ok(false)),
-    ("a count may end past the value", &[address!(0, 0), START, END, PLACE, ADD_14, PASS, JGT_4, BYTE, ADD_BYTE, ADD_SHORT, READ, EXIT],
-        Err(Reject::ValueBounds { slot: 10 })),
-    ("and at any of 254 too", &[address!(0, 0), START, END, PLACE, ADD_14, PASS, JGT_5, BYTE, AND_254, ADD_BYTE, ADD_SHORT, READ, EXIT],
-        Err(Reject::ValueBounds { slot: 11 })),
-    ("a count at no single offset",
-        &[address!(0, 0), START, END, PLACE, ADD_14, PASS, JGT_5, BYTE, AND_252, ADD_BYTE, ADD_SHORT, READ, EXIT],
-        Err(Reject::Misaligned { slot: 11 })),
-];
-
-#[test]
-fn offsets_of_an_interval(rt: HostRuntime) {
-    let maps = [map_of(MapKind::Array, 256)];
-    for &(name, code, wanted) in &INTERVALS {
-        is_judged(&rt, rt.alloc(), name, Version::V2, &maps, code, wanted);
-    }
-}
 
 const AND_1: Insn = alu!(AluOp::And, R5, SourceOperand::Imm(1));
 

@@ -15,17 +15,13 @@ const MINUS_ONE: u64 = 0xffffffffffffffff;
 const NUMBER: u64 = 0x1122334455667788;
 
 #[rattlefmt::skip]
-static WIDE_ROWS: [(&str, AluOp, u64, u64, u64); 34] = [
+static WIDE_ROWS: [(&str, AluOp, u64, u64, u64); 27] = [
     ("add wraps",                          AluOp::Add,  MINUS_ONE,          2,                  1),
     ("sub wraps",                          AluOp::Sub,  0,                  1,                  MINUS_ONE),
     ("mul wraps",                          AluOp::Mul,  0x100000001,        0x100000000,        0x100000000),
-    ("div by zero is zero",                AluOp::Div,  7,                  0,                  0),
     ("div is unsigned",                    AluOp::Div,  MINUS_ONE,          2,                  0x7fffffffffffffff),
-    ("div by -1 read as 2^64 - 1",         AluOp::Div,  0x1ffffffff,        MINUS_ONE,          0),
-    ("sdiv goes toward zero",              AluOp::Sdiv, 0xfffffffffffffff3, 3,                  0xfffffffffffffffc),
     ("sdiv by a negative",                 AluOp::Sdiv, 13,                 0xfffffffffffffffd, 0xfffffffffffffffc),
     ("sdiv of two negatives",              AluOp::Sdiv, 0xfffffffffffffff3, 0xfffffffffffffffd, 4),
-    ("sdiv of the least by -1 is itself",  AluOp::Sdiv, LEAST64,            MINUS_ONE,          LEAST64),
     ("sdiv by zero is zero",               AluOp::Sdiv, LEAST64,            0,                  0),
     ("or",                                 AluOp::Or,   0xf0f0,             0x00ff,             0xf0ff),
     ("and",                                AluOp::And,  0xf0f0,             0x00ff,             0x00f0),
@@ -37,11 +33,8 @@ static WIDE_ROWS: [(&str, AluOp, u64, u64, u64); 34] = [
     ("rsh by 64 changes nothing",          AluOp::Rsh,  0x1234,             64,                 0x1234),
     ("rsh masks a large count",            AluOp::Rsh,  0x10,               MINUS_ONE,          0),
     ("mod",                                AluOp::Mod,  17,                 5,                  2),
-    ("mod by zero keeps the whole number", AluOp::Mod,  0xffffffff00000007, 0,                  0xffffffff00000007),
     ("mod is unsigned",                    AluOp::Mod,  MINUS_ONE,          10,                 5),
-    ("smod has the sign of the dividend",  AluOp::Smod, 0xfffffffffffffff3, 3,                  MINUS_ONE),
     ("smod by a negative",                 AluOp::Smod, 13,                 0xfffffffffffffffd, 1),
-    ("smod of the least by -1 is zero",    AluOp::Smod, LEAST64,            MINUS_ONE,          0),
     ("smod by zero keeps the number",      AluOp::Smod, 0xfffffffffffffff3, 0,                  0xfffffffffffffff3),
     ("mov",                                AluOp::Mov,  5,                  MINUS_ONE,          MINUS_ONE),
     ("arsh copies the sign",               AluOp::Arsh, LEAST64,            4,                  0xf800000000000000),
@@ -60,30 +53,25 @@ fn arithmetic_on_64_bits(rt: HostRuntime) {
 }
 
 #[rattlefmt::skip]
-static HALF_ROWS: [(&str, AluOp, u64, u64, u64); 24] = [
+static HALF_ROWS: [(&str, AluOp, u64, u64, u64); 19] = [
     ("add wraps at 32 bits",                 AluOp::Add,  0xffffffff,         1,                  0),
     ("add reads low halves",                 AluOp::Add,  0xaaaaaaaa00000001, 0xbbbbbbbb00000002, 3),
     ("sub wraps at 32 bits",                 AluOp::Sub,  0,                  1,                  0xffffffff),
     ("mul wraps at 32 bits",                 AluOp::Mul,  0x10001,            0x10000,            0x10000),
     ("div by zero is zero",                  AluOp::Div,  7,                  0xffffffff00000000, 0),
-    ("div by -1 read as 2^32 - 1",           AluOp::Div,  0x1ffffffff,        MINUS_ONE,          1),
     ("sdiv goes toward zero",                AluOp::Sdiv, 0xfffffff3,         3,                  0xfffffffc),
-    ("sdiv of the least by -1 is itself",    AluOp::Sdiv, LEAST32,            MINUS_ONE,          LEAST32),
     ("or is zero-extended",                  AluOp::Or,   MINUS_ONE,          0,                  0xffffffff),
     ("and",                                  AluOp::And,  0xf0f0f0f0f0f0f0f0, MINUS_ONE,          0xf0f0f0f0),
     ("xor is zero-extended",                 AluOp::Xor,  0xffffffff00000000, 0x00000000ffffffff, 0xffffffff),
-    ("lsh of 1 by 33 is 2",                  AluOp::Lsh,  1,                  33,                 2),
     ("lsh by 32 changes nothing",            AluOp::Lsh,  0x1234,             32,                 0x1234),
     ("lsh drops what leaves the half",       AluOp::Lsh,  0x80000001,         1,                  2),
     ("rsh brings no bit from above",         AluOp::Rsh,  0xffffffff00000000, 1,                  0),
     ("rsh masks its count with 31",          AluOp::Rsh,  0x80000000,         63,                 1),
-    ("mod by zero keeps the low half alone", AluOp::Mod,  0xffffffff00000007, 0,                  0x0000000000000007),
     ("mod",                                  AluOp::Mod,  0x100000011,        5,                  2),
     ("smod has the sign of the dividend",    AluOp::Smod, 0xfffffff3,         3,                  0xffffffff),
     ("smod of the least by -1 is zero",      AluOp::Smod, LEAST32,            MINUS_ONE,          0),
     ("smod by zero keeps the low half",      AluOp::Smod, 0x1fffffff3,        0,                  0xfffffff3),
     ("mov is zero-extended",                 AluOp::Mov,  5,                  MINUS_ONE,          0xffffffff),
-    ("arsh copies bit 31",                   AluOp::Arsh, LEAST32,            1,                  0xc0000000),
     ("arsh doesn't read bit 63",             AluOp::Arsh, 0xffffffff40000000, 1,                  0x20000000),
 ];
 
@@ -112,8 +100,7 @@ fn negation(rt: HostRuntime) {
 }
 
 #[rattlefmt::skip]
-static EXTENSIONS: [(&str, Extension, u64, u64); 7] = [
-    ("80 read as 8 bits is negative",     Extension::I8,  0x80,               0xffffffffffffff80),
+static EXTENSIONS: [(&str, Extension, u64, u64); 6] = [
     ("7f read as 8 bits is not",          Extension::I8,  0xff7f,             0x7f),
     ("8000 read as 16 bits is negative",  Extension::I16, 0x8000,             0xffffffffffff8000),
     ("7fff read as 16 bits is not",       Extension::I16, 0xffff7fff,         0x7fff),
@@ -123,8 +110,7 @@ static EXTENSIONS: [(&str, Extension, u64, u64); 7] = [
 ];
 
 #[rattlefmt::skip]
-static SHORT_EXTENSIONS: [(&str, ShortExtension, u64, u64); 4] = [
-    ("80 is extended to 32 bits alone",    ShortExtension::Short8,  0x80,       0xffffff80),
+static SHORT_EXTENSIONS: [(&str, ShortExtension, u64, u64); 3] = [
     ("7f stays",                           ShortExtension::Short8,  0xff7f,     0x7f),
     ("8000 is extended to 32 bits alone",  ShortExtension::Short16, 0x8000,     0xffff8000),
     ("7fff stays",                         ShortExtension::Short16, 0xffff7fff, 0x7fff),
@@ -152,14 +138,11 @@ fn sign_extension(rt: HostRuntime) {
 }
 
 #[rattlefmt::skip]
-static SWAPS: [(&str, ByteOrder, SwapWidth, u64); 9] = [
-    ("swap16",             ByteOrder::Swapped,  SwapWidth::Swap16, 0x8877),
+static SWAPS: [(&str, ByteOrder, SwapWidth, u64); 6] = [
     ("swap32",             ByteOrder::Swapped,  SwapWidth::Swap32, 0x88776655),
     ("swap64",             ByteOrder::Swapped,  SwapWidth::Swap64, 0x8877665544332211),
     ("be16",               ByteOrder::ToBig,    SwapWidth::Swap16, 0x8877),
-    ("be32",               ByteOrder::ToBig,    SwapWidth::Swap32, 0x88776655),
     ("be64",               ByteOrder::ToBig,    SwapWidth::Swap64, 0x8877665544332211),
-    ("le16 cuts",          ByteOrder::ToLittle, SwapWidth::Swap16, 0x7788),
     ("le32 cuts",          ByteOrder::ToLittle, SwapWidth::Swap32, 0x55667788),
     ("le64 does nothing",  ByteOrder::ToLittle, SwapWidth::Swap64, NUMBER),
 ];
@@ -172,7 +155,7 @@ fn byte_swaps(rt: HostRuntime) {
 }
 
 #[rattlefmt::skip]
-static TESTS: [(&str, Test, u64, u64, bool, bool); 23] = [
+static TESTS: [(&str, Test, u64, u64, bool, bool); 22] = [
     ("eq of equals",                       Test::Eq,  5,                  5,           true,  true),
     ("eq looks at low halves on 32 bits",  Test::Eq,  0x100000005,        5,           false, true),
     ("ne of equals",                       Test::Ne,  5,                  5,           false, false),
@@ -191,7 +174,6 @@ static TESTS: [(&str, Test, u64, u64, bool, bool); 23] = [
     ("sgt of -1 and 1",                    Test::Sgt, MINUS_ONE,          1,           false, false),
     ("sgt of 1 and -1",                    Test::Sgt, 1,                  MINUS_ONE,   true,  true),
     ("sge of equal negatives",             Test::Sge, MINUS_ONE,          MINUS_ONE,   true,  true),
-    ("slt: the half is negative",          Test::Slt, 0x1ffffffff,        0,           false, true),
     ("slt of equals",                      Test::Slt, LEAST64,            LEAST64,     false, false),
     ("slt of the least and 0",             Test::Slt, LEAST64,            0,           true,  false),
     ("sle of equals",                      Test::Sle, LEAST64,            LEAST64,     true,  true),

@@ -13,15 +13,15 @@ mod scripted;
 
 use crate::asserting::{prints, same, same_fact};
 use ebpf_decode::Insn;
-use isa::Register::{R0, R1, R2, R3, R4, R5, R10};
-use isa::{AluOp, Register, Size, SourceOperand, Test, Width};
+use isa::Register::{R0, R1, R2, R5, R10};
+use isa::{Register, Size, SourceOperand, Test};
 use listing::{EXIT, checked};
 use machine::{Exit, Moment, Stop};
 use programs::{MOMENT, accepted, ran};
 use semantics::Verdict;
 use std::alloc::Global;
 use std::process::Abort;
-use test_support::{add, alu, call, jump, load, mov, number, put};
+use test_support::{call, jump, load, number, put};
 
 fn exit(verdict: Verdict, steps: u64) -> Exit {
     Exit { verdict, steps }
@@ -47,12 +47,8 @@ fn ends(
 }
 
 #[rattlefmt::skip]
-static HEADS: [(&str, &[Insn], Exit); 6] = [
-    ("a verdict alone", &[Insn::Alu { width: Width::Bits64, op: AluOp::Mov, dst: Register::R0, source: SourceOperand::Imm(2) }],
-        Exit { verdict: Verdict::Pass, steps: 2 }),
+static HEADS: [(&str, &[Insn], Exit); 3] = [
     ("a number above 32 bits", &[Insn::Lddw { dst: Register::R0, value: 0x1_0000_0001 }], Exit { verdict: Verdict::Drop, steps: 2 }),
-    ("helper 5 is the time", &[Insn::CallHelper { helper: 5 }], Exit { verdict: Verdict::Tx,   steps: 2 }),
-    ("helper 8 is the worker", &[Insn::CallHelper { helper: 8 }], Exit { verdict: Verdict::Pass, steps: 2 }),
     ("so is the receive queue", &[Insn::Ldx { size: Size::U32, dst: Register::R0, src: Register::R1, offset: 16 }],
         Exit { verdict: Verdict::Pass, steps: 2 }),
     ("the frame came from interface 1", &[Insn::Ldx { size: Size::U32, dst: Register::R0, src: Register::R1, offset: 12 }],
@@ -76,28 +72,8 @@ fn one_instruction_and_an_exit(rt: HostRuntime) {
     }
 }
 
-#[test]
-fn the_longest_run(rt: HostRuntime) {
-    let mut code = Vec::new(rt.alloc());
-    for _ in 0..4095 {
-        code.push(number!(R0, 1)).expect(&rt, "room");
-    }
-    let want = exit(Verdict::Drop, 4096);
-    ends(
-        &rt,
-        rt.alloc(),
-        &MOMENT,
-        &code,
-        &[EXIT],
-        &[0; 14],
-        want,
-        "4096 slots",
-    );
-}
-
 #[rattlefmt::skip]
-static LAST_BYTES: [(&str, u8, Verdict); 5] = [
-    ("1 drops",      1,    Verdict::Drop),
+static LAST_BYTES: [(&str, u8, Verdict); 4] = [
     ("2 passes",     2,    Verdict::Pass),
     ("3 sends",      3,    Verdict::Tx),
     ("0 aborts",     0,    Verdict::Aborted),
@@ -122,56 +98,6 @@ fn a_byte_that_a_test_covers(rt: HostRuntime) {
             want,
             name,
         );
-        ends(&rt, rt.alloc(), &MOMENT, &head, &tail, &bytes, want, name);
-    }
-}
-
-#[rattlefmt::skip]
-static STRICT_ROWS: [(&str, &[u8], Exit); 2] = [
-    ("14 bytes", &[0, 0, 0, 0, 0, 0, 0, 0, 0, 0, 0, 0, 0, 0],    Exit { verdict: Verdict::Pass, steps: 7 }),
-    ("15 bytes", &[0, 0, 0, 0, 0, 0, 0, 0, 0, 0, 0, 0, 0, 0, 1], Exit { verdict: Verdict::Drop, steps: 8 }),
-];
-
-/// Byte 14 is the verdict, where the packet has more than 14 bytes.
-#[test]
-fn a_byte_that_a_strict_test_covers(rt: HostRuntime) {
-    let head = [
-        load!(Size::U32, R2, R1, 0),
-        load!(Size::U32, R3, R1, 4),
-        mov!(R4, R2),
-        add!(R4, 14),
-        number!(R0, 2),
-        jump!(Test::Ge, R4, SourceOperand::Reg(R3), 1),
-    ];
-    let tail = [load!(Size::U8, R0, R2, 14), EXIT];
-    for &(name, bytes, want) in &STRICT_ROWS {
-        ends(&rt, rt.alloc(), &MOMENT, &head, &tail, bytes, want, name);
-    }
-}
-
-#[rattlefmt::skip]
-static PLACES: [(&str, u8, Exit); 2] = [
-    ("byte 3",       3,  Exit { verdict: Verdict::Drop, steps: 13 }),
-    ("past the end", 14, Exit { verdict: Verdict::Pass, steps: 12 }),
-];
-
-/// Byte 13 says where the byte is that is the verdict.
-#[test]
-fn a_place_that_the_packet_tells(rt: HostRuntime) {
-    let head = checked!(14, 6);
-    let tail = [
-        load!(Size::U8, R5, R2, 13),
-        alu!(AluOp::Add, R2, SourceOperand::Reg(R5)),
-        mov!(R4, R2),
-        add!(R4, 1),
-        jump!(Test::Gt, R4, SourceOperand::Reg(R3), 1),
-        load!(Size::U8, R0, R2, 0),
-        EXIT,
-    ];
-    for &(name, place, want) in &PLACES {
-        let mut bytes = [0; 14];
-        bytes[3] = 1;
-        bytes[13] = place;
         ends(&rt, rt.alloc(), &MOMENT, &head, &tail, &bytes, want, name);
     }
 }
@@ -203,26 +129,6 @@ fn each_run_has_its_moment(rt: HostRuntime) {
             name,
         );
     }
-}
-
-#[test]
-fn a_spilled_context(rt: HostRuntime) {
-    let head = [
-        put!(Size::U64, R10, -8, R1),
-        load!(Size::U64, R2, R10, -8),
-        load!(Size::U32, R0, R2, 12),
-    ];
-    let want = exit(Verdict::Drop, 4);
-    ends(
-        &rt,
-        rt.alloc(),
-        &MOMENT,
-        &head,
-        &[EXIT],
-        &[0; 14],
-        want,
-        "drop",
-    );
 }
 
 #[test]

@@ -11,7 +11,7 @@ ghost use Rattle.shards.specs.NewShards.{IsNamed};
 
 use crate::asserting::{holds_of, same_fact};
 use conntrack::{maps, table_size};
-use control::{Command, ControlFault, parse_script};
+use control::{Command, parse_script};
 use ebpf_decode::{Image, Insn, Version};
 use journals::Journals;
 use replay::{Actor, ActorEnded, Applied, Commanded, Commander, Reclaiming, ReplayFault};
@@ -111,14 +111,6 @@ fn lengths_are(journals: &Journals, want: &[usize]) -> bool {
         .eq(want.iter().copied())
 }
 
-/// Whether each service that was refused was answered that the map is full.
-fn refused_by_a_full_map(noted: &[Applied]) -> bool {
-    noted.iter().all(|one| match one.fault {
-        Some(ControlFault::Refused { answer }) => answer == -7,
-        _ => true,
-    })
-}
-
 /// Closes the shards, and compares how many entries each journal has.
 fn close<B: Naming, R: Abort + Wait>(
     rt: &R,
@@ -170,12 +162,6 @@ fn applied<B: Naming, R: Abort + Wait>(
     }
     let (pass, noted) = commander.finish();
     holds_of(rt, row.name, "the faults", faults_are(&noted, row.faults));
-    holds_of(
-        rt,
-        row.name,
-        "the answer of a full map",
-        refused_by_a_full_map(&noted),
-    );
     let called = (gate.times.get(), gate.last.get());
     same_fact(
         rt,
@@ -224,34 +210,6 @@ fn scripts_are_applied(rt: HostRuntime) -> Result<(), Fail> {
         applied_to_new(&rt, rt.alloc(), row)?;
     }
     Ok(())
-}
-
-/// A service at each of this many ports.
-fn services<R: Abort>(rt: &R, alloc: Global, count: u32) -> String {
-    let mut text = String::new(alloc);
-    for port in 0..count {
-        let line = format!(in alloc; "0 vip 203.0.113.1 {port} udp\n").expect(rt, "a line");
-        text.push_str(&line).expect(rt, "room");
-    }
-    text
-}
-
-/// The map of services has 64 entries: the 65th service is refused with its answer, which is in the journal.
-#[test]
-fn the_65th_service_is_refused(rt: HostRuntime) -> Result<(), Fail> {
-    let text = services(&rt, rt.alloc(), 65);
-    let mut faults = [0; 65];
-    faults[64] = 93;
-    let row = Row {
-        name: "the 65th service",
-        journal: 66,
-        text: &text,
-        faults: &faults,
-        gate_calls: 65,
-        lengths: &[65, 0, 0, 0, 0, 0],
-        ..SMALL
-    };
-    applied_to_new(&rt, rt.alloc(), &row)
 }
 
 /// Makes the row's rounds, and compares for how many Reclaims the gate was called, and how many entries each shard's journal has.

@@ -2,8 +2,7 @@
 
 ghost use Rattle.std.specs.Prelude.{◌≤◌, ◌^◌, length};
 
-use crate::asserting::{holds, prints, same, same_at, same_bytes};
-use crate::slow_devices::{SlowSink, SlowSource};
+use crate::asserting::{holds, prints, same, same_bytes};
 use std::alloc::Global;
 use std::process::Abort;
 use std::test::Fail;
@@ -35,27 +34,6 @@ fn fault_of(alloc: Global, bytes: &[u8]) -> Option<CaptureFault>
     read(alloc, bytes).err()
 }
 
-/// How many records a file has.
-fn count_of(alloc: Global, bytes: &[u8]) -> Result<usize, CaptureFault>
-    requires { length bytes.now ≤ 2 ^ 40 }
-{
-    Ok(read(alloc, bytes)?.records.len())
-}
-
-#[test]
-fn beginnings(rt: HostRuntime) {
-    for size in 0..=CAPTURE.len() {
-        let want = match size {
-            0..=23 => Some(CaptureFault::CutHead { record: 0 }),
-            24 | 82 => None,
-            25..=39 => Some(CaptureFault::CutHead { record: 1 }),
-            _ => Some(CaptureFault::CutFrame { record: 1 }),
-        };
-        let got = fault_of(rt.alloc(), &CAPTURE[..size]);
-        same_at(&rt, "a file of these bytes:", size as u64, &got, &want);
-    }
-}
-
 /// Compares a record with the one of the capture.
 fn is_the_record(rt: &impl Abort, sent: &Sent) {
     same(rt, "seconds", &sent.seconds, &1);
@@ -78,8 +56,6 @@ fn one_frame(rt: HostRuntime) {
         is_the_record(&rt, sent);
     }
     makes_the_capture(&rt, rt.alloc(), &capture.records);
-    let count = count_of(rt.alloc(), &CAPTURE[..24]);
-    same(&rt, "a header alone", &count, &Ok(0));
 }
 
 /// One byte of the capture changed, and what then comes.
@@ -114,69 +90,6 @@ fn changed_bytes(rt: HostRuntime) {
         let got = fault_of(rt.alloc(), &with_byte(&rt, *at, *byte));
         same(&rt, *name, &got, want);
     }
-}
-
-#[test]
-fn third_record_cut(rt: HostRuntime) {
-    let mut bytes = [0; 197];
-    bytes[..82].copy_from_slice(&CAPTURE);
-    bytes[82..140].copy_from_slice(&CAPTURE[24..]);
-    bytes[140..].copy_from_slice(&CAPTURE[24..81]);
-    let got = fault_of(rt.alloc(), &bytes);
-    let want = Some(CaptureFault::CutFrame { record: 3 });
-    same(&rt, "the third record is cut", &got, &want);
-}
-
-/// How many records come from a source that fails at one of its calls, and how many calls have failed.
-fn read_slowly(alloc: Global, fails_at: u64) -> (Result<usize, CaptureFault>, u64) {
-    let mut source = SlowSource::new(&CAPTURE, fails_at);
-    let count = match read_capture(alloc, &mut source) {
-        Ok(capture) => Ok(capture.records.len()),
-        Err(fault) => Err(fault),
-    };
-    (count, source.failures())
-}
-
-#[test]
-fn failing_source(rt: HostRuntime) {
-    for fails_at in 1..90 {
-        let want = if fails_at <= 83 {
-            (Err(CaptureFault::Device), 1)
-        } else {
-            (Ok(1), 0)
-        };
-        let got = read_slowly(rt.alloc(), fails_at);
-        same_at(&rt, "byte by byte, failing at call", fails_at, &got, &want);
-    }
-}
-
-/// Writes records to a sink that takes this many bytes one by one and then fails, and compares what it has then.
-fn write_slowly(rt: &impl Abort, alloc: Global, records: &[Sent], taken: u8) {
-    let mut sink = SlowSink::new(alloc, u64::from(taken) + 1);
-    let got = write_capture(&mut sink, records);
-    let (want, front, failures) = if taken < 82 {
-        (Err(CaptureFault::Device), &CAPTURE[..taken as usize], 1)
-    } else {
-        (Ok(()), CAPTURE.as_slice(), 0)
-    };
-    same_at(rt, "failing after byte", u64::from(taken), &got, &want);
-    same_bytes(rt, "a front of the file", sink.bytes(), front);
-    same_at(
-        rt,
-        "failures after byte",
-        u64::from(taken),
-        &sink.failures(),
-        &failures,
-    );
-}
-
-#[test]
-fn failing_sink(rt: HostRuntime) -> Result<(), Fail> {
-    let capture = read(rt.alloc(), &CAPTURE)?;
-    for taken in 0..84 {
-        write_slowly(&rt, rt.alloc(), &capture.records, taken);
-    }
-    Ok(())
 }
 
 /// Writes records to a stream, and answers how many calls have failed.

@@ -1,12 +1,12 @@
 //! What no clause says: rows worked out elsewhere, and that what takes memory succeeds where there is enough.
 
-ghost use Rattle.std.specs.Prelude.{◌≡◌, IfOk, length};
+ghost use Rattle.std.specs.Prelude.{◌≡◌, IfOk};
 ghost use Rattle.conntrack.specs.SteeringMaps.{steering_maps};
 
 use crate::asserting::{holds, holds_at, same, same_at, same_bytes, same_fact};
 use conntrack::maps;
 use control::{
-    ControlFault, Controller, MadeUpdate, Slot, UpdateList, parse_script, ring_updates, round_trip,
+    ControlFault, Controller, MadeUpdate, UpdateList, parse_script, ring_updates, round_trip,
 };
 use maglev::{Ring, RingFault};
 use std::alloc::Global;
@@ -91,10 +91,9 @@ fn scripts_are_read_exactly(rt: HostRuntime) {
 }
 
 #[rattlefmt::skip]
-const BAD_LINES: [(&str, &str, usize); 30] = [
+const BAD_LINES: [(&str, &str, usize); 28] = [
     ("no line feed",              "0 down 0", 1),
     ("empty line",                "\n", 1),
-    ("frames fall",               "1 down 0\n0 down 0\n", 2),
     ("unknown word",              "0 stop 0\n", 1),
     ("word in capitals",          "0 Down 0\n", 1),
     ("leading zero",              "00 down 0\n", 1),
@@ -116,7 +115,6 @@ const BAD_LINES: [(&str, &str, usize); 30] = [
     ("port of 65536",             "0 vip 203.0.113.1 65536 udp\n", 1),
     ("no transport",              "0 vip 203.0.113.1 80\n", 1),
     ("other transport",           "0 vip 203.0.113.1 80 icmp\n", 1),
-    ("two spaces before notrack", "0 vip 203.0.113.1 80 udp  notrack\n", 1),
     ("other word than notrack",   "0 vip 203.0.113.1 80 udp track\n", 1),
     ("capital digit",             "0 gateway 10.0.0.9 02:00:00:00:00:0A 02:00:00:00:00:0b\n", 1),
     ("single digit",              "0 gateway 10.0.0.9 02:00:00:00:00:a 02:00:00:00:00:0b\n", 1),
@@ -192,34 +190,6 @@ fn are_asked(rt: &impl Abort, asked: &[MadeUpdate], rows: &[Row]) {
     }
 }
 
-#[rattlefmt::skip]
-const RECORDS_AND_SLOTS: [Row; 16] = [
-    (3, &[0, 0, 0, 0], &[0xc0, 0, 2, 1, 1, 0, 0, 0]),
-    (2, &[0, 0, 0, 0], &[1, 0, 0, 0, 0, 0, 0, 0]),
-    (2, &[1, 0, 0, 0], &[1, 0, 0, 0, 0, 0, 0, 0]),
-    (2, &[2, 0, 0, 0], &[1, 0, 0, 0, 0, 0, 0, 0]),
-    (2, &[3, 0, 0, 0], &[1, 0, 0, 0, 0, 0, 0, 0]),
-    (2, &[4, 0, 0, 0], &[1, 0, 0, 0, 0, 0, 0, 0]),
-    (2, &[5, 0, 0, 0], &[1, 0, 0, 0, 0, 0, 0, 0]),
-    (2, &[6, 0, 0, 0], &[1, 0, 0, 0, 0, 0, 0, 0]),
-    (3, &[0, 0, 0, 0], &[0xc0, 0, 2, 1, 0, 0, 0, 0]),
-    (2, &[0, 0, 0, 0], &[0, 0, 0, 0, 0, 0, 0, 0]),
-    (2, &[1, 0, 0, 0], &[0, 0, 0, 0, 0, 0, 0, 0]),
-    (2, &[2, 0, 0, 0], &[0, 0, 0, 0, 0, 0, 0, 0]),
-    (2, &[3, 0, 0, 0], &[0, 0, 0, 0, 0, 0, 0, 0]),
-    (2, &[4, 0, 0, 0], &[0, 0, 0, 0, 0, 0, 0, 0]),
-    (2, &[5, 0, 0, 0], &[0, 0, 0, 0, 0, 0, 0, 0]),
-    (2, &[6, 0, 0, 0], &[0, 0, 0, 0, 0, 0, 0, 0]),
-];
-
-#[test]
-fn up_and_down_ask_record_and_slots(rt: HostRuntime) -> Result<(), ControlFault> {
-    let text = "0 up 0 192.0.2.1\n0 down 0\n";
-    let list = is_answered(&rt, rt.alloc(), "up and down", text, 16, &[0, 0], 16)?;
-    are_asked(&rt, list.made(), &RECORDS_AND_SLOTS);
-    Ok(())
-}
-
 const SERVICES: &str =
     "0 vip 203.0.113.1 80 udp\n0 vip 203.0.113.1 80 udp notrack\n0 gateway 10.0.0.9 02:00:00:00:00:0a 02:00:00:00:00:0b\n";
 
@@ -238,9 +208,8 @@ fn services_and_the_tunnel_are_put(rt: HostRuntime) -> Result<(), ControlFault> 
 }
 
 #[rattlefmt::skip]
-const REFUSED: [(&str, &str, usize, &[u8], usize); 9] = [
+const REFUSED: [(&str, &str, usize, &[u8], usize); 8] = [
     ("down of none",             "0 down 3\n",                                              99, &[91], 0),
-    ("number of the size",       "0 up 7 10.0.0.1\n",                                       99, &[91], 0),
     ("number of the size, address up", "0 up 0 10.0.0.1\n0 up 7 10.0.0.1\n",                99, &[0, 91], 8),
     ("number twice",             "0 up 0 10.0.0.1\n0 up 0 10.0.0.2\n",                      99, &[0, 92], 8),
     ("address twice",            "0 up 0 10.0.0.1\n0 up 1 10.0.0.1\n",                      99, &[0, 92], 8),
@@ -287,45 +256,6 @@ fn the_65th_service_is_refused(rt: HostRuntime) -> Result<(), ControlFault> {
 fn a_long_script_is_read_exactly(rt: HostRuntime) {
     let text = services(&rt, rt.alloc());
     is_read_exactly(&rt, rt.alloc(), "66 services", &text);
-}
-
-const CHANGED: [Slot; 3] = [
-    Slot {
-        place: 0,
-        owner: Some(0),
-    },
-    Slot {
-        place: 2,
-        owner: Some(0),
-    },
-    Slot {
-        place: 6,
-        owner: Some(2),
-    },
-];
-
-/// Compares the slots that have other owners in the second ring.
-fn are_changed(
-    rt: &impl Abort,
-    alloc: Global,
-    name: &str,
-    first: &Ring,
-    second: &Ring,
-    want: &[Slot],
-)
-    requires { length first.now ≡ length second.now }
-{
-    let slots = ring_updates(alloc, first, second).expect(rt, "slots");
-    holds(rt, name, slots.as_slice() == want);
-}
-
-#[test]
-fn slots_that_change_hands(rt: HostRuntime) -> Result<(), RingFault> {
-    let first = Ring::turns(rt.alloc(), &[(0, 3, 4), (1, 0, 2), (2, 3, 1)], 7)?;
-    let second = Ring::turns(rt.alloc(), &[(0, 3, 4), (2, 3, 1)], 7)?;
-    are_changed(&rt, rt.alloc(), "without one", &first, &second, &CHANGED);
-    are_changed(&rt, rt.alloc(), "the same ring", &first, &first, &[]);
-    Ok(())
 }
 
 /// Of two backends on 65,537 slots the second one has 32,768, which go back to the first.

@@ -1,7 +1,6 @@
 //! Files written by hand: whole ones, each line's neighbours, and devices that fail.
 
 use crate::asserting::{holds, holds_at, prints, same, same_at, same_bytes};
-use crate::slow_devices::{SlowSink, SlowSource};
 use ebpf_decode::{Image, Insn, MapDef, MapKind, Version};
 use journals::{FileFault, Journals, ShardJournal, read_journals, write_journals};
 use semantics::{Call, Caller, CellRef, Entry, Key, Reply, Value};
@@ -9,6 +8,7 @@ use std::alloc::Global;
 use std::process::Abort;
 use std::test::Fail;
 use test_support::files::COUNTED_TO_THREE;
+use test_support::slow_devices::{SlowSink, SlowSource};
 use wire::{MemorySink, MemorySource, Sink, Source};
 
 /// A worker writes half of a key's value, reads it, and deletes the key; its cell is freed.

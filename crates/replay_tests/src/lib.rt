@@ -29,8 +29,6 @@ mod replays;
 #[cfg(test)]
 mod single_runs;
 #[cfg(test)]
-mod slow_devices;
-#[cfg(test)]
 mod steered_frames;
 #[cfg(test)]
 mod steering;

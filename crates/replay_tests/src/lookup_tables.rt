@@ -13,9 +13,7 @@ use wire::Ipv4Address;
 type Given = (u32, u32, u32);
 
 #[rattlefmt::skip]
-static TURNS: [(&str, &[Given], [u32; 7]); 3] = [
-    ("three backends take turns",                     &[(0, 3, 4), (1, 0, 2), (2, 3, 1)], [1, 0, 1, 0, 2, 2, 0]),
-    ("without the second the others fill its slots",  &[(0, 3, 4), (2, 3, 1)],            [0, 0, 0, 0, 2, 2, 2]),
+static TURNS: [(&str, &[Given], [u32; 7]); 1] = [
     ("one backend owns every slot",                   &[(9, 6, 6)],                       [9, 9, 9, 9, 9, 9, 9]),
 ];
 

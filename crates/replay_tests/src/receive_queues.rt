@@ -28,9 +28,7 @@ type Row = (&'static str, u16, u16, Transport, usize, usize);
 
 // The workers are as a separate program computed them from the hash of the sixteen bytes.
 #[rattlefmt::skip]
-const SPREADS: [Row; 14] = [
-    ("first of two flows over two workers",  40000, 80,  Transport::Tcp, 2, 0),
-    ("second of two flows over two workers", 40001, 80,  Transport::Tcp, 2, 1),
+const SPREADS: [Row; 12] = [
     ("another destination port",             40000, 443, Transport::Tcp, 3, 1),
     ("another protocol",                     40000, 80,  Transport::Udp, 2, 1),
     ("one worker takes all",                 40001, 80,  Transport::Tcp, 1, 0),
@@ -204,80 +202,6 @@ fn a_thousand_jobs_go_through_each_queue(rt: HostRuntime) -> Result<(), OpenFaul
         let (back, came) = pass_through(&rt, &queues, caller_at(8, place), put, take, 1000);
         put = back;
         same_at(&rt, "jobs through queue", place as u64, &came, &1000);
-    }
-    Ok(())
-}
-
-// How many of the caller's jobs, numbered from 0 on, are put before one comes back.
-fn put_in_room<R: Wait>(
-    rt: &R,
-    queues: &Queues,
-    who: Caller,
-    pass: &mut PutPass,
-    count: usize,
-) -> usize
-    requires queue { HasQueue (workers_of queues.now) who }
-    requires count { (count ≤ records_of queues.now) × (count ≤ commands_of queues.now) }
-    requires pass { IsPutPassOf queues.now pass.old }
-    ensures { IsPutPassOf queues.now pass.new }
-{
-    'puts: for number in 0..count {
-        if queues
-            .put(rt, who, job_for(queues, who, number), pass)
-            .is_err()
-        {
-            return number;
-        }
-    }
-    count
-}
-
-// How many jobs, numbered from this one on, are taken before another one or none.
-fn take_in_turn<R: Wait>(
-    rt: &R,
-    queues: &Queues,
-    pass: &mut TakePass,
-    first: usize,
-    count: usize,
-) -> usize
-    requires { IsTakePassOf queues.now pass.old }
-    ensures { IsTakePassOf queues.now pass.new }
-{
-    'takes: for number in 0..count {
-        match queues.take(rt, pass) {
-            Some(job) if is_numbered(job, first.wrapping_add(number)) => {}
-            _ => return number,
-        }
-    }
-    count
-}
-
-#[test]
-fn a_full_queue_gives_the_job_back(rt: HostRuntime) -> Result<(), OpenFault> {
-    let (queues, mut put, mut takes) = Queues::open(rt.alloc(), 2, 100, 100)?;
-    'queues: while let Some(mut take) = last_of(&queues, &mut takes) {
-        let who = caller_at(2, takes.len());
-        let count = put_in_room(&rt, &queues, who, &mut put, 100);
-        same(&rt, "jobs put in all", &count, &64);
-        let count = take_in_turn(&rt, &queues, &mut take, 0, 1);
-        same(&rt, "first job taken", &count, &1);
-        let answer = queues.put(&rt, who, Job::End, &mut put);
-        same(&rt, "in the place that is free", &answer, &Ok(()));
-        let answer = queues.put(&rt, who, Job::End, &mut put);
-        same(&rt, "in no free place", &answer, &Err(Job::End));
-        let count = take_in_turn(&rt, &queues, &mut take, 1, 100);
-        same(&rt, "other jobs taken", &count, &63);
-        let taken = queues.take(&rt, &mut take);
-        same(&rt, "nothing is left", &taken, &None);
-        let count = put_in_room(&rt, &queues, who, &mut put, 1);
-        same(&rt, "one more put", &count, &1);
-        let taken = queues.take(&rt, &mut take);
-        same(
-            &rt,
-            "one more taken",
-            &taken,
-            &Some(job_for(&queues, who, 0)),
-        );
     }
     Ok(())
 }

@@ -10,7 +10,7 @@ mod without_rows;
 
 ghost use Rattle.std.specs.Prelude.{◌≡◌, ◌≤◌, ◌<◌, ◌^◌, length};
 
-use crate::asserting::{holds_of, same_bytes_of, same_fact};
+use crate::asserting::{holds_of, same_fact};
 use control::parse_script;
 use disasm::assemble;
 use journals::write_journals;
@@ -20,8 +20,8 @@ use std::alloc::{AllocError, Global};
 use std::process::Abort;
 use std::sync::Wait;
 use std::thread::Threads;
-use test_support::files::{COUNTED_TO_THREE, SERVICE};
-use test_support::programs::{COUNTS_TO_THREE, READS_BYTE_13};
+use test_support::files::SERVICE;
+use test_support::programs::COUNTS_TO_THREE;
 use verifier::{Verified, verify};
 use wire::{Capture, MemorySink, MemorySource, Sent, read_capture, write_capture};
 
@@ -257,91 +257,6 @@ const ONE_FRAME: Row<'static> = Row {
     journal: 16,
     counts: Counts { tx: 1, ..NONE },
 };
-
-#[test]
-fn one_frame_is_sent(rt: HostRuntime) {
-    let outcome = replayed(&rt, rt.alloc(), &ONE_FRAME, &NoGate);
-    let sent = sent_file(&rt, rt.alloc(), &outcome);
-    same_fact(
-        &rt,
-        "one frame",
-        "the length of what is sent",
-        &sent.bytes().len(),
-        &54,
-    );
-    let journals = journals_file(&rt, rt.alloc(), &outcome);
-    same_bytes_of(
-        &rt,
-        "one frame",
-        "the journals",
-        journals.bytes(),
-        COUNTED_TO_THREE.as_bytes(),
-    );
-}
-
-/// What forty flows of five frames each come to.
-const FORTY_COUNTS: Counts = Counts {
-    aborted: 185,
-    drop: 5,
-    pass: 5,
-    tx: 5,
-    ..NONE
-};
-
-/// Forty flows of five frames each.
-const FORTY_FLOWS: Row<'static> = Row {
-    name: "forty flows",
-    program: ANSWERS_THE_PORT,
-    script: "",
-    frames: Frames::Rounds {
-        first: 40192,
-        flows: 40,
-        rounds: 5,
-    },
-    workers: 1,
-    journal: 65536,
-    counts: FORTY_COUNTS,
-};
-
-/// Replays the flows by this many workers, and compares what they send.
-fn forty_flows_send<R: Threads + Abort + Wait + Sync>(
-    rt: &R,
-    alloc: Global,
-    workers: u32,
-    wanted: &[u8],
-) {
-    let row = Row {
-        workers,
-        ..FORTY_FLOWS
-    };
-    let outcome = replayed(rt, alloc, &row, &NoGate);
-    let sent = sent_file(rt, alloc, &outcome);
-    same_bytes_of(rt, row.name, "what is sent", sent.bytes(), wanted);
-}
-
-#[test]
-fn forty_flows_by_1_2_4_and_8_workers(rt: HostRuntime) {
-    let outcome = replayed(&rt, rt.alloc(), &FORTY_FLOWS, &NoGate);
-    let first = sent_file(&rt, rt.alloc(), &outcome);
-    for workers in [2, 4, 8] {
-        forty_flows_send(&rt, rt.alloc(), workers, first.bytes());
-    }
-}
-
-const SHORT: Row<'static> = Row {
-    name: "a record of 13 bytes",
-    program: READS_BYTE_13,
-    script: "",
-    frames: Frames::Zeros(13),
-    workers: 1,
-    journal: 16,
-    counts: Counts { short: 1, ..NONE },
-};
-
-#[test]
-fn a_record_of_13_bytes_is_short(rt: HostRuntime) {
-    let _ = replayed(&rt, rt.alloc(), &SHORT, &NoGate);
-}
 
 /// Scripts, how many commands are refused, and the first entry of the list of backends, if it has one.
 #[rattlefmt::skip]

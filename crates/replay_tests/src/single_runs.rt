@@ -13,7 +13,6 @@ use shards::OpenFault;
 use std::alloc::Global;
 use std::process::Abort;
 use std::test::Fail;
-use test_support::programs::COUNTS_TO_THREE;
 use verifier::Verified;
 use wire::{Frame, MemorySink};
 
@@ -103,15 +102,6 @@ ldxdw r0, [r0+0]
 exit
 mov r0, 0
 exit
-";
-
-const COUNTED: &str = "XLBJ 1 3 1 16
-0 w2 enter ok
-0 w2 update 07000000 0200000000000000 0 answer 0
-0 w2 lookup 07000000 cell 0
-0 w2 atomic 0 0 8 1 1 0 word 2
-0 w2 load 0 0 8 word 3
-0 w2 leave ok
 ";
 
 const THE_SECOND: &str = "XLBJ 1 1 1 16
@@ -214,11 +204,7 @@ const RUN: Row = Row {
 };
 
 #[rattlefmt::skip]
-const RUNS: [Row; 6] = [
-    Row {
-        name: "a count", program: COUNTS_TO_THREE, options: Options { workers: 3, ..SMALL }, worker: 2,
-        end: Ok(Ok(Exit { verdict: Verdict::Tx, steps: 18 })), journals: Some(COUNTED), ..RUN
-    },
+const RUNS: [Row; 5] = [
     Row {
         name: "the second of two maps", program: READS_THE_SECOND,
         end: Ok(Ok(Exit { verdict: Verdict::Pass, steps: 9 })), journals: Some(THE_SECOND), ..RUN

@@ -94,17 +94,13 @@ type Case = (
 );
 
 #[rattlefmt::skip]
-const CASES: [Case; 12] = [
-    ("no service",                       None,        READY,     None,        FIRST_UP,   Choice::Pass),
+const CASES: [Case; 8] = [
     ("tunnel not set up",                TRACKED,     NOT_READY, SECOND_UP,   FIRST_UP,   Choice::Drop),
-    ("no tunnel",                        TRACKED,     None,      SECOND_UP,   FIRST_UP,   Choice::Drop),
     ("noted and up",                     TRACKED,     READY,     SECOND_UP,   FIRST_UP,   TO_SECOND),
     ("noted, but down",                  TRACKED,     READY,     SECOND_DOWN, FIRST_UP,   TO_FIRST),
     ("noted, without a record",          TRACKED,     READY,     NO_RECORD,   FIRST_UP,   TO_FIRST),
-    ("nothing noted",                    TRACKED,     READY,     None,        FIRST_UP,   TO_FIRST),
     ("owner of the slot down",           TRACKED,     READY,     None,        FIRST_DOWN, Choice::Drop),
     ("owner of the slot without record", TRACKED,     READY,     None,        NO_RECORD,  Choice::Drop),
-    ("no owner",                         TRACKED,     READY,     None,        None,       Choice::Drop),
     ("not tracked: what is noted does not count", NOT_TRACKED, READY,     SECOND_UP,   FIRST_UP,   TO_FIRST_ONCE),
     ("not tracked, no owner",            NOT_TRACKED, READY,     SECOND_UP,   None,       Choice::Drop),
 ];
@@ -159,9 +155,8 @@ const WITH_BACKEND_DOWN: Records = Records {
 };
 
 #[rattlefmt::skip]
-const CHANGES: [(&str, usize, u8, Choice); 5] = [
+const CHANGES: [(&str, usize, u8, Choice); 4] = [
     ("as it is",            22, 0x40, TO_FIRST),
-    ("time to live 0",      22, 0,    Choice::Drop),
     ("with options",        14, 0x46, Choice::Pass),
     ("a fragment",          20, 0x20, Choice::Pass),
     ("neither TCP nor UDP", 23, 1,    Choice::Pass),

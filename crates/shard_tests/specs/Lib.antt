@@ -1,2 +1,1 @@
-pub mod TwoWorkers
 pub mod ExampleMaps

@@ -212,14 +212,10 @@ fn entries_of(
 }
 
 #[rattlefmt::skip]
-static ARRAY_OF_TWO: [Row; 26] = [
-    ("an index out of range under NOEXIST",       IndexCall::Put(2, 7, NOEXIST), Reply::Answer { code: -7 }),
-    ("an index is there under NOEXIST",           IndexCall::Put(0, 7, NOEXIST), Reply::Answer { code: -17 }),
-    ("unknown flags",                             IndexCall::Put(0, 7, 3),       Reply::Answer { code: -22 }),
+static ARRAY_OF_TWO: [Row; 22] = [
     ("unknown flags out of range",                IndexCall::Put(2, 7, 3),       Reply::Answer { code: -22 }),
     ("an index under EXIST",                      IndexCall::Put(0, 1, EXIST),   Reply::Answer { code: 0 }),
     ("an index under ANY",                        IndexCall::Put(1, 2, ANY),     Reply::Answer { code: 0 }),
-    ("an array deletes nothing",                  IndexCall::Remove(0),          Reply::Answer { code: -22 }),
     ("nor out of range",                          IndexCall::Remove(2),          Reply::Answer { code: -22 }),
     ("a worker enters",                           IndexCall::Enter(0),           Reply::Entered),
     ("an index out of range is not found",        IndexCall::Look(0, 2),         Reply::Null),
@@ -291,27 +287,6 @@ fn arrays_of_each_size(rt: HostRuntime) -> Result<(), AllocError> {
 }
 
 #[rattlefmt::skip]
-const HASH_OF_ONE: [Row; 5] = [
-    ("a new key",                         IndexCall::Put(1, 1, ANY),     Reply::Answer { code: 0 }),
-    ("it is there under NOEXIST",         IndexCall::Put(1, 2, NOEXIST), Reply::Answer { code: -17 }),
-    ("the shard is full of keys",         IndexCall::Put(2, 1, ANY),     Reply::Answer { code: -7 }),
-    ("the key goes",                      IndexCall::Remove(1),          Reply::Answer { code: 0 }),
-    ("and is there no more",              IndexCall::Remove(1),          Reply::Answer { code: -2 }),
-];
-
-#[rattlefmt::skip]
-const CELLS_RUN_OUT: [Row; 8] = [
-    ("an absent key under EXIST",         IndexCall::Put(1, 1, EXIST),   Reply::Answer { code: -2 }),
-    ("a first key",                       IndexCall::Put(1, 1, ANY),     Reply::Answer { code: 0 }),
-    ("goes",                              IndexCall::Remove(1),          Reply::Answer { code: 0 }),
-    ("a second key",                      IndexCall::Put(2, 1, ANY),     Reply::Answer { code: 0 }),
-    ("goes",                              IndexCall::Remove(2),          Reply::Answer { code: 0 }),
-    ("two cells wait",                    IndexCall::Put(3, 1, ANY),     Reply::Answer { code: -12 }),
-    ("nobody is inside",                  IndexCall::Reclaim,            Reply::Freed { count: 2 }),
-    ("there is a cell again",             IndexCall::Put(3, 1, ANY),     Reply::Answer { code: 0 }),
-];
-
-#[rattlefmt::skip]
 static HELD_CELL_STAYS: [Row; 14] = [
     ("a key",                             IndexCall::Put(1, 1, ANY),     Reply::Answer { code: 0 }),
     ("a worker enters",                   IndexCall::Enter(0),           Reply::Entered),
@@ -333,14 +308,6 @@ fn hash_plan(max_entries: u32) -> ShardPlan
     ensures { IsPlan result }
 {
     plan_of(MapKind::Hash, 8, max_entries, 64)
-}
-
-#[test]
-fn hash_of_one_entry(rt: HostRuntime) -> Result<(), AllocError> {
-    let _count = entries_of(&rt, rt.alloc(), hash_plan(1), &HASH_OF_ONE)?;
-    let _count = entries_of(&rt, rt.alloc(), hash_plan(1), &CELLS_RUN_OUT)?;
-    let _count = entries_of(&rt, rt.alloc(), hash_plan(1), &HELD_CELL_STAYS)?;
-    Ok(())
 }
 
 #[test]
@@ -383,30 +350,6 @@ const LAST_IS_A_LEAVE: [Filling; 8] = [
 fn last_entry_is_a_leave(rt: HostRuntime) -> Result<(), AllocError> {
     let count = fills(&rt, rt.alloc(), &LAST_IS_A_LEAVE)?;
     same(&rt, "how many entries", &count, &16);
-    Ok(())
-}
-
-#[rattlefmt::skip]
-const ENTERS_AFTER_14: [Filling; 2] = [
-    ("an Update",        14, IndexCall::Put(0, 1, ANY), Some(Reply::Answer { code: 0 })),
-    ("after 14 entries", 1,  IndexCall::Enter(0),       Some(Reply::Entered)),
-];
-
-#[rattlefmt::skip]
-const ENTERS_AFTER_15: [Filling; 4] = [
-    ("an Update",        15, IndexCall::Put(0, 1, ANY), Some(Reply::Answer { code: 0 })),
-    ("after 15 entries", 1,  IndexCall::Enter(0),       None),
-    ("one more Update",  1,  IndexCall::Put(0, 1, ANY), Some(Reply::Answer { code: 0 })),
-    ("after 16 entries", 1,  IndexCall::Put(0, 1, ANY), None),
-];
-
-/// With no run inside, a run that enters needs room for its Enter and for its Leave.
-#[test]
-fn last_enter_needs_two_places(rt: HostRuntime) -> Result<(), AllocError> {
-    let fourteen = fills(&rt, rt.alloc(), &ENTERS_AFTER_14)?;
-    same(&rt, "entries with the Enter", &fourteen, &15);
-    let fifteen = fills(&rt, rt.alloc(), &ENTERS_AFTER_15)?;
-    same(&rt, "entries without it", &fifteen, &16);
     Ok(())
 }
 

@@ -1,9 +1,7 @@
 //! What no clause says: that shards are opened and passes dealt with memory, and that calls by threads return.
 
-mod holding;
 mod many_shards;
 mod rows;
-mod two_workers;
 mod waiting;
 
 ghost use Rattle.shards.specs.NewShards.{IsNamed};
@@ -266,83 +264,4 @@ fn by_two_threads<B: Naming + Send + Sync, R: Threads + Abort + Wait + Sync>(
 fn two_threads_on_one_shard(rt: HostRuntime) {
     let opened = opened(&rt, rt.alloc(), 600);
     by_two_threads::<Brand, HostRuntime>(&rt, rt.alloc(), opened);
-}
-
-fn held<B: Naming, R: Abort + Wait>(rt: &R, alloc: Global, opened: Opened)
-    requires { IsNamed B.count B.table B.plan B.order opened }
-{
-    let (shards, mut pass) = one_pass::<B, R>(rt, alloc, opened);
-    holds(rt, "there are two shards", 1 < shards.count());
-    let got = shards.hold(rt, 0, || attempt(rt, &shards, &mut pass, Step::Enter));
-    same(rt, "the call on the other", &got, &Some(Reply::Entered));
-}
-
-/// While one shard's lock is held, a call on the other is answered: each has a lock of its own, and what is to run under it runs.
-#[test]
-fn a_call_while_another_shard_is_held(rt: HostRuntime) {
-    let opened = opened(&rt, rt.alloc(), 16);
-    held::<Brand, HostRuntime>(&rt, rt.alloc(), opened);
-}
-
-/// One run: Enter, this many Lookups, Leave. Says how many of the calls were served.
-fn run_of<B: Naming, R: Abort + Wait>(
-    rt: &R,
-    shards: &Shards<B>,
-    pass: &mut Pass<B>,
-    lookups: u32,
-) -> u32 {
-    let mut served: u32 = 0;
-    if attempt(rt, shards, pass, Step::Enter).is_some() {
-        served = served.wrapping_add(1);
-    }
-    for _ in 0..lookups {
-        if attempt(rt, shards, pass, Step::Look { index: 7 }).is_some() {
-            served = served.wrapping_add(1);
-        }
-    }
-    if attempt(rt, shards, pass, Step::Leave).is_some() {
-        served = served.wrapping_add(1);
-    }
-    served
-}
-
-/// A run's name, how many Lookups it makes, and how many of its calls are served.
-type Run = (&'static str, u32, u32);
-
-/// Makes runs with this many Lookups, one after another in a journal of 16, and compares how many of their calls are served.
-fn filled<B: Naming, R: Abort + Wait>(rt: &R, alloc: Global, opened: Opened, runs: &[Run])
-    requires { IsNamed B.count B.table B.plan B.order opened }
-{
-    let (shards, mut pass) = one_pass::<B, R>(rt, alloc, opened);
-    for (name, lookups, want) in runs {
-        same(rt, name, &run_of(rt, &shards, &mut pass, *lookups), want);
-    }
-}
-
-/// Makes the runs on new shards.
-fn fills<R: Abort + Wait>(rt: &R, alloc: Global, runs: &[Run]) {
-    let opened = opened(rt, alloc, 16);
-    filled::<Brand, R>(rt, alloc, opened, runs);
-}
-
-const ONE_LONG_RUN: [Run; 1] = [("15 lookups", 15, 16)];
-
-const AFTER_14: [Run; 2] = [("14 entries", 12, 14), ("two more", 0, 2)];
-
-const AFTER_15: [Run; 2] = [("15 entries", 13, 15), ("no more", 0, 0)];
-
-/// Of 15 Lookups after an Enter 14 are served, and then the Leave.
-#[test]
-fn a_run_keeps_room_for_its_leave(rt: HostRuntime) {
-    fills(&rt, rt.alloc(), &ONE_LONG_RUN);
-}
-
-#[test]
-fn an_enter_after_14_entries_is_served(rt: HostRuntime) {
-    fills(&rt, rt.alloc(), &AFTER_14);
-}
-
-#[test]
-fn an_enter_after_15_entries_is_refused(rt: HostRuntime) {
-    fills(&rt, rt.alloc(), &AFTER_15);
 }

@@ -6,3 +6,4 @@ pub mod files;
 mod instructions;
 pub mod one_thread_map;
 pub mod programs;
+pub mod slow_devices;

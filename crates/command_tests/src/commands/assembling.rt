@@ -1,13 +1,12 @@
 //! Texts and images, both ways.
 
-use super::first_path::{IMAGE, over_image};
-use super::{NOTHING, Wanted, compare_digits, left_by, put, writes_nothing};
+use super::first_path::over_image;
+use super::{Wanted, put, writes_nothing};
 use folders::MemoryFolder;
 use std::alloc::Global;
 use std::process::Abort;
 use std::sync::Wait;
 use std::thread::Threads;
-use test_support::programs::FIRST_RUN;
 
 /// What a row shows, the text's bytes, and what is printed.
 type Row = (&'static str, &'static [u8], &'static str);
@@ -53,21 +52,6 @@ fn refuses_texts(rt: HostRuntime) {
     for row in &ROWS {
         compare_refused(&rt, rt.alloc(), row);
     }
-}
-
-#[test]
-fn assembles_the_first_text(rt: HostRuntime) {
-    let alloc = rt.alloc();
-    let folder = put(
-        &rt,
-        alloc,
-        MemoryFolder::new(alloc),
-        "text",
-        FIRST_RUN.as_bytes(),
-    );
-    let line = "xlb asm text made";
-    let folder = left_by(&rt, alloc, "the first text", folder, line, NOTHING);
-    compare_digits(&rt, alloc, "the first text", folder, "made", IMAGE);
 }
 
 #[test]

@@ -21,14 +21,8 @@ type Row = (
 
 /// A worker updates a key, looks it up, adds to its value and reads it.
 #[rattlefmt::skip]
-const RUNS: [Row; 20] = [
+const RUNS: [Row; 15] = [
     ("no entries",                    "hash 4 8 1",  "1 1 16", "", "", ""),
-    ("a run and a reclaim", "hash 4 8 1", "1 1 16",
-        "0 w0 enter ok\n0 w0 update 07000000 0200000000000000 0 answer 0\n0 w0 lookup 07000000 cell 0\n0 w0 atomic 0 0 8 1 1 0 word 2\n\
-         0 w0 load 0 0 8 word 3\n0 w0 leave ok\n0 r reclaim freed 0\n", "", ""),
-    ("a word that was not there", "hash 4 8 1", "1 1 16",
-        "0 w0 enter ok\n0 w0 update 07000000 0200000000000000 0 answer 0\n0 w0 lookup 07000000 cell 0\n0 w0 atomic 0 0 8 1 1 0 word 1\n\
-         0 w0 load 0 0 8 word 3\n0 w0 leave ok\n0 r reclaim freed 0\n", "0 place 3", "line 5: \"0 w0 atomic 0 0 8 1 1 0 word 1\""),
     ("an addition that was lost", "hash 4 8 1", "1 1 16",
         "0 w0 enter ok\n0 w0 update 07000000 0200000000000000 0 answer 0\n0 w0 lookup 07000000 cell 0\n0 w0 atomic 0 0 8 1 1 0 word 2\n\
          0 w0 load 0 0 8 word 2\n", "0 place 4", "line 6: \"0 w0 load 0 0 8 word 2\""),
@@ -43,14 +37,6 @@ const RUNS: [Row; 20] = [
          0 w0 lookup 07000000 null\n0 w0 lookup 07000000 null\n0 w0 lookup 07000000 null\n0 w0 lookup 07000000 null\n0 w0 lookup 07000000 null\n\
          0 w0 lookup 07000000 null\n0 w0 lookup 07000000 null\n0 w0 lookup 07000000 null\n0 w0 lookup 07000000 null\n0 w0 lookup 07000000 null\n\
          0 w0 leave ok\n", "", ""),
-    ("a full journal passed", "hash 4 8 1", "1 1 16",
-        "0 w0 enter ok\n0 w0 lookup 07000000 null\n0 w0 lookup 07000000 null\n0 w0 lookup 07000000 null\n0 w0 lookup 07000000 null\n\
-         0 w0 lookup 07000000 null\n0 w0 lookup 07000000 null\n0 w0 lookup 07000000 null\n0 w0 lookup 07000000 null\n0 w0 lookup 07000000 null\n\
-         0 w0 lookup 07000000 null\n0 w0 lookup 07000000 null\n0 w0 lookup 07000000 null\n0 w0 lookup 07000000 null\n0 w0 lookup 07000000 null\n\
-         0 w0 lookup 07000000 null\n", "0 place 15", "line 17: \"0 w0 lookup 07000000 null\""),
-    ("a load in no run",              "hash 4 8 1",  "1 1 16", "0 w0 load 0 0 8 word 0\n", "0 place 0",
-        "line 2: \"0 w0 load 0 0 8 word 0\""),
-    ("worker 3 of two",               "hash 4 8 1",  "2 1 16", "0 w3 enter ok\n", "0 place 0", "line 2: \"0 w3 enter ok\""),
     ("worker 1 of two",               "hash 4 8 1",  "2 1 16", "0 w1 enter ok\n", "", ""),
     ("a lookup in no run",            "hash 4 8 1",  "1 1 16", "0 w0 lookup 07000000 null\n", "0 place 0",
         "line 2: \"0 w0 lookup 07000000 null\""),

@@ -6,7 +6,6 @@ use std::alloc::Global;
 use std::process::Abort;
 use std::sync::Wait;
 use std::thread::Threads;
-use test_support::programs::FIRST_RUN;
 
 /// The image that checks 14 bytes, reads byte 13, looks element 0 up and exits with the sum.
 pub const IMAGE: &str = "\
@@ -28,15 +27,7 @@ type Row = (
 );
 
 #[rattlefmt::skip]
-const ROWS: [Row; 21] = [
-    ("checked",                   "", "xlb check image", 0, "accepted slots 18 maps 1 reader yes\n", ""),
-    ("printed",                   "", "xlb disasm image", 0, FIRST_RUN, ""),
-    ("last byte 3 is tx", "0000000000000000000000000003", "xlb run image frame", 0,
-        "verdict tx\ninstructions 17\nframe 0000000000000000000000000003\n", ""),
-    ("last byte 1 is drop", "0000000000000000000000000001", "xlb run image frame", 0,
-        "verdict drop\ninstructions 17\nframe 0000000000000000000000000001\n", ""),
-    ("last byte 0 is aborted", "0000000000000000000000000000", "xlb run image frame", 0,
-        "verdict aborted\ninstructions 17\nframe 0000000000000000000000000000\n", ""),
+const ROWS: [Row; 16] = [
     ("at a time, on a worker", "0000000000000000000000000003", "xlb run image frame --now 18446744073709551615 --worker 7", 0,
         "verdict tx\ninstructions 17\nframe 0000000000000000000000000003\n", ""),
     ("a frame of letters", "61616161616161616161616161610a", "xlb run image frame", 0,
@@ -96,6 +87,6 @@ fn compare_rows<R: Abort + Threads + Wait + Sync>(rt: &R, alloc: Global, rows: &
 }
 
 #[test]
-fn first_path(rt: HostRuntime) {
+fn runs_of_the_first_image(rt: HostRuntime) {
     compare_rows(&rt, rt.alloc(), &ROWS);
 }

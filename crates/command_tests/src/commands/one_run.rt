@@ -1,13 +1,12 @@
 //! Programs run, each from its text.
 
 use super::first_path::IMAGE;
-use super::{Wanted, ZEROS, compare, over_text, put, put_digits, refused};
+use super::{Wanted, compare, over_text, put, put_digits, refused};
 use folders::MemoryFolder;
 use std::alloc::Global;
 use std::process::Abort;
 use std::sync::Wait;
 use std::thread::Threads;
-use test_support::programs::{READS_BYTE_13, READS_BYTE_14, READS_ONE};
 
 /// What a row shows, the text, the frame, the command line, and what is printed.
 type Row = (
@@ -19,37 +18,11 @@ type Row = (
 );
 
 #[rattlefmt::skip]
-const ROWS: [Row; 28] = [
-    ("two instructions", "version 1\nmov r0, 2\nexit\n", "0000000000000000000000000000", "xlb run image frame",
-        "verdict pass\ninstructions 2\nframe 0000000000000000000000000000\n"),
-    ("byte 13 of 14", READS_BYTE_13, "0000000000000000000000000001", "xlb run image frame",
-        "verdict drop\ninstructions 8\nframe 0000000000000000000000000001\n"),
-    ("byte 13 of 15", READS_BYTE_13, "000000000000000000000000000100", "xlb run image frame",
-        "verdict drop\ninstructions 8\nframe 000000000000000000000000000100\n"),
-    ("no byte 14", READS_BYTE_14, "0000000000000000000000000000", "xlb run image frame",
-        "verdict pass\ninstructions 7\nframe 0000000000000000000000000000\n"),
-    ("byte 14 of 15", READS_BYTE_14, "000000000000000000000000000001", "xlb run image frame",
-        "verdict drop\ninstructions 8\nframe 000000000000000000000000000001\n"),
-    ("an element is looked up", READS_ONE, "0000000000000000000000000000", "xlb run image frame",
-        "verdict pass\ninstructions 9\nframe 0000000000000000000000000000\n"),
-    ("the context kept on the stack", "version 1\nstxdw [r10-8], r1\nldxdw r2, [r10-8]\nldxw r0, [r2+12]\nexit\n",
-        "0000000000000000000000000000", "xlb run image frame", "verdict drop\ninstructions 4\nframe 0000000000000000000000000000\n"),
-    ("the time", "version 1\ncall 5\nexit\n", "0000000000000000000000000000", "xlb run image frame --now 3",
-        "verdict tx\ninstructions 2\nframe 0000000000000000000000000000\n"),
+const ROWS: [Row; 13] = [
     ("no time is time 0", "version 1\ncall 5\nexit\n", "0000000000000000000000000000", "xlb run image frame",
         "verdict aborted\ninstructions 2\nframe 0000000000000000000000000000\n"),
-    ("the worker", "version 1\ncall 8\nexit\n", "0000000000000000000000000000", "xlb run image frame --worker 2",
-        "verdict pass\ninstructions 2\nframe 0000000000000000000000000000\n"),
     ("the receive queue is the worker", "version 1\nldxw r0, [r1+16]\nexit\n", "0000000000000000000000000000",
         "xlb run image frame --worker 3", "verdict tx\ninstructions 2\nframe 0000000000000000000000000000\n"),
-    ("a place that the packet names",
-        "version 1\nldxw r2, [r1+0]\nldxw r3, [r1+4]\nmov r4, r2\nadd r4, 14\nmov r0, 2\njgt r4, r3, +6\nldxb r5, [r2+13]\nadd r2, r5\nmov r4, r2\n\
-         add r4, 1\njgt r4, r3, +1\nldxb r0, [r2+0]\nexit\n", "0000000100000000000000000003", "xlb run image frame",
-        "verdict drop\ninstructions 13\nframe 0000000100000000000000000003\n"),
-    ("a place past the packet",
-        "version 1\nldxw r2, [r1+0]\nldxw r3, [r1+4]\nmov r4, r2\nadd r4, 14\nmov r0, 2\njgt r4, r3, +6\nldxb r5, [r2+13]\nadd r2, r5\nmov r4, r2\n\
-         add r4, 1\njgt r4, r3, +1\nldxb r0, [r2+0]\nexit\n", "000000000000000000000000000e", "xlb run image frame",
-        "verdict pass\ninstructions 12\nframe 000000000000000000000000000e\n"),
     ("0 is aborted", "version 1\nmov r0, 0\nexit\n", "0000000000000000000000000000", "xlb run image frame",
         "verdict aborted\ninstructions 2\nframe 0000000000000000000000000000\n"),
     ("4 is aborted", "version 1\nmov r0, 4\nexit\n", "0000000000000000000000000000", "xlb run image frame",
@@ -78,15 +51,6 @@ const ROWS: [Row; 28] = [
         "version 1\nmap array 4 8 1\nstw [r10-4], 0\nmov r2, r10\nadd r2, -4\nldmap r1, 0\ncall 1\njeq r0, 0, +3\nmov r1, 2\naadddw [r0+0], r1\n\
          ldxdw r0, [r0+0]\nexit\n", "0000000000000000000000000000", "xlb run image frame",
         "verdict pass\ninstructions 10\nframe 0000000000000000000000000000\n"),
-    ("an address that the program names itself",
-        "version 2\nmap array 4 8 1\nldval r1, 0, 0\nmov r2, 3\naadddw [r1+0], r2\nldxdw r0, [r1+0]\nexit\n",
-        "0000000000000000000000000000", "xlb run image frame", "verdict tx\ninstructions 5\nframe 0000000000000000000000000000\n"),
-    ("the packet's start is moved back", "version 1\nmov r2, -20\ncall 44\nmov r0, 3\nexit\n", "0000000000000000000000000000",
-        "xlb run image frame", "verdict tx\ninstructions 4\nframe 00000000000000000000000000000000000000000000000000000000000000000000\n"),
-    ("20 zeros before the packet", "version 1\nmov r2, -20\ncall 44\nmov r0, 3\nexit\n", "aaaaaaaaaaaaaaaaaaaaaaaaaaaa",
-        "xlb run image frame", "verdict tx\ninstructions 4\nframe 0000000000000000000000000000000000000000aaaaaaaaaaaaaaaaaaaaaaaaaaaa\n"),
-    ("past the headroom the packet stays", "version 1\nmov r2, -257\ncall 44\nmov r0, 3\nexit\n", "aaaaaaaaaaaaaaaaaaaaaaaaaaaa",
-        "xlb run image frame", "verdict tx\ninstructions 4\nframe aaaaaaaaaaaaaaaaaaaaaaaaaaaa\n"),
 ];
 
 /// A row's program, run over its frame.
@@ -121,26 +85,6 @@ fn long_text<R: Abort>(rt: &R, alloc: Global, count: u32) -> String {
     }
     text.push_str("exit\n").expect(rt, "a line");
     text
-}
-
-#[test]
-fn runs_4096_instructions(rt: HostRuntime) {
-    let text = long_text(&rt, rt.alloc(), 4095);
-    let wanted = Wanted {
-        status: 0,
-        out: "verdict drop\ninstructions 4096\nframe 0000000000000000000000000000\n",
-        err: "",
-    };
-    let line = "xlb run image frame";
-    over_text(
-        &rt,
-        rt.alloc(),
-        "4096 slots",
-        &text,
-        ("frame", ZEROS),
-        line,
-        wanted,
-    );
 }
 
 #[test]

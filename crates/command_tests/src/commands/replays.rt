@@ -10,8 +10,8 @@ use std::alloc::Global;
 use std::process::Abort;
 use std::sync::Wait;
 use std::thread::Threads;
-use test_support::files::{COUNTED_TO_THREE, SERVICE};
-use test_support::programs::{COUNTS_TO_THREE, READS_ONE};
+use test_support::files::SERVICE;
+use test_support::programs::READS_ONE;
 
 /// Sends every frame.
 pub(super) const SENDS: &str = "version 1\nmov r0, 3\nexit\n";
@@ -136,11 +136,7 @@ pub(super) const TWO_TX: &str = "frames 2\nshort 0\nstopped 0\naborted 0\ndrop 0
 /// Reports of replays.
 const NO_FRAME: &str = "frames 0\nshort 0\nstopped 0\naborted 0\ndrop 0\npass 0\ntx 0\n";
 
-const ONE_SHORT: &str = "frames 1\nshort 1\nstopped 0\naborted 0\ndrop 0\npass 0\ntx 0\n";
-
 const ONE_DROP: &str = "frames 1\nshort 0\nstopped 0\naborted 0\ndrop 1\npass 0\ntx 0\n";
-
-const ONE_PASS: &str = "frames 1\nshort 0\nstopped 0\naborted 0\ndrop 0\npass 1\ntx 0\n";
 
 const ONE_TX: &str = "frames 1\nshort 0\nstopped 0\naborted 0\ndrop 0\npass 0\ntx 1\n";
 
@@ -169,14 +165,8 @@ const UNTRACKED: &str =
 pub(super) const NO_BACKEND: &str =
     "0 gateway 10.0.0.9 02:00:00:00:00:0a 02:00:00:00:00:0b\n0 vip 203.0.113.1 80 udp\n";
 
-/// A second backend, and then the first one is down.
-const ANOTHER_BACKEND: &str =
-    "0 gateway 10.0.0.9 02:00:00:00:00:0a 02:00:00:00:00:0b\n0 vip 203.0.113.1 80 udp\n0 up 0 192.0.2.1\n0 up 1 192.0.2.2\n0 down 0\n";
-
 /// Two of three backends stay up.
 const TWO_BACKENDS: &str = "0 up 2 192.0.2.3\n0 up 0 192.0.2.1\n0 up 6 192.0.2.4\n0 down 0\n";
-
-const NO_TUNNEL: &str = "0 vip 203.0.113.1 80 udp\n0 up 0 192.0.2.1\n";
 
 /// What a row shows; what a replay is given: the image's text (none: the shipped program), the script, the digits of the capture, and the
 /// words after its files; and what it comes to: its status, its report, its fault, and the digits of the sent file, nothing where there is
@@ -200,10 +190,8 @@ const NO_MAPS: &str = "fault 51 BadOptions
 ";
 
 #[rattlefmt::skip]
-const ROWS: [Row; 18] = [
-    ("one frame is sent",        COUNTS_TO_THREE, "", ZEROS_14, "--image image --journal 16", 0, ONE_TX, "", ZEROS_14),
+const ROWS: [Row; 16] = [
     ("none is",                  SENDS, "", HEAD, "--image image", 0, NO_FRAME, "", HEAD),
-    ("13 bytes are short",       SENDS, "", ZEROS_13, "--image image", 0, ONE_SHORT, "", HEAD),
     ("eight workers",            SENDS, "", ZEROS_14, "--image image --workers 8 --shards 8", 0, ONE_TX, "", ZEROS_14),
     ("the ring is not read",     SENDS, "", ZEROS_14, "--image image --ring 8", 0, ONE_TX, RING_8, ZEROS_14),
     ("the ring that is the default", SENDS, "", ZEROS_14, "--image image --ring 251", 0, ONE_TX, "", ZEROS_14),
@@ -241,15 +229,8 @@ const ROWS: [Row; 18] = [
 
 /// Frames that the shipped program steers.
 #[rattlefmt::skip]
-const STEERED: [Row; 14] = [
-    ("a service's backend",      "", SERVICE, DATAGRAM, "--script script", 0, ONE_TX, "", IN_A_TUNNEL),
-    ("without tracking",         "", UNTRACKED, DATAGRAM, "--script script", 0, ONE_TX, "", IN_A_TUNNEL),
+const STEERED: [Row; 7] = [
     ("no backend",               "", NO_BACKEND, DATAGRAM, "--script script --ring 7", 0, ONE_DROP, "", HEAD),
-    ("no backend of 251 slots",  "", NO_BACKEND, DATAGRAM, "--script script", 0, ONE_DROP, "", HEAD),
-    ("the backend that is up",   "", ANOTHER_BACKEND, DATAGRAM, "--script script", 0, ONE_TX, "", IN_THE_OTHER_TUNNEL),
-    ("a time to live of 0",      "", SERVICE, NOT_TO_LIVE, "--script script", 0, ONE_DROP, "", HEAD),
-    ("no tunnel",                "", NO_TUNNEL, DATAGRAM, "--script script", 0, ONE_DROP, "", HEAD),
-    ("no script",                "", "", DATAGRAM, "--script script", 0, ONE_PASS, "", HEAD),
     ("a summary of one frame", "", SERVICE, DATAGRAM, "--script script --summary", 0, ONE_TX,
         "  1 frame of TCP or UDP that fit into a tunnel\n  1 frame sent to 192.0.2.1\n  1 frame for 203.0.113.1 port 80 udp\n  \
          251 of 251 slots of the lookup table for backend 0, 192.0.2.1, at the end\n", IN_A_TUNNEL),
@@ -346,9 +327,7 @@ type Journaled = (
 
 /// The journals of four replays.
 #[rattlefmt::skip]
-const JOURNALS: [Journaled; 4] = [
-    ("one run",          COUNTS_TO_THREE, "", ZEROS_14, "--image image --journal 16",
-     COUNTED_TO_THREE),
+const JOURNALS: [Journaled; 3] = [
     ("a service alone",  "", "0 vip 203.0.113.1 80 udp notrack\n", HEAD, "--script script --journal 16",
      "XLBJ 1 1 1 16\n0 c update cb00710100501100 0100000000000000 0 answer 0\n0 r reclaim freed 0\n1 r reclaim freed 0\n"),
     ("a new flow",       "", SERVICE, DATAGRAM, "--script script --ring 7 --journal 16",

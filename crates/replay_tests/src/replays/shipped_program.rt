@@ -1,9 +1,7 @@
 //! The shipped program, replayed while a gate fixes between which frames the controller changes the backends.
 
-use super::{NONE, capture, gated, has_part, journals_file, one_record, segment};
-use crate::asserting::{holds_of, same_bytes_of, same_fact};
-use crate::datagrams::UDP_FRAME;
-use crate::steered_frames::SENT;
+use super::{NONE, capture, gated, journals_file, one_record, segment};
+use crate::asserting::same_fact;
 use replay::{Counts, Gate, Outcome};
 use semantics::Caller;
 use std::alloc::Global;
@@ -13,7 +11,6 @@ use std::sync::Wait;
 use std::sync::atomic::{AtomicU64, Ordering};
 use std::thread::Threads;
 use steer::shipped;
-use test_support::files::SERVICE;
 use verifier::{Verified, verify};
 use wire::{Capture, Sent};
 
@@ -325,75 +322,4 @@ fn backends_change_between_frames(rt: HostRuntime) {
     for row in &ROWS {
         is_steered(&rt, rt.alloc(), row, &verified);
     }
-}
-
-/// Between the first two of three frames backend 1 comes up and takes the flow's slot, which is 0; between the last two backend 0 goes
-/// down.
-const CHANGES: &str = "1 vip 203.0.113.1 81 tcp
-1 up 1 192.0.2.2
-2 vip 203.0.113.1 81 tcp
-2 down 0
-";
-
-/// The gate of these: the runs have 14, 12 and 17 replies, backend 1 comes up with 4 and backend 0 goes down with 5.
-#[rattlefmt::skip]
-const BETWEEN: &[Hold] = &[(C, 11, [14, 0, 0]), (W0, 15, [0, 0, 15]), (C, 16, [26, 0, 0]), (W0, 27, [0, 0, 21])];
-
-/// The last note of the flow, and all that follows it in its journal.
-const NOTED_ANEW: &str = "1 w0 update c6336407cb0071019c40005011000000 0100000000000000 0 answer 0
-1 w0 leave ok
-1 r reclaim freed 0
-";
-
-/// The datagram, three times.
-fn three_datagrams<R: Abort>(rt: &R, alloc: Global) -> Capture {
-    let mut records = Vec::new(alloc);
-    for _ in 0..3 {
-        records
-            .push(one_record(alloc, 1, &UDP_FRAME).expect(rt, "a record"))
-            .expect(rt, "room");
-    }
-    capture(rt, alloc, &records)
-}
-
-/// The datagram as it is sent to backend 1.
-fn to_the_second() -> [u8; 62] {
-    let mut frame = SENT;
-    frame[25] = 0xbf;
-    frame[33] = 2;
-    frame
-}
-
-/// Compares what was sent, and the notes of the flow: two, and the last one is of backend 1.
-fn compare_notes<R: Abort>(rt: &R, alloc: Global, name: &str, outcome: &Outcome) {
-    let count = outcome.sent.len();
-    same_fact(rt, name, "the frames that are sent", &count, &3);
-    let want = [SENT, SENT, to_the_second()];
-    for (one, frame) in outcome.sent.iter().zip(want.iter()) {
-        let found = one.bytes.as_slice();
-        same_bytes_of(rt, name, "a sent frame", found, frame.as_slice());
-    }
-    let journals = journals_file(rt, alloc, outcome);
-    let notes = notes_of(journals.bytes());
-    same_fact(rt, name, "the notes", &notes, &2);
-    let is_last = has_part(journals.bytes(), NOTED_ANEW);
-    holds_of(rt, name, "the last note", is_last);
-}
-
-/// A flow keeps its backend when another one takes its slot, and is noted anew when its own goes down.
-fn is_noted_anew<R: Threads + Abort + Wait + Sync>(rt: &R, alloc: Global) {
-    let name = "a flow that is noted anew";
-    let verified = shipped_for_7(rt, alloc);
-    let script = format!(in alloc; "{SERVICE}{CHANGES}").expect(rt, "a script");
-    let capture = three_datagrams(rt, alloc);
-    let gate = HoldingGate::new(BETWEEN);
-    let outcome = gated(rt, alloc, &verified, &capture, &script, 1, 1024, &gate);
-    let late = gate.late.load(Ordering::SeqCst);
-    same_fact(rt, name, "who was late", &late, &0);
-    compare_notes(rt, alloc, name, &outcome);
-}
-
-#[test]
-fn a_flow_is_noted_anew(rt: HostRuntime) {
-    is_noted_anew(&rt, rt.alloc());
 }

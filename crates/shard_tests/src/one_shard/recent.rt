@@ -8,18 +8,6 @@ use std::alloc::{AllocError, Global};
 use std::process::Abort;
 
 #[rattlefmt::skip]
-const A_LOOKUP_IS_A_USE: [Row; 8] = [
-    ("a first key",                       IndexCall::Put(1, 1, ANY),     Reply::Answer { code: 0 }),
-    ("a second key",                      IndexCall::Put(2, 2, ANY),     Reply::Answer { code: 0 }),
-    ("a worker enters",                   IndexCall::Enter(0),           Reply::Entered),
-    ("the first is used",                 IndexCall::Look(0, 1),         Reply::Cell { cell: CellRef { shard: SHARD, id: 0 } }),
-    ("a third key",                       IndexCall::Put(3, 3, ANY),     Reply::Answer { code: 0 }),
-    ("the first is there",                IndexCall::Look(0, 1),         Reply::Cell { cell: CellRef { shard: SHARD, id: 0 } }),
-    ("the third is there",                IndexCall::Look(0, 3),         Reply::Cell { cell: CellRef { shard: SHARD, id: 2 } }),
-    ("the second is not",                 IndexCall::Look(0, 2),         Reply::Null),
-];
-
-#[rattlefmt::skip]
 const AN_UPDATE_IS_A_USE: [Row; 6] = [
     ("a first key",                       IndexCall::Put(1, 1, ANY),     Reply::Answer { code: 0 }),
     ("a second key",                      IndexCall::Put(2, 2, ANY),     Reply::Answer { code: 0 }),
@@ -91,12 +79,6 @@ fn recent(
         plan_of(MapKind::LruHash, 8, max_entries, 64),
         rows,
     )
-}
-
-#[test]
-fn a_lookup_is_a_use(rt: HostRuntime) -> Result<(), AllocError> {
-    let _count = recent(&rt, rt.alloc(), 2, &A_LOOKUP_IS_A_USE)?;
-    Ok(())
 }
 
 #[test]

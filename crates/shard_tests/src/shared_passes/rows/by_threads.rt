@@ -4,13 +4,13 @@ mod one_key;
 
 ghost use Rattle.shards.specs.NewShards.{IsNamed};
 
-use super::{Asked, CONTROLLER, FIRST, HELD_AND_DELETED, RECLAIMER, Row, W0, attempt, opened};
+use super::{Asked, attempt, opened};
 use crate::asserting::{holds, same};
 use crate::shared_passes::length_of;
 use ebpf_decode::MapKind;
 use journals::Journals;
 use one_key::{OneKey, first_value};
-use semantics::{Caller, CellRef, Reply};
+use semantics::{Caller, Reply};
 use shards::{Naming, Opened, Pass, Shards};
 use std::alloc::Global;
 use std::marker::Brand;
@@ -64,30 +64,6 @@ struct Ended<B: Naming> {
     had: Had,
 }
 
-/// Makes a caller's calls of the rows, each when those of the rows before it were made.
-fn in_turn<B: Naming, R: Abort + Wait>(
-    rt: &R,
-    shards: &Shards<B>,
-    mut pass: Pass<B>,
-    mine: usize,
-    rows: &[Row],
-    made: &AtomicU64,
-) -> Ended<B> {
-    let mut had = NOTHING;
-    holds(rt, "there is a shard", 0 < shards.count());
-    for (turn, (name, place, asked, want, inside, holds)) in rows.iter().enumerate() {
-        if *place == mine {
-            wait_for(rt, made, turn as u64);
-            let got = attempt(rt, shards, &mut pass, *asked);
-            had.note(name, got, got == *want);
-            had.note(name, None, pass.is_inside(0) == *inside);
-            had.note(name, None, pass.holds(&FIRST) == *holds);
-            made.fetch_add(1, Ordering::SeqCst);
-        }
-    }
-    Ended { pass, had }
-}
-
 /// What two callers had.
 fn both(one: Had, other: Had) -> Had {
     Had {
@@ -130,86 +106,6 @@ fn three_passes<B: Naming, R: Abort>(
     let reclaimer = dealer.pass(alloc, Caller::Reclaimer);
     let reclaimer = reclaimer.expect(rt, "a pass");
     (shards, worker, controller, reclaimer)
-}
-
-/// Makes the calls of all rows in turn, by three threads.
-fn by_turns<B: Naming + Send + Sync, R: Threads + Abort + Wait + Sync>(
-    rt: &R,
-    alloc: Global,
-    opened: Opened,
-    rows: &[Row],
-)
-    requires { IsNamed B.count B.table B.plan B.order opened }
-{
-    let (shards, worker, controller, reclaimer) = three_passes::<B, R>(rt, alloc, opened);
-    let made = AtomicU64::new(0);
-    let (one, (two, three)) = join(
-        rt,
-        || in_turn(rt, &shards, worker, W0, rows, &made),
-        || {
-            join(
-                rt,
-                || in_turn(rt, &shards, controller, CONTROLLER, rows, &made),
-                || in_turn(rt, &shards, reclaimer, RECLAIMER, rows, &made),
-            )
-        },
-    );
-    let (journals, had) = closed(rt, alloc, shards, one, two, three);
-    same(rt, "a call with another reply", &had.wrong, &None);
-    same(rt, "how many replies", &had.replies, &rows.len());
-    same(
-        rt,
-        "how many entries",
-        &length_of(&journals, 0),
-        &rows.len(),
-    );
-}
-
-/// The same on a new hash shard of one key.
-fn on_a_new_shard<R: Threads + Abort + Wait + Sync>(rt: &R, alloc: Global, rows: &[Row]) {
-    let opened = opened(rt, alloc, MapKind::Hash, 1);
-    by_turns::<Brand, R>(rt, alloc, opened, rows);
-}
-
-#[test]
-fn a_held_cell_outlives_its_key_by_threads(rt: HostRuntime) {
-    on_a_new_shard(&rt, rt.alloc(), &HELD_AND_DELETED);
-}
-
-const THIRD: CellRef = CellRef { shard: 0, id: 2 };
-
-/// The shard has two cells, so a third key has none until those of the first two are freed.
-#[rattlefmt::skip]
-static ALL_CELLS_RETIRED: [Row; 12] = [
-    ("a key is set",
-        CONTROLLER, Asked::Update { key: 10, value: 5, flags: 0 }, Some(Reply::Answer { code: 0 }),   false, false),
-    ("it is deleted",
-        CONTROLLER, Asked::Delete { key: 10 },                     Some(Reply::Answer { code: 0 }),   false, false),
-    ("another is set",
-        CONTROLLER, Asked::Update { key: 11, value: 6, flags: 0 }, Some(Reply::Answer { code: 0 }),   false, false),
-    ("and deleted",
-        CONTROLLER, Asked::Delete { key: 11 },                     Some(Reply::Answer { code: 0 }),   false, false),
-    ("a worker enters",
-        W0,         Asked::Enter,                                  Some(Reply::Entered),              true,  false),
-    ("there is no cell for a third key",
-        CONTROLLER, Asked::Update { key: 12, value: 7, flags: 0 }, Some(Reply::Answer { code: -12 }), false, false),
-    ("the worker entered after both deletes",
-        RECLAIMER,  Asked::Reclaim,                                Some(Reply::Freed { count: 2 }),   false, false),
-    ("now there is a cell",
-        CONTROLLER, Asked::Update { key: 12, value: 7, flags: 0 }, Some(Reply::Answer { code: 0 }),   false, false),
-    ("the worker finds the third cell",
-        W0,         Asked::Look { key: 12 },                       Some(Reply::Cell { cell: THIRD }), true,  false),
-    ("with the third value",
-        W0,         Asked::Load { id: 2 },                         Some(Reply::Word { value: 7 }),    true,  false),
-    ("it leaves",
-        W0,         Asked::Leave,                                  Some(Reply::Left),                 false, false),
-    ("nothing is retired",
-        RECLAIMER,  Asked::Reclaim,                                Some(Reply::Freed { count: 0 }),   false, false),
-];
-
-#[test]
-fn retired_cells_are_freed_by_threads(rt: HostRuntime) {
-    on_a_new_shard(&rt, rt.alloc(), &ALL_CELLS_RETIRED);
 }
 
 /// How many runs the worker makes, and how often the controller sets and deletes the key.

@@ -1,6 +1,0 @@
-use Rattle.std.proofs.Common.{length}
-use Rattle.shards.proofs.shared.Names.{table_names, plan_names, order_name}
-use Rattle.shard_tests.proofs.shared_passes.a_call_while_another_shard_is_held.Given as goal
-
-abbrev pub ghosts-held : goal.ghosts-held
-ghosts-held g a = record { count = length a.opened.shards; table = table_names a.opened; plan = plan_names a.opened; order = order_name a.opened }

@@ -1,0 +1,6 @@
+use Rattle.std.proofs.Common.{length}
+use Rattle.shards.proofs.shared.Names.{table_names, plan_names, order_name}
+use Rattle.worked_examples.proofs.steering.sessions.run_over_new_shards.Given as goal
+
+abbrev pub ghosts-ran_once : goal.ghosts-ran_once
+ghosts-ran_once g a = record { count = length a.opened.shards; table = table_names a.opened; plan = plan_names a.opened; order = order_name a.opened }
