@@ -35,6 +35,7 @@ ghost use Rattle.guarantees.specs.Guarantees.{EntriesAreSteps, EntriesAreAnswere
 ghost use Rattle.guarantees.specs.SystemLaws.{RunsAreOfTheSystem, StoppedRunsAreOfTheSystem};
 ghost use Rattle.guarantees.specs.Merging.{OneOrderIsOneList, OneWorkerIsOneList, RunAloneIsOneList};
 
+pub use fits::commands_fit;
 pub use one_caller::{
     opened_shards_are_ready, runs_are_their_meaning, runs_leave_others_alone,
     stopped_runs_are_beginnings,

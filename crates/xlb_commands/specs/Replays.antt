@@ -29,7 +29,7 @@ use Rattle.replay.specs.Accounts.{SentFrame, frames_in}
 use Rattle.replay.specs.declared.outcome.Applied.{Applied}
 use Rattle.replay.specs.declared.outcome.Outcome.{Outcome}
 use Rattle.replay.specs.Accounted.{IsAccounted}
-use Rattle.guarantees.specs.Headline.{Headline}
+use Rattle.guarantees.specs.OneReplay.{IsOneReplay}
 use Rattle.guarantees.specs.ReaderReplays.{all_sent_at_opening}
 use Rattle.replay.specs.ExactReplays.{IsInTurn}
 use Rattle.steered_replays.specs.SteeredRuns.{IsSteeredReplay}
@@ -179,15 +179,15 @@ pub record IsMade (exact : Bool) (program : Program) (updates : List MapUpdate) 
   pub accounted : IsAccounted program script options records outcome
   pub in_turn : exact ≡ true → IsInTurn program script options records outcome
 
--- the headline, of what the verifier made of the image
+-- one list of events of the system around what the verifier made of the image, which keeps the headline
 pub record KeepsHeadline (image : Contents) (script : List Command) (options : Options) (records : List Sent)
     (outcome : Outcome) : Type 0 where
   pub verified : Verified
   pub image_is : image_of verified ≡ image
-  pub kept : Headline verified script options records outcome
+  pub kept : IsOneReplay verified script options records outcome
 
--- Of a program that may run and a script: the capture is read from its file; the replay was made, with these updates; the headline holds
--- of it; without updates the shipped program follows the steering rule, and one that only reads sends the same for every number of workers;
+-- Of a program that may run and a script: the capture is read from its file; the replay was made, with these updates; it is one list of
+-- events, which keeps the headline; without updates the shipped program follows the steering rule, and one that only reads sends the same for every number of workers;
 -- the sent frames, the journals and the report are written to their files; and what is printed are the counts, and the commands that were
 -- refused. Where no rows of journals are kept, the journals are known to proofs alone.
 pub record IsReplayedWith (before after : FileBytes) (files : ReplayFiles) (program : Contents) (states : List (Option State))

@@ -45,8 +45,8 @@ use crate::replays::{Asked, bytes_of_frames, given_up, readers_send_alike};
 use crate::report::{Report, replayed};
 use command_line::ReplayFiles;
 use folders::{CaptureReader, Folder, FolderFault};
-use guarantees::headline;
 use guarantees::replays::all_are_captured;
+use guarantees::{commands_fit, replays_are_one_list};
 use replay::{Outcome, PieceReplay, RecordEnd, ReplayFault};
 use shard_port::Gate;
 use std::alloc::Global;
@@ -507,7 +507,8 @@ fn left_in_pieces(
         asked.entry.script.now (recorded asked.entry.recording asked.entry.options) records outcome)
         × LacksRoom (text_of asked.entry.files.now.journals) refusal.fault) }
 {
-    headline(asked.verified);
+    replays_are_one_list(asked.verified);
+    commands_fit(asked.script);
     readers_send_alike(asked.verified);
     steered_where_shipped(asked);
     let frames = going.replay.taken();

@@ -7,7 +7,7 @@ ghost use Rattle.semantics.specs.ShardPlan.{KeepsRows, recorded};
 ghost use Rattle.semantics.specs.declared.options.Recording.TheVariants.{Rows};
 ghost use Rattle.verifier.specs.Dataflow.{Accepts};
 ghost use Rattle.verifier.specs.Readers.{IsReader};
-ghost use Rattle.guarantees.specs.Headline.{Headline};
+ghost use Rattle.guarantees.specs.OneReplay.{IsOneReplay};
 ghost use Rattle.guarantees.specs.ReaderReplays.{SendsAsAtOpening};
 ghost use Rattle.maglev.specs.RingSize.{IsRingSize};
 ghost use Rattle.steer.specs.ShippedProgram.{shipped_image};
@@ -49,9 +49,9 @@ use crate::{hints, records};
 use command_line::ReplayFiles;
 use control::{Script, parse_script};
 use folders::Folder;
-use guarantees::headline;
 use guarantees::readers::readers_send_as_at_opening;
 use guarantees::replays::all_are_captured;
+use guarantees::{commands_fit, replays_are_one_list};
 use journals::Journals;
 use map_updates::{MapUpdate, Misfit, first_misfit};
 use replay::{Outcome, ReplayFault, replay, replay_in_turn};
@@ -393,7 +393,7 @@ pub(crate) fn readers_send_alike(verified: &Verified)
     }
 }
 
-/// `outcome_of`, with the headline, and with what holds besides of a program that only reads.
+/// `outcome_of`, as one list of events, which keeps the headline; and with what holds besides of a program that only reads.
 fn outcome_with<R: Threads + Wait + Sync, G: Gate + Sync>(
     rt: &R,
     alloc: Global,
@@ -405,7 +405,7 @@ fn outcome_with<R: Threads + Wait + Sync, G: Gate + Sync>(
     requires shipped { text_of asked.files.now.image ≡ None → image_of asked.verified.now ≡ shipped_image asked.ring }
     requires fit { AreFitting asked.verified.now.maps asked.updates.now }
     ensures made { IfOk result (IsOutcome asked.entry capture.now.records.items) }
-    ensures headline { IfOk result (Headline asked.entry.verified.now asked.entry.script.now
+    ensures headline { IfOk result (IsOneReplay asked.entry.verified.now asked.entry.script.now
         (recorded asked.entry.recording asked.entry.options) capture.now.records.items) }
     ensures readers { asked.entry.updates.now ≡ [] → IfOk result (SendsAlike (image_of asked.entry.verified.now)
         asked.entry.verified.now.states asked.entry.script.now (recorded asked.entry.recording asked.entry.options)
@@ -416,7 +416,8 @@ fn outcome_with<R: Threads + Wait + Sync, G: Gate + Sync>(
     ensures served { OnOk result (KeepsRows asked.entry.options.journal) }
     ensures bad_options { IsErrOf result BadOptions ↔ HasBadOptions asked.entry }
 {
-    headline(asked.verified);
+    replays_are_one_list(asked.verified);
+    commands_fit(asked.script);
     readers_send_alike(asked.verified);
     all_are_captured(capture);
     let outcome = outcome_of(rt, alloc, asked, capture, gate)?;

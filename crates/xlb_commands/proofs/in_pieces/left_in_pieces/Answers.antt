@@ -123,7 +123,7 @@ returns-clause-left c = λ records sent ends under captured.
       headline = record {
         verified = asked.verified.now;
         image_is = refl;
-        kept = c.headline.ensures asked.script.now options records whole under.options_fit captured account;
+        kept = c.replays_are_one_list.ensures asked.script.now options records whole under.options_fit captured c.commands_fit.ensures account;
       };
       by_rule = λ none. rule_of (text_of asked.files.now.image) asked.ring asked.script.now options records whole
           (λ shipped. record {

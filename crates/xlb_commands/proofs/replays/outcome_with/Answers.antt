@@ -14,6 +14,6 @@ returns-clause-readers g c = λ none_set reads none unstopped.
 pub returns-clause-headline : goal.returns-clause-headline
 returns-clause-headline g c =
     let account = c.in_ok-outcome.ensures.made.accounted in
-    c.headline.ensures c.args.asked.script.now (recorded c.args.asked.recording c.args.asked.options) c.args.capture.now.records.items c.in_ok-outcome.outcome
+    c.replays_are_one_list.ensures c.args.asked.script.now (recorded c.args.asked.recording c.args.asked.options) c.args.capture.now.records.items c.in_ok-outcome.outcome
     (options_fit (program_of c.args.asked.verified.now c.args.asked.options.shards) c.args.asked.script.now (recorded c.args.asked.recording c.args.asked.options)
-    c.args.capture.now.records.items c.in_ok-outcome.outcome c.options.ensures.fit account) c.all_are_captured.ensures account
+    c.args.capture.now.records.items c.in_ok-outcome.outcome c.options.ensures.fit account) c.all_are_captured.ensures c.commands_fit.ensures account
