@@ -258,6 +258,30 @@ const ONE_FRAME: Row<'static> = Row {
     counts: Counts { tx: 1, ..NONE },
 };
 
+/// What forty flows of five frames each come to.
+const FORTY_COUNTS: Counts = Counts {
+    aborted: 185,
+    drop: 5,
+    pass: 5,
+    tx: 5,
+    ..NONE
+};
+
+/// Forty flows of five frames each.
+const FORTY_FLOWS: Row<'static> = Row {
+    name: "forty flows",
+    program: ANSWERS_THE_PORT,
+    script: "",
+    frames: Frames::Rounds {
+        first: 40192,
+        flows: 40,
+        rounds: 5,
+    },
+    workers: 1,
+    journal: 65536,
+    counts: FORTY_COUNTS,
+};
+
 /// Scripts, how many commands are refused, and the first entry of the list of backends, if it has one.
 #[rattlefmt::skip]
 const SCRIPTS: [(&str, &str, usize, Option<&str>); 4] = [

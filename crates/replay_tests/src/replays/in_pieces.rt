@@ -8,8 +8,8 @@ use super::record_ends::{byte_13s, ends_of_byte_13s};
 use super::shipped_program::{first_wrong, segments, shipped_for_7};
 use super::without_rows::FULL;
 use super::{
-    ANSWERS_THE_PORT, FORTY_COUNTS, FORTY_FLOWS, NONE, READS_BYTE_13, capture, capture_file,
-    captured, journals_file, program,
+    ANSWERS_THE_PORT, FORTY_COUNTS, FORTY_FLOWS, NONE, capture, capture_file, captured,
+    journals_file, program,
 };
 use crate::asserting::{holds_of, same_bytes_of, same_fact};
 use control::{Script, parse_script};
@@ -20,6 +20,7 @@ use semantics::{Options, Recording};
 use shard_port::Gate;
 use std::alloc::{AllocError, Global};
 use std::process::Abort;
+use test_support::programs::READS_BYTE_13;
 use verifier::Verified;
 use wire::{CAPTURE_HEADER_LEN, Capture, Sent};
 

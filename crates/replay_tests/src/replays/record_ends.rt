@@ -1,6 +1,6 @@
 //! What a replay reports of each record: its worker, the verdict and the steps.
 
-use super::{COUNTS_TO_THREE, READS_BYTE_13, capture, gated, one_record, program, segment};
+use super::{COUNTS_TO_THREE, capture, gated, one_record, program, segment};
 use crate::asserting::same_fact;
 use replay::{NoGate, RecordEnd};
 use semantics::Verdict;
@@ -8,6 +8,7 @@ use std::alloc::Global;
 use std::process::Abort;
 use std::sync::Wait;
 use std::thread::Threads;
+use test_support::programs::READS_BYTE_13;
 use wire::Capture;
 
 /// Frames whose byte 13 is 0, 1, 2, 3 and 4, and two records of 13 bytes.

@@ -226,12 +226,22 @@ fn steered<B: Naming, R: Abort + Wait>(
     have(rt, alloc, &journals, NOTED_ANEW);
 }
 
+/// The same over new shards, with a script of five commands.
+fn steered_over_new_shards<R: Abort + Wait>(
+    rt: &R,
+    alloc: Global,
+    verified: &Verified,
+    text: &str,
+) {
+    let opened = opened(rt, alloc, verified, 1024);
+    steered::<Brand, R>(rt, alloc, verified, opened, text);
+}
+
 #[test]
 fn a_flow_keeps_its_backend_while_that_is_up(rt: HostRuntime) {
     let alloc = rt.alloc();
     let image = shipped(alloc, 251).expect(&rt, "an image");
     let verified = verify(alloc, image).expect(&rt, "an accepted program");
-    let opened = opened(&rt, alloc, &verified, 1024);
     let text = format!(in alloc; "{SERVICE}0 up 1 192.0.2.2\n0 down 0\n").expect(&rt, "a script");
-    steered::<Brand, HostRuntime>(&rt, alloc, &verified, opened, &text);
+    steered_over_new_shards(&rt, alloc, &verified, &text);
 }
