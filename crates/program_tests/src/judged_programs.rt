@@ -354,11 +354,8 @@ fn sort(op: &Op) -> &'static str {
         Op::StoreStack64R { .. } => "to the stack",
         Op::LoadStack64 { .. } => "from the stack",
         Op::LoadPacket { .. } => "from the packet",
-        Op::Load { memory, .. } => match memory {
-            Memory::Context => "from the context",
-            Memory::Value => "from a value",
-            _ => "from elsewhere",
-        },
+        Op::LoadContext { .. } => "from the context",
+        Op::LoadValue { .. } => "from a value",
         Op::Exit => "exit",
         Op::Hole => "hole",
         _ => "another",
