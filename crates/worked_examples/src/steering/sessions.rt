@@ -10,7 +10,7 @@ use crate::asserting::{holds, same, same_bytes};
 use crate::frames::{DATAGRAM, part};
 use crate::maps::in_turn::entries_of;
 use conntrack::table_size;
-use control::parse_script;
+use control::{Script, parse_script};
 use disasm::assemble;
 use journals::{Journals, write_journals};
 use machine::{Exit, Moment, Stop};
@@ -186,7 +186,7 @@ fn steered<B: Naming, R: Abort + Wait>(
     alloc: Global,
     verified: &Verified,
     opened: Opened,
-    text: &str,
+    script: &Script,
 )
     requires named { IsNamed B.count B.table B.plan B.order opened }
     requires maps { opened.maps ≡ verified.now.maps }
@@ -196,7 +196,6 @@ fn steered<B: Naming, R: Abort + Wait>(
     let mut pass = worker_pass(rt, alloc, &mut dealer);
     let controller = dealer.pass(alloc, Caller::Controller);
     let controller = controller.expect(rt, "a pass");
-    let script = parse_script(alloc, text.as_bytes()).expect(rt, "a script");
     let size = table_size(shards.maps());
     holds(rt, "the maps of steering", size.is_some());
     let Some(size) = size else {
@@ -234,7 +233,8 @@ fn steered_over_new_shards<R: Abort + Wait>(
     text: &str,
 ) {
     let opened = opened(rt, alloc, verified, 1024);
-    steered::<Brand, R>(rt, alloc, verified, opened, text);
+    let script = parse_script(alloc, text.as_bytes()).expect(rt, "a script");
+    steered::<Brand, R>(rt, alloc, verified, opened, &script);
 }
 
 #[test]
