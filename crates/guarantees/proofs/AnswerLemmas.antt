@@ -5,7 +5,7 @@ use Rattle.std.proofs.lemmas.Bool.{false≢true}
 use Rattle.semantics.specs.declared.call.Call.{Call}
 use Rattle.semantics.specs.declared.call.Reply.{Reply}
 use Rattle.semantics.specs.System.{Setting, SystemState, SystemEvent, BeginsRun, DoesInstruction, CallsShard, LeavesShard, Controls, Reclaims, after_event}
-use Rattle.guarantees.specs.Events.{Input, Ending, begun_by, controlled, reclaimed, answer_in, answered, ending_in, ended_by}
+use Rattle.semantics.specs.Events.{Input, Ending, begun_by, controlled, reclaimed, answer_in, answered, ending_in, ended_by}
 use Rattle.guarantees.specs.Moves.{is_event_of}
 use Rattle.guarantees.proofs.EndLemmas.{no_end}
 use Rattle.guarantees.proofs.MergeEvents.{HappenFrom, AreOwn, not_anothers}

@@ -17,8 +17,8 @@ use Rattle.semantics.proofs.shared.SystemSteps.{gone}
 use Rattle.map_port.specs.Exchanges.{Exchange, calls_in, replies_in}
 use Rattle.shards.specs.Passes.{own_at}
 use Rattle.shard_port.specs.Asking.{enter_by, leave_by}
-use Rattle.shard_port.specs.Sessions.{entries_at}
-use Rattle.shard_port.specs.PassSessions.{AreWithin}
+use Rattle.shard_port.specs.Sessions.{exchange_entries}
+use Rattle.shard_port.specs.PassSessions.{AreCallsWithin}
 use Rattle.runs.specs.FrameRuns.{AreFormed}
 use Rattle.guarantees.specs.Steps.{Move, Writes, asks, leave, IsStep, RunBegins, RunGoesOn, RunEnds, CallIsServed, ShardIsEntered, CallIsRefused, EnterIsRefused, ShardIsLeft, AreSteps, InRun, AreStepsOfRun, beginning, leavings, entries_on}
 use Rattle.guarantees.specs.StepLaws.{IsListedNext, RunsAreTraces}
@@ -35,10 +35,10 @@ record Traced (setting : Setting) (count worker : ℕ) (state : MachineState) (e
   trace :
       trace_of instructions (program_of setting) state (replies_in exchanges)
       ≡ record { calls = calls_in exchanges; stand = HasExited verdict last }
-  within : AreWithin count exchanges
+  within : AreCallsWithin count exchanges
   formed : AreFormed (program_of setting) exchanges
-  writes : (number : ℕ) → entries_on number moves ≡ since (is_entered number entered) worker number (entries_at worker number exchanges)
-  stays : (number : ℕ) → is_entered number after ≡ (is_entered number entered || is_some_entry (entries_at worker number exchanges))
+  writes : (number : ℕ) → entries_on number moves ≡ since (is_entered number entered) worker number (exchange_entries worker number exchanges)
+  stays : (number : ℕ) → is_entered number after ≡ (is_entered number entered || is_some_entry (exchange_entries worker number exchanges))
 
 abbrev IsTraced : Setting → ℕ → ℕ → Verdict → MachineState → List ℕ → List Move → WorkerState → Type 0
 IsTraced setting count worker verdict last after moves (Runs state entered) = Traced setting count worker state entered moves verdict last after
@@ -103,16 +103,16 @@ enters_before setting count worker state entered call next moves verdict last af
       formed = rest.formed;
       writes = λ number.
           subst (λ (list : List Exchange). entries_on number ((asks worker (Writes (enter_by worker (shard_of_call call)))) ∷ moves)
-          ≡ since (is_entered number entered) worker number (entries_at worker number list)) (sym first.parts)
+          ≡ since (is_entered number entered) worker number (exchange_entries worker number list)) (sym first.parts)
           (enter_on worker number exchange first.later entered moves outside
           (subst (λ (list : List Exchange). entries_on number moves
-          ≡ since (is_entered number (shard_of_call call ∷ entered)) worker number (entries_at worker number list)) first.parts (rest.writes number)));
+          ≡ since (is_entered number (shard_of_call call ∷ entered)) worker number (exchange_entries worker number list)) first.parts (rest.writes number)));
       stays = λ number.
-          subst (λ (list : List Exchange). is_entered number after ≡ (is_entered number entered || is_some_entry (entries_at worker number list)))
+          subst (λ (list : List Exchange). is_entered number after ≡ (is_entered number entered || is_some_entry (exchange_entries worker number list)))
           (sym first.parts)
           (enter_in worker number exchange first.later entered after
           (subst (λ (list : List Exchange). is_entered number after
-          ≡ (is_entered number (shard_of_call call ∷ entered) || is_some_entry (entries_at worker number list))) first.parts (rest.stays number)));
+          ≡ (is_entered number (shard_of_call call ∷ entered) || is_some_entry (exchange_entries worker number list))) first.parts (rest.stays number)));
     }
 
 back : (setting : Setting) (count worker : ℕ) (verdict : Verdict) (last : MachineState) (after : List ℕ) (later : List Move) (one : WorkerState)
@@ -230,8 +230,8 @@ runs_are_traces setting worker told now frame count before after verdict last ru
           ∙ ap (λ (list : List Entry). reverse list ++ own_at before number)
           (append_on number run.run (leavings worker run.left)
           ∙ ap (λ (list : List Entry). list ++ entries_on number (leavings worker run.left)) (there.writes number)
-          ∙ ap (λ (list : List Entry). since false worker number (entries_at worker number there.exchanges) ++ list)
+          ∙ ap (λ (list : List Entry). since false worker number (exchange_entries worker number there.exchanges) ++ list)
           (leaves_write setting count worker number run.left run.ending.entered run.leaves
           ∙ ap (λ (test : Bool). if test then leave_by worker number ∷ [] else []) (there.stays number))
-          ∙ closed worker number (entries_at worker number there.exchanges));
+          ∙ closed worker number (exchange_entries worker number there.exchanges));
     }

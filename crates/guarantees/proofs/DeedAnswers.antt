@@ -5,8 +5,6 @@ use Rattle.std.specs.List.{AllByRecursion, flat_map}
 use Rattle.std.proofs.lemmas.Bool.Decides.{nat_tests}
 use Rattle.std.proofs.lemmas.List.{map-append, length-append, reverse-reverse}
 use Rattle.ebpf_decode.specs.declared.map.MapDef.{MapDef}
-use Rattle.ebpf_decode.specs.declared.map.MapKind.{MapKind}
-use Rattle.ebpf_decode.specs.declared.map.MapKind.TheVariants.{Array, Hash, LruHash}
 use Rattle.semantics.specs.declared.call.Caller.{Caller}
 use Rattle.semantics.specs.declared.call.Caller.TheVariants.{Controller, Reclaimer}
 use Rattle.semantics.specs.declared.call.Call.{Call}
@@ -20,9 +18,9 @@ use Rattle.shards.specs.declared.deeds.Deed.{Deed}
 use Rattle.shards.specs.declared.deeds.OrderPart.TheVariants.{ByCaller}
 use Rattle.shards.specs.Deeds.{is_deed_of, shard_of_deed, deeds_of}
 use Rattle.control.specs.MapUpdates.{UpdateBytes}
-use Rattle.replay.specs.Commands.{AnsweredUpdate, CommandDone, made_deeds, stop_deeds, command_deeds, commands_deeds}
-use Rattle.replay.specs.Rounds.{is_keyed as is_keyed_kind, keyed_below, IsReclaimDeed, AreReclaimDeeds, AreRoundsDone}
-use Rattle.guarantees.specs.Replay.{is_keyed, is_of_keyed, keyed_shards, rounds_over}
+use Rattle.actors.specs.Commands.{AnsweredUpdate, CommandDone, made_deeds, stop_deeds, command_deeds, commands_deeds}
+use Rattle.actors.specs.Rounds.{keyed_below, IsReclaimDeed, AreReclaimDeeds, AreRoundsDone}
+use Rattle.semantics.specs.Replay.{is_keyed, is_of_keyed, keyed_shards, rounds_over}
 use Rattle.guarantees.specs.ReplayOf.{call_of, calls_made, stopped_call, command_calls, answers_made, stopped_answer, command_answers}
 use Rattle.guarantees.proofs.DeedLemmas.{chosen_reversed}
 use Rattle.guarantees.proofs.EveryEntry.{all_both}
@@ -160,16 +158,11 @@ module _ (maps : List MapDef) (options : Options) where
 -- ---- the reclaimer's
 
 module _ (setting : Setting) (plan : ℕ → ShardPlan) (all : ℕ) (plans : (number : ℕ) → number < all → plan_at setting.maps setting.options number ≡ Some (plan number)) where
-  same_kinds : (kind : MapKind) → is_keyed_kind kind ≡ is_keyed kind
-  same_kinds Array = refl
-  same_kinds Hash = refl
-  same_kinds LruHash = refl
-
   number_below : (count : ℕ) → suc count ≤ all → count < all
   number_below count within = omega (arith, within)
 
-  same_test : (count : ℕ) → count < all → is_keyed_kind (plan count).definition.kind ≡ is_of_keyed (plan_at setting.maps setting.options count)
-  same_test count below = same_kinds (plan count).definition.kind ∙ sym (ap is_of_keyed (plans count below))
+  same_test : (count : ℕ) → count < all → is_keyed (plan count).definition.kind ≡ is_of_keyed (plan_at setting.maps setting.options count)
+  same_test count below = sym (ap is_of_keyed (plans count below))
 
   pub keyed_are : (count : ℕ) → count ≤ all → keyed_below plan count ≡ keyed_shards setting count
   keyed_are zero within = refl
@@ -181,7 +174,7 @@ module _ (setting : Setting) (plan : ℕ → ShardPlan) (all : ℕ) (plans : (nu
   keyed_within : (count : ℕ) → count ≤ all → AllByRecursion (λ (number : ℕ). number < all) (keyed_below plan count)
   keyed_within zero within = tt
   keyed_within (suc count) within =
-      by_test (is_keyed_kind (plan count).definition.kind) (keyed_within count (omega (arith, within))) (number_below count within)
+      by_test (is_keyed (plan count).definition.kind) (keyed_within count (omega (arith, within))) (number_below count within)
     where
       by_test : (test : Bool) → AllByRecursion (λ (number : ℕ). number < all) (keyed_below plan count) → count < all →
           AllByRecursion (λ (number : ℕ). number < all) (if test then keyed_below plan count ++ count ∷ [] else keyed_below plan count)

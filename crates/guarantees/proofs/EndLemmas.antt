@@ -11,7 +11,7 @@ use Rattle.semantics.specs.History.{shard_of_call, journal_is_full}
 use Rattle.semantics.specs.Step.{CallsMap}
 use Rattle.semantics.specs.Semantics.{next_step}
 use Rattle.semantics.specs.System.{Setting, program_of, SystemState, SystemEvent, BeginsRun, DoesInstruction, CallsShard, LeavesShard, Controls, Reclaims, WorkerState, Idle, Runs, worker_state, history_of, is_entered}
-use Rattle.guarantees.specs.Events.{Ending, Stopped, stop_for, stop_at, stop_of, exit_of, ending_in}
+use Rattle.semantics.specs.Events.{Ending, Stopped, stop_for, stop_at, stop_of, exit_of, ending_in}
 use Rattle.guarantees.specs.Steps.{AskedOfShard, Nothing, Writes, Refused, Move, IsStep, RunBegins, RunGoesOn, RunEnds, CallIsServed, ShardIsEntered, CallIsRefused, EnterIsRefused, ShardIsLeft, AreSteps}
 use Rattle.guarantees.specs.Moves.{IsAskedSo, is_event_of}
 use Rattle.guarantees.proofs.MoveLemmas.{numbered, own_event}

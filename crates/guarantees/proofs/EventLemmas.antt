@@ -21,9 +21,9 @@ use Rattle.shards.specs.declared.deeds.Deed.TheVariants.{Wrote}
 use Rattle.shards.specs.Deeds.{is_of_shard}
 use Rattle.shards.specs.Passes.{own_at}
 use Rattle.shard_port.specs.Asking.{enter_by, leave_by}
-use Rattle.shard_port.specs.Sessions.{entry_of, is_at, entries_at, begun, session}
-use Rattle.shard_port.specs.PassSessions.{AreWithin}
-use Rattle.shard_port.specs.PassDeeds.{asked_deeds, entered_by, rising, leaving_deeds, run_deeds}
+use Rattle.shard_port.specs.Sessions.{exchange_entry, is_asked_of, exchange_entries, behind_enter, session}
+use Rattle.shard_port.specs.PassSessions.{AreCallsWithin}
+use Rattle.shard_port.specs.PassDeeds.{asked_deeds, shards_entered, rising, leaving_deeds, run_deeds}
 use Rattle.runs.specs.FrameRuns.{AreFormed}
 use Rattle.guarantees.specs.Steps.{Writes, Move, does, asks, RunBegins, RunGoesOn, RunEnds, CallIsServed, ShardIsEntered, AreStepsOfRun, leavings, entries_asked, entries_in, entries_on, deeds_asked, deeds_in}
 use Rattle.guarantees.specs.SystemLaws.{RunsAreOfTheSystem}
@@ -44,36 +44,36 @@ or_true false = refl
 -- the entries of later exchanges with a shard, by whether the run is inside now
 abbrev pub since : Bool → ℕ → ℕ → List Entry → List Entry
 since true worker number entries = entries
-since false worker number entries = begun worker number entries
+since false worker number entries = behind_enter worker number entries
 
 abbrev joined : (worker number : ℕ) → Exchange → List Exchange → Bool → List Entry
 joined worker number exchange later test =
-    map (entry_of worker) (cond test (exchange ∷ filter (is_at number) later) (filter (is_at number) later))
+    map (exchange_entry worker) (cond test (exchange ∷ filter (is_asked_of number) later) (filter (is_asked_of number) later))
 
 pub call_on : (worker number : ℕ) (exchange : Exchange) (later : List Exchange) (entered : List ℕ) (run : List Move) →
     is_entered (shard_of_call exchange.call) entered ≡ true →
-    entries_on number run ≡ since (is_entered number entered) worker number (entries_at worker number later) →
-    entries_on number (asks worker (Writes (entry_of worker exchange)) ∷ run)
-    ≡ since (is_entered number entered) worker number (entries_at worker number (exchange ∷ later))
+    entries_on number run ≡ since (is_entered number entered) worker number (exchange_entries worker number later) →
+    entries_on number (asks worker (Writes (exchange_entry worker exchange)) ∷ run)
+    ≡ since (is_entered number entered) worker number (exchange_entries worker number (exchange ∷ later))
 call_on worker number exchange later entered run inside rest = by_test (shard_of_call exchange.call == number) refl
   where
     by_test : (test : Bool) → (shard_of_call exchange.call == number) ≡ test →
-        cond test (entry_of worker exchange ∷ entries_on number run) (entries_on number run)
+        cond test (exchange_entry worker exchange ∷ entries_on number run) (entries_on number run)
         ≡ since (is_entered number entered) worker number (joined worker number exchange later test)
     by_test false is = rest
     by_test true is =
         let same : shard_of_call exchange.call ≡ number = eqb-true (shard_of_call exchange.call) number is in
         let here : is_entered number entered ≡ true = subst (λ (n : ℕ). is_entered n entered ≡ true) same inside in
-        ap (λ (list : List Entry). entry_of worker exchange ∷ list)
-        (rest ∙ ap (λ (test : Bool). since test worker number (entries_at worker number later)) here)
-        ∙ ap (λ (test : Bool). since test worker number (entry_of worker exchange ∷ entries_at worker number later)) (sym here)
+        ap (λ (list : List Entry). exchange_entry worker exchange ∷ list)
+        (rest ∙ ap (λ (test : Bool). since test worker number (exchange_entries worker number later)) here)
+        ∙ ap (λ (test : Bool). since test worker number (exchange_entry worker exchange ∷ exchange_entries worker number later)) (sym here)
 
 pub enter_on : (worker number : ℕ) (exchange : Exchange) (later : List Exchange) (entered : List ℕ) (moves : List Move) →
     is_entered (shard_of_call exchange.call) entered ≡ false →
     entries_on number moves
-    ≡ since (is_entered number (shard_of_call exchange.call ∷ entered)) worker number (entries_at worker number (exchange ∷ later)) →
+    ≡ since (is_entered number (shard_of_call exchange.call ∷ entered)) worker number (exchange_entries worker number (exchange ∷ later)) →
     entries_on number (asks worker (Writes (enter_by worker (shard_of_call exchange.call))) ∷ moves)
-    ≡ since (is_entered number entered) worker number (entries_at worker number (exchange ∷ later))
+    ≡ since (is_entered number entered) worker number (exchange_entries worker number (exchange ∷ later))
 enter_on worker number exchange later entered moves outside rest = by_test (shard_of_call exchange.call == number) refl rest
   where
     by_test : (test : Bool) → (shard_of_call exchange.call == number) ≡ test →
@@ -86,14 +86,14 @@ enter_on worker number exchange later entered moves outside rest = by_test (shar
         let out : is_entered number entered ≡ false = subst (λ (n : ℕ). is_entered n entered ≡ false) same outside in
         ap (λ (n : ℕ). enter_by worker n ∷ entries_on number moves) same
         ∙ ap (λ (list : List Entry). enter_by worker number ∷ list) now
-        ∙ ap (λ (test : Bool). since test worker number (entry_of worker exchange ∷ entries_at worker number later)) (sym out)
+        ∙ ap (λ (test : Bool). since test worker number (exchange_entry worker exchange ∷ exchange_entries worker number later)) (sym out)
 
 -- ---- which shards a run is in at its end
 
 pub call_in : (worker number : ℕ) (exchange : Exchange) (later : List Exchange) (entered after : List ℕ) →
     is_entered (shard_of_call exchange.call) entered ≡ true →
-    is_entered number after ≡ (is_entered number entered || is_some_entry (entries_at worker number later)) →
-    is_entered number after ≡ (is_entered number entered || is_some_entry (entries_at worker number (exchange ∷ later)))
+    is_entered number after ≡ (is_entered number entered || is_some_entry (exchange_entries worker number later)) →
+    is_entered number after ≡ (is_entered number entered || is_some_entry (exchange_entries worker number (exchange ∷ later)))
 call_in worker number exchange later entered after inside rest = by_test (shard_of_call exchange.call == number) refl
   where
     by_test : (test : Bool) → (shard_of_call exchange.call == number) ≡ test →
@@ -102,11 +102,11 @@ call_in worker number exchange later entered after inside rest = by_test (shard_
     by_test true is =
         let same : shard_of_call exchange.call ≡ number = eqb-true (shard_of_call exchange.call) number is in
         let here : is_entered number entered ≡ true = subst (λ (n : ℕ). is_entered n entered ≡ true) same inside in
-        rest ∙ ap (λ (test : Bool). test || is_some_entry (entries_at worker number later)) here ∙ sym (or_true (is_entered number entered))
+        rest ∙ ap (λ (test : Bool). test || is_some_entry (exchange_entries worker number later)) here ∙ sym (or_true (is_entered number entered))
 
 pub enter_in : (worker number : ℕ) (exchange : Exchange) (later : List Exchange) (entered after : List ℕ) →
-    is_entered number after ≡ (is_entered number (shard_of_call exchange.call ∷ entered) || is_some_entry (entries_at worker number (exchange ∷ later))) →
-    is_entered number after ≡ (is_entered number entered || is_some_entry (entries_at worker number (exchange ∷ later)))
+    is_entered number after ≡ (is_entered number (shard_of_call exchange.call ∷ entered) || is_some_entry (exchange_entries worker number (exchange ∷ later))) →
+    is_entered number after ≡ (is_entered number entered || is_some_entry (exchange_entries worker number (exchange ∷ later)))
 enter_in worker number exchange later entered after rest = by_test (shard_of_call exchange.call == number) rest
   where
     by_test : (test : Bool) →
@@ -120,7 +120,7 @@ enter_in worker number exchange later entered after rest = by_test (shard_of_cal
 -- what a run does that asks a shard which it has entered or not, by that
 abbrev asked_from : ℕ → List ℕ → Exchange → List Exchange → Bool → List Deed
 asked_from worker entered exchange later inside =
-    (if inside then [] else Wrote (enter_by worker (shard_of_call exchange.call)) ∷ []) ++ Wrote (entry_of worker exchange) ∷
+    (if inside then [] else Wrote (enter_by worker (shard_of_call exchange.call)) ∷ []) ++ Wrote (exchange_entry worker exchange) ∷
     asked_deeds worker (if inside then entered else shard_of_call exchange.call ∷ entered) later
 
 asked_by : (worker : ℕ) (entered : List ℕ) (exchange : Exchange) (later : List Exchange) (inside : Bool) →
@@ -130,9 +130,9 @@ asked_by worker entered exchange later inside is = ap (asked_from worker entered
 
 enters_by : (entered : List ℕ) (exchange : Exchange) (later : List Exchange) (inside : Bool) →
     is_entered (shard_of_call exchange.call) entered ≡ inside →
-    entered_by (if inside then entered else shard_of_call exchange.call ∷ entered) later ≡ entered_by entered (exchange ∷ later)
+    shards_entered (if inside then entered else shard_of_call exchange.call ∷ entered) later ≡ shards_entered entered (exchange ∷ later)
 enters_by entered exchange later inside is =
-    ap (λ (test : Bool). entered_by (if test then entered else shard_of_call exchange.call ∷ entered) later) (sym is)
+    ap (λ (test : Bool). shards_entered (if test then entered else shard_of_call exchange.call ∷ entered) later) (sym is)
 
 now_inside : (shard : ℕ) (entered : List ℕ) → is_entered shard (shard ∷ entered) ≡ true
 now_inside shard entered =
@@ -149,11 +149,11 @@ pub record Reaches (said : MachineState → Type 0) (setting : Setting) (count w
   pub runs : AreStepsOfRun setting count worker (record { state = state; entered = entered }) run (record { state = ending; entered = after })
   pub ended : said ending
   pub distinct : AreEntered count after
-  pub writes : (number : ℕ) → entries_on number run ≡ since (is_entered number entered) worker number (entries_at worker number exchanges)
+  pub writes : (number : ℕ) → entries_on number run ≡ since (is_entered number entered) worker number (exchange_entries worker number exchanges)
   pub stays : (number : ℕ) →
-      is_entered number after ≡ (is_entered number entered || is_some_entry (entries_at worker number exchanges))
+      is_entered number after ≡ (is_entered number entered || is_some_entry (exchange_entries worker number exchanges))
   pub deeds : deeds_in worker run ≡ asked_deeds worker entered exchanges
-  pub enters : after ≡ entered_by entered exchanges
+  pub enters : after ≡ shards_entered entered exchanges
 
 -- one instruction that calls nothing
 pub reach_on : (said : MachineState → Type 0) (setting : Setting) (count worker : ℕ) (state next : MachineState) (entered : List ℕ)
@@ -180,7 +180,7 @@ reach_call : (said : MachineState → Type 0) (setting : Setting) (count worker 
     Reaches said setting count worker (next exchange.reply) entered later →
     Reaches said setting count worker state entered (exchange ∷ later)
 reach_call said setting count worker state next entered exchange later is within formed inside rest = record {
-  run = asks worker (Writes (entry_of worker exchange)) ∷ rest.run;
+  run = asks worker (Writes (exchange_entry worker exchange)) ∷ rest.run;
   ending = rest.ending;
   after = rest.after;
   runs = (
@@ -192,7 +192,7 @@ reach_call said setting count worker state next entered exchange later is within
   distinct = rest.distinct;
   writes = λ number. call_on worker number exchange later entered rest.run inside (rest.writes number);
   stays = λ number. call_in worker number exchange later entered rest.after inside (rest.stays number);
-  deeds = ap (λ (list : List Deed). Wrote (entry_of worker exchange) ∷ list) rest.deeds ∙ asked_by worker entered exchange later true inside;
+  deeds = ap (λ (list : List Deed). Wrote (exchange_entry worker exchange) ∷ list) rest.deeds ∙ asked_by worker entered exchange later true inside;
   enters = rest.enters ∙ enters_by entered exchange later true inside;
 }
 
@@ -255,13 +255,13 @@ Exited setting verdict last ending = next_step (model.program_of setting) ending
 
 abbrev IsReached : Setting → ℕ → ℕ → ℕ → Verdict → MachineState → Type 0
 IsReached setting count worker steps verdict last =
-    (state : MachineState) (entered : List ℕ) (exchanges : List Exchange) → AreEntered count entered → AreWithin count exchanges →
+    (state : MachineState) (entered : List ℕ) (exchanges : List Exchange) → AreEntered count entered → AreCallsWithin count exchanges →
     AreFormed (model.program_of setting) exchanges →
     trace_of steps (model.program_of setting) state (replies_in exchanges) ≡ record { calls = calls_in exchanges; stand = HasExited verdict last } →
     Reaches (Exited setting verdict last) setting count worker state entered exchanges
 
 by_step : (setting : Setting) (count worker steps : ℕ) (verdict : Verdict) (last : MachineState) → IsReached setting count worker steps verdict last →
-    (state : MachineState) (entered : List ℕ) (exchanges : List Exchange) → AreEntered count entered → AreWithin count exchanges →
+    (state : MachineState) (entered : List ℕ) (exchanges : List Exchange) → AreEntered count entered → AreCallsWithin count exchanges →
     AreFormed (model.program_of setting) exchanges → (step : Step) → next_step (model.program_of setting) state ≡ step →
     trace_from (trace_of steps (model.program_of setting)) state step (replies_in exchanges)
     ≡ record { calls = calls_in exchanges; stand = HasExited verdict last } →
@@ -331,14 +331,14 @@ closed worker number (first ∷ later) = refl
 
 pub whole_session : (said : MachineState → Type 0) (setting : Setting) (count worker : ℕ) (state : MachineState) (exchanges : List Exchange)
     (reaches : Reaches said setting count worker state [] exchanges) (number : ℕ) →
-    entries_on number (reaches.run ++ leavings worker (rising count reaches.after)) ≡ session worker number (entries_at worker number exchanges)
+    entries_on number (reaches.run ++ leavings worker (rising count reaches.after)) ≡ session worker number (exchange_entries worker number exchanges)
 whole_session said setting count worker state exchanges reaches number =
     append_on number reaches.run (leavings worker (rising count reaches.after))
     ∙ ap (λ (list : List Entry). list ++ entries_on number (leavings worker (rising count reaches.after))) (reaches.writes number)
-    ∙ ap (λ (list : List Entry). since false worker number (entries_at worker number exchanges) ++ list)
+    ∙ ap (λ (list : List Entry). since false worker number (exchange_entries worker number exchanges) ++ list)
     (left_on count worker number reaches.after reaches.distinct
     ∙ ap (λ (test : Bool). if test then leave_by worker number ∷ [] else []) (reaches.stays number))
-    ∙ closed worker number (entries_at worker number exchanges)
+    ∙ closed worker number (exchange_entries worker number exchanges)
 
 pub append_deeds : (worker : ℕ) (first second : List Move) → deeds_in worker (first ++ second) ≡ deeds_in worker first ++ deeds_in worker second
 append_deeds worker [] second = refl

@@ -8,8 +8,8 @@ use Rattle.semantics.specs.declared.call.Entry.{Entry}
 use Rattle.semantics.specs.History.{shard_of_call}
 use Rattle.map_port.specs.Exchanges.{Exchange}
 use Rattle.shard_port.specs.Asking.{enter_by, leave_by}
-use Rattle.shard_port.specs.PassSessions.{AreWithin}
-use Rattle.shard_port.specs.Sessions.{entry_of, is_at, entries_at, session}
+use Rattle.shard_port.specs.PassSessions.{AreCallsWithin}
+use Rattle.shard_port.specs.Sessions.{exchange_entry, is_asked_of, exchange_entries, session}
 
 module _ {A : Type 0} where
   pub all_both : (P : A → Type 0) (xs ys : List A) → AllByRecursion P xs → AllByRecursion P ys → AllByRecursion P (xs ++ ys)
@@ -46,38 +46,38 @@ in_session P worker number (first ∷ later) all = (all.1.0, (all_parts P later 
 
 -- ---- the entries of exchanges
 
-if_at : (P : Entry → Type 0) (worker : ℕ) (exchange : Exchange) (rest : List Exchange) (test : Bool) → P (entry_of worker exchange) →
-    AllByRecursion P (map (entry_of worker) rest) → AllByRecursion P (map (entry_of worker) (if test then exchange ∷ rest else rest))
+if_at : (P : Entry → Type 0) (worker : ℕ) (exchange : Exchange) (rest : List Exchange) (test : Bool) → P (exchange_entry worker exchange) →
+    AllByRecursion P (map (exchange_entry worker) rest) → AllByRecursion P (map (exchange_entry worker) (if test then exchange ∷ rest else rest))
 if_at P worker exchange rest true here all = (here, all)
 if_at P worker exchange rest false here all = all
 
 pub all_entries : (P : Entry → Type 0) (worker number : ℕ) (exchanges : List Exchange) →
-    AllByRecursion (λ (exchange : Exchange). P (entry_of worker exchange)) exchanges → AllByRecursion P (entries_at worker number exchanges)
+    AllByRecursion (λ (exchange : Exchange). P (exchange_entry worker exchange)) exchanges → AllByRecursion P (exchange_entries worker number exchanges)
 all_entries P worker number [] all = tt
 all_entries P worker number (exchange ∷ later) all =
-    if_at P worker exchange (filter (is_at number) later) (is_at number exchange) all.0 (all_entries P worker number later all.1)
+    if_at P worker exchange (filter (is_asked_of number) later) (is_asked_of number exchange) all.0 (all_entries P worker number later all.1)
 
 -- and back: what holds of the entries on each of this many shards holds of each exchange
 rest_at : (P : Entry → Type 0) (worker : ℕ) (exchange : Exchange) (rest : List Exchange) (test : Bool) →
-    AllByRecursion P (map (entry_of worker) (if test then exchange ∷ rest else rest)) → AllByRecursion P (map (entry_of worker) rest)
+    AllByRecursion P (map (exchange_entry worker) (if test then exchange ∷ rest else rest)) → AllByRecursion P (map (exchange_entry worker) rest)
 rest_at P worker exchange rest true all = all.1
 rest_at P worker exchange rest false all = all
 
 first_at : (P : Entry → Type 0) (worker : ℕ) (exchange : Exchange) (rest : List Exchange) (test : Bool) → test ≡ true →
-    AllByRecursion P (map (entry_of worker) (if test then exchange ∷ rest else rest)) → P (entry_of worker exchange)
+    AllByRecursion P (map (exchange_entry worker) (if test then exchange ∷ rest else rest)) → P (exchange_entry worker exchange)
 first_at P worker exchange rest true is all = all.0
 first_at P worker exchange rest false is all = absurd cc
 
 same_test : (a : ℕ) → (a == a) ≡ true
 same_test a = grind (arith, nat_tests)
 
-pub each_exchange : (P : ℕ → Entry → Type 0) (count worker : ℕ) (exchanges : List Exchange) → AreWithin count exchanges →
-    ((number : ℕ) → number < count → AllByRecursion (P number) (entries_at worker number exchanges)) →
-    AllByRecursion (λ (exchange : Exchange). P (shard_of_call exchange.call) (entry_of worker exchange)) exchanges
+pub each_exchange : (P : ℕ → Entry → Type 0) (count worker : ℕ) (exchanges : List Exchange) → AreCallsWithin count exchanges →
+    ((number : ℕ) → number < count → AllByRecursion (P number) (exchange_entries worker number exchanges)) →
+    AllByRecursion (λ (exchange : Exchange). P (shard_of_call exchange.call) (exchange_entry worker exchange)) exchanges
 each_exchange P count worker [] within all = tt
 each_exchange P count worker (exchange ∷ later) within all =
     let number : ℕ = shard_of_call exchange.call in (
-      first_at (P number) worker exchange (filter (is_at number) later) (is_at number exchange) (same_test number) (all number within.0),
+      first_at (P number) worker exchange (filter (is_asked_of number) later) (is_asked_of number exchange) (same_test number) (all number within.0),
       each_exchange P count worker later within.1
-          (λ n below. rest_at (P n) worker exchange (filter (is_at n) later) (is_at n exchange) (all n below)),
+          (λ n below. rest_at (P n) worker exchange (filter (is_asked_of n) later) (is_asked_of n exchange) (all n below)),
     )

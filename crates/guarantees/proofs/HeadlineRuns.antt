@@ -22,27 +22,26 @@ use Rattle.shards.specs.Deeds.{entries_made, shard_of_deed, AreMet}
 use Rattle.shards.specs.Passes.{PassView}
 use Rattle.shards.specs.SharedMaps.{ArePlans}
 use Rattle.runs.specs.FrameRuns.{HasStopped}
-use Rattle.replay.specs.declared.runner.RunEnd.{RunEnd}
-use Rattle.replay.specs.declared.runner.RunEnd.TheVariants.{Stopped, Exited}
-use Rattle.replay.specs.declared.runner.Ran.{Ran}
-use Rattle.replay.specs.Accounts.{runs_at}
-use Rattle.replay.specs.RunJobs.{records_of}
-use Rattle.replay.specs.RunsInOrder.{IsRunAt, IsChainOfRuns}
-use Rattle.replay.specs.Shares.{frames_of, frame_at, is_short, is_handed, share}
+use Rattle.actors.specs.declared.runner.RunEnd.{RunEnd}
+use Rattle.actors.specs.declared.runner.RunEnd.TheVariants.{Stopped, Exited}
+use Rattle.actors.specs.declared.runner.Ran.{Ran}
+use Rattle.actors.specs.Accounts.{runs_at}
+use Rattle.actors.specs.RunJobs.{records_of}
+use Rattle.actors.specs.RunsInOrder.{IsRunAt, IsChainOfRuns}
+use Rattle.actors.specs.Shares.{frames_of, frame_at, is_short, is_handed, share}
 use Rattle.control.specs.declared.command.Command.{Command}
-use Rattle.replay.specs.declared.outcome.Outcome.{Outcome}
-use Rattle.replay.specs.Accounted.{IsWorkOf, IsOrderOfJournals, IsAccounted}
-use Rattle.replay.specs.RunsOverShards.{start_of, IsExit, IsStopIn, StopsFor, IsRunIn}
-use Rattle.guarantees.specs.ReaderReplays.{IsCaptured}
+use Rattle.actors.specs.declared.outcome.Outcome.{Outcome}
+use Rattle.actors.specs.Accounted.{IsWorkOf, IsOrderOfJournals, IsAccounted}
+use Rattle.actors.specs.RunsOverShards.{start_of, IsExit, IsStopIn, StopsFor, IsRunIn}
+use Rattle.actors.specs.Captured.{IsCaptured}
 use Rattle.guarantees.specs.SystemLaws.{RunsAreOfTheSystem, StoppedRunsAreOfTheSystem}
 use Rattle.guarantees.specs.SystemRuns.{setting_of}
 use Rattle.guarantees.specs.Merging.{IsOrderOfMoves, IsOneList}
 use Rattle.guarantees.specs.ReplayMoves.{HasMoves}
-use Rattle.guarantees.specs.Headline.{moment_of, IsRunOfImage, IsStopOfImage, IsEitherOfImage, AreOfRuns, Headline, ReplaysKeepIt}
+use Rattle.guarantees.specs.RunsInList.{moment_of, IsRunOfImage, IsStopOfImage, IsEitherOfImage, AreOfRuns, AreOfAccounted}
 use Rattle.guarantees.proofs.DeedLemmas.{is_deed_by, chosen_reversed, made_reversed}
 use Rattle.guarantees.proofs.EveryEntry.{all_both, all_reverse}
 use Rattle.guarantees.proofs.LegalEntries.{entry_is_step}
-use Rattle.guarantees.proofs.Merge.{one_order_is_one_list}
 use Rattle.guarantees.proofs.NoneStopped.{is_long}
 use Rattle.guarantees.proofs.OpenedReplays.{record_of}
 use Rattle.guarantees.proofs.ReplayMoves.{has_moves, moves_are_of_runs}
@@ -210,37 +209,15 @@ module _ (ran : RunsAreOfTheSystem) (stopped : StoppedRunsAreOfTheSystem) (verif
       accounted.order accounted.ordered moves
 
   -- with this list of events
-  abbrev pub headline_with : IsOneList (setting_of verified options) accounted.count (λ number. entries_at outcome.journals number) moves.moves
-      (entries_made (reverse accounted.order)) → Headline verified script options records outcome
-  headline_with list = record {
-    safe = safe;
-    count = accounted.count;
-    count_is = accounted.count_is;
-    plan = accounted.plan;
-    plans = accounted.plans;
-    legal = accounted.legal;
+  abbrev pub of_accounted :
+      (list : IsOneList (setting_of verified options) accounted.count (λ number. entries_at outcome.journals number) moves.moves
+      (entries_made (reverse accounted.order))) → AreOfAccounted verified script options records outcome accounted list.events
+  of_accounted list = record {
     own_place = λ number below earlier later entry place. entry_is_step (accounted.plan number) earlier later entry
         (subst (IsLegalJournal (accounted.plan number)) place (accounted.legal number below));
-    runs = accounted.runs;
-    workers = accounted.workers;
-    order = accounted.order;
-    ordered = accounted.ordered;
-    commands = accounted.commands;
-    rounds = accounted.rounds;
     work = work;
     moves = moves;
     of_runs = moves_of_work;
     list = list;
-    sent = accounted.sent;
-    counts = accounted.counts;
-    each_once = accounted.each_once;
-    ends = accounted.ends;
+    are = refl;
   }
-
-pub replays_keep_it : RunsAreOfTheSystem → StoppedRunsAreOfTheSystem → (verified : Verified) → IsSafeImage verified.maps verified.code →
-    ReplaysKeepIt verified
-replays_keep_it ran stopped verified safe script options records outcome fit captured accounted =
-    headline_with ran stopped verified safe script options records outcome fit captured accounted
-    (one_order_is_one_list (setting_of verified options) accounted.plan accounted.count (λ number. entries_at outcome.journals number)
-    (moves ran stopped verified safe script options records outcome fit captured accounted).moves (reverse accounted.order)
-    (order_is ran stopped verified safe script options records outcome fit captured accounted))

@@ -24,7 +24,7 @@ use Rattle.shards.specs.declared.deeds.Deed.{Deed}
 use Rattle.shards.specs.declared.deeds.Deed.TheVariants.{Wrote, MetFull}
 use Rattle.shards.specs.declared.deeds.OrderPart.TheVariants.{ByCaller}
 use Rattle.shards.specs.Deeds.{shard_of_deed, is_deed_of, entries_made, made_on}
-use Rattle.guarantees.specs.Events.{Ending, controlled, reclaimed, answer_in, answered, ended_by}
+use Rattle.semantics.specs.Events.{Ending, controlled, reclaimed, answer_in, answered, ended_by}
 use Rattle.guarantees.specs.Steps.{AskedOfShard, Nothing, Writes, Refused, Move, AreSteps, entries_asked, deeds_asked, deeds_in}
 use Rattle.guarantees.specs.Moves.{IsAskedSo, after_asked, is_event_of}
 use Rattle.guarantees.specs.Merging.{IsOrderOfMoves, IsWrittenNext, AreWrittenInOrder, events_of, IsOneList, OneOrderIsOneList}

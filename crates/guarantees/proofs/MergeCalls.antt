@@ -13,7 +13,7 @@ use Rattle.semantics.specs.declared.plan.ShardPlan.{ShardPlan}
 use Rattle.semantics.specs.ShardPlan.{plan_at, plan_for_map}
 use Rattle.semantics.specs.History.{shard_of_call, meets, IsJournalFull, IsLegalStep}
 use Rattle.semantics.specs.System.{Setting, SystemState, history_of, with_entry, entry_for, after_call, MayCall, is_key_change}
-use Rattle.guarantees.specs.Events.{answer_to}
+use Rattle.semantics.specs.Events.{answer_to}
 use Rattle.guarantees.specs.Moves.{Answers}
 use Rattle.guarantees.proofs.Callers.{worker_below}
 use Rattle.guarantees.proofs.MoveLemmas.{numbered}

@@ -14,7 +14,7 @@ use Rattle.semantics.specs.declared.call.Entry.{Entry}
 use Rattle.guarantees.specs.Steps.{AskedOfShard, Nothing, Writes, Refused, Move, AreSteps, entries_asked, deeds_asked, deeds_in}
 use Rattle.guarantees.specs.Moves.{IsMove, IsAskedSo, after_asked, is_event_of}
 use Rattle.guarantees.specs.Merging.{events_of, IsWrittenNext, AreWrittenInOrder}
-use Rattle.guarantees.specs.Events.{Ending, ending_in, ended_by}
+use Rattle.semantics.specs.Events.{Ending, ending_in, ended_by}
 use Rattle.guarantees.proofs.MoveLemmas.{steps_are_moves}
 use Rattle.guarantees.proofs.EndLemmas.{ends_of_asked, ends_in, Walk, end_is}
 

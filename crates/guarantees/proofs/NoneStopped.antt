@@ -4,14 +4,14 @@ use Rattle.std.specs.Prelude.{Option, Some, None, slice_get}
 use Rattle.std.specs.List.{AllByRecursion}
 use Rattle.std.proofs.lemmas.Bool.{false≢true}
 use Rattle.std.proofs.lemmas.Bool.Decides.{nat_tests}
-use Rattle.replay.specs.declared.account.Counts.{Counts}
-use Rattle.replay.specs.declared.runner.Ran.{Ran}
-use Rattle.replay.specs.declared.runner.RunEnd.{RunEnd}
-use Rattle.replay.specs.declared.runner.RunEnd.TheVariants.{Stopped, Exited}
-use Rattle.replay.specs.declared.runner.FrameFate.TheVariants.{Aborted, Dropped, Passed, Sent as IsSent}
-use Rattle.replay.specs.Accounts.{counted, counts_of, fate_of, runs_at, end_at}
-use Rattle.replay.specs.RunJobs.{records_of}
-use Rattle.replay.specs.Shares.{frame_at, is_short, is_handed, worker_of_frame, share}
+use Rattle.actors.specs.declared.account.Counts.{Counts}
+use Rattle.actors.specs.declared.runner.Ran.{Ran}
+use Rattle.actors.specs.declared.runner.RunEnd.{RunEnd}
+use Rattle.actors.specs.declared.runner.RunEnd.TheVariants.{Stopped, Exited}
+use Rattle.actors.specs.declared.runner.FrameFate.TheVariants.{Aborted, Dropped, Passed, Sent as IsSent}
+use Rattle.actors.specs.Accounts.{counted, counts_of, fate_of, runs_at, end_at}
+use Rattle.actors.specs.RunJobs.{records_of}
+use Rattle.actors.specs.Shares.{frame_at, is_short, is_handed, worker_of_frame, share}
 use Rattle.semantics.proofs.shared.ConditionLemmas.{second_true}
 use Rattle.guarantees.specs.ReplayMoves.{IsNotStopped}
 use Rattle.guarantees.proofs.ShareOrder.{IsHandedAt, handed_at, each_run}

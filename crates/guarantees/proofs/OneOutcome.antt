@@ -18,8 +18,8 @@ use Rattle.semantics.specs.System.{program_of, input_frame}
 use Rattle.map_port.specs.Exchanges.{Exchange, calls_in, replies_in}
 use Rattle.shards.specs.Passes.{own_at}
 use Rattle.shard_port.specs.Asking.{leave_by}
-use Rattle.shard_port.specs.Sessions.{entry_of, is_at, entries_at, session}
-use Rattle.shard_port.specs.PassSessions.{session_at, AreWithin}
+use Rattle.shard_port.specs.Sessions.{exchange_entry, is_asked_of, exchange_entries, session}
+use Rattle.shard_port.specs.PassSessions.{session_at, AreCallsWithin}
 use Rattle.guarantees.specs.StepLaws.{RunsHaveOneOutcome}
 use Rattle.guarantees.proofs.BackToTraces.{runs_are_traces}
 
@@ -34,29 +34,29 @@ same_session worker number (first ∷ later) (second ∷ others) same =
     append_cancel_right (first ∷ later) (second ∷ others) (leave_by worker number ∷ []) rest
 
 pub same_entries : (worker number : ℕ) (one other : List Exchange) (base whole : List Entry) → whole ≡ reverse (session_at worker number one) ++ base →
-    whole ≡ reverse (session_at worker number other) ++ base → entries_at worker number one ≡ entries_at worker number other
+    whole ≡ reverse (session_at worker number other) ++ base → exchange_entries worker number one ≡ exchange_entries worker number other
 same_entries worker number one other base whole first second =
     let turned : reverse (session_at worker number one) ≡ reverse (session_at worker number other) =
     append_cancel_right (reverse (session_at worker number one)) (reverse (session_at worker number other)) base (sym first ∙ second) in
-    same_session worker number (entries_at worker number one) (entries_at worker number other)
+    same_session worker number (exchange_entries worker number one) (exchange_entries worker number other)
     (sym (reverse-reverse (session_at worker number one)) ∙ ap reverse turned ∙ reverse-reverse (session_at worker number other))
 
 pub entries_there : (worker number : ℕ) (exchange : Exchange) (later : List Exchange) → shard_of_call exchange.call ≡ number →
-    entries_at worker number (exchange ∷ later) ≡ entry_of worker exchange ∷ entries_at worker number later
+    exchange_entries worker number (exchange ∷ later) ≡ exchange_entry worker exchange ∷ exchange_entries worker number later
 entries_there worker number exchange later same =
     let here : (shard_of_call exchange.call == number) ≡ true = grind (arith, nat_tests) in
-    ap (λ (test : Bool). map (entry_of worker) (cond test (exchange ∷ filter (is_at number) later) (filter (is_at number) later))) here
+    ap (λ (test : Bool). map (exchange_entry worker) (cond test (exchange ∷ filter (is_asked_of number) later) (filter (is_asked_of number) later))) here
 
 entries_elsewhere : (worker number : ℕ) (exchange : Exchange) (later : List Exchange) → number ≢ shard_of_call exchange.call →
-    entries_at worker number (exchange ∷ later) ≡ entries_at worker number later
+    exchange_entries worker number (exchange ∷ later) ≡ exchange_entries worker number later
 entries_elsewhere worker number exchange later apart =
-    ap (λ (test : Bool). map (entry_of worker) (cond test (exchange ∷ filter (is_at number) later) (filter (is_at number) later)))
+    ap (λ (test : Bool). map (exchange_entry worker) (cond test (exchange ∷ filter (is_asked_of number) later) (filter (is_asked_of number) later)))
     (ne_eqb (shard_of_call exchange.call) number (λ same. apart (sym same)))
 
 -- ---- two traces
 
 abbrev HaveSame : ℕ → ℕ → List Exchange → List Exchange → Type 0
-HaveSame worker count one other = (number : ℕ) → number < count → entries_at worker number one ≡ entries_at worker number other
+HaveSame worker count one other = (number : ℕ) → number < count → exchange_entries worker number one ≡ exchange_entries worker number other
 
 abbrev IsExit : RunTrace → List Exchange → Verdict → MachineState → Type 0
 IsExit trace exchanges verdict last = trace ≡ record { calls = calls_in exchanges; stand = HasExited verdict last }
@@ -64,27 +64,27 @@ IsExit trace exchanges verdict last = trace ≡ record { calls = calls_in exchan
 abbrev IsOne : Program → ℕ → ℕ → Verdict → Verdict → MachineState → MachineState → ℕ → ℕ → Type 0
 IsOne program worker count verdict verdict' last last' steps steps' =
     (state : MachineState) (one other : List Exchange) → IsExit (trace_of steps program state (replies_in one)) one verdict last →
-    IsExit (trace_of steps' program state (replies_in other)) other verdict' last' → AreWithin count one → HaveSame worker count one other →
+    IsExit (trace_of steps' program state (replies_in other)) other verdict' last' → AreCallsWithin count one → HaveSame worker count one other →
     (verdict ≡ verdict') × (last ≡ last')
 
 -- one call, which both make
 one_call : (program : Program) (worker count : ℕ) (verdict verdict' : Verdict) (last last' : MachineState) (steps steps' : ℕ) (call : Call)
     (next : Reply → MachineState) (one other : Exchange) (more others : List Exchange) → IsOne program worker count verdict verdict' last last' steps steps' →
     call ≡ one.call → call ≡ other.call → IsExit (trace_of steps program (next one.reply) (replies_in more)) more verdict last →
-    IsExit (trace_of steps' program (next other.reply) (replies_in others)) others verdict' last' → AreWithin count (one ∷ more) →
+    IsExit (trace_of steps' program (next other.reply) (replies_in others)) others verdict' last' → AreCallsWithin count (one ∷ more) →
     HaveSame worker count (one ∷ more) (other ∷ others) → (verdict ≡ verdict') × (last ≡ last')
 one_call program worker count verdict verdict' last last' steps steps' call next one other more others rest first second trace trace' within same =
     let number : ℕ = shard_of_call one.call in
     let at : shard_of_call other.call ≡ number = ap shard_of_call (sym second ∙ first) in
-    let heads : entry_of worker one ∷ entries_at worker number more ≡ entry_of worker other ∷ entries_at worker number others =
+    let heads : exchange_entry worker one ∷ exchange_entries worker number more ≡ exchange_entry worker other ∷ exchange_entries worker number others =
     sym (entries_there worker number one more refl) ∙ same number within.0 ∙ entries_there worker number other others at in
-    let entry : entry_of worker one ≡ entry_of worker other = cc in
-    let tails : entries_at worker number more ≡ entries_at worker number others = cc in
+    let entry : exchange_entry worker one ≡ exchange_entry worker other = cc in
+    let tails : exchange_entries worker number more ≡ exchange_entries worker number others = cc in
     let reply : one.reply ≡ other.reply = ap (λ (entry : Entry). entry.reply) entry in
     rest (next one.reply) more others trace
     (subst (λ (reply : Reply). IsExit (trace_of steps' program (next reply) (replies_in others)) others verdict' last') (sym reply) trace') within.1
     (λ shard below. ⊎_elim
-    (λ here. subst (λ (n : ℕ). entries_at worker n more ≡ entries_at worker n others) (sym here) tails)
+    (λ here. subst (λ (n : ℕ). exchange_entries worker n more ≡ exchange_entries worker n others) (sym here) tails)
     (λ apart. sym (entries_elsewhere worker shard one more apart) ∙ same shard below
     ∙ entries_elsewhere worker shard other others (λ here. apart (here ∙ at)))
     (cases_eq shard number))
@@ -104,7 +104,7 @@ none_made call rest same = cc
 by_step : (program : Program) (worker count : ℕ) (verdict verdict' : Verdict) (last last' : MachineState) (steps steps' : ℕ) →
     IsOne program worker count verdict verdict' last last' steps steps' → (state : MachineState) (one other : List Exchange) (step : Step) →
     IsExit (trace_from (trace_of steps program) state step (replies_in one)) one verdict last →
-    IsExit (trace_from (trace_of steps' program) state step (replies_in other)) other verdict' last' → AreWithin count one →
+    IsExit (trace_from (trace_of steps' program) state step (replies_in other)) other verdict' last' → AreCallsWithin count one →
     HaveSame worker count one other → (verdict ≡ verdict') × (last ≡ last')
 by_step program worker count verdict verdict' last last' steps steps' rest state one other (Continues next) trace trace' within same =
     rest next one other trace trace' within same

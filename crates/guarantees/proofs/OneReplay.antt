@@ -26,26 +26,27 @@ use Rattle.shards.specs.Passes.{PassView}
 use Rattle.control.specs.Controlling.{opened_controller}
 use Rattle.control.specs.declared.command.Command.{Command}
 use Rattle.control.specs.ScriptText.{CommandFits}
-use Rattle.replay.specs.declared.outcome.Outcome.{Outcome}
-use Rattle.replay.specs.declared.runner.FrameFate.{FrameFate}
-use Rattle.replay.specs.declared.runner.FrameFate.TheVariants.{Aborted, Dropped, Passed, Sent as IsSent}
-use Rattle.replay.specs.declared.runner.Ran.{Ran}
-use Rattle.replay.specs.declared.runner.RunEnd.{RunEnd}
-use Rattle.replay.specs.declared.runner.RunEnd.TheVariants.{Stopped as WasStopped, Exited as HasExited}
-use Rattle.replay.specs.Accounted.{IsWorkOf, IsAccounted}
-use Rattle.replay.specs.Accounts.{runs_at, sent_frames, verdict_for}
-use Rattle.replay.specs.Commands.{AnsweredUpdate, CommandDone, all_set, made_deeds, commands_deeds}
-use Rattle.replay.specs.Parts.{rounds_of as rounds_for}
-use Rattle.replay.specs.Rounds.{keyed_below}
-use Rattle.replay.specs.RunJobs.{records_of}
-use Rattle.replay.specs.RunsInOrder.{IsRunAt, IsChainOfRuns}
-use Rattle.replay.specs.Shares.{frames_of, frame_at, is_short, worker_of_frame, share}
-use Rattle.guarantees.specs.Events.{Ending, Exited, Stopped, begun_by}
-use Rattle.guarantees.specs.Headline.{moment_of, IsRunOfImage, IsEitherOfImage}
+use Rattle.actors.specs.declared.outcome.Outcome.{Outcome}
+use Rattle.actors.specs.declared.runner.FrameFate.{FrameFate}
+use Rattle.actors.specs.declared.runner.FrameFate.TheVariants.{Aborted, Dropped, Passed, Sent as IsSent}
+use Rattle.actors.specs.declared.runner.Ran.{Ran}
+use Rattle.actors.specs.declared.runner.RunEnd.{RunEnd}
+use Rattle.actors.specs.declared.runner.RunEnd.TheVariants.{Stopped as WasStopped, Exited as HasExited}
+use Rattle.actors.specs.Accounted.{IsWorkOf, IsAccounted}
+use Rattle.actors.specs.Accounts.{runs_at, sent_frames, verdict_for}
+use Rattle.actors.specs.Commands.{AnsweredUpdate, CommandDone, all_set, made_deeds, commands_deeds}
+use Rattle.actors.specs.Parts.{round_count as rounds_for}
+use Rattle.actors.specs.Rounds.{keyed_below}
+use Rattle.actors.specs.RunJobs.{records_of}
+use Rattle.actors.specs.RunsInOrder.{IsRunAt, IsChainOfRuns}
+use Rattle.actors.specs.Shares.{frames_of, frame_at, is_short, worker_of_frame, share}
+use Rattle.semantics.specs.Events.{Ending, Exited, Stopped, begun_by}
+use Rattle.guarantees.specs.RunsInList.{moment_of, IsRunOfImage, IsEitherOfImage}
+use Rattle.guarantees.specs.Headline.{AreOfScript, Headline}
 use Rattle.guarantees.specs.Merging.{events_of}
-use Rattle.guarantees.specs.OneReplay.{IsOneReplay, ReplaysAreOneList}
-use Rattle.guarantees.specs.ReaderReplays.{IsCaptured}
-use Rattle.guarantees.specs.Replay.{Captured, RecordEnd, IsReplay, input_of, is_run_by, runner_of, keyed_shards, rounds_over, shard_count, frames_sent}
+use Rattle.guarantees.specs.HeadlineOf.{HeadlineOf, ReplaysKeepHeadline}
+use Rattle.actors.specs.Captured.{IsCaptured}
+use Rattle.semantics.specs.Replay.{Captured, RecordEnd, IsReplay, input_of, is_run_by, runner_of, keyed_shards, rounds_over, shard_count, frames_sent}
 use Rattle.guarantees.specs.ReplayOf.{captured_of, asked_of, totals_in, result_of}
 use Rattle.guarantees.specs.Steps.{Move}
 use Rattle.guarantees.specs.SystemLaws.{RunsAreOfTheSystem, StoppedRunsAreOfTheSystem}
@@ -53,7 +54,7 @@ use Rattle.guarantees.specs.SystemRuns.{setting_of, HasStoppedInSystem}
 use Rattle.guarantees.proofs.AnswerLemmas.{begun_among}
 use Rattle.guarantees.proofs.DeedAnswers.{heard_is, all_askable, calls_are, answers_are, made_as_many, commands_as_many, keyed_are, rounds_are}
 use Rattle.guarantees.proofs.EndLemmas.{Walk}
-use Rattle.guarantees.proofs.HeadlineRuns.{work, moves, moves_of_work, order_is, headline_with}
+use Rattle.guarantees.proofs.HeadlineRuns.{work, moves, moves_of_work, order_is, of_accounted}
 use Rattle.guarantees.proofs.Merge.{IsListWithEnds, heard, one_list_with_ends, answer_of_deed, call_of_deed}
 use Rattle.guarantees.proofs.RecordEnds.{first_all, placed, picked, of_sent, IsEndingOf, IsRunOfRecord, AreRunsEnded, all_ends, runners_are, totals_are, told_are, sent_are, ends_are, share_is, spread_below}
 use Rattle.guarantees.proofs.RunEnds.{ending_at_stop, ending_of, endings_of, captured_in, walk_of, begun_in}
@@ -342,15 +343,48 @@ module _ (ran : RunsAreOfTheSystem) (stopped : StoppedRunsAreOfTheSystem) (verif
     idle = with_ends.list.idle;
   }
 
-  one_replay : IsOneReplay verified script options records outcome
-  one_replay = record {
-    kept = headline_with ran stopped verified safe script options records outcome fit captured accounted with_ends.list;
-    ends = record_ends;
-    are_told = told_are records options.workers accounted.runs ends are_ended (length records) (omega arith) ∙ sym accounted.ends;
-    are = are_replay;
+  -- the commands that were carried out are the script's
+  of_script : AreOfScript verified.maps script outcome.refused.items done
+  of_script =
+      let by = accounted.commands in
+      record {
+        size = by.size;
+        size_is_served = by.size_is_served;
+        serves = by.serves;
+        noted = by.noted;
+        each_once = by.each_once;
+        are_noted = by.are_noted;
+        state = by.state;
+        are_done = by.are_done;
+        refused_are = by.refused_are;
+      }
+
+  abbrev kept : Headline verified script options records outcome
+  kept = record {
+    safe = safe;
+    replay = record {
+      done = done;
+      of_script = of_script;
+      ends = record_ends;
+      are_told = told_are records options.workers accounted.runs ends are_ended (length records) (omega arith) ∙ sym accounted.ends;
+      journals_are = record {
+        maps_are = accounted.maps;
+        options_are = accounted.options_are;
+        count = accounted.count_is ∙ accounted.plans.count_is;
+      };
+      events = with_ends.list.events;
+      are = are_replay;
+    };
   }
 
-pub replays_are_one_list : RunsAreOfTheSystem → StoppedRunsAreOfTheSystem → (verified : Verified) → IsSafeImage verified.maps verified.code →
-    ReplaysAreOneList verified
-replays_are_one_list ran stopped verified safe script options records outcome fit captured sized accounted =
-    one_replay ran stopped verified safe script options records outcome fit captured sized accounted
+  headline_of : HeadlineOf verified script options records outcome accounted
+  headline_of = record {
+    headline = kept;
+    same_commands = refl;
+    same_events = of_accounted ran stopped verified safe script options records outcome fit captured accounted with_ends.list;
+  }
+
+pub replays_keep_headline : RunsAreOfTheSystem → StoppedRunsAreOfTheSystem → (verified : Verified) → IsSafeImage verified.maps verified.code →
+    ReplaysKeepHeadline verified
+replays_keep_headline ran stopped verified safe script options records outcome fit captured sized accounted =
+    headline_of ran stopped verified safe script options records outcome fit captured sized accounted

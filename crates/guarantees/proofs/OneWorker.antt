@@ -15,7 +15,7 @@ use Rattle.semantics.specs.History.{IsLegalJournal}
 use Rattle.semantics.specs.System.{Setting, WorkerState, Idle, Runs, run_over, input_frame}
 use Rattle.shards.specs.declared.deeds.Deed.{Deed}
 use Rattle.shards.specs.declared.deeds.Deed.TheVariants.{Wrote, MetFull}
-use Rattle.shards.specs.Deeds.{shard_of_deed, is_of_shard, entries_made, AreMet, AreWithin as DeedsAreWithin}
+use Rattle.shards.specs.Deeds.{shard_of_deed, is_of_shard, entries_made, AreMet, AreDeedsWithin}
 use Rattle.shard_port.specs.PassDeeds.{rising}
 use Rattle.shard_port.specs.PassSessions.{session_at}
 use Rattle.guarantees.specs.Steps.{begins, does, InRun, running, AreStepsOfRun, beginning, leavings, entries_on}
@@ -76,7 +76,7 @@ all_own setting count worker (move ∷ moves) before after steps =
     all_both (IsOwnDeed count worker) (deeds_asked worker move.asked) (deeds_in worker moves)
     (own_deeds setting count worker before move steps.0 steps.1) (all_own setting count worker moves steps.0 after steps.2)
 
-within_of : (count worker : ℕ) (deeds : List Deed) → AllByRecursion (IsOwnDeed count worker) deeds → DeedsAreWithin count deeds
+within_of : (count worker : ℕ) (deeds : List Deed) → AllByRecursion (IsOwnDeed count worker) deeds → AreDeedsWithin count deeds
 within_of count worker [] own = tt
 within_of count worker (deed ∷ deeds) own = (own.0.0, within_of count worker deeds own.1)
 
@@ -151,7 +151,7 @@ none_of setting count worker other (move ∷ moves) before after steps none apar
 abbrev deeds_set : List Entry → List Deed
 deeds_set set = map (λ (entry : Entry). Wrote entry) set
 
-set_within : (count : ℕ) (set : List Entry) → AllByRecursion (IsSetBefore count) set → DeedsAreWithin count (deeds_set set)
+set_within : (count : ℕ) (set : List Entry) → AllByRecursion (IsSetBefore count) set → AreDeedsWithin count (deeds_set set)
 set_within count [] all = tt
 set_within count (entry ∷ set) all = (all.0.within, set_within count set all.1)
 

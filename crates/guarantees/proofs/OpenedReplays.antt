@@ -20,24 +20,25 @@ use Rattle.semantics.specs.ShardPlan.{plan_for_map}
 use Rattle.journals.specs.JournalsView.{JournalsView, entries_at}
 use Rattle.shards.specs.CallerView.{CallerView}
 use Rattle.shards.specs.Passes.{PassView, own_at}
-use Rattle.replay.specs.declared.outcome.Applied.{Applied}
-use Rattle.replay.specs.Commands.{all_set, CommandDone, AreNotedOf, made_in, with_updates}
+use Rattle.actors.specs.declared.outcome.Applied.{Applied}
+use Rattle.actors.specs.Commands.{all_set, CommandDone, AreNotedOf, made_in, with_updates}
 use Rattle.map_updates.specs.declared.update.MapUpdate.{MapUpdate}
-use Rattle.replay.specs.Rounds.{IsReclaim, IsReclaimedBy}
-use Rattle.replay.specs.declared.runner.Ran.{Ran}
-use Rattle.replay.specs.declared.runner.RunEnd.{RunEnd}
-use Rattle.replay.specs.declared.runner.RunEnd.TheVariants.{Stopped, Exited}
-use Rattle.replay.specs.declared.account.Counts.{Counts}
-use Rattle.replay.specs.Accounts.{SentFrame, counts_of, sent_by, sent_of, sent_frames, runs_at, fate_of}
-use Rattle.replay.specs.RunsInOrder.{IsRunAt, IsChainOfRuns}
-use Rattle.replay.specs.Shares.{frames_of, frame_at, is_short, is_spread_by_flow, worker_of_frame, is_handed, share}
-use Rattle.replay.proofs.shared.AccountLemmas.{handed_own}
-use Rattle.replay.specs.declared.outcome.Outcome.{Outcome}
-use Rattle.replay.specs.Accounted.{IsAccounted}
-use Rattle.replay.specs.Parts.{rounds_of}
-use Rattle.replay.specs.RunsOverShards.{IsRunIn, IsExit}
+use Rattle.actors.specs.Rounds.{IsReclaim, IsReclaimedBy}
+use Rattle.actors.specs.declared.runner.Ran.{Ran}
+use Rattle.actors.specs.declared.runner.RunEnd.{RunEnd}
+use Rattle.actors.specs.declared.runner.RunEnd.TheVariants.{Stopped, Exited}
+use Rattle.actors.specs.declared.account.Counts.{Counts}
+use Rattle.actors.specs.Accounts.{SentFrame, counts_of, sent_by, sent_of, sent_frames, runs_at, fate_of}
+use Rattle.actors.specs.RunsInOrder.{IsRunAt, IsChainOfRuns}
+use Rattle.actors.specs.Shares.{frames_of, frame_at, is_short, is_spread_by_flow, worker_of_frame, is_handed, share}
+use Rattle.actors.proofs.shared.AccountLemmas.{handed_own}
+use Rattle.actors.specs.declared.outcome.Outcome.{Outcome}
+use Rattle.actors.specs.Accounted.{IsAccounted}
+use Rattle.actors.specs.Parts.{round_count}
+use Rattle.actors.specs.RunsOverShards.{IsRunIn, IsExit}
 use Rattle.guarantees.specs.ReaderRuns.{is_quiet, AreQuiet, IsReadAtOpening}
-use Rattle.guarantees.specs.ReaderReplays.{IsCaptured, sent_at_opening, sent_if_there, all_sent_at_opening}
+use Rattle.guarantees.specs.ReaderReplays.{sent_at_opening, sent_if_there, all_sent_at_opening}
+use Rattle.actors.specs.Captured.{IsCaptured}
 use Rattle.guarantees.proofs.Callers.{all_of_callers, all_own}
 use Rattle.guarantees.specs.ReplayMoves.{IsNotStopped}
 use Rattle.guarantees.proofs.NoneStopped.{IsWhole, all_whole, fate_is}
@@ -190,7 +191,7 @@ module _ (maps : List MapDef) (code : List Insn) (options : Options) (some : 0 <
 
   quiet_reclaimer : (number : ℕ) → number < accounted.count → AreQuiet (own_entries Reclaimer (history number))
   quiet_reclaimer number within =
-      quiet_rounds (plan_of number).definition.kind (plan_of number) number (rounds_of (length records)) (own_entries Reclaimer (history number)) (history number)
+      quiet_rounds (plan_of number).definition.kind (plan_of number) number (round_count (length records)) (own_entries Reclaimer (history number)) (history number)
       (accounted.rounds.each number within)
 
   quiet_history : (number : ℕ) → number < accounted.count → AreQuiet (history number)

@@ -23,18 +23,19 @@ use Rattle.semantics.specs.ShardPlan.{plan_at, plan_for_map}
 use Rattle.semantics.specs.System.{IsInputFrame}
 use Rattle.map_port.specs.Exchanges.{Exchange, calls_in, replies_in}
 use Rattle.shards.specs.Passes.{PassView, own_at}
-use Rattle.shard_port.specs.PassSessions.{session_at, AreWithin}
-use Rattle.shard_port.specs.Sessions.{entry_of, entries_at}
+use Rattle.shard_port.specs.PassSessions.{session_at, AreCallsWithin}
+use Rattle.shard_port.specs.Sessions.{exchange_entry, exchange_entries}
 use Rattle.runs.specs.FrameRuns.{AreFormed}
-use Rattle.replay.specs.declared.runner.RunEnd.{RunEnd}
-use Rattle.replay.specs.declared.runner.RunEnd.TheVariants.{Stopped, Exited}
-use Rattle.replay.specs.declared.runner.FrameFate.TheVariants.{Aborted, Dropped, Passed, Sent as IsSent}
-use Rattle.replay.specs.Accounts.{sent_by}
-use Rattle.replay.specs.Shares.{is_short}
-use Rattle.replay.specs.RunsOverShards.{IsTold, IsExit, start_of, time_of}
+use Rattle.actors.specs.declared.runner.RunEnd.{RunEnd}
+use Rattle.actors.specs.declared.runner.RunEnd.TheVariants.{Stopped, Exited}
+use Rattle.actors.specs.declared.runner.FrameFate.TheVariants.{Aborted, Dropped, Passed, Sent as IsSent}
+use Rattle.actors.specs.Accounts.{sent_by}
+use Rattle.actors.specs.Shares.{is_short}
+use Rattle.actors.specs.RunsOverShards.{IsTold, IsExit, start_of, time_of}
 use Rattle.guarantees.specs.SameRuns.{RunsTheSame, stand_of_any, trace_of_any}
 use Rattle.guarantees.specs.ReaderRuns.{is_read, is_quiet, AreReads, AreQuiet, OnlyReads, IsReadAtOpening, opening_reply, stand_with}
-use Rattle.guarantees.specs.ReaderReplays.{IsCaptured, answer_in, opening_answer, options_of, sent_for, sent_where}
+use Rattle.guarantees.specs.ReaderReplays.{answer_in, opening_answer, options_of, sent_for, sent_where}
+use Rattle.actors.specs.Captured.{IsCaptured}
 use Rattle.guarantees.proofs.Answered.{AreOf, ends_alike}
 use Rattle.guarantees.proofs.EveryEntry.{all_both, all_parts, all_reverse, all_reversed, all_session, in_session, all_entries, each_exchange}
 
@@ -91,7 +92,7 @@ abbrev IsQuietEntry : Entry → Type 0
 IsQuietEntry entry = IsTrue (is_quiet entry.call)
 
 quiet_entries : (worker : ℕ) (exchanges : List Exchange) → AllByRecursion (λ (exchange : Exchange). IsTrue (is_read exchange.call)) exchanges →
-    AllByRecursion (λ (exchange : Exchange). IsQuietEntry (entry_of worker exchange)) exchanges
+    AllByRecursion (λ (exchange : Exchange). IsQuietEntry (exchange_entry worker exchange)) exchanges
 quiet_entries worker [] reads = tt
 quiet_entries worker (exchange ∷ later) reads = (quiet_of exchange.call reads.0, quiet_entries worker later reads.1)
 
@@ -144,7 +145,7 @@ module _ (maps : List MapDef) (code : List Insn) (options : Options) (count : �
       subst (λ (own : List Entry). AreQuiet own) (sym (exit.run.sessions.written number within))
       (all_both IsQuietEntry (reverse (session_at worker number exchanges)) (own_at before number)
       (all_reverse IsQuietEntry (session_at worker number exchanges)
-      (all_session IsQuietEntry worker number (entries_at worker number exchanges) refl refl
+      (all_session IsQuietEntry worker number (exchange_entries worker number exchanges) refl refl
       (all_entries IsQuietEntry worker number exchanges (quiet_entries worker exchanges all_read))))
       quiet)
 
@@ -156,15 +157,15 @@ module _ (maps : List MapDef) (code : List Insn) (options : Options) (count : �
       (subst (λ (own : List Entry). AllByRecursion P own) (exit.run.sessions.written number within) all)
 
   in_exchanges : ((number : ℕ) → number < count → AllByRecursion (IsReadAtOpening (plan number)) (own_at after number)) →
-      AllByRecursion (λ (exchange : Exchange). IsReadAtOpening (plan (shard_of_call exchange.call)) (entry_of worker exchange)) exchanges
+      AllByRecursion (λ (exchange : Exchange). IsReadAtOpening (plan (shard_of_call exchange.call)) (exchange_entry worker exchange)) exchanges
   in_exchanges all =
       each_exchange (λ (number : ℕ). IsReadAtOpening (plan number)) count worker exchanges exit.run.sessions.within
-      (λ number within. in_session (IsReadAtOpening (plan number)) worker number (entries_at worker number exchanges)
+      (λ number within. in_session (IsReadAtOpening (plan number)) worker number (exchange_entries worker number exchanges)
       (all_reversed (IsReadAtOpening (plan number)) (session_at worker number exchanges)
       (earlier (IsReadAtOpening (plan number)) number within (all number within)).0))
 
-  answers : (list : List Exchange) → AreWithin count list → AllByRecursion (λ (exchange : Exchange). IsTrue (is_read exchange.call)) list →
-      AllByRecursion (λ (exchange : Exchange). IsReadAtOpening (plan (shard_of_call exchange.call)) (entry_of worker exchange)) list →
+  answers : (list : List Exchange) → AreCallsWithin count list → AllByRecursion (λ (exchange : Exchange). IsTrue (is_read exchange.call)) list →
+      AllByRecursion (λ (exchange : Exchange). IsReadAtOpening (plan (shard_of_call exchange.call)) (exchange_entry worker exchange)) list →
       AreOf (opening_answer program) list
   answers [] within reads all = tt
   answers (exchange ∷ later) within reads all =

@@ -9,19 +9,19 @@ use Rattle.wire.specs.declared.records.Sent.{Sent}
 use Rattle.wire.specs.Fnv.{fnv1a64_of}
 use Rattle.wire.specs.FlowForm.{flow_bytes_of}
 use Rattle.semantics.specs.declared.verdict.Verdict.TheVariants as verdicts
-use Rattle.replay.specs.declared.account.Counts.{Counts}
-use Rattle.replay.specs.declared.outcome.RecordEnd.{RecordEnd as Told}
-use Rattle.replay.specs.declared.runner.FrameFate.{FrameFate}
-use Rattle.replay.specs.declared.runner.FrameFate.TheVariants.{Aborted, Dropped, Passed, Sent as IsSent}
-use Rattle.replay.specs.declared.runner.Ran.{Ran as OneRun}
-use Rattle.replay.specs.declared.runner.RunEnd.{RunEnd}
-use Rattle.replay.specs.declared.runner.RunEnd.TheVariants.{Stopped as WasStopped, Exited as HasExited}
-use Rattle.replay.specs.Accounts.{SentFrame, runs_at, end_at, fate_of, counted, counts_of, sent_by, sent_of, verdict_for, record_end, ends_of}
-use Rattle.replay.specs.RunJobs.{records_of}
-use Rattle.replay.specs.Shares.{frames_of, frame_at, is_short, is_spread_by_flow, worker_of_frame, is_handed, share}
-use Rattle.replay.proofs.shared.AccountLemmas.{handed_own}
-use Rattle.guarantees.specs.Events.{Ending, Exited, Stopped}
-use Rattle.guarantees.specs.Replay.{Captured, RecordEnd, Short, Ran, Totals, runner_of, is_run_by, ran_by, ends_by, was_short, ending_passes, was_stopped, verdict_passes, aborts, drops, passes, sends, how_many, totals_of, sent_for, frames_sent}
+use Rattle.actors.specs.declared.account.Counts.{Counts}
+use Rattle.actors.specs.declared.outcome.RecordEnd.{RecordEnd as Told}
+use Rattle.actors.specs.declared.runner.FrameFate.{FrameFate}
+use Rattle.actors.specs.declared.runner.FrameFate.TheVariants.{Aborted, Dropped, Passed, Sent as IsSent}
+use Rattle.actors.specs.declared.runner.Ran.{Ran as OneRun}
+use Rattle.actors.specs.declared.runner.RunEnd.{RunEnd}
+use Rattle.actors.specs.declared.runner.RunEnd.TheVariants.{Stopped as WasStopped, Exited as HasExited}
+use Rattle.actors.specs.Accounts.{SentFrame, runs_at, end_at, fate_of, counted, counts_of, sent_by, sent_of, verdict_for, record_end, ends_of}
+use Rattle.actors.specs.RunJobs.{records_of}
+use Rattle.actors.specs.Shares.{frames_of, frame_at, is_short, is_spread_by_flow, worker_of_frame, is_handed, share}
+use Rattle.actors.proofs.shared.AccountLemmas.{handed_own}
+use Rattle.semantics.specs.Events.{Ending, Exited, Stopped}
+use Rattle.semantics.specs.Replay.{Captured, RecordEnd, Short, Ran, Totals, runner_of, is_run_by, ran_by, ends_by, was_short, ending_passes, was_stopped, verdict_passes, aborts, drops, passes, sends, how_many, totals_of, sent_for, frames_sent}
 use Rattle.guarantees.specs.ReplayOf.{captured_of, totals_in, told_of}
 use Rattle.guarantees.proofs.AnswerLemmas.{one_behind}
 use Rattle.guarantees.proofs.NoneStopped.{fate_is}

@@ -24,17 +24,17 @@ use Rattle.shards.specs.declared.deeds.Deed.{Deed}
 use Rattle.shards.specs.declared.deeds.OrderPart.TheVariants.{ByCaller}
 use Rattle.shards.specs.Deeds.{deeds_of}
 use Rattle.shards.specs.Passes.{PassView, own_at}
-use Rattle.replay.specs.declared.runner.Ran.{Ran}
-use Rattle.replay.specs.declared.runner.RunEnd.{RunEnd}
-use Rattle.replay.specs.declared.runner.RunEnd.TheVariants.{Stopped, Exited}
-use Rattle.replay.specs.Accounts.{runs_at}
-use Rattle.replay.specs.Accounted.{IsWorkOf}
-use Rattle.replay.specs.RunsInOrder.{IsRunAt, IsChainOfRuns}
-use Rattle.replay.specs.Shares.{frames_of, share}
+use Rattle.actors.specs.declared.runner.Ran.{Ran}
+use Rattle.actors.specs.declared.runner.RunEnd.{RunEnd}
+use Rattle.actors.specs.declared.runner.RunEnd.TheVariants.{Stopped, Exited}
+use Rattle.actors.specs.Accounts.{runs_at}
+use Rattle.actors.specs.Accounted.{IsWorkOf}
+use Rattle.actors.specs.RunsInOrder.{IsRunAt, IsChainOfRuns}
+use Rattle.actors.specs.Shares.{frames_of, share}
 use Rattle.guarantees.specs.Steps.{Move, Refused, AreSteps, running, begins, does, asks, beginning, leavings, entries_on, deeds_in}
 use Rattle.guarantees.specs.SystemRuns.{setting_of, HaveGrown, HaveDone, RanInSystem, HasStoppedInSystem}
 use Rattle.guarantees.specs.Merging.{is_refusal, NoneRefused}
-use Rattle.guarantees.specs.Headline.{moment_of, IsRunOfImage, IsEitherOfImage, moves_to_stop, moves_of_either, moves_of_runs, AreOfRuns}
+use Rattle.guarantees.specs.RunsInList.{moment_of, IsRunOfImage, IsEitherOfImage, moves_to_stop, moves_of_either, moves_of_runs, AreOfRuns}
 use Rattle.guarantees.specs.ReplayMoves.{IsNotStopped, AreMovesOf, HasMoves}
 use Rattle.guarantees.proofs.DeedLemmas.{chosen_reversed}
 use Rattle.guarantees.proofs.EventLemmas.{append_on, append_deeds}

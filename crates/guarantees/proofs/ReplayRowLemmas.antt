@@ -8,8 +8,8 @@ use Rattle.semantics.specs.System.{SystemState, Reclaims, WorkerState, Idle, wor
 use Rattle.semantics.specs.SystemRows.{frame_of}
 use Rattle.semantics.proofs.shared.ConditionLemmas.{tested_bytes}
 use Rattle.semantics.proofs.shared.SystemSteps.{same_everywhere}
-use Rattle.guarantees.specs.Events.{begun_by, ended_by}
-use Rattle.guarantees.specs.Replay.{inputs_of, ends_by, IsReplay}
+use Rattle.semantics.specs.Events.{begun_by, ended_by}
+use Rattle.semantics.specs.Replay.{inputs_of, ends_by, IsReplay}
 use Rattle.guarantees.specs.ReplayRows.{row_setting, held_asked, held_events, held_result, held_ending, full_asked, full_events, full_result, ReplayRows}
 
 input_of : (bytes : List ℕ) → 14 ≤ length bytes → length bytes ≤ 2048 → All (λ byte. byte < 256) bytes → IsInputFrame bytes

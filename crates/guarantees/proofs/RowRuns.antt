@@ -20,8 +20,8 @@ use Rattle.semantics.specs.SystemRows.{frame_of, by_worker, key_of, cell_at}
 use Rattle.semantics.proofs.shared.ConditionLemmas.{tested_bytes}
 use Rattle.map_port.specs.Exchanges.{Exchange, calls_in, replies_in}
 use Rattle.shards.specs.Passes.{own_at, seen_at}
-use Rattle.shard_port.specs.Sessions.{entry_of, entries_at}
-use Rattle.shard_port.specs.PassSessions.{session_at, AreWithin, HasSessions, HasRefusedSessions}
+use Rattle.shard_port.specs.Sessions.{exchange_entry, exchange_entries}
+use Rattle.shard_port.specs.PassSessions.{session_at, AreCallsWithin, HasSessions, HasRefusedSessions}
 use Rattle.guarantees.specs.RunRows.{row_setting, pass_with, lookup_entry, row_entries, IsRow, row_plan, full_history, pass_that_saw, RunRows}
 use Rattle.guarantees.specs.SystemRuns.{IsStoppedInSystem}
 use Rattle.guarantees.proofs.StopLemmas.{stopped_is_of_system}
@@ -107,33 +107,33 @@ never_both program verdict last waiting (suc one) (suc other) state replies ends
 
 -- ---- what the entries of one shard say of a run
 
-of_entry : (one other : Exchange) → entry_of 0 one ≡ entry_of 0 other → one ≡ other
+of_entry : (one other : Exchange) → exchange_entry 0 one ≡ exchange_entry 0 other → one ≡ other
 of_entry one other same =
     let call : one.call ≡ other.call = ap (λ (entry : Entry). entry.call) same in
     let reply : one.reply ≡ other.reply = ap (λ (entry : Entry). entry.reply) same in
     ap (λ (call : Call). record { call = call; reply = one.reply }) call ∙ ap (λ (reply : Reply). record { call = other.call; reply = reply }) reply
 
-one_shard : (exchanges others : List Exchange) → AreWithin 1 exchanges → AreWithin 1 others →
-    entries_at 0 0 exchanges ≡ entries_at 0 0 others → exchanges ≡ others
+one_shard : (exchanges others : List Exchange) → AreCallsWithin 1 exchanges → AreCallsWithin 1 others →
+    exchange_entries 0 0 exchanges ≡ exchange_entries 0 0 others → exchanges ≡ others
 one_shard [] [] within among same = refl
 one_shard [] (other ∷ more) within among same =
     let first : shard_of_call other.call ≡ 0 = omega (arith, among.0) in
-    let made : [] ≡ entry_of 0 other ∷ entries_at 0 0 more = same ∙ entries_there 0 0 other more first in absurd cc
+    let made : [] ≡ exchange_entry 0 other ∷ exchange_entries 0 0 more = same ∙ entries_there 0 0 other more first in absurd cc
 one_shard (one ∷ later) [] within among same =
     let first : shard_of_call one.call ≡ 0 = omega (arith, within.0) in
-    let made : entry_of 0 one ∷ entries_at 0 0 later ≡ [] = sym (entries_there 0 0 one later first) ∙ same in absurd cc
+    let made : exchange_entry 0 one ∷ exchange_entries 0 0 later ≡ [] = sym (entries_there 0 0 one later first) ∙ same in absurd cc
 one_shard (one ∷ later) (other ∷ more) within among same =
     let first : shard_of_call one.call ≡ 0 = omega (arith, within.0) in
     let second : shard_of_call other.call ≡ 0 = omega (arith, among.0) in
-    let made : entry_of 0 one ∷ entries_at 0 0 later ≡ entry_of 0 other ∷ entries_at 0 0 more =
+    let made : exchange_entry 0 one ∷ exchange_entries 0 0 later ≡ exchange_entry 0 other ∷ exchange_entries 0 0 more =
     sym (entries_there 0 0 one later first) ∙ same ∙ entries_there 0 0 other more second in
-    let head : entry_of 0 one ≡ entry_of 0 other = cc in
-    let tail : entries_at 0 0 later ≡ entries_at 0 0 more = cc in
+    let head : exchange_entry 0 one ≡ exchange_entry 0 other = cc in
+    let tail : exchange_entries 0 0 later ≡ exchange_entries 0 0 more = cc in
     ap (λ (exchange : Exchange). exchange ∷ later) (of_entry one other head)
     ∙ ap (λ (list : List Exchange). other ∷ list) (one_shard later more within.1 among.1 tail)
 
 -- with these entries, and whatever verdict, it is no run where the program waits after their replies
-no_run : (entries : List Entry) (exchanges : List Exchange) → AreWithin 1 exchanges → entries ≡ reverse (session_at 0 0 exchanges) ++ [] →
+no_run : (entries : List Entry) (exchanges : List Exchange) → AreCallsWithin 1 exchanges → entries ≡ reverse (session_at 0 0 exchanges) ++ [] →
     (waiting : MachineState) → stand_at 3 exchanges ≡ Waits waiting → (verdict : Verdict) (last : MachineState) → IsRow 3 entries verdict last → ⊥
 no_run entries exchanges among are waiting waits verdict last run =
     let trace : IsOwnTrace row_setting 0 0 0 (frame_of 3) 1 (pass_with []) (pass_with entries) verdict last =

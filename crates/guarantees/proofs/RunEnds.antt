@@ -14,17 +14,17 @@ use Rattle.machine.specs.declared.exit.Stop.{Stop}
 use Rattle.machine.specs.declared.exit.Stop.TheVariants.{JournalFull}
 use Rattle.machine.specs.declared.moment.Moment.{Moment}
 use Rattle.shards.specs.Passes.{PassView}
-use Rattle.replay.specs.declared.runner.Ran.{Ran}
-use Rattle.replay.specs.declared.runner.RunEnd.{RunEnd}
-use Rattle.replay.specs.declared.runner.RunEnd.TheVariants.{Stopped as WasStopped, Exited as HasExited}
-use Rattle.replay.specs.RunsInOrder.{IsRunAt, IsChainOfRuns}
-use Rattle.guarantees.specs.Events.{Input, Ending, Exited, Stopped, begun_by, exit_at}
-use Rattle.guarantees.specs.Replay.{Captured, input_of}
+use Rattle.actors.specs.declared.runner.Ran.{Ran}
+use Rattle.actors.specs.declared.runner.RunEnd.{RunEnd}
+use Rattle.actors.specs.declared.runner.RunEnd.TheVariants.{Stopped as WasStopped, Exited as HasExited}
+use Rattle.actors.specs.RunsInOrder.{IsRunAt, IsChainOfRuns}
+use Rattle.semantics.specs.Events.{Input, Ending, Exited, Stopped, begun_by, exit_at}
+use Rattle.semantics.specs.Replay.{Captured, input_of}
 use Rattle.guarantees.specs.ReplayOf.{captured_of}
 use Rattle.guarantees.specs.Steps.{Refused, Move, begins, does, asks, IsStep, RunBegins, RunGoesOn, RunEnds, CallIsServed, ShardIsEntered, CallIsRefused, EnterIsRefused, ShardIsLeft, AreSteps, InRun, running, AreStepsOfRun, beginning, leavings}
 use Rattle.guarantees.specs.SystemRuns.{setting_of, RanInSystem, HasStoppedInSystem}
 use Rattle.guarantees.specs.Merging.{events_of}
-use Rattle.guarantees.specs.Headline.{moment_of, IsEitherOfImage, moves_to_stop, moves_of_either, moves_of_runs}
+use Rattle.guarantees.specs.RunsInList.{moment_of, IsEitherOfImage, moves_to_stop, moves_of_either, moves_of_runs}
 use Rattle.guarantees.proofs.MoveLemmas.{own_event}
 use Rattle.guarantees.proofs.EndLemmas.{ends_of_asked, ends_in, Walk}
 use Rattle.guarantees.proofs.AnswerLemmas.{then_begun}

@@ -16,12 +16,12 @@ use Rattle.map_port.specs.Served.{Maps, program_over}
 use Rattle.ebpf_decode.specs.declared.map.MapDef.{MapDef}
 use Rattle.semantics.specs.Program.{Program}
 use Rattle.semantics.specs.RunTrace.{IsReplyTo}
-use Rattle.shard_port.specs.PassSessions.{AreWithin}
+use Rattle.shard_port.specs.PassSessions.{AreCallsWithin}
 use Rattle.runs.specs.FrameRuns.{AreFormed}
 use Rattle.shard_port.specs.Asking.{is_in, can_enter, entered, all_left, enter_by, leave_by, CannotEnter, CannotCall}
 use Rattle.shard_port.specs.declared.plain.PlainPort.{PlainPort}
 use Rattle.shard_port.specs.PlainPorts.{PortGives, PortRefuses, maps_of}
-use Rattle.shard_port.specs.Sessions.{WritesSessions, WritesRefusedSessions, StaysOnePort, IsOutsideAll, LeavesOthersAlone, IsVisited, with_entries, begun, session, entries_at}
+use Rattle.shard_port.specs.Sessions.{WritesSessions, WritesRefusedSessions, StaysOnePort, IsOutsideAll, LeavesOthersAlone, IsVisited, with_entries, behind_enter, session, exchange_entries}
 use Rattle.machine.specs.declared.exit.Stop.{Stop}
 use Rattle.machine.specs.declared.exit.Stop.TheVariants.{JournalFull}
 use Rattle.machine.specs.Running.{program_of, Ends, Stops, StopsSo}
@@ -50,10 +50,10 @@ written_by writes worker maps options before after port later exchanges over cha
     let there : slice_get port.shards.now number ≡ Some shard =
     subst (λ (shards : List JournaledShard). slice_get shards number ≡ Some shard) (sym over.same_shards) known in
     let of_port : slice_get (all_left later.worker later.shards.now) number ≡ Some
-    (with_entries shard (session port.worker shard.plan.number (entries_at port.worker number exchanges))) =
+    (with_entries shard (session port.worker shard.plan.number (exchange_entries port.worker number exchanges))) =
     (writes port later exchanges chain number shard there (outside_at worker maps options before port over outside number shard there)).1 in
     ap (λ (shards : List JournaledShard). slice_get shards number) finished.left ∙ of_port
-    ∙ ap (λ one. Some (with_entries shard (session one shard.plan.number (entries_at one number exchanges)))) over.same_worker
+    ∙ ap (λ one. Some (with_entries shard (session one shard.plan.number (exchange_entries one number exchanges)))) over.same_worker
 
 -- calls leave as many shards as there were
 as_many : (one two : PlainPort) (call : Call) (reply : Reply) → PortGives one call reply two → length two.shards.now ≡ length one.shards.now
@@ -63,7 +63,7 @@ as_many one two call reply given =
 
 -- each call is on one of the shards
 within_by : (count : ℕ) (before after : PlainPort) (exchanges : List Exchange) → IsChain PortGives before exchanges after →
-    length before.shards.now ≡ count → AreWithin count exchanges
+    length before.shards.now ≡ count → AreCallsWithin count exchanges
 within_by count before after [] chain many = tt
 within_by count before after (exchange ∷ later) chain many = (
   subst (λ (n : ℕ). shard_of_call exchange.call < n) many
@@ -129,13 +129,13 @@ written_but writes worker maps options before after port middle later exchanges 
     ap (λ (shards : List JournaledShard). slice_get shards number) finished.left in
     ⊎_elim
     (λ (same : slice_get (all_left later.worker later.shards.now) number ≡ Some
-    (with_entries shard (session port.worker shard.plan.number (entries_at port.worker number exchanges)))).
-    inl (here ∙ same ∙ ap (λ one. Some (with_entries shard (session one shard.plan.number (entries_at one number exchanges))))
+    (with_entries shard (session port.worker shard.plan.number (exchange_entries port.worker number exchanges)))).
+    inl (here ∙ same ∙ ap (λ one. Some (with_entries shard (session one shard.plan.number (exchange_entries one number exchanges))))
     over.same_worker))
-    (λ (visited : IsVisited port.worker later number shard (entries_at port.worker number exchanges) call).
+    (λ (visited : IsVisited port.worker later number shard (exchange_entries port.worker number exchanges) call).
     inr (
       visited.own,
-      ap (λ one. entries_at one number exchanges) (sym over.same_worker) ∙ visited.first_call,
+      ap (λ one. exchange_entries one number exchanges) (sym over.same_worker) ∙ visited.first_call,
       here ∙ visited.finished ∙ ap (λ one. Some
           (with_entries shard (enter_by one shard.plan.number ∷ leave_by one shard.plan.number ∷ []))) over.same_worker,
     ))
@@ -160,11 +160,11 @@ was_full writes worker maps options before port middle later exchanges call over
     let there : slice_get port.shards.now number ≡ Some one =
     subst (λ (shards : List JournaledShard). slice_get shards number ≡ Some one) (sym over.same_shards) known in
     let of_port : slice_get middle.shards.now number ≡ Some
-    (with_entries one (begun port.worker one.plan.number (entries_at port.worker number exchanges))) =
+    (with_entries one (behind_enter port.worker one.plan.number (exchange_entries port.worker number exchanges))) =
     (writes port middle exchanges chain number one there (outside_at worker maps options before port over outside number one there)).0 in
-    let here : JournaledShard = with_entries one (begun worker one.plan.number (entries_at worker number exchanges)) in
+    let here : JournaledShard = with_entries one (behind_enter worker one.plan.number (exchange_entries worker number exchanges)) in
     let now : slice_get middle.shards.now number ≡ Some here =
-    of_port ∙ ap (λ (n : ℕ). Some (with_entries one (begun n one.plan.number (entries_at n number exchanges)))) over.same_worker in
+    of_port ∙ ap (λ (n : ℕ). Some (with_entries one (behind_enter n one.plan.number (exchange_entries n number exchanges)))) over.same_worker in
     let away = refuses.refused.turned_away in
     let is : away.shard ≡ here = same_found _ _ _ away.known now in
     ⊎_elim
@@ -213,9 +213,9 @@ pub others_alone : RunsAreTheirMeaning → LeavesOthersAlone → RunsLeaveOthers
 others_alone runs leaves verified options start before after verdict steps frame outside ran other number old new differ known found =
     let meaning = runs verified options start before after verdict steps frame outside ran in
     let written : slice_get after number ≡ Some
-    (with_entries old (session start.worker old.plan.number (entries_at start.worker number meaning.exchanges))) =
+    (with_entries old (session start.worker old.plan.number (exchange_entries start.worker number meaning.exchanges))) =
     meaning.written number old known in
-    let same : new ≡ with_entries old (session start.worker old.plan.number (entries_at start.worker number meaning.exchanges)) =
+    let same : new ≡ with_entries old (session start.worker old.plan.number (exchange_entries start.worker number meaning.exchanges)) =
     cc (written, found) in
     ap (is_in other) same ∙ leaves start.worker other number old meaning.exchanges differ
 

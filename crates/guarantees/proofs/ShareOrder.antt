@@ -4,10 +4,10 @@ use Rattle.std.specs.Prelude.{Some, slice_get, nat_lt, if◌then◌else◌}
 use Rattle.std.proofs.lemmas.Bool.{true≢false}
 use Rattle.std.proofs.lemmas.Bool.Decides.{nat_tests}
 use Rattle.std.specs.List.{AllByRecursion}
-use Rattle.replay.specs.declared.runner.Ran.{Ran}
-use Rattle.replay.specs.Accounts.{end_at}
-use Rattle.replay.specs.RunJobs.{records_of}
-use Rattle.replay.specs.Shares.{is_handed, share}
+use Rattle.actors.specs.declared.runner.Ran.{Ran}
+use Rattle.actors.specs.Accounts.{end_at}
+use Rattle.actors.specs.RunJobs.{records_of}
+use Rattle.actors.specs.Shares.{is_handed, share}
 
 -- ---- lists with one more at their end
 

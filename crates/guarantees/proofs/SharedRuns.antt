@@ -19,12 +19,12 @@ use Rattle.machine.specs.declared.moment.Moment.{Moment}
 use Rattle.machine.specs.Running.{program_of}
 use Rattle.map_port.specs.Exchanges.{calls_in, replies_in}
 use Rattle.shards.specs.Passes.{PassView}
-use Rattle.shard_port.specs.PassPorts.{is_worker_below, worker_of}
+use Rattle.shard_port.specs.PassPorts.{is_worker_below, worker_number}
 use Rattle.runs.specs.FrameRuns.{HasRun, HasStopped}
 use Rattle.guarantees.specs.SystemRuns.{setting_of, RanInSystem, HasStoppedInSystem}
 use Rattle.guarantees.specs.SystemLaws.{RunsAreOfTheSystem, StoppedRunsAreOfTheSystem}
 
-pub is_among : (most : ℕ) (who : Caller) → IsTrue (is_worker_below most who) → worker_of who < most
+pub is_among : (most : ℕ) (who : Caller) → IsTrue (is_worker_below most who) → worker_number who < most
 is_among most (Worker number) below = grind (arith, nat_tests)
 is_among most Controller below = absurd cc
 is_among most Reclaimer below = absurd cc

@@ -35,9 +35,9 @@ use Rattle.control.specs.MapUpdates.{UpdateBytes, map_update}
 use Rattle.control.specs.RingChanges.{changes_below, slot_updates}
 use Rattle.control.specs.ScriptText.{AreBytes as HasBytes, ActionFits, CommandFits}
 use Rattle.control.specs.Controlling.{ControllerState, has_number, up_after, down_update, first_updates, updates_of}
-use Rattle.replay.specs.declared.outcome.Applied.{Applied}
-use Rattle.replay.specs.SharedUpdates.{shard_of}
-use Rattle.replay.specs.Commands.{CommandDone, IsDoneBy, AreDone, AreNotedOf, IsCarriedOut, IsNothing, IsTurnedDown, IsCutShort}
+use Rattle.actors.specs.declared.outcome.Applied.{Applied}
+use Rattle.actors.specs.SharedUpdates.{shard_of}
+use Rattle.actors.specs.Commands.{CommandDone, IsDoneBy, AreDone, AreNotedOf, IsCarriedOut, IsNothing, IsTurnedDown, IsCutShort}
 use Rattle.guarantees.specs.ReplayOf.{call_of}
 use Rattle.guarantees.proofs.EveryEntry.{all_both, all_parts}
 

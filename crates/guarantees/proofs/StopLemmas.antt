@@ -20,9 +20,9 @@ use Rattle.shards.specs.declared.deeds.Deed.{Deed}
 use Rattle.shards.specs.declared.deeds.Deed.TheVariants.{Wrote, MetFull}
 use Rattle.shards.specs.Passes.{PassView, own_at}
 use Rattle.shard_port.specs.Asking.{enter_by, leave_by}
-use Rattle.shard_port.specs.Sessions.{entries_at, session}
-use Rattle.shard_port.specs.PassSessions.{session_at, AreWithin, IsVisitedAt, StoppedAtCall, StoppedAtEnter, HasRefusedSessions}
-use Rattle.shard_port.specs.PassDeeds.{asked_deeds, entered_by, rising, leaving_deeds, deeds_to_call}
+use Rattle.shard_port.specs.Sessions.{exchange_entries, session}
+use Rattle.shard_port.specs.PassSessions.{session_at, AreCallsWithin, IsVisitedAt, StoppedAtCall, StoppedAtEnter, HasRefusedSessions}
+use Rattle.shard_port.specs.PassDeeds.{asked_deeds, shards_entered, rising, leaving_deeds, deeds_to_call}
 use Rattle.runs.specs.FrameRuns.{AreFormed}
 use Rattle.guarantees.specs.Steps.{Writes, Refused, Move, asks, IsStep, RunBegins, ShardIsEntered, CallIsRefused, EnterIsRefused, InRun, running, AreStepsOfRun, beginning, leavings, entries_on, deeds_in}
 use Rattle.guarantees.specs.SystemRuns.{HaveGrown, IsStoppedInSystem}
@@ -40,14 +40,14 @@ pub record WaitsFor (setting : Setting) (call : Call) (waiting ending : MachineS
 
 abbrev IsLed : Setting → ℕ → ℕ → ℕ → Call → MachineState → Type 0
 IsLed setting count worker steps call waiting =
-    (state : MachineState) (entered : List ℕ) (exchanges : List Exchange) → AreEntered count entered → AreWithin count exchanges →
+    (state : MachineState) (entered : List ℕ) (exchanges : List Exchange) → AreEntered count entered → AreCallsWithin count exchanges →
     AreFormed (model.program_of setting) exchanges →
     trace_of steps (model.program_of setting) state (replies_in exchanges)
     ≡ record { calls = calls_in exchanges ++ call ∷ []; stand = Waits waiting } →
     Reaches (WaitsFor setting call waiting) setting count worker state entered exchanges
 
 by_step : (setting : Setting) (count worker steps : ℕ) (call : Call) (waiting : MachineState) → IsLed setting count worker steps call waiting →
-    (state : MachineState) (entered : List ℕ) (exchanges : List Exchange) → AreEntered count entered → AreWithin count exchanges →
+    (state : MachineState) (entered : List ℕ) (exchanges : List Exchange) → AreEntered count entered → AreCallsWithin count exchanges →
     AreFormed (model.program_of setting) exchanges → (step : Step) → next_step (model.program_of setting) state ≡ step →
     trace_from (trace_of steps (model.program_of setting)) state step (replies_in exchanges)
     ≡ record { calls = calls_in exchanges ++ call ∷ []; stand = Waits waiting } →
@@ -136,7 +136,7 @@ called_from worker count exchanges call entered inside =
     asked_deeds worker [] exchanges ++ (if inside then [] else Wrote (enter_by worker (shard_of_call call)) ∷ []) ++
     MetFull (Worker worker) call ∷ leaving_deeds worker (rising count (if inside then entered else shard_of_call call ∷ entered))
 
-called_by : (worker count : ℕ) (exchanges : List Exchange) (call : Call) (entered : List ℕ) (inside : Bool) → entered ≡ entered_by [] exchanges →
+called_by : (worker count : ℕ) (exchanges : List Exchange) (call : Call) (entered : List ℕ) (inside : Bool) → entered ≡ shards_entered [] exchanges →
     is_entered (shard_of_call call) entered ≡ inside →
     called_from worker count exchanges call entered inside ≡ deeds_to_call worker count exchanges call
 called_by worker count exchanges call entered inside enters is =
@@ -178,13 +178,13 @@ module _ (setting : Setting) (worker told now : ℕ) (frame : List ℕ) (plan : 
   AtEnter = StoppedAtEnter (plan (shard_of_call call)) sessions.full_at count worker exchanges call before after
 
   -- the run has called a shard exactly where it has entered it
-  called_none : (number : ℕ) → is_entered number reaches.after ≡ false → entries_at worker number exchanges ≡ []
-  called_none number out = none_there (entries_at worker number exchanges) (sym (reaches.stays number) ∙ out)
+  called_none : (number : ℕ) → is_entered number reaches.after ≡ false → exchange_entries worker number exchanges ≡ []
+  called_none number out = none_there (exchange_entries worker number exchanges) (sym (reaches.stays number) ∙ out)
 
-  called_some : (number : ℕ) → is_entered number reaches.after ≡ true → entries_at worker number exchanges ≡ [] → ⊥
+  called_some : (number : ℕ) → is_entered number reaches.after ≡ true → exchange_entries worker number exchanges ≡ [] → ⊥
   called_some number inside none =
-      let some : is_entered number reaches.after ≡ is_some_entry (entries_at worker number exchanges) = reaches.stays number in
-      let no : is_some_entry (entries_at worker number exchanges) ≡ false = ap is_some_entry none in cc
+      let some : is_entered number reaches.after ≡ is_some_entry (exchange_entries worker number exchanges) = reaches.stays number in
+      let no : is_some_entry (exchange_entries worker number exchanges) ≡ false = ap is_some_entry none in cc
 
   -- the call's shard has a session already: the call was refused inside
   inside_stop : is_entered (shard_of_call call) reaches.after ≡ true → AtCall → IsStop

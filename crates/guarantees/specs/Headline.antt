@@ -1,184 +1,65 @@
--- What a replay of a verified image promises, in the order of the sentence: the image is safe; each shard has one legal history, in which
--- each reply is the one-thread map's at its own place; each run is a list of steps of the system around this image, with the verdict, the
--- frame and the number of instructions of its program's trace on the replies that it was given; what all callers did on all shards is one
--- order, in which the controller's deeds are its script's and the reclaimer's its rounds, each in their own order; the steps of all
--- workers, with what the controller and the reclaimer did, are one list of events.
-use Rattle.std.specs.Prelude.{◌≡◌, ℕ, ◌<◌, List, [], ◌∷◌, ◌++◌, length, reverse, Some}
-use Rattle.std.specs.List.{AllByRecursion}
-use Rattle.wire.specs.FrameView.{FrameView}
+-- The headline, of a verified image and of what a replay of it hands back, in two fields.
+use Rattle.std.specs.Prelude.{◌≡◌, ◌*◌, ℕ, List, length, map}
+use Rattle.ebpf_decode.specs.declared.map.MapDef.{MapDef}
 use Rattle.wire.specs.declared.records.Sent.{Sent}
-use Rattle.semantics.specs.declared.call.Entry.{Entry}
 use Rattle.semantics.specs.declared.options.Options.{Options}
-use Rattle.semantics.specs.declared.plan.ShardPlan.{ShardPlan}
-use Rattle.semantics.specs.declared.verdict.Verdict.{Verdict}
-use Rattle.semantics.specs.ShardPlan.{AreOptions}
-use Rattle.semantics.specs.History.{IsLegalJournal, IsSequentialStep}
+use Rattle.semantics.specs.System.{SystemEvent}
 use Rattle.semantics.specs.Safety.{IsSafeImage}
+use Rattle.semantics.specs.Replay.{RecordEnd, IsReplay}
 use Rattle.verifier.specs.Verified.{Verified}
-use Rattle.machine.specs.declared.exit.Stop.{Stop}
-use Rattle.machine.specs.declared.exit.Stop.TheVariants.{JournalFull}
-use Rattle.machine.specs.declared.moment.Moment.{Moment}
-use Rattle.machine.specs.Running.{program_of}
-use Rattle.journals.specs.JournalsView.{JournalsView, entries_at}
-use Rattle.shards.specs.declared.deeds.Deed.{Deed}
-use Rattle.shards.specs.Deeds.{entries_made}
-use Rattle.shards.specs.Passes.{PassView}
-use Rattle.shards.specs.SharedMaps.{ArePlans}
-use Rattle.runs.specs.FrameRuns.{HasRun, HasStopped}
-use Rattle.replay.specs.declared.runner.RunEnd.{RunEnd}
-use Rattle.replay.specs.declared.runner.RunEnd.TheVariants.{Stopped, Exited}
-use Rattle.replay.specs.declared.runner.Ran.{Ran}
-use Rattle.replay.specs.Accounts.{runs_at, counts_of, frames_in, sent_of, sent_frames, ends_of}
-use Rattle.replay.specs.RunsInOrder.{IsRunAt, IsChainOfRuns}
-use Rattle.replay.specs.Shares.{frames_of, share}
+use Rattle.journals.specs.JournalsView.{JournalsView}
+use Rattle.maglev.specs.RingSize.{IsRingSize}
 use Rattle.control.specs.declared.command.Command.{Command}
-use Rattle.replay.specs.declared.outcome.Outcome.{Outcome}
-use Rattle.replay.specs.Parts.{IsScriptAccounted, AreRoundsAccounted, rounds_of}
-use Rattle.replay.specs.Accounted.{IsWorkOf, IsOrderOfJournals, IsAccounted}
-use Rattle.replay.specs.RunsOverShards.{time_of, start_of, IsTold, steps_in}
-use Rattle.semantics.specs.System.{Setting}
-use Rattle.guarantees.specs.Steps.{Move, Refused, begins, does, asks, leavings}
-use Rattle.guarantees.specs.SystemRuns.{setting_of, RanInSystem, HasStoppedInSystem}
-use Rattle.guarantees.specs.ReplayMoves.{HasMoves}
-use Rattle.guarantees.specs.Merging.{IsOneList}
-use Rattle.guarantees.specs.ReaderReplays.{IsCaptured}
+use Rattle.control.specs.Controlling.{ControllerState, opened_controller}
+use Rattle.actors.specs.declared.outcome.Applied.{Applied}
+use Rattle.actors.specs.declared.outcome.Outcome.{Outcome}
+use Rattle.actors.specs.Actors.{numbers_from}
+use Rattle.actors.specs.Commands.{CommandDone, AreDone, AreNotedOf, ServesScript}
+use Rattle.actors.specs.Parts.{numbers_of, refused_of}
+use Rattle.guarantees.specs.ReplayOf.{asked_of, told_of, result_of}
+use Rattle.guarantees.specs.SystemRuns.{setting_of}
 
--- when a worker runs a record's frame
-abbrev pub moment_of : Sent → ℕ → Moment
-moment_of captured worker = record { now_ns = time_of captured; worker = worker }
+-- Each command of the script was carried out once, in the script's order, from the state of the controller that the one before it left; those
+-- that were refused are these. The controller is for a lookup table of a size that is served, the one that the maps have (without commands any
+-- served size does).
+pub record AreOfScript (maps : List MapDef) (script : List Command) (refused : List Applied) (done : List CommandDone) : Type 0 where
+  pub size : ℕ
+  pub size_is_served : IsRingSize size
+  pub serves : ServesScript maps size script
+  pub noted : List Applied
+  pub each_once : numbers_of noted ≡ numbers_from 0 (length script)
+  pub are_noted : AreNotedOf script noted done
+  pub state : ControllerState
+  pub are_done : AreDone (opened_controller size) done state
+  pub refused_are : refused ≡ refused_of noted
 
--- a run that ended: its program's trace on the replies that are among its worker's entries, and steps of the system from idle to idle
-pub record IsRunOfImage (verified : Verified) (options : Options) (count worker : ℕ) (captured : Sent) (before : PassView) (end : RunEnd)
-    (after : PassView) : Type 0 where
-  pub verdict : Verdict
-  pub steps : ℕ
-  pub frame : FrameView
-  pub trace : HasRun (program_of verified options.shards) (start_of captured worker) count worker before after verdict steps frame
-  pub of_system :
-      RanInSystem (setting_of verified options) worker (moment_of captured worker) captured.bytes.items count before after
-      verdict steps frame
-  pub told : IsTold captured verdict frame end
-  pub counted : steps_in end ≡ Some steps
+-- there is one for each shard of these maps, which were opened with these options
+pub record AreJournalsOf (maps : List MapDef) (options : Options) (journals : JournalsView) : Type 0 where
+  pub maps_are : journals.maps ≡ maps
+  pub options_are : journals.options ≡ options
+  pub count : length journals.shards ≡ length maps * options.shards
 
--- a run that a full journal stopped: a beginning of that
-pub record IsStopOfImage (verified : Verified) (options : Options) (plan : ℕ → ShardPlan) (count worker : ℕ) (captured : Sent)
-    (before after : PassView) : Type 0 where
-  pub frame : FrameView
-  pub stop : Stop
-  pub trace : HasStopped (program_of verified options.shards) (start_of captured worker) plan count worker before after frame stop
-  pub of_system :
-      HasStoppedInSystem (setting_of verified options) worker (moment_of captured worker) captured.bytes.items plan count before after
-      frame stop
+-- What was asked and what is handed back are one list of events of the system (`IsReplay`).
+pub record IsOneReplay (verified : Verified) (script : List Command) (options : Options) (records : List Sent) (outcome : Outcome) :
+    Type 0 where
+  -- the calls of each command are those of the script
+  pub done : List CommandDone
+  pub of_script : AreOfScript verified.maps script outcome.refused.items done
+  -- how each record ended, with the frame as its run left it, or at which full journal it was stopped: but for the frames that are not sent, and
+  -- for which journal it was, this is handed back
+  pub ends : List RecordEnd
+  pub are_told : map told_of ends ≡ outcome.ends.items
+  -- the journals are those of all shards of the image's maps
+  pub journals_are : AreJournalsOf verified.maps options outcome.journals
+  -- the events are a replay of the records, the updates before the first and the commands, with these ends, and with the numbers, the sent
+  -- frames, the answers and the journals that are handed back
+  pub events : List SystemEvent
+  pub are : IsReplay (setting_of verified options) (asked_of verified options records outcome done) (result_of outcome done ends) events
 
-abbrev pub IsEitherOfImage : Verified → Options → (ℕ → ShardPlan) → ℕ → ℕ → Sent → PassView → RunEnd → PassView → Type 0
-IsEitherOfImage verified options plan count worker captured before Stopped after =
-    IsStopOfImage verified options plan count worker captured before after
-IsEitherOfImage verified options plan count worker captured before end after =
-    IsRunOfImage verified options count worker captured before end after
-
--- ---- the moves of these runs
-
--- a run that ended: it begins on its record's frame, at its moment, goes on, ends, and leaves the shards that it entered
-abbrev pub moves_of_run : (verified : Verified) (options : Options) (count worker : ℕ) (captured : Sent) (before : PassView) (end : RunEnd)
-    (after : PassView) → IsRunOfImage verified options count worker captured before end after → List Move
-moves_of_run verified options count worker captured before end after run =
-    begins worker captured.bytes.items (time_of captured) worker ∷ run.of_system.of_system.run ++
-    does worker ∷ leavings worker run.of_system.of_system.left
-
--- a run that was stopped: its last step meets a full journal
-abbrev pub moves_to_stop : (setting : Setting) (worker : ℕ) (moment : Moment) (frame : List ℕ) (plan : ℕ → ShardPlan) (count : ℕ)
-    (before after : PassView) (kept_back : FrameView) (stop : Stop) →
-    HasStoppedInSystem setting worker moment frame plan count before after kept_back stop → List Move
-moves_to_stop setting worker moment frame plan count before after kept_back (JournalFull shard) stopped =
-    begins worker frame moment.now_ns moment.worker ∷ stopped.of_system.run ++
-    asks worker (Refused stopped.of_system.refused) ∷ leavings worker stopped.of_system.left
-
-abbrev pub moves_of_either : (verified : Verified) (options : Options) (plan : ℕ → ShardPlan) (count worker : ℕ) (captured : Sent)
-    (before : PassView) (end : RunEnd) (after : PassView) →
-    IsEitherOfImage verified options plan count worker captured before end after → List Move
-moves_of_either verified options plan count worker captured before Stopped after run =
-    moves_to_stop (setting_of verified options) worker (moment_of captured worker) captured.bytes.items plan count before after run.frame
-    run.stop run.of_system
-moves_of_either verified options plan count worker captured before (Exited steps fate) after run =
-    moves_of_run verified options count worker captured before (Exited steps fate) after run
-
--- one run after the other
-abbrev pub moves_of_runs : (verified : Verified) (options : Options) (plan : ℕ → ShardPlan) (count worker : ℕ) (records : List Sent)
-    (before : PassView) (runs : List Ran) (after : PassView) →
-    IsChainOfRuns (IsRunAt (IsEitherOfImage verified options plan count worker) records) before runs after → List Move
-moves_of_runs verified options plan count worker records before [] after chain = []
-moves_of_runs verified options plan count worker records before (ran ∷ later) after chain =
-    moves_of_either verified options plan count worker chain.1.sent before ran.end chain.0 chain.1.run
-    ++ moves_of_runs verified options plan count worker records chain.0 later after chain.2
-
--- the worker's moves are those of the runs that it made
-pub record AreOfRuns (verified : Verified) (options : Options) (plan : ℕ → ShardPlan) (count worker : ℕ) (records : List Sent)
-    (runs : List (List Ran)) (journals : JournalsView) (order : List Deed)
-    (work : (worker : ℕ) → worker < options.workers → IsWorkOf (IsRunAt (IsEitherOfImage verified options plan count worker) records)
-    (share (frames_of records) options.workers worker (length records)) worker (runs_at runs worker) count journals order)
-    (moves : List Move) : Type 0 where
-  pub below : worker < options.workers
-  pub are :
-      moves ≡ moves_of_runs verified options plan count worker records (work worker below).handled.before (runs_at runs worker)
-      (work worker below).after (work worker below).handled.chain
-
--- the promise
-pub record Headline (verified : Verified) (script : List Command) (options : Options) (records : List Sent)
-    (outcome : Outcome) : Type 0 where
+pub record Headline (verified : Verified) (script : List Command) (options : Options) (records : List Sent) (outcome : Outcome) : Type 0 where
   -- whatever frames arrive and however the shared steps interleave, no run traps, and each ends within as many instructions as the image
   -- has slots
   pub safe : IsSafeImage verified.maps verified.code
-  -- each shard has one legal history: its journal
-  pub count : ℕ
-  pub count_is : length outcome.journals.shards ≡ count
-  pub plan : ℕ → ShardPlan
-  pub plans : ArePlans verified.maps options count plan
-  pub legal : (number : ℕ) → number < count → IsLegalJournal (plan number) (entries_at outcome.journals number)
-  -- each reply in it is that of the one-thread map at the entry's own place
-  pub own_place :
-      (number : ℕ) → number < count → (earlier later : List Entry) (entry : Entry) →
-      entries_at outcome.journals number ≡ earlier ++ entry ∷ later → IsSequentialStep (plan number) (reverse earlier) entry
-  -- what all callers did on all shards is one order: shard by shard it is the journal, and each look at a full journal met one
-  pub order : List Deed
-  pub ordered : IsOrderOfJournals plan count outcome.journals order
-  -- the controller's deeds in it are the updates before the first record and then those of the script's commands, in order over all shards,
-  -- each with its answer, and behind those of a command that a full journal stopped the look at that journal
-  pub commands :
-      IsScriptAccounted plan verified.maps options count outcome.updates.items script outcome.journals order outcome.refused.items
-  -- and the reclaimer's are its rounds, one behind the other: in each a Reclaim of each hash and LRU shard, the lowest number first
-  pub rounds : AreRoundsAccounted plan count (rounds_of (length records)) outcome.journals order
-  -- each worker ran its records, one after the other; in each journal its entries are those of its runs, and its deeds in the order are
-  -- theirs; each run is one of the system around this image, and has the verdict, the frame and the number of instructions of its program's
-  -- trace on its replies
-  pub runs : List (List Ran)
-  pub workers : length runs ≡ options.workers
-  pub work :
-      (worker : ℕ) → worker < options.workers →
-      IsWorkOf (IsRunAt (IsEitherOfImage verified options plan count worker) records)
-      (share (frames_of records) options.workers worker (length records)) worker (runs_at runs worker) count outcome.journals order
-  -- and the worker's runs are one list of steps, from idle to idle, which wrote on each shard what its journal has of this worker, in
-  -- order, and did over all shards what the order has of it
-  pub moves : HasMoves (setting_of verified options) count runs outcome.journals order
-  -- these steps are those of the runs in `work`, each on its record's frame, at its moment
-  pub of_runs :
-      (worker : ℕ) → worker < options.workers →
-      AreOfRuns verified options plan count worker records runs outcome.journals order work (moves.moves worker)
-  -- the steps of all workers, with what the controller and the reclaimer did, are one list of events of the system, which can all happen
-  -- from the opening on; each worker's are in their order in it; they write the entries of the one order, in this order over all shards;
-  -- after it the histories are the journals, and every worker is idle
-  pub list :
-      IsOneList (setting_of verified options) count (λ number. entries_at outcome.journals number) moves.moves
-      (entries_made (reverse order))
-  -- the frames that were sent, the numbers of the report, in which each record is counted once, and what became of each record are those of
-  -- these runs
-  pub sent : sent_frames outcome.sent.items ≡ sent_of (frames_of records) options.workers runs (length records)
-  pub counts : outcome.counts ≡ counts_of (frames_of records) options.workers runs (length records)
-  pub each_once : frames_in outcome.counts ≡ length records
-  pub ends : outcome.ends.items ≡ ends_of (frames_of records) options.workers runs (length records)
-
--- it holds of every replay that accounts for its records, as `replay` ensures it
-abbrev pub ReplaysKeepIt : Verified → Type 0
-ReplaysKeepIt verified =
-    (script : List Command) (options : Options) (records : List Sent) (outcome : Outcome) → AreOptions verified.maps options →
-    AllByRecursion IsCaptured records → IsAccounted (program_of verified options.shards) script options records outcome →
-    Headline verified script options records outcome
+  -- the replay is a list of steps of the system, in which each run gives the verdict and the frame of its program's meaning on the replies
+  -- that it was handed, each the one-thread map's at the run's own place in the one history of its shard
+  pub replay : IsOneReplay verified script options records outcome

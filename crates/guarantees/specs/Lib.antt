@@ -2,7 +2,7 @@ pub mod Steps
 pub mod Moves
 pub mod SystemRuns
 pub mod ReplayMoves
-pub mod Headline
+pub mod RunsInList
 pub mod SystemLaws
 pub mod StepLaws
 pub mod RunRows
@@ -15,8 +15,7 @@ pub mod Guarantees
 pub mod SameRuns
 pub mod ReaderRuns
 pub mod ReaderReplays
-pub mod Events
-pub mod Replay
 pub mod ReplayRows
 pub mod ReplayOf
-pub mod OneReplay
+pub mod Headline
+pub mod HeadlineOf

@@ -7,7 +7,7 @@ use Rattle.semantics.specs.declared.verdict.Verdict.{Verdict}
 use Rattle.semantics.specs.MachineState.{MachineState, initial_state}
 use Rattle.semantics.specs.RunTrace.{HasExited, trace_of}
 use Rattle.map_port.specs.Exchanges.{Exchange, calls_in, replies_in}
-use Rattle.shard_port.specs.PassSessions.{session_at, AreWithin}
+use Rattle.shard_port.specs.PassSessions.{session_at, AreCallsWithin}
 use Rattle.runs.specs.FrameRuns.{AreFormed}
 use Rattle.semantics.specs.declared.call.Entry.{Entry}
 use Rattle.semantics.specs.declared.plan.ShardPlan.{ShardPlan}
@@ -17,7 +17,7 @@ use Rattle.semantics.specs.System.{Setting, program_of, IsInputFrame, input_fram
 use Rattle.semantics.specs.System.{worker_state, history_of, with_entry, after_event, opening_system, system_after, CanAllHappen}
 use Rattle.shards.specs.declared.deeds.Deed.{Deed}
 use Rattle.shards.specs.declared.deeds.OrderPart.TheVariants.{ByCaller}
-use Rattle.shards.specs.Deeds.{deeds_of, is_of_shard, entries_made, made_on, AreMet, AreWithin as DeedsAreWithin}
+use Rattle.shards.specs.Deeds.{deeds_of, is_of_shard, entries_made, made_on, AreMet, AreDeedsWithin}
 use Rattle.guarantees.specs.Steps.{AskedOfShard, Refused, Move, AreSteps, entries_in, entries_on, deeds_in, begins}
 use Rattle.guarantees.specs.Moves.{is_event_of}
 
@@ -33,7 +33,7 @@ pub record IsOrderOfMoves (setting : Setting) (plan : ℕ → ShardPlan) (count 
   pub options : AreOptions setting.maps setting.options
   pub count_is : count ≡ length setting.maps * setting.options.shards
   pub plans : (number : ℕ) → number < count → plan_at setting.maps setting.options number ≡ Some (plan number)
-  pub within : DeedsAreWithin count deeds
+  pub within : AreDeedsWithin count deeds
   pub journals : (number : ℕ) → number < count → made_on number deeds ≡ journal number
   pub legal : (number : ℕ) → number < count → IsLegalJournal (plan number) (journal number)
   pub met : AreMet plan (reverse deeds)
@@ -116,7 +116,7 @@ pub record IsRunAlone (setting : Setting) (count worker told now : ℕ) (frame :
       trace_of instructions (program_of setting) (initial_state (input_frame frame) told now) (replies_in exchanges)
       ≡ record { calls = calls_in exchanges; stand = HasExited verdict last }
   pub formed : AreFormed (program_of setting) exchanges
-  pub within : AreWithin count exchanges
+  pub within : AreCallsWithin count exchanges
 
 -- the journal of a shard, which has what the controller set, and then the run's session
 abbrev pub set_and_run : List Entry → ℕ → List Exchange → ℕ → List Entry

@@ -17,11 +17,12 @@ use Rattle.semantics.specs.Program.{Program}
 use Rattle.semantics.specs.History.{shard_of_call}
 use Rattle.semantics.specs.RunTrace.{RunStand, HasExited}
 use Rattle.semantics.specs.ShardPlan.{plan_at, AreOptions}
-use Rattle.replay.specs.Accounts.{SentFrame, sent_frames}
-use Rattle.replay.specs.Shares.{is_short}
-use Rattle.replay.specs.declared.outcome.Outcome.{Outcome}
-use Rattle.replay.specs.Accounted.{IsAccounted}
-use Rattle.replay.specs.RunsOverShards.{time_of, start_of}
+use Rattle.actors.specs.Accounts.{SentFrame, sent_frames}
+use Rattle.actors.specs.Shares.{is_short}
+use Rattle.actors.specs.declared.outcome.Outcome.{Outcome}
+use Rattle.actors.specs.Accounted.{IsAccounted}
+use Rattle.actors.specs.RunsOverShards.{time_of, start_of}
+use Rattle.actors.specs.Captured.{IsCaptured}
 use Rattle.guarantees.specs.ReaderRuns.{opening_reply, stand_with}
 
 -- ---- the maps as they were opened
@@ -66,12 +67,6 @@ all_sent_at_opening program records (suc number) =
     all_sent_at_opening program records number ++ sent_if_there program (slice_get records number)
 
 -- ---- the law
-
--- a record as a capture has it
-pub record IsCaptured (captured : Sent) : Type 0 where
-  pub short : length captured.bytes.items ≤ 2048
-  pub bytes : All (λ byte. byte < 256) captured.bytes.items
-  pub time : time_of captured < 2 ^ 64
 
 -- A replay without commands, and without updates before its first record, in which no run was stopped sends what the runs over maps in
 -- which nothing has happened send: for every number of workers the same.

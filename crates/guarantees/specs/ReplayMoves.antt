@@ -8,10 +8,10 @@ use Rattle.journals.specs.JournalsView.{JournalsView, entries_at}
 use Rattle.shards.specs.declared.deeds.Deed.{Deed}
 use Rattle.shards.specs.declared.deeds.OrderPart.TheVariants.{ByCaller}
 use Rattle.shards.specs.Deeds.{deeds_of}
-use Rattle.replay.specs.declared.runner.Ran.{Ran}
-use Rattle.replay.specs.declared.runner.RunEnd.{RunEnd}
-use Rattle.replay.specs.declared.runner.RunEnd.TheVariants.{Stopped}
-use Rattle.replay.specs.Accounts.{runs_at}
+use Rattle.actors.specs.declared.runner.Ran.{Ran}
+use Rattle.actors.specs.declared.runner.RunEnd.{RunEnd}
+use Rattle.actors.specs.declared.runner.RunEnd.TheVariants.{Stopped}
+use Rattle.actors.specs.Accounts.{runs_at}
 use Rattle.guarantees.specs.Steps.{Move, AreSteps, entries_on, deeds_in}
 use Rattle.guarantees.specs.Merging.{NoneRefused}
 

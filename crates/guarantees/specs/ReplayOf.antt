@@ -9,15 +9,15 @@ use Rattle.semantics.specs.declared.options.Options.{Options}
 use Rattle.verifier.specs.Verified.{Verified}
 use Rattle.journals.specs.JournalsView.{entries_at}
 use Rattle.control.specs.MapUpdates.{UpdateBytes}
-use Rattle.replay.specs.declared.account.Counts.{Counts}
-use Rattle.replay.specs.declared.outcome.Outcome.{Outcome}
-use Rattle.replay.specs.declared.outcome.RecordEnd.{RecordEnd as Told}
-use Rattle.replay.specs.declared.outcome.RecordEnd.TheVariants as told
-use Rattle.replay.specs.Commands.{AnsweredUpdate, CommandDone, all_set}
-use Rattle.replay.specs.SharedUpdates.{shard_of, update_call}
-use Rattle.replay.specs.Shares.{worker_of_frame}
-use Rattle.guarantees.specs.Events.{Exited, Stopped}
-use Rattle.guarantees.specs.Replay.{Captured, Asked, RecordEnd, Short, Ran, Totals, Result}
+use Rattle.actors.specs.declared.account.Counts.{Counts}
+use Rattle.actors.specs.declared.outcome.Outcome.{Outcome}
+use Rattle.actors.specs.declared.outcome.RecordEnd.{RecordEnd as Told}
+use Rattle.actors.specs.declared.outcome.RecordEnd.TheVariants as told
+use Rattle.actors.specs.Commands.{AnsweredUpdate, CommandDone, all_set}
+use Rattle.actors.specs.SharedUpdates.{shard_of, update_call}
+use Rattle.actors.specs.Shares.{worker_of_frame}
+use Rattle.semantics.specs.Events.{Exited, Stopped}
+use Rattle.semantics.specs.Replay.{Captured, Asked, RecordEnd, Short, Ran, Totals, Result}
 
 -- ---- what was asked
 
@@ -71,7 +71,7 @@ stopped_answer (Some update) = None ∷ []
 abbrev pub command_answers : CommandDone → List (Option Reply)
 command_answers one = answers_made one.made ++ stopped_answer one.stopped
 
--- what is handed back of a record's end: all but a frame that is not sent
+-- what is handed back of a record's end: all but a frame that is not sent, and which journal was full
 abbrev pub told_of : RecordEnd → Told
 told_of Short = told.Short
 told_of (Ran worker (Stopped shard)) = told.Stopped worker

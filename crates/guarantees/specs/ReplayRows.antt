@@ -9,8 +9,8 @@ use Rattle.semantics.specs.declared.verdict.Verdict.TheVariants.{Pass}
 use Rattle.semantics.specs.System.{Setting, SystemEvent, BeginsRun, DoesInstruction, CallsShard, LeavesShard, Controls, Reclaims}
 use Rattle.semantics.specs.SystemRows.{setting_over, looking_up, frame_of, key_of, value_of, cell_at, instructions}
 use Rattle.semantics.specs.SystemRows.{by_worker, by_controller, by_reclaimer}
-use Rattle.guarantees.specs.Events.{Ending, Exited, Stopped}
-use Rattle.guarantees.specs.Replay.{Captured, Asked, Short, Ran, Totals, Result, IsReplay}
+use Rattle.semantics.specs.Events.{Ending, Exited, Stopped}
+use Rattle.semantics.specs.Replay.{Captured, Asked, Short, Ran, Totals, Result, IsReplay}
 
 abbrev pub row_setting : Setting
 row_setting = setting_over Hash looking_up

@@ -17,8 +17,8 @@ use Rattle.shard_port.specs.Asking.{is_in, can_enter, entered, enter_by, leave_b
 use Rattle.shard_port.specs.PortView.{ServesMaps}
 use Rattle.shard_port.specs.declared.plain.PlainPort.{PlainPort}
 use Rattle.shard_port.specs.PlainPorts.{PortGives, PortRefuses}
-use Rattle.shard_port.specs.Sessions.{with_entries, begun, session, entries_at}
-use Rattle.shard_port.specs.PassSessions.{AreWithin}
+use Rattle.shard_port.specs.Sessions.{with_entries, behind_enter, session, exchange_entries}
+use Rattle.shard_port.specs.PassSessions.{AreCallsWithin}
 use Rattle.machine.specs.declared.exit.Stop.{Stop}
 use Rattle.machine.specs.declared.exit.Stop.TheVariants.{JournalFull}
 use Rattle.machine.specs.declared.moment.Moment.{Moment}
@@ -83,21 +83,22 @@ pub record WasStopped (verified : Verified) (options : Options) (start : Start) 
 abbrev pub AreWritten : ℕ → List Exchange → List JournaledShard → List JournaledShard → Type 0
 AreWritten worker exchanges before after =
     (number : ℕ) (shard : JournaledShard) → slice_get before number ≡ Some shard →
-    slice_get after number ≡ Some (with_entries shard (session worker shard.plan.number (entries_at worker number exchanges)))
+    slice_get after number ≡ Some (with_entries shard (session worker shard.plan.number (exchange_entries worker number exchanges)))
 
 -- the same, but that the shard of a refused call, if it was the first there, may have an Enter and a Leave with no call between
 abbrev pub AreWrittenBut : Call → ℕ → List Exchange → List JournaledShard → List JournaledShard → Type 0
 AreWrittenBut call worker exchanges before after =
     (number : ℕ) (shard : JournaledShard) → slice_get before number ≡ Some shard →
-    (slice_get after number ≡ Some (with_entries shard (session worker shard.plan.number (entries_at worker number exchanges))))
-    ⊎ ((shard_of_call call ≡ number) × (entries_at worker number exchanges ≡ []) × (slice_get after number ≡ Some
+    (slice_get after number ≡ Some (with_entries shard (session worker shard.plan.number (exchange_entries worker number exchanges))))
+    ⊎ ((shard_of_call call ≡ number) × (exchange_entries worker number exchanges ≡ []) × (slice_get after number ≡ Some
     (with_entries shard (enter_by worker shard.plan.number ∷ leave_by worker shard.plan.number ∷ []))))
 
 -- after what the run had asked of the call's shard, which was this one before the run, the journal had no room for the worker's Enter, or
 -- for the call
 abbrev pub WasFull : Call → ℕ → List Exchange → JournaledShard → Type 0
 WasFull call worker exchanges shard =
-    let here : JournaledShard = with_entries shard (begun worker shard.plan.number (entries_at worker (shard_of_call call) exchanges)) in
+    let here : JournaledShard =
+    with_entries shard (behind_enter worker shard.plan.number (exchange_entries worker (shard_of_call call) exchanges)) in
     IsFalse (can_enter worker here) ⊎ IsJournalFull here.plan (reverse (entered worker here).journal) call
 
 -- the run is the meaning of its program on replies of their calls' form, each to a call on one of the shards; they are in the journals,
@@ -110,7 +111,7 @@ pub record IsTheMeaning (program : Program) (start : Start) (before after : List
       whole_trace program (state_at start) (replies_in exchanges) ≡
       record { calls = calls_in exchanges; stand = HasExited verdict last }
   pub formed : AreFormed program exchanges
-  pub within : AreWithin (length before) exchanges
+  pub within : AreCallsWithin (length before) exchanges
   pub counted : steps ≡ last.steps
   pub bounded : steps ≤ total_slots program.code
   pub sent : frame ≡ last.frame
@@ -130,7 +131,7 @@ pub record IsTheBeginning (program : Program) (start : Start) (before after : Li
       whole_trace program (state_at start) (replies_in exchanges) ≡
       record { calls = calls_in exchanges ++ refused ∷ []; stand = Waits waiting }
   pub formed : AreFormed program exchanges
-  pub within : AreWithin (length before) exchanges
+  pub within : AreCallsWithin (length before) exchanges
   pub kept_back : frame ≡ waiting.frame
   pub refused_within : shard < length before
   pub full : (one : JournaledShard) → slice_get before shard ≡ Some one → WasFull refused start.worker exchanges one

@@ -15,7 +15,7 @@ use Rattle.semantics.specs.System.{run_over, without_shard, IsInputFrame, input_
 use Rattle.map_port.specs.Exchanges.{Exchange, calls_in, replies_in}
 use Rattle.shards.specs.Passes.{PassView, own_at}
 use Rattle.shard_port.specs.Asking.{enter_by, asked_entry}
-use Rattle.shard_port.specs.PassSessions.{session_at, AreWithin}
+use Rattle.shard_port.specs.PassSessions.{session_at, AreCallsWithin}
 use Rattle.runs.specs.FrameRuns.{AreFormed}
 use Rattle.guarantees.specs.Steps.{Writes, Refused, Move, begins, does, asks, leave, IsStep}
 use Rattle.guarantees.specs.SystemRuns.{IsRunOfSystem}
@@ -94,7 +94,7 @@ pub record IsOwnTrace (setting : Setting) (worker told now : ℕ) (frame : List 
   pub trace :
       trace_of instructions (program_of setting) (initial_state (input_frame frame) told now) (replies_in exchanges)
       ≡ record { calls = calls_in exchanges; stand = HasExited verdict last }
-  pub within : AreWithin count exchanges
+  pub within : AreCallsWithin count exchanges
   pub formed : AreFormed (program_of setting) exchanges
   pub written : (number : ℕ) → number < count → own_at after number ≡ reverse (session_at worker number exchanges) ++ own_at before number
 

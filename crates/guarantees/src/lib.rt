@@ -2,35 +2,25 @@
 //! what the public calls of the crates below ensure. What a single call promises by itself is that call's contract; docs/GUARANTEES.md
 //! says where.
 //!
-//! `headline` and `replays_are_one_list` come first. The second is the shorter to read: a replay is one list of events, in the words of the
-//! model alone (`specs/Replay.antt` and `specs/Events.antt` here). It rests on 31 files, 327 definitions, 1,298 lines of definitions, as
-//! `scripts/statement IsReplay` prints them in the order of reading; most of them are eBPF and its maps.
+//! The headline comes first. Its record has two fields (`specs/Headline.antt`): the image is safe, and the replay is one list of events of the
+//! system, in the words of the model alone (`Replay` and `Events` of crates/semantics/specs). The law `headline` says that every replay that
+//! accounts for its records keeps it, by this account (`specs/HeadlineOf.antt`); the calls of the crate `replay` have both as clauses.
+//! `scripts/statement` prints what these rest on, in the order of reading.
 //!
-//! The statement of `headline` rests on 75 files, 537 definitions, 2,135 lines of definitions (`scripts/statement Headline`). Twelve files
-//! come first, in this order: `specs/Headline.antt` here;
-//! `specs/Merging.antt` (its first half), `specs/ReplayMoves.antt`, `specs/SystemRuns.antt` and `specs/Steps.antt` here (one list of all
-//! events, the moves of a worker, runs and steps of the system); `Safety`, `System`, `RunTrace` and `History` of crates/semantics/specs;
-//! `specs/Deeds.antt` of crates/shards, `specs/FrameRuns.antt` of crates/runs and `specs/Accounted.antt` of crates/replay. Each file says
-//! by its imports where the smaller definitions are that it cites: shares, counts and passes of replay, and there what the controller and
-//! the reclaimer did (`Parts`, `Commands`, `Rounds`), sessions of shard_port, own entries of semantics.
-//!
-//! The other laws of this page say what these definitions come to. The laws of `step_laws` show that they are not empty, those of
-//! `place_laws` that a worker is inside and holds a cell by places in the history alone. `one_caller` speaks of runs one after the other
-//! without locks, `readers` of programs that only read.
+//! The laws of `step_laws` show that the definitions are not empty, those of `place_laws` that a worker is inside and holds a cell by places
+//! in the history alone. `one_caller` speaks of runs one after the other without locks, `readers` of programs that only read.
 #![tactic(auto)]
 
 mod fits;
 pub mod one_caller;
 pub mod place_laws;
 pub mod readers;
-pub mod replays;
 pub mod running;
 pub mod sharing;
 pub mod step_laws;
 
 ghost use Rattle.semantics.specs.Safety.{IsSafeImage};
-ghost use Rattle.guarantees.specs.Headline.{ReplaysKeepIt};
-ghost use Rattle.guarantees.specs.OneReplay.{ReplaysAreOneList};
+ghost use Rattle.guarantees.specs.HeadlineOf.{ReplaysKeepHeadline};
 ghost use Rattle.guarantees.specs.Guarantees.{EntriesAreSteps, EntriesAreAnswered};
 ghost use Rattle.guarantees.specs.SystemLaws.{RunsAreOfTheSystem, StoppedRunsAreOfTheSystem};
 ghost use Rattle.guarantees.specs.Merging.{OneOrderIsOneList, OneWorkerIsOneList, RunAloneIsOneList};
@@ -46,41 +36,20 @@ pub use readers::{
 use verifier::Verified;
 use verifier::laws::accepted_is_safe;
 
-/// **The headline**, of a verified image and of what `replay` returns for it. The image is safe: whatever frames arrive and however the
-/// shared steps of workers, controller and reclaimer interleave, no run traps, and each ends within as many instructions as the image has
-/// slots. Each shard has one legal history, its journal, in which each reply is the one-thread map's at the entry's own place. Each
-/// worker ran its records one after the other; each run is a list of steps of the system around this image, from idle to idle, and its
-/// calls, verdict, frame and number of instructions are the run trace on its replies, or, where a full journal stopped it, a beginning of
-/// that. So each worker has one list of steps for the whole replay, and each shard alone agrees with it: what the list wrote there is what
-/// the shard's journal has of this worker, in the journal's order.
+/// **The headline**, of a verified image and of a replay that accounts for its records. The image is safe: whatever frames arrive and
+/// however the shared steps of workers, controller and reclaimer interleave, no run traps, and each ends within as many instructions as the
+/// image has slots. And the replay is one list of events of the system, which can all happen, one after the other, from the opening on.
+/// Worker by worker it begins a run on each record of the worker's share, in the capture's order, at the record's moment, and nothing else.
+/// Its controller makes first the updates and then the calls of the script's commands, in the script's order over all shards, and its
+/// reclaimer its rounds. Calls that met a full journal are among these, and there are no others. What is handed back comes of this list: how
+/// each run ends (its verdict and its number of instructions, or that a full journal stopped it), the numbers of the report, the frames that
+/// are sent, the answers to the controller's calls, by which commands are refused, and the journals.
 ///
-/// All callers at once: the steps of all workers, with what the controller and the reclaimer did, are one list of events of the system.
-/// These can all happen, one after the other, from the opening on; each worker's are in its own order in the list; after it each shard's
-/// history is its journal, and every worker is idle. For what all callers did on all shards is one order (`IsAccounted`), and such an order
-/// is one list of events (`one_order_is_one_list`).
-///
-/// The order fits each shard and each caller: shard by shard it is the journal; of each worker it has what its runs did, of the controller
-/// the updates before the first record and those of the script's commands, each with its answer, and of the reclaimer its rounds, looks at
-/// full journals among them, each in the caller's own order over all shards.
-///
-/// The report is of the same runs: its numbers, in which each record is counted once, what became of each record and the frames that are
-/// sent are those of the runs whose steps are in the list of events.
+/// The list is that of what is accounted for (`same_events`): worker by worker its events are the steps of the runs, from idle to idle, each
+/// run's calls, verdict, frame and number of instructions are the run trace on its replies, or, where a full journal stopped it, a beginning
+/// of that; each reply is the one-thread map's at the entry's own place; and the entries are written in the one order of all deeds.
 pub fn headline(verified: &Verified)
-    ensures { ReplaysKeepIt verified.now }
-{
-    accepted_images_are_safe(verified);
-    runs_are_of_the_system();
-    stopped_runs_are_of_the_system();
-}
-
-/// **A replay is one list of events**, in the words of the model alone (`specs/Events.antt` and `specs/Replay.antt`). The list of events that
-/// the headline has begins, worker by worker, a run on each record of the worker's share, in the capture's order, at the record's moment,
-/// and nothing else. Its controller makes the updates before the first record and then the calls of the commands, in the script's order
-/// over all shards, and its reclaimer its rounds, calls that met a full journal among them; and they make no other. Everything that is
-/// handed back is what comes of this list: how each run ends (its verdict, its frame and its number of instructions, or at which full
-/// journal it was stopped), the answer to each call, the numbers of the report, what is sent, and the journals.
-pub fn replays_are_one_list(verified: &Verified)
-    ensures { ReplaysAreOneList verified.now }
+    ensures { ReplaysKeepHeadline verified.now }
 {
     accepted_images_are_safe(verified);
     runs_are_of_the_system();
@@ -129,7 +98,7 @@ pub fn entries_are_answered()
 /// shard's legal journal and worker by worker what that worker did, each look met a full journal, and each worker's own steps lead from
 /// idle to idle, then one list of events of the system can all happen from the opening on; it has each worker's own events in their order;
 /// after it the histories are the journals, and every worker is idle. Whether a look by the controller or the reclaimer is an event is not
-/// said here; in a replay's list it is one (`replays_are_one_list`).
+/// said here; in a replay's list it is one (`headline`).
 pub fn one_order_is_one_list()
     ensures { OneOrderIsOneList }
 {}

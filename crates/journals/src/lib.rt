@@ -1,4 +1,4 @@
-//! The journals of all shards of an image's maps, as whoever closes the shards gets them and an audit reads them; and as files: the text of
+//! The journals of all shards of an image's maps, as closing the shards gives them and an audit reads them; and as files: the text of
 //! a header and of a line for each entry, written to a device and read from one.
 #![tactic(auto)]
 

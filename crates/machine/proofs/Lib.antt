@@ -26,5 +26,7 @@ pub mod CallSteps
 pub mod AdvanceLaw
 pub mod RunObligations
 pub mod RestLemmas
+pub mod LandingLemmas
+pub mod ReachLemmas
 pub mod OpeningLemmas
 pub mod MaskLemmas

@@ -14,7 +14,7 @@ use std::alloc::{AllocError, Global};
 use std::marker::Model;
 
 /// A map from keys of one size to entry numbers. Keys are in buckets by their hash, and those that find no place there in order: so no
-/// key, whoever chose it, costs more than the logarithm.
+/// key, not even one that an attacker chose, costs more than the logarithm.
 #[derive(Drop)]
 pub struct KeyIndex {
     size: usize,

@@ -1,12 +1,12 @@
 -- Why the threads of a replay were given up.
 use Rattle.std.proofs.Common.{inl, inr, ◌≡◌, ◌⊎◌, ℕ, ◌+◌, List, Result, Err, ap}
 use Rattle.rx_queues.specs.declared.job.Job.{Job}
-use Rattle.replay.specs.Actors.{AreAllEnded}
-use Rattle.replay.specs.Puts.{AreNonePut, AreAllPut}
+use Rattle.actors.specs.Actors.{AreAllEnded}
+use Rattle.actors.specs.Puts.{AreNonePut, AreAllPut}
 use Rattle.replay.specs.Settings.{IsAbandoned}
-use Rattle.replay.specs.UpdateFaults.{IsOfNoUpdate}
-use Rattle.replay.specs.declared.fault.ReplayFault.{ReplayFault}
-use Rattle.replay.specs.declared.fault.ReplayFault.TheVariants.{BadOptions, Memory, NoThread}
+use Rattle.actors.specs.UpdateFaults.{IsOfNoUpdate}
+use Rattle.actors.specs.declared.fault.ReplayFault.{ReplayFault}
+use Rattle.actors.specs.declared.fault.ReplayFault.TheVariants.{BadOptions, Memory, NoThread}
 
 abbrev failed_of : (X : Type 0) → ReplayFault → Result X ReplayFault
 failed_of X why = Err why

@@ -24,26 +24,26 @@ use Rattle.shards.specs.CallerView.{CallerView, BeginsWith}
 use Rattle.journals.specs.JournalsView.{JournalsView, entries_at}
 use Rattle.shards.specs.Passes.{PassView, seen_at, pass_at, AreSettled}
 use Rattle.shard_port.specs.PassSessions.{StoppedAtCall, StoppedAtEnter}
-use Rattle.replay.proofs.shared.FullStays.{full_stays}
-use Rattle.replay.specs.declared.account.Counts.{Counts}
+use Rattle.actors.proofs.shared.FullStays.{full_stays}
+use Rattle.actors.specs.declared.account.Counts.{Counts}
 use Rattle.replay.specs.declared.crew.Handled.{Handled}
-use Rattle.replay.specs.declared.runner.Ran.{Ran}
-use Rattle.replay.specs.declared.runner.RunEnd.{RunEnd}
-use Rattle.replay.specs.declared.runner.RunEnd.TheVariants.{Stopped, Exited}
-use Rattle.replay.specs.Accounts.{runs_at, AreRunsOfShares}
+use Rattle.actors.specs.declared.runner.Ran.{Ran}
+use Rattle.actors.specs.declared.runner.RunEnd.{RunEnd}
+use Rattle.actors.specs.declared.runner.RunEnd.TheVariants.{Stopped, Exited}
+use Rattle.actors.specs.Accounts.{runs_at, AreRunsOfShares}
 use Rattle.semantics.specs.Each.{Each}
 use Rattle.replay.specs.Crews.{IsHandled, IsPart}
-use Rattle.replay.specs.RunsInOrder.{IsRunAt, IsChainOfRuns, HasHandled}
-use Rattle.replay.specs.Shares.{frames_of, share}
-use Rattle.replay.specs.RunJobs.{records_of}
-use Rattle.replay.specs.declared.outcome.Outcome.{Outcome}
-use Rattle.replay.specs.declared.outcome.RecordEnd.{RecordEnd}
-use Rattle.replay.specs.declared.worker.Working.{Working}
-use Rattle.replay.specs.RunsOverShards.{IsNewPass, IsNewAt, IsIdle, IsRunOf, IsRunBy, IsRunIn, IsExit, StopsFor, IsFullAtEnd, pass_in, start_of}
+use Rattle.actors.specs.RunsInOrder.{IsRunAt, IsChainOfRuns, HasHandled}
+use Rattle.actors.specs.Shares.{frames_of, share}
+use Rattle.actors.specs.RunJobs.{records_of}
+use Rattle.actors.specs.declared.outcome.Outcome.{Outcome}
+use Rattle.actors.specs.declared.outcome.RecordEnd.{RecordEnd}
+use Rattle.actors.specs.declared.worker.Working.{Working}
+use Rattle.actors.specs.RunsOverShards.{IsNewPass, IsNewAt, IsIdle, IsRunOf, IsRunBy, IsRunIn, IsExit, StopsFor, IsFullAtEnd, pass_in, start_of}
 use Rattle.shards.specs.declared.deeds.Deed.{Deed}
 use Rattle.shards.specs.declared.deeds.OrderPart.TheVariants.{ByCaller}
 use Rattle.shards.specs.Deeds.{deeds_of}
-use Rattle.replay.specs.Accounted.{IsWorkOf}
+use Rattle.actors.specs.Accounted.{IsWorkOf}
 
 -- ---- an outcome by its parts
 

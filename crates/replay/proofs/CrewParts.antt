@@ -5,8 +5,8 @@ use Rattle.std.proofs.lemmas.Bool.Decides.{nat_tests}
 use mathlib.Core.Option.{some, some-injective, some-ne-none}
 use lib.ListN.{get_elem?}
 use Rattle.replay.specs.declared.crew.Handled.{Handled}
-use Rattle.replay.specs.declared.runner.Ran.{Ran}
-use Rattle.replay.specs.Accounts.{lists_of, runs_at}
+use Rattle.actors.specs.declared.runner.Ran.{Ran}
+use Rattle.actors.specs.Accounts.{lists_of, runs_at}
 use Rattle.replay.specs.Crews.{IsPart}
 use Rattle.semantics.proofs.shared.EachLemmas.{or_push_else, or_push_here}
 

@@ -3,11 +3,11 @@ use Rattle.std.proofs.Common.{replicate, nat_lt, refl, ◌≡◌, ℕ, ◌+◌, 
 use Rattle.std.proofs.lemmas.Bool.Decides.{nat_tests}
 use Rattle.rx_queues.specs.declared.job.Job.{Job}
 use Rattle.rx_queues.specs.declared.job.Job.TheVariants.{Note, End}
-use Rattle.replay.specs.Actors.{HasNoEnd, EndsOnce, AreAllEnded, AreBothEnded, ArePutAt, AreDispatched}
-use Rattle.replay.specs.Puts.{put_at, frame_jobs, ArePutWithEnd, ArePut, AreAllPut, AreNonePut}
-use Rattle.replay.specs.Shares.{share}
-use Rattle.replay.proofs.HandLemmas.{commands_no_end, notes_no_end, note_no_end}
-use Rattle.replay.proofs.PutLemmas.{none_put, all_put}
+use Rattle.actors.specs.Actors.{HasNoEnd, EndsOnce, AreAllEnded, AreBothEnded, ArePutAt, AreDispatched}
+use Rattle.actors.specs.Puts.{put_at, frame_jobs, ArePutWithEnd, ArePut, AreAllPut, AreNonePut}
+use Rattle.actors.specs.Shares.{share}
+use Rattle.actors.proofs.shared.HandLemmas.{commands_no_end, notes_no_end, note_no_end}
+use Rattle.actors.proofs.shared.PutLemmas.{none_put, all_put}
 
 frames_no_end : (records : List ℕ) → HasNoEnd (frame_jobs records)
 frames_no_end [] = tt

@@ -26,17 +26,17 @@ use Rattle.rx_queues.specs.declared.job.Job.{Job}
 use Rattle.rx_queues.specs.declared.job.Job.TheVariants.{Frame, Command as CommandJob, Note, End}
 use Rattle.control.specs.declared.command.Command.{Command}
 use Rattle.control.specs.MapUpdates.{UpdateBytes}
-use Rattle.replay.specs.declared.outcome.Applied.{Applied}
-use Rattle.replay.specs.SharedUpdates.{shard_of, update_call}
-use Rattle.replay.specs.Commands.{CommanderView, CommandDone, IsScriptAccount, IsFullFor, ServesScript}
-use Rattle.replay.specs.ActorJobs.{command_jobs}
-use Rattle.replay.specs.Rounds.{AreReclaimed, AreRoundsDone, IsReclaimedBy}
-use Rattle.replay.specs.Actors.{numbers_from, commands_from}
+use Rattle.actors.specs.declared.outcome.Applied.{Applied}
+use Rattle.actors.specs.SharedUpdates.{shard_of, update_call}
+use Rattle.actors.specs.Commands.{CommanderView, CommandDone, IsScriptAccount, IsFullFor, ServesScript}
+use Rattle.actors.specs.ActorJobs.{command_jobs}
+use Rattle.actors.specs.Rounds.{AreReclaimed, AreRoundsDone, IsReclaimedBy}
+use Rattle.actors.specs.Actors.{numbers_from, commands_from}
 use Rattle.maglev.specs.RingSize.{IsRingSize}
 use Rattle.map_updates.specs.declared.update.MapUpdate.{MapUpdate}
 use Rattle.semantics.proofs.shared.HoldingLemmas.{each_weaker}
 use Rattle.semantics.proofs.shared.PlanLemmas.{some_shards, below_count}
-use Rattle.replay.specs.Parts.{HasCommanded, HasReclaimed, IsScriptRun, IsFullInJournal, IsScriptAccounted, AreRoundsAccounted, numbers_of, refused_of}
+use Rattle.actors.specs.Parts.{HasCommanded, HasReclaimed, IsScriptRun, IsFullInJournal, IsScriptAccounted, AreRoundsAccounted, numbers_of, refused_of}
 use Rattle.replay.proofs.Accounts.{full_later, IsOwnIn}
 
 -- ---- rounds

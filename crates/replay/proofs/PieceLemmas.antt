@@ -10,17 +10,17 @@ use Rattle.semantics.specs.Program.{Program}
 use Rattle.journals.specs.JournalsView.{JournalsView, entries_at}
 use Rattle.shards.specs.NewShards.{shard_at}
 use Rattle.control.specs.declared.command.Command.{Command}
-use Rattle.replay.specs.declared.account.Counts.{Counts}
-use Rattle.replay.specs.declared.outcome.Outcome.{Outcome}
-use Rattle.replay.specs.declared.outcome.RecordEnd.{RecordEnd}
-use Rattle.replay.specs.declared.runner.RunEnd.{RunEnd}
-use Rattle.replay.specs.declared.runner.RunEnd.TheVariants.{Stopped, Exited}
-use Rattle.replay.specs.declared.runner.FrameFate.TheVariants.{Aborted, Dropped, Passed, Sent as IsSent}
-use Rattle.replay.specs.Accounts.{SentFrame, counted, frames_in, record_end, sent_by, sent_frame, sent_frames}
+use Rattle.actors.specs.declared.account.Counts.{Counts}
+use Rattle.actors.specs.declared.outcome.Outcome.{Outcome}
+use Rattle.actors.specs.declared.outcome.RecordEnd.{RecordEnd}
+use Rattle.actors.specs.declared.runner.RunEnd.{RunEnd}
+use Rattle.actors.specs.declared.runner.RunEnd.TheVariants.{Stopped, Exited}
+use Rattle.actors.specs.declared.runner.FrameFate.TheVariants.{Aborted, Dropped, Passed, Sent as IsSent}
+use Rattle.actors.specs.Accounts.{SentFrame, counted, frames_in, record_end, sent_by, sent_frame, sent_frames}
 use Rattle.replay.specs.InTurn.{TurnState, IsTurn, AreTurns}
 use Rattle.replay.specs.ExactReplays.{HasBegun, IsInTurn, starts_in}
 use Rattle.replay.specs.Pieces.{HasPiece, IsWholeOutcome}
-use Rattle.replay.specs.Shares.{worker_of_frame}
+use Rattle.actors.specs.Shares.{worker_of_frame}
 use Rattle.replay.specs.TurnStates.{with_earlier, with_none_kept}
 use Rattle.replay.specs.Turns.{Turn, TheCommand, TheRecord, TheRound, turns_to}
 

@@ -1,7 +1,7 @@
 -- The account of a replay on one thread.
 use Rattle.std.proofs.Common.{◌≡◌, ℕ, zero, suc, false, ◌/◌, ◌<◌, List, [], ◌∷◌, length, replicate, reverse, get_or, refl, sym, ap, ◌∙◌, subst, arith}
 use Rattle.std.specs.Prelude.{Option, Some, None, slice_get, option_map}
-use Rattle.std.proofs.lemmas.List.{length-map, length-replicate, reverse-reverse}
+use Rattle.std.proofs.lemmas.List.{append-nil, length-map, length-replicate, reverse-reverse}
 use Rattle.wire.specs.declared.records.Sent.{Sent}
 use Rattle.semantics.specs.declared.call.Caller.{Caller}
 use Rattle.semantics.specs.declared.call.Caller.TheVariants.{Worker, Controller, Reclaimer}
@@ -25,28 +25,30 @@ use Rattle.shard_port.specs.PassSessions.{WritesOwnSessions, WritesRefusedOwnSes
 use Rattle.shard_port.proofs.shared.ReadyLemmas.{plan_number}
 use Rattle.control.specs.declared.command.Command.{Command}
 use Rattle.map_updates.specs.declared.update.MapUpdate.{MapUpdate}
-use Rattle.replay.specs.declared.outcome.Outcome.{Outcome}
-use Rattle.replay.specs.declared.runner.Ran.{Ran}
-use Rattle.replay.specs.Accounts.{runs_at, sent_frames}
-use Rattle.replay.specs.Accounted.{IsWorkOf, IsAccounted}
-use Rattle.replay.specs.Actors.{IsUnused, numbers_from}
-use Rattle.replay.specs.Commands.{all_set, IsMoved}
-use Rattle.replay.specs.Parts.{IsScriptRun, rounds_of}
-use Rattle.replay.specs.RunJobs.{records_of}
-use Rattle.replay.specs.RunsInOrder.{IsRunAt, IsChainOfRuns}
-use Rattle.replay.specs.RunsOverShards.{IsRunOf, IsRunIn}
-use Rattle.replay.specs.Shares.{frames_of, share}
+use Rattle.actors.specs.declared.outcome.Outcome.{Outcome}
+use Rattle.actors.specs.declared.runner.Ran.{Ran}
+use Rattle.actors.specs.Accounts.{runs_at, sent_frames}
+use Rattle.actors.specs.Accounted.{IsWorkOf, IsAccounted}
+use Rattle.actors.specs.Actors.{IsUnused, numbers_from}
+use Rattle.actors.specs.Commands.{all_set, IsMoved}
+use Rattle.actors.specs.Parts.{IsScriptRun, round_count}
+use Rattle.actors.specs.RunJobs.{records_of}
+use Rattle.actors.specs.RunsInOrder.{IsRunAt, IsChainOfRuns}
+use Rattle.actors.specs.RunsOverShards.{IsRunOf, IsRunIn}
+use Rattle.actors.specs.Shares.{frames_of, share}
 use Rattle.replay.specs.ExactReplays.{IsInTurn, starts_in, first_maps, first_state}
 use Rattle.replay.specs.InTurn.{TurnMaps}
+use Rattle.replay.specs.Turns.{all_turns}
+use Rattle.replay.specs.TurnOrder.{AreDeedsBy, IsInTurnOrder, IsExact}
 use Rattle.replay.specs.TurnsAccounted.{TurnsAreAccounted}
 use Rattle.replay.proofs.Accounts.{IsOwnIn, chain_stands}
-use Rattle.replay.proofs.CommandAccounts.{account_of_nothing}
+use Rattle.actors.proofs.shared.CommandAccounts.{account_of_nothing}
 use Rattle.replay.proofs.PartLemmas.{script_stands, rounds_stand}
-use Rattle.replay.proofs.RoundLemmas.{no_round}
-use Rattle.replay.proofs.SetLemmas.{moved_by_set, has_set}
+use Rattle.actors.proofs.shared.RoundLemmas.{no_round}
+use Rattle.actors.proofs.shared.SetLemmas.{moved_by_set, has_set}
 use Rattle.replay.proofs.TurnCommands.{by_pass, AreSetByPass, set_steps}
 use Rattle.replay.proofs.TurnDeeds.{IsPassOf, Stands, others_stay}
-use Rattle.replay.proofs.TurnSimulation.{IsSimulated, all_turned}
+use Rattle.replay.proofs.TurnSimulation.{IsSimulated, Went, all_turned}
 
 -- ---- shards that were opened
 
@@ -146,7 +148,7 @@ module _ (program : Program) (script : List Command) (options : Options) (record
   other_unused who apart = others_stay count Controller who [] set.order' (unused count who) set.more apart (unused_mine count who)
 
   -- before the first turn
-  first : IsSimulated program updates script options records turns.size plan count 0 0 0 (first_state turns.begun turns.size)
+  abbrev first : IsSimulated program updates script options records turns.size plan count 0 0 0 (first_state turns.begun turns.size)
   first = record {
     order = set.order';
     sound = set.stands.sound;
@@ -179,9 +181,14 @@ module _ (program : Program) (script : List Command) (options : Options) (record
   }
 
   -- behind the last one
-  ended : IsSimulated program updates script options records turns.size plan count (length records) (length (starts_in script)) (rounds_of (length records)) turns.last
-  ended = all_turned program updates script options records turns.size plan count writes writes_refused are.some_worker numbered staffed (starts_in script)
+  went : Went program updates script options records turns.size plan count writes writes_refused are.some_worker numbered staffed
+      (all_turns (starts_in script) (length records)) (first_state turns.begun turns.size) turns.last turns.in_order first.order (length records)
+      (length (starts_in script)) (round_count (length records))
+  went = all_turned program updates script options records turns.size plan count writes writes_refused are.some_worker numbered staffed (starts_in script)
       (length records) (first_state turns.begun turns.size) turns.last first turns.in_order
+
+  abbrev ended : IsSimulated program updates script options records turns.size plan count (length records) (length (starts_in script)) (round_count (length records)) turns.last
+  ended = went.now
 
   in_last : (number : ℕ) → number < count → number < length turns.last.all.shards
   in_last number within = subst (λ (n : ℕ). number < n) (sym ended.left.sized) within
@@ -225,7 +232,7 @@ module _ (program : Program) (script : List Command) (options : Options) (record
     who = ended.controls.caller;
   }
 
-  accounted : IsAccounted program script options records outcome
+  abbrev accounted : IsAccounted program script options records outcome
   accounted = record {
     maps = turns.maps;
     options_are = turns.options_are;
@@ -251,10 +258,22 @@ module _ (program : Program) (script : List Command) (options : Options) (record
     commands = script_stands plan program.maps options count updates script turns.size turns.last.noted ended.controller outcome.journals ended.order
         outcome.refused.items plans are turns.size_is_served turns.serves script_run (settled Controller ended.controller ended.controls)
         (owned Controller ended.controller ended.controls) turns.refused;
-    rounds = rounds_stand plan count (rounds_of (length records)) outcome.journals ended.order ended.reclaimer ended.reclaims.caller
+    rounds = rounds_stand plan count (round_count (length records)) outcome.journals ended.order ended.reclaimer ended.reclaims.caller
         (settled Reclaimer ended.reclaimer ended.reclaims) (owned Reclaimer ended.reclaimer ended.reclaims) ended.reclaimed;
   }
 
+  in_turn_order : IsInTurnOrder program script options records outcome accounted
+  in_turn_order = record {
+    turns = turns;
+    begun = set.order';
+    by_controller = subst (AreDeedsBy Controller) (sym (set.more.more ∙ append-nil set.more.deeds)) set.more.made_by;
+    begun_is = λ number within. sym (set.stands.left.written number within);
+    through = went.through;
+  }
+
+  exact : IsExact program script options records outcome
+  exact = record { accounted = accounted; in_order = in_turn_order }
+
 pub turns_are_accounted : WritesOwnSessions → WritesRefusedOwnSessions → TurnsAreAccounted
 turns_are_accounted writes writes_refused program script options records outcome are turns =
-    accounted program script options records outcome are turns writes writes_refused
+    exact program script options records outcome are turns writes writes_refused

@@ -4,11 +4,12 @@ use Rattle.ebpf_decode.specs.declared.map.MapDef.{MapDef}
 use Rattle.map_updates.specs.declared.update.MapUpdate.{MapUpdate}
 use Rattle.semantics.specs.declared.options.Options.{Options}
 use Rattle.shards.specs.Opening.{AreOpened}
-use Rattle.replay.specs.declared.fault.ReplayFault.{ReplayFault}
+use Rattle.actors.specs.declared.fault.ReplayFault.{ReplayFault}
 use Rattle.replay.specs.ExactReplays.{HasBegun, first_maps}
-use Rattle.replay.specs.FirstUpdates.{AreSet, IsWhyNotSet}
+use Rattle.actors.specs.FirstUpdates.{AreSet, IsWhyNotSet}
 use Rattle.replay.specs.InTurn.{TurnMaps, IsUpdatedInTurn, IsTurnedAwayInTurn}
-use Rattle.replay.specs.UpdateFaults.{OfUpdate, IsWhyInTurn}
+use Rattle.actors.specs.UpdateFaults.{OfUpdate}
+use Rattle.replay.specs.TurnFaults.{IsWhyInTurn}
 
 set_options : (updates : List MapUpdate) (before after : TurnMaps) → AreSet IsUpdatedInTurn before updates after → after.options ≡ before.options
 set_options [] before after set = ap (λ (all : TurnMaps). all.options) (sym set)

@@ -21,7 +21,7 @@ use Rattle.semantics.specs.Linux.{flags_number}
 use Rattle.semantics.specs.CallerLaws.{own_entries}
 use Rattle.semantics.specs.History.{IsLegalHistory, IsJournalFull, entry_of}
 use Rattle.shard_core.specs.JournaledShard.{JournaledShard}
-use Rattle.shards.specs.CallerView.{BeginsWith, IsServed}
+use Rattle.shards.specs.CallerView.{BeginsWith, ViewIsServed}
 use Rattle.shards.specs.declared.deeds.Deed.{Deed}
 use Rattle.shards.specs.declared.deeds.Deed.TheVariants.{Wrote, MetFull}
 use Rattle.shards.specs.Deeds.{made_on}
@@ -32,13 +32,13 @@ use Rattle.control.specs.declared.fault.ControlFault.TheVariants.{BadSize, BadLi
 use Rattle.control.specs.declared.update.Update.{Update as Change}
 use Rattle.control.specs.MapUpdates.{UpdateBytes, map_update, AreMade}
 use Rattle.control.specs.Controlling.{ControllerState, IsStopped, IsLeft, refusal_of, first_updates, up_after, updates_of}
-use Rattle.replay.specs.SharedUpdates.{UpdatesView, shard_of, update_call, IsUpdated, IsTurnedAway}
+use Rattle.actors.specs.SharedUpdates.{UpdatesView, shard_of, update_call, IsUpdated, IsTurnedAway}
 use Rattle.map_updates.specs.declared.update.MapUpdate.{MapUpdate}
-use Rattle.replay.specs.Commands.{HasEffect}
-use Rattle.replay.specs.FirstUpdates.{update_bytes, AreSet}
+use Rattle.actors.specs.Commands.{HasEffect}
+use Rattle.actors.specs.FirstUpdates.{update_bytes, AreSet}
 use Rattle.replay.specs.InTurn.{TurnMaps, IsUpdatedInTurn, IsTurnedAwayInTurn, IsAppliedInTurn}
-use Rattle.replay.proofs.Moving.{HasWithin}
-use Rattle.replay.proofs.Effects.{carried_out, refused}
+use Rattle.actors.proofs.shared.Moving.{HasWithin}
+use Rattle.actors.proofs.shared.Effects.{carried_out, refused}
 use Rattle.replay.proofs.TurnLemmas.{set_same}
 use Rattle.replay.proofs.TurnDeeds.{Stands, IsMoreBy, AreBy, pass_after, own_of_maker, made_here, no_more, more_by, more_on, elsewhere_same, own_here, seen_here, stands_after, one_of}
 
@@ -113,7 +113,7 @@ module _ (plan : ℕ → ShardPlan) (count : ℕ) (numbered : (number : ℕ) →
       let legal : IsLegalHistory (plan number) (made_on number (deeds ++ order)) =
       subst (λ (p : ShardPlan). IsLegalHistory p (made_on number (deeds ++ order))) is.planned (subst (IsLegalHistory one.plan) written at.legal) in
       let seen = seen_here number deeds order pass room in
-      let served : IsServed (plan number) (view_at pass number) (view_at (pass_after number deeds order pass) number) entry = record {
+      let served : ViewIsServed (plan number) (view_at pass number) (view_at (pass_after number deeds order pass) number) entry = record {
         earlier = made_on number order;
         seen = seen ∙ newest;
         begins = stands.mine.begins number is.within;
@@ -134,7 +134,7 @@ module _ (plan : ℕ → ShardPlan) (count : ℕ) (numbered : (number : ℕ) →
           of_map = definition_is (slice_get before.maps update.map) one.plan.definition updated.of_map
               ∙ ap (λ (p : ShardPlan). Some p.definition) is.planned;
           elsewhere = elsewhere_same number deeds order pass;
-          answered = subst (λ (who : Caller). IsServed (plan number) (view_at pass number) (view_at (pass_after number deeds order pass) number)
+          answered = subst (λ (who : Caller). ViewIsServed (plan number) (view_at pass number) (view_at (pass_after number deeds order pass) number)
               (entry_of who call (Answer answer))) (sym stands.mine.caller) served;
           did = refl;
         };

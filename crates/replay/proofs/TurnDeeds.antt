@@ -19,14 +19,14 @@ use Rattle.shards.specs.NewShards.{shard_at}
 use Rattle.shards.specs.declared.deeds.Deed.{Deed}
 use Rattle.shards.specs.declared.deeds.Deed.TheVariants.{Wrote, MetFull}
 use Rattle.shards.specs.declared.deeds.OrderPart.TheVariants.{ByCaller}
-use Rattle.shards.specs.Deeds.{shard_of_deed, caller_of_deed, deeds_of, made_on, AreMet, AreWithin}
+use Rattle.shards.specs.Deeds.{shard_of_deed, caller_of_deed, deeds_of, made_on, AreMet, AreDeedsWithin}
 use Rattle.shards.specs.Passes.{PassView, view_at, own_at, seen_at, IsElsewhereSame}
 
 -- ---- one order
 
 -- each deed is on one of N shards, each history that is left is legal, and each look at a full journal met one
 pub record IsSound (plan : ℕ → ShardPlan) (count : ℕ) (order : List Deed) : Type 0 where
-  pub within : AreWithin count order
+  pub within : AreDeedsWithin count order
   pub met : AreMet plan order
   pub legal : (number : ℕ) → number < count → IsLegalHistory (plan number) (made_on number order)
 
@@ -108,8 +108,8 @@ deeds_mine who number (deed ∷ deeds) order are =
     (ap (λ (one : Caller). is_caller who one) are.0.caller ∙ is_own who)
     ∙ ap (λ (list : List Deed). deed ∷ list) (deeds_mine who number deeds order are.1)
 
-all_within : (who : Caller) (count number : ℕ) (deeds order : List Deed) → AreBy who number deeds → number < count → AreWithin count order →
-    AreWithin count (deeds ++ order)
+all_within : (who : Caller) (count number : ℕ) (deeds order : List Deed) → AreBy who number deeds → number < count → AreDeedsWithin count order →
+    AreDeedsWithin count (deeds ++ order)
 all_within who count number [] order are below within = within
 all_within who count number (deed ∷ deeds) order are below within =
     (subst (λ (n : ℕ). n < count) (sym are.0.shard) below, all_within who count number deeds order are.1 below within)

@@ -3,15 +3,15 @@ use Rattle.std.proofs.Common.{◌≡◌, ◌≢◌, ⊎_elim, ℕ, zero, suc, �
 use Rattle.std.specs.Prelude.{Option, Some, None, if◌then◌else◌}
 use Rattle.std.proofs.lemmas.Bool.{cases_eq}
 use Rattle.semantics.proofs.shared.EachLemmas.{or_set_here, or_set_else}
-use Rattle.replay.specs.declared.outcome.RecordEnd.{RecordEnd}
-use Rattle.replay.specs.declared.runner.Ran.{Ran}
-use Rattle.replay.specs.declared.runner.RunEnd.{RunEnd}
-use Rattle.replay.specs.Shares.{frame_at, is_short, worker_of_frame, share}
-use Rattle.replay.specs.RunJobs.{records_of}
-use Rattle.replay.specs.RunsInOrder.{IsChainOfRuns}
-use Rattle.replay.specs.Accounts.{SentFrame, runs_at, end_at, fate_of, counted, counts_of, sent_by, sent_of, record_end, ends_of, AreRunsOfShares}
-use Rattle.replay.proofs.ShareLemmas.{handed_within}
-use Rattle.replay.proofs.shared.AccountLemmas.{handed_own, as_many}
+use Rattle.actors.specs.declared.outcome.RecordEnd.{RecordEnd}
+use Rattle.actors.specs.declared.runner.Ran.{Ran}
+use Rattle.actors.specs.declared.runner.RunEnd.{RunEnd}
+use Rattle.actors.specs.Shares.{frame_at, is_short, worker_of_frame, share}
+use Rattle.actors.specs.RunJobs.{records_of}
+use Rattle.actors.specs.RunsInOrder.{IsChainOfRuns}
+use Rattle.actors.specs.Accounts.{SentFrame, runs_at, end_at, fate_of, counted, counts_of, sent_by, sent_of, record_end, ends_of, AreRunsOfShares}
+use Rattle.actors.proofs.shared.ShareLemmas.{handed_within}
+use Rattle.actors.proofs.shared.AccountLemmas.{handed_own, as_many}
 
 pub records_push : (runs : List Ran) (ran : Ran) → records_of (runs ++ ran ∷ []) ≡ records_of runs ++ ran.number ∷ []
 records_push [] ran = refl

@@ -23,14 +23,14 @@ use Rattle.map_port.specs.Exchanges.{Exchange, IsChain}
 use Rattle.machine.specs.declared.exit.Stop.{Stop}
 use Rattle.machine.specs.declared.exit.Stop.TheVariants.{JournalFull}
 use Rattle.shard_core.specs.JournaledShard.{JournaledShard}
-use Rattle.shards.specs.CallerView.{CallerView, IsServed}
+use Rattle.shards.specs.CallerView.{CallerView, ViewIsServed}
 use Rattle.shards.specs.NewShards.{shard_at}
 use Rattle.shards.specs.declared.deeds.Deed.{Deed}
 use Rattle.shards.specs.declared.deeds.Deed.TheVariants.{Wrote}
 use Rattle.shards.specs.Deeds.{made_on}
 use Rattle.shards.specs.Passes.{PassView, view_at, own_at}
 use Rattle.shard_port.specs.Asking.{is_in, leave_by, left, leaving, all_left}
-use Rattle.shard_port.specs.PassPorts.{PassPort, worker_of, all_left_deeds, IsLeft, IsFinishedBy, IsGivenBy}
+use Rattle.shard_port.specs.PassPorts.{PassPort, worker_number, all_left_deeds, ViewHasLeft, IsFinishedBy, PassGives}
 use Rattle.shard_port.specs.PassSessions.{WritesOwnSessions, WritesRefusedOwnSessions, IsOutsideAt}
 use Rattle.runs.specs.FrameRuns.{AreFormed, HasRun, HasStopped}
 use Rattle.replay.specs.InTurn.{worker_port, EndsInTurn, StopsInTurn}
@@ -102,7 +102,7 @@ module _ (plan : ℕ → ShardPlan) (count worker : ℕ) (numbered : (number : �
     did : pass'.deeds ≡ all_left_deeds worker pass most ++ pass.deeds
     below : (number : ℕ) → number < most → number < count →
         (made_on number order' ≡ leaving_at worker number (made_on number order) ++ made_on number order)
-        × IsLeft (is_inside worker (own_at pass number)) (plan number) number worker (view_at pass number) (view_at pass' number)
+        × ViewHasLeft (is_inside worker (own_at pass number)) (plan number) number worker (view_at pass number) (view_at pass' number)
     from : (number : ℕ) → most ≤ number → (made_on number order' ≡ made_on number order) × (view_at pass' number ≡ view_at pass number)
 
   none_left : (order : List Deed) (pass : PassView) → IsSound plan count order → IsPassOf count (Worker worker) order pass → IsLeftBelow order pass 0
@@ -127,9 +127,9 @@ module _ (plan : ℕ → ShardPlan) (count worker : ℕ) (numbered : (number : �
       let there = was.from most (omega arith) in
       let still : is_inside worker (made_on most order) ≡ false = sym (inside_of order pass most within mine) ∙ outside in
       let here : (made_on most was.order' ≡ leaving_at worker most (made_on most order) ++ made_on most order)
-      × IsLeft (is_inside worker (own_at pass most)) (plan most) most worker (view_at pass most) (view_at was.pass' most) = (
+      × ViewHasLeft (is_inside worker (own_at pass most)) (plan most) most worker (view_at pass most) (view_at was.pass' most) = (
         there.0 ∙ sym (ap (λ (test : Bool). (if test then leave_by worker most ∷ [] else []) ++ made_on most order) still),
-        subst (λ (test : Bool). IsLeft test (plan most) most worker (view_at pass most) (view_at was.pass' most)) (sym outside) there.1,
+        subst (λ (test : Bool). ViewHasLeft test (plan most) most worker (view_at pass most) (view_at was.pass' most)) (sym outside) there.1,
       ) in
       record {
         order' = was.order';
@@ -141,7 +141,7 @@ module _ (plan : ℕ → ShardPlan) (count worker : ℕ) (numbered : (number : �
             (sym outside);
         below = λ number below inside. ⊎_elim
             (λ (same : number ≡ most). subst (λ (n : ℕ). (made_on n was.order' ≡ leaving_at worker n (made_on n order) ++ made_on n order)
-            × IsLeft (is_inside worker (own_at pass n)) (plan n) n worker (view_at pass n) (view_at was.pass' n)) (sym same) here)
+            × ViewHasLeft (is_inside worker (own_at pass n)) (plan n) n worker (view_at pass n) (view_at was.pass' n)) (sym same) here)
             (λ (apart : number ≡ most → ⊥). was.below number (omega (arith, below, apart)) inside)
             (cases_eq number most);
         from = λ number up. was.from number (omega (arith, up));
@@ -163,7 +163,7 @@ module _ (plan : ℕ → ShardPlan) (count worker : ℕ) (numbered : (number : �
       subst (IsLegalHistory (plan most)) (sym newest)
       (legal_leave (plan most) worker most (made_on most was.order') (numbered most within) (staffed most within) inside_there (was.sound.legal most within)) in
       let seen = seen_here most deeds was.order' was.pass' room in
-      let served : IsServed (plan most) (view_at pass most) (view_at pass'' most) entry = record {
+      let served : ViewIsServed (plan most) (view_at pass most) (view_at pass'' most) entry = record {
         earlier = made_on most order;
         seen = seen ∙ newest ∙ ap (λ (history : List Entry). entry ∷ history) there.0;
         begins = mine.begins most within;
@@ -175,10 +175,10 @@ module _ (plan : ℕ → ShardPlan) (count worker : ℕ) (numbered : (number : �
       } in
       let is_in_order : is_inside worker (made_on most order) ≡ true = sym (inside_of order pass most within mine) ∙ inside in
       let here : (made_on most (deeds ++ was.order') ≡ leaving_at worker most (made_on most order) ++ made_on most order)
-      × IsLeft (is_inside worker (own_at pass most)) (plan most) most worker (view_at pass most) (view_at pass'' most) = (
+      × ViewHasLeft (is_inside worker (own_at pass most)) (plan most) most worker (view_at pass most) (view_at pass'' most) = (
         newest ∙ ap (λ (history : List Entry). entry ∷ history) there.0
             ∙ sym (ap (λ (test : Bool). (if test then leave_by worker most ∷ [] else []) ++ made_on most order) is_in_order),
-        subst (λ (test : Bool). IsLeft test (plan most) most worker (view_at pass most) (view_at pass'' most)) (sym inside) served,
+        subst (λ (test : Bool). ViewHasLeft test (plan most) most worker (view_at pass most) (view_at pass'' most)) (sym inside) served,
       ) in
       record {
         order' = deeds ++ was.order';
@@ -190,11 +190,11 @@ module _ (plan : ℕ → ShardPlan) (count worker : ℕ) (numbered : (number : �
             ∙ ap (λ (test : Bool). (if test then Wrote entry ∷ [] else []) ++ all_left_deeds worker pass most ++ pass.deeds) (sym inside);
         below = λ number below inside_count. ⊎_elim
             (λ (same : number ≡ most). subst (λ (n : ℕ). (made_on n (deeds ++ was.order') ≡ leaving_at worker n (made_on n order) ++ made_on n order)
-            × IsLeft (is_inside worker (own_at pass n)) (plan n) n worker (view_at pass n) (view_at pass'' n)) (sym same) here)
+            × ViewHasLeft (is_inside worker (own_at pass n)) (plan n) n worker (view_at pass n) (view_at pass'' n)) (sym same) here)
             (λ (apart : number ≡ most → ⊥).
             let lower = was.below number (omega (arith, below, apart)) inside_count in (
               made_else (Worker worker) most number deeds was.order' are apart ∙ lower.0,
-              subst (λ (view : CallerView). IsLeft (is_inside worker (own_at pass number)) (plan number) number worker (view_at pass number) view)
+              subst (λ (view : CallerView). ViewHasLeft (is_inside worker (own_at pass number)) (plan number) number worker (view_at pass number) view)
                   (sym ((elsewhere_same most deeds was.order' was.pass').others number apart)) lower.1,
             ))
             (cases_eq number most);
@@ -227,7 +227,7 @@ module _ (plan : ℕ → ShardPlan) (count worker : ℕ) (numbered : (number : �
       HasLeft order shards pass
   leaves_all order shards pass stands =
       let done = leaves_below order pass stands.sound stands.mine count (omega arith) in
-      let caller : worker_of pass.who ≡ worker = ap worker_of stands.mine.caller in
+      let caller : worker_number pass.who ≡ worker = ap worker_number stands.mine.caller in
       record {
         order' = done.order';
         pass' = done.pass';
@@ -248,7 +248,7 @@ module _ (plan : ℕ → ShardPlan) (count worker : ℕ) (numbered : (number : �
         finished = record {
           same_caller = done.mine.caller ∙ sym stands.mine.caller;
           left = λ number within.
-              subst (λ (w : ℕ). IsLeft (is_inside w (own_at pass number)) (plan number) number w (view_at pass number) (view_at done.pass' number)) (sym caller)
+              subst (λ (w : ℕ). ViewHasLeft (is_inside w (own_at pass number)) (plan number) number w (view_at pass number) (view_at done.pass' number)) (sym caller)
               (done.below number within within).1;
           did = done.did ∙ ap (λ (w : ℕ). all_left_deeds w pass count ++ pass.deeds) (sym caller);
         };
@@ -266,7 +266,7 @@ module _ (plan : ℕ → ShardPlan) (count worker : ℕ) (numbered : (number : �
   form_of program call reply formed = formed
 
   formed_by_chain : (program : Program) (before after : PassPort) (exchanges : List Exchange) → before.served ≡ maps_in program →
-      IsChain (IsGivenBy plan count) before exchanges after → AreFormed program exchanges
+      IsChain (PassGives plan count) before exchanges after → AreFormed program exchanges
   formed_by_chain program before after [] same chain = tt
   formed_by_chain program before after (exchange ∷ later) same chain = (
     form_of program exchange.call exchange.reply

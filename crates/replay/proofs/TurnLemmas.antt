@@ -34,9 +34,9 @@ use Rattle.shards.specs.NewShards.{shard_at}
 use Rattle.shards.specs.Seats.{no_plan}
 use Rattle.shards.proofs.shared.Reserves.{reserve_of}
 use Rattle.shard_port.specs.Asking.{all_left}
-use Rattle.shard_port.specs.PortView.{PortView, IsGivenBy, IsRefusedBy, IsReady, AreShardsOf, ServesMaps}
+use Rattle.shard_port.specs.PortView.{PortView, IsGivenBy, IsRefusedBy, IsPortReady, AreShardsOf, ServesMaps}
 use Rattle.shard_port.specs.declared.plain.PlainPort.{PlainPort}
-use Rattle.shard_port.specs.PlainPorts.{PortGives, PortRefuses, maps_of, view_of}
+use Rattle.shard_port.specs.PlainPorts.{PortGives, PortRefuses, maps_of, port_view}
 use Rattle.shard_port.specs.PortLaws.{both_true}
 use Rattle.shard_port.specs.Sessions.{CallsKeepServing}
 use Rattle.shard_port.proofs.shared.Chains.{chain_of}
@@ -45,11 +45,11 @@ use Rattle.control.specs.declared.command.Action.{Action}
 use Rattle.control.specs.declared.command.Command.{Command}
 use Rattle.control.specs.declared.fault.ControlFault.{ControlFault}
 use Rattle.control.specs.Controlling.{ControllerState, refusal_of}
-use Rattle.replay.specs.declared.runner.RunEnd.{RunEnd}
-use Rattle.replay.specs.declared.runner.RunEnd.TheVariants.{Stopped, Exited}
-use Rattle.replay.specs.Actors.{numbers_from, AreDue}
-use Rattle.replay.specs.Commands.{ServesScript}
-use Rattle.replay.specs.Rounds.{is_keyed}
+use Rattle.actors.specs.declared.runner.RunEnd.{RunEnd}
+use Rattle.actors.specs.declared.runner.RunEnd.TheVariants.{Stopped, Exited}
+use Rattle.actors.specs.Actors.{numbers_from, AreDue}
+use Rattle.actors.specs.Commands.{ServesScript}
+use Rattle.semantics.specs.Replay.{is_keyed}
 use Rattle.replay.specs.Turns.{Turn, TheCommand, TheRecord, TheRound, due_to, due_before, commands_between, rounds_at, turns_to, all_turns}
 use Rattle.replay.specs.InTurn.{worker_port, EndsInTurn, StopsInTurn, IsExitInTurn, IsRunInTurn, ServesTurns, may_update_at, IsUpdatedAt, IsAskedInTurn, IsReclaimedInTurn, IsPartOfRound, IsRoundTo, TurnState, IsSameSetting, IsTurn, AreTurns}
 
@@ -70,7 +70,7 @@ module _ (program : Program) (start : MachineState) (worker : ℕ) (before after
     abbrev seen : Maps → ℕ → List JournaledShard → PortView
     seen m w s = record { served = m; worker = w; shards = s }
 
-    first_is : view_of port ≡ worker_port program worker before
+    first_is : port_view port ≡ worker_port program worker before
     first_is =
         ap (λ (m : Maps). seen m port.worker port.shards.now) served
         ∙ ap (λ (w : ℕ). seen (record { maps = program.maps; shards = program.shards }) w port.shards.now) same_worker
@@ -79,10 +79,10 @@ module _ (program : Program) (start : MachineState) (worker : ℕ) (before after
     pub ends_in_turn : (verdict : Verdict) (steps : ℕ) (frame : FrameView) → Ends PortGives program start port later verdict steps frame →
         EndsInTurn program start worker before after verdict steps frame
     ends_in_turn verdict steps frame ends = record {
-      last = view_of later;
-      ends = subst (λ (first : PortView). Ends IsGivenBy program start first (view_of later) verdict steps frame) first_is (record {
+      last = port_view later;
+      ends = subst (λ (first : PortView). Ends IsGivenBy program start first (port_view later) verdict steps frame) first_is (record {
         exchanges = ends.exchanges;
-        chain = chain_of view_of PortGives IsGivenBy (λ one two call reply given. given.given) port later ends.exchanges ends.chain;
+        chain = chain_of port_view PortGives IsGivenBy (λ one two call reply given. given.given) port later ends.exchanges ends.chain;
         last = ends.last;
         trace = ends.trace;
         steps_done = ends.steps_done;
@@ -95,11 +95,11 @@ module _ (program : Program) (start : MachineState) (worker : ℕ) (before after
     pub stops_in_turn : (frame : FrameView) (stop : Stop) → StopsSo PortGives PortRefuses program start port later frame stop →
         StopsInTurn program start worker before after frame stop
     stops_in_turn frame (JournalFull shard) stops = record {
-      last = view_of later;
-      stops = subst (λ (first : PortView). StopsSo IsGivenBy IsRefusedBy program start first (view_of later) frame (JournalFull shard)) first_is (record {
+      last = port_view later;
+      stops = subst (λ (first : PortView). StopsSo IsGivenBy IsRefusedBy program start first (port_view later) frame (JournalFull shard)) first_is (record {
         exchanges = stops.exchanges;
-        middle = view_of stops.middle;
-        chain = chain_of view_of PortGives IsGivenBy (λ one two call reply given. given.given) port stops.middle stops.exchanges stops.chain;
+        middle = port_view stops.middle;
+        chain = chain_of port_view PortGives IsGivenBy (λ one two call reply given. given.given) port stops.middle stops.exchanges stops.chain;
         call = stops.call;
         refused = stops.refused.refused;
         waiting = stops.waiting;
@@ -113,7 +113,7 @@ module _ (program : Program) (start : MachineState) (worker : ℕ) (before after
 -- ---- shards of maps
 
 pub ready_for : (maps : List MapDef) (options : Options) (shards : List JournaledShard) → AreImageMaps maps → AreOptions maps options →
-    AreShardsOf maps options shards → IsReady maps options 0 shards
+    AreShardsOf maps options shards → IsPortReady maps options 0 shards
 ready_for maps options shards are fit shards_are = record {
   few = are.few;
   sizes = image_sizes V2 maps are.allowed;
@@ -148,7 +148,7 @@ reserve_at maps options shards serve number below =
 
 -- the controller may make an update of a map that there is
 pub may_make : (maps : List MapDef) (options : Options) (shards : List JournaledShard) (map : ℕ) (key value : List ℕ) (definition : MapDef) →
-    IsReady maps options 0 shards → slice_get maps map ≡ Some definition → length key ≡ definition.key_size → length value ≡ definition.value_size →
+    IsPortReady maps options 0 shards → slice_get maps map ≡ Some definition → length key ≡ definition.key_size → length value ≡ definition.value_size →
     All (λ byte. byte < 256) key → All (λ byte. byte < 256) value →
     IsTrue (may_update_at (slice_get shards (shard_of (record { maps = maps; shards = options.shards }) map key)) key value)
 may_make maps options shards map key value definition ready known key_size value_size bytes value_bytes =

@@ -12,15 +12,16 @@ use Rattle.semantics.specs.declared.plan.ShardPlan.{ShardPlan}
 use Rattle.semantics.specs.CallerLaws.{own_entries}
 use Rattle.semantics.specs.History.{IsLegalHistory, IsJournalFull, entry_of}
 use Rattle.shard_core.specs.JournaledShard.{JournaledShard}
-use Rattle.shards.specs.CallerView.{BeginsWith, IsServed}
+use Rattle.shards.specs.CallerView.{BeginsWith, ViewIsServed}
 use Rattle.shards.specs.NewShards.{shard_at}
 use Rattle.shards.specs.declared.deeds.Deed.{Deed}
 use Rattle.shards.specs.declared.deeds.Deed.TheVariants.{Wrote, MetFull}
 use Rattle.shards.specs.Deeds.{made_on}
 use Rattle.shards.specs.Passes.{PassView, view_at, own_at, seen_at, IsElsewhereSame}
-use Rattle.replay.specs.Rounds.{AreReclaimed, IsAsked, is_keyed, HasAsked}
+use Rattle.actors.specs.Rounds.{AreReclaimed, IsAsked, HasAsked}
+use Rattle.semantics.specs.Replay.{is_keyed}
 use Rattle.replay.specs.InTurn.{IsAskedInTurn, IsReclaimedInTurn, IsPartOfRound, IsRoundTo}
-use Rattle.replay.proofs.RoundLemmas.{IsInRound, IsPartDone, keyed_turn, array_turn, same_elsewhere, next_turn, first_turn, all_turns, keyed_did, array_did, first_part, next_part, round_done}
+use Rattle.actors.proofs.shared.RoundLemmas.{IsInRound, IsPartDone, keyed_turn, array_turn, same_elsewhere, next_turn, first_turn, all_turns, keyed_did, array_did, first_part, next_part, round_done}
 use Rattle.replay.proofs.TurnDeeds.{Stands, IsMoreBy, AreBy, pass_after, own_of_maker, made_here, no_more, more_by, more_on, elsewhere_same, own_here, seen_here, stands_after, one_of}
 
 one_over : (n : ℕ) → suc n ≡ n + 1
@@ -62,7 +63,7 @@ module _ (plan : ℕ → ShardPlan) (count : ℕ) (numbered : (number : ℕ) →
       let legal : IsLegalHistory (plan number) (made_on number (deeds ++ order)) =
       subst (λ (p : ShardPlan). IsLegalHistory p (made_on number (deeds ++ order))) is.planned (subst (IsLegalHistory one.plan) written is_legal) in
       let seen = seen_here number deeds order pass room in
-      let served : IsServed (plan number) (view_at pass number) (view_at (pass_after number deeds order pass) number) entry = record {
+      let served : ViewIsServed (plan number) (view_at pass number) (view_at (pass_after number deeds order pass) number) entry = record {
         earlier = made_on number order;
         seen = seen ∙ newest;
         begins = stands.mine.begins number is.within;
@@ -78,7 +79,7 @@ module _ (plan : ℕ → ShardPlan) (count : ℕ) (numbered : (number : ℕ) →
         elsewhere = elsewhere_same number deeds order pass;
         asked = inl (
           freed,
-          subst (λ (who : Caller). IsServed (plan number) (view_at pass number) (view_at (pass_after number deeds order pass) number)
+          subst (λ (who : Caller). ViewIsServed (plan number) (view_at pass number) (view_at (pass_after number deeds order pass) number)
               (entry_of who (Reclaim number) (Freed freed))) (sym stands.mine.caller) served,
         );
         did = (Wrote entry, inl (freed, refl), refl);

@@ -20,9 +20,9 @@ use Rattle.shards.specs.declared.deeds.Deed.{Deed}
 use Rattle.shards.specs.declared.deeds.Deed.TheVariants.{Wrote, MetFull}
 use Rattle.shards.specs.Deeds.{made_on, AreMet}
 use Rattle.shards.specs.Passes.{PassView, view_at, own_at, seen_at}
-use Rattle.shard_port.specs.Asking.{is_in, enter_by, entered, asked_entry, entering as entering_of, CannotEnter, CannotCall, IsTurnedAway}
+use Rattle.shard_port.specs.Asking.{is_in, enter_by, entered, asked_entry, entering as entering_of, CannotEnter, CannotCall, CannotEnterOrCall}
 use Rattle.shard_port.specs.PortView.{PortView, IsGivenBy as Gives, IsRefusedBy as Refuses}
-use Rattle.shard_port.specs.PassPorts.{PassPort, worker_of, entering, inside_own, entered_deeds, IsAskedAt, CannotEnterAt, CannotCallAt, IsTurnedAwayBy, IsGivenBy, IsRefusedBy}
+use Rattle.shard_port.specs.PassPorts.{PassPort, worker_number, entering, inside_own, entered_deeds, IsAskedAt, CannotEnterAt, CannotCallAt, IsTurnedAwayBy, PassGives, PassRefuses}
 use Rattle.replay.proofs.TurnDeeds.{IsPassOf, Stands, IsMoreBy, AreBy, pass_after, own_of_maker, made_here, no_more, more_by, more_on, elsewhere_same, own_here, seen_here, stands_after, IsOneOf, one_of}
 
 -- ---- entering
@@ -134,7 +134,7 @@ module _ (plan : ℕ → ShardPlan) (count : ℕ) (numbered : (number : ℕ) →
     pub pass' : PassView
     pub more : IsMoreBy (Worker before.worker) order order'
     pub stands : Stands plan count (Worker before.worker) order' after.shards pass'
-    pub given : IsGivenBy plan count (record { served = before.served; pass = pass }) call reply (record { served = after.served; pass = pass' })
+    pub given : PassGives plan count (record { served = before.served; pass = pass }) call reply (record { served = after.served; pass = pass' })
 
   pub given_step : (order : List Deed) (pass : PassView) (before after : PortView) (call : Call) (reply : Reply) →
       Stands plan count (Worker before.worker) order before.shards pass → Gives before call reply after → IsStep order pass before after call reply
@@ -159,7 +159,7 @@ module _ (plan : ℕ → ShardPlan) (count : ℕ) (numbered : (number : ℕ) →
       subst (λ (p : ShardPlan). IsLegalHistory p (made_on number (deeds ++ order))) planned
       (subst (IsLegalHistory among.new.plan) written among.legal) in
       let met : AreMet plan (deeds ++ order) = (tt, met_entered plan worker number own order stands.sound.met) in
-      let caller : worker_of pass.who ≡ worker = ap worker_of stands.mine.caller in
+      let caller : worker_number pass.who ≡ worker = ap worker_number stands.mine.caller in
       let seen : seen_at (pass_after number deeds order pass) number ≡ entry ∷ entering worker number own ++ made_on number order =
       seen_here number deeds order pass at.room ∙ newest ∙ ap (λ (list : List Entry). entry ∷ list) (made_entered worker number own order) in
       let asked : IsAskedAt (plan number) number worker (view_at pass number) (view_at (pass_after number deeds order pass) number) call reply = record {
@@ -219,7 +219,7 @@ module _ (plan : ℕ → ShardPlan) (count : ℕ) (numbered : (number : ℕ) →
       (subst (λ (history : List Entry). IsJournalFull (plan number) history (Enter one.plan.number)) at.is.written
       (subst (λ (p : ShardPlan). IsJournalFull p (reverse one.journal) (Enter one.plan.number)) at.is.planned parts.1)) in
       let seen = seen_here number deeds order pass at.room in
-      let caller : worker_of pass.who ≡ worker = ap worker_of stands.mine.caller in
+      let caller : worker_number pass.who ≡ worker = ap worker_number stands.mine.caller in
       let cannot_at : CannotEnterAt (plan number) number worker (view_at pass number) (view_at (pass_after number deeds order pass) number) = record {
         outside = sym at.inside ∙ parts.0;
         refused = record {
@@ -255,7 +255,7 @@ module _ (plan : ℕ → ShardPlan) (count : ℕ) (numbered : (number : ℕ) →
       subst (λ (history : List Entry). IsJournalFull (plan number) history call) at.history
       (subst (λ (p : ShardPlan). IsJournalFull p (reverse (entered worker one).journal) call) at.is.planned cannot.full) in
       let seen = seen_here number deeds order pass at.room in
-      let caller : worker_of pass.who ≡ worker = ap worker_of stands.mine.caller in
+      let caller : worker_number pass.who ≡ worker = ap worker_number stands.mine.caller in
       record {
         deeds = deeds;
         are = (record { caller = stands.mine.caller; shard = refl }, entered_by worker number own);
@@ -280,7 +280,7 @@ module _ (plan : ℕ → ShardPlan) (count : ℕ) (numbered : (number : ℕ) →
       }
 
   away_by : (worker : ℕ) (order : List Deed) (shards : List JournaledShard) (pass : PassView) (call : Call) (one new : JournaledShard) →
-      Stands plan count (Worker worker) order shards pass → slice_get shards (shard_of_call call) ≡ Some one → IsTurnedAway worker one call new →
+      Stands plan count (Worker worker) order shards pass → slice_get shards (shard_of_call call) ≡ Some one → CannotEnterOrCall worker one call new →
       IsAway worker order pass call new
   away_by worker order shards pass call one new stands known (inl cannot) = cannot_enter worker order shards pass call one new stands known cannot
   away_by worker order shards pass call one new stands known (inr cannot) = cannot_call worker order shards pass call one new stands known cannot
@@ -290,7 +290,7 @@ module _ (plan : ℕ → ShardPlan) (count : ℕ) (numbered : (number : ℕ) →
     pub pass' : PassView
     pub more : IsMoreBy (Worker before.worker) order order'
     pub stands : Stands plan count (Worker before.worker) order' after.shards pass'
-    pub refused : IsRefusedBy plan count (record { served = before.served; pass = pass }) call (record { served = after.served; pass = pass' })
+    pub refused : PassRefuses plan count (record { served = before.served; pass = pass }) call (record { served = after.served; pass = pass' })
 
   pub refused_step : (order : List Deed) (pass : PassView) (before after : PortView) (call : Call) →
       Stands plan count (Worker before.worker) order before.shards pass → Refuses before call after → IsLastStep order pass before after call
@@ -316,7 +316,7 @@ module _ (plan : ℕ → ShardPlan) (count : ℕ) (numbered : (number : ℕ) →
           same_maps = refused.same_maps;
           within = at.is.within;
           elsewhere = elsewhere_same number deeds order pass;
-          is_worker = stands.mine.caller ∙ ap Worker (sym (ap worker_of stands.mine.caller));
+          is_worker = stands.mine.caller ∙ ap Worker (sym (ap worker_number stands.mine.caller));
           turned_away = away.away legal;
         };
       }
@@ -328,7 +328,7 @@ module _ (plan : ℕ → ShardPlan) (count : ℕ) (numbered : (number : ℕ) →
     pub pass' : PassView
     pub more : IsMoreBy (Worker worker) order order'
     pub stands : Stands plan count (Worker worker) order' after.shards pass'
-    pub chain : IsChain (IsGivenBy plan count) (record { served = before.served; pass = pass }) exchanges (record { served = after.served; pass = pass' })
+    pub chain : IsChain (PassGives plan count) (record { served = before.served; pass = pass }) exchanges (record { served = after.served; pass = pass' })
     pub same_worker : after.worker ≡ worker
 
   pub chain_steps : (worker : ℕ) (order : List Deed) (pass : PassView) (before after : PortView) (exchanges : List Exchange) → before.worker ≡ worker →

@@ -22,26 +22,28 @@ use Rattle.runs.specs.FrameRuns.{HasStopped}
 use Rattle.control.specs.declared.command.Command.{Command}
 use Rattle.map_updates.specs.declared.update.MapUpdate.{MapUpdate}
 use Rattle.control.specs.Controlling.{ControllerState}
-use Rattle.replay.specs.declared.account.Counts.{Counts}
-use Rattle.replay.specs.declared.outcome.Applied.{Applied}
-use Rattle.replay.specs.declared.outcome.RecordEnd.{RecordEnd}
-use Rattle.replay.specs.declared.runner.Ran.{Ran}
-use Rattle.replay.specs.declared.runner.RunEnd.{RunEnd}
-use Rattle.replay.specs.declared.runner.RunEnd.TheVariants.{Stopped, Exited}
-use Rattle.replay.specs.Shares.{frames_of, frame_at, is_short, worker_of_frame, share}
-use Rattle.replay.specs.Accounts.{SentFrame, runs_at, end_at, fate_of, counted, counts_of, sent_by, sent_frames, sent_of, record_end, ends_of, AreRunsOfShares}
-use Rattle.replay.specs.Actors.{numbers_from}
-use Rattle.replay.specs.Commands.{IsScriptAccount}
-use Rattle.replay.specs.Parts.{numbers_of}
-use Rattle.replay.specs.Rounds.{AreReclaimed}
-use Rattle.replay.specs.RunsInOrder.{IsRunAt, HasHandled}
-use Rattle.replay.specs.RunsOverShards.{IsNewPass, IsRunOf, start_of}
+use Rattle.actors.specs.declared.account.Counts.{Counts}
+use Rattle.actors.specs.declared.outcome.Applied.{Applied}
+use Rattle.actors.specs.declared.outcome.RecordEnd.{RecordEnd}
+use Rattle.actors.specs.declared.runner.Ran.{Ran}
+use Rattle.actors.specs.declared.runner.RunEnd.{RunEnd}
+use Rattle.actors.specs.declared.runner.RunEnd.TheVariants.{Stopped, Exited}
+use Rattle.actors.specs.Shares.{frames_of, frame_at, is_short, worker_of_frame, share}
+use Rattle.actors.specs.Accounts.{SentFrame, runs_at, end_at, fate_of, counted, counts_of, sent_by, sent_frames, sent_of, record_end, ends_of, AreRunsOfShares}
+use Rattle.actors.specs.Actors.{numbers_from}
+use Rattle.actors.specs.Commands.{IsScriptAccount}
+use Rattle.actors.specs.Parts.{numbers_of}
+use Rattle.actors.specs.Rounds.{AreReclaimed}
+use Rattle.actors.specs.RunsInOrder.{IsRunAt, HasHandled}
+use Rattle.actors.specs.RunsOverShards.{IsNewPass, IsRunOf, start_of}
 use Rattle.replay.specs.Turns.{Turn, TheCommand, TheRecord, TheRound, due_to, due_before, commands_between, rounds_at, turns_to, all_turns}
-use Rattle.replay.specs.InTurn.{IsRunInTurn, IsHandled, TurnState, IsRecordTurn, IsCommandTurn, IsRoundTurn, AreTurns}
-use Rattle.replay.proofs.CommandAccounts.{account_more}
+use Rattle.replay.specs.InTurn.{IsRunInTurn, IsHandledInTurn, TurnState, IsRecordTurn, IsCommandTurn, IsRoundTurn, AreTurns}
+use Rattle.actors.proofs.shared.CommandAccounts.{account_more}
 use Rattle.replay.proofs.PartLemmas.{numbers_next}
-use Rattle.replay.proofs.PutLemmas.{share_of_short, share_of_other, share_of_own, worker_below}
-use Rattle.replay.proofs.TurnDeeds.{IsSound, AreLeftBy, IsPassOf, Stands, IsMoreBy, others_stay}
+use Rattle.actors.proofs.shared.PutLemmas.{share_of_short, share_of_other, share_of_own, worker_below}
+use Rattle.shards.specs.Deeds.{made_on}
+use Rattle.replay.specs.TurnOrder.{actor_of, GoesThrough}
+use Rattle.replay.proofs.TurnDeeds.{IsSound, AreLeftBy, IsPassOf, Stands, IsMoreBy, no_more, others_stay}
 use Rattle.replay.proofs.TurnLeaving.{ends_by_pass, stops_by_pass}
 use Rattle.replay.proofs.TurnCommands.{by_pass, command_by_pass}
 use Rattle.replay.proofs.TurnRounds.{round_by_pass}
@@ -96,6 +98,38 @@ module _ (program : Program) (updates : List MapUpdate) (script : List Command) 
   abbrev frames : List (List ℕ)
   frames = frames_of records
 
+  -- what was done up to the end of a turn, and by whom it grew
+  record Stepped (turn : Turn) (begun : List Deed) (number next rounds : ℕ) (after : TurnState) : Type 0 where
+    now : Simulated number next rounds after
+    more : IsMoreBy (actor_of records options.workers turn) begun now.order
+
+  -- the same behind a state that is the same
+  abbrev at_same : (number next rounds : ℕ) (before after : TurnState) → after ≡ before → Simulated number next rounds before → Simulated number next rounds after
+  at_same number next rounds before after same was = record {
+    order = was.order;
+    sound = was.sound;
+    left = subst (λ (state : TurnState). AreLeftBy plan count was.order state.all.shards) (sym same) was.left;
+    maps = ap (λ (state : TurnState). state.all.maps) same ∙ was.maps;
+    options_are = ap (λ (state : TurnState). state.all.options) same ∙ was.options_are;
+    runs = was.runs;
+    lists = was.lists;
+    passes = was.passes;
+    mine = was.mine;
+    outside = was.outside;
+    handled = was.handled;
+    counts = ap (λ (state : TurnState). state.counts) same ∙ was.counts;
+    sent = ap (λ (state : TurnState). sent_frames state.sent) same ∙ was.sent;
+    ends = ap (λ (state : TurnState). state.ends) same ∙ was.ends;
+    controller = was.controller;
+    controls = was.controls;
+    each_once = ap (λ (state : TurnState). numbers_of state.noted) same ∙ was.each_once;
+    account = subst (λ (state : TurnState). IsScriptAccount plan program.maps options updates script size state.noted state.controller was.controller)
+        (sym same) was.account;
+    reclaimer = was.reclaimer;
+    reclaims = was.reclaims;
+    reclaimed = was.reclaimed;
+  }
+
   -- what became of a record that is long enough
   abbrev fate_long : List (List Ran) → ℕ → Option RunEnd
   fate_long runs number =
@@ -104,40 +138,43 @@ module _ (program : Program) (updates : List MapUpdate) (script : List Command) 
 
   -- ---- a round
 
-  round_turn : (number next rounds : ℕ) (before after : TurnState) → Simulated number next rounds before → IsRoundTurn before after →
-      Simulated number next (rounds + 1) after
+  round_turn : (number next rounds : ℕ) (before after : TurnState) → (was : Simulated number next rounds before) → IsRoundTurn before after →
+      Stepped TheRound was.order number next (rounds + 1) after
   round_turn number next rounds before after was turn =
       let done = round_by_pass plan count numbered rounds was.order was.reclaimer before.all.shards after.all.shards
       (record { sound = was.sound; left = was.left; mine = was.reclaims }) was.reclaimed turn.round in
       record {
-        order = done.order';
-        sound = done.stands.sound;
-        left = done.stands.left;
-        maps = turn.maps ∙ was.maps;
-        options_are = turn.options ∙ was.options_are;
-        runs = was.runs;
-        lists = was.lists;
-        passes = was.passes;
-        mine = λ worker below. others_stay count Reclaimer (Worker worker) was.order done.order' (was.passes worker) done.more refl (was.mine worker below);
-        outside = was.outside;
-        handled = was.handled;
-        counts = turn.counts ∙ was.counts;
-        sent = ap sent_frames turn.sent ∙ was.sent;
-        ends = turn.ends ∙ was.ends;
-        controller = was.controller;
-        controls = others_stay count Reclaimer Controller was.order done.order' was.controller done.more refl was.controls;
-        each_once = ap numbers_of turn.noted ∙ was.each_once;
-        account = subst (λ (state : ControllerState). IsScriptAccount plan program.maps options updates script size after.noted state was.controller) (sym turn.controller)
-            (subst (λ (noted : List Applied). IsScriptAccount plan program.maps options updates script size noted before.controller was.controller) (sym turn.noted) was.account);
-        reclaimer = done.pass';
-        reclaims = done.stands.mine;
-        reclaimed = done.reclaimed;
+        now = record {
+          order = done.order';
+          sound = done.stands.sound;
+          left = done.stands.left;
+          maps = turn.maps ∙ was.maps;
+          options_are = turn.options ∙ was.options_are;
+          runs = was.runs;
+          lists = was.lists;
+          passes = was.passes;
+          mine = λ worker below. others_stay count Reclaimer (Worker worker) was.order done.order' (was.passes worker) done.more refl (was.mine worker below);
+          outside = was.outside;
+          handled = was.handled;
+          counts = turn.counts ∙ was.counts;
+          sent = ap sent_frames turn.sent ∙ was.sent;
+          ends = turn.ends ∙ was.ends;
+          controller = was.controller;
+          controls = others_stay count Reclaimer Controller was.order done.order' was.controller done.more refl was.controls;
+          each_once = ap numbers_of turn.noted ∙ was.each_once;
+          account = subst (λ (state : ControllerState). IsScriptAccount plan program.maps options updates script size after.noted state was.controller) (sym turn.controller)
+              (subst (λ (noted : List Applied). IsScriptAccount plan program.maps options updates script size noted before.controller was.controller) (sym turn.noted) was.account);
+          reclaimer = done.pass';
+          reclaims = done.stands.mine;
+          reclaimed = done.reclaimed;
+        };
+        more = done.more;
       }
 
   -- ---- a command
 
-  command_turn : (number next rounds : ℕ) (before after : TurnState) → Simulated number next rounds before → IsCommandTurn script next before after →
-      Simulated number (next + 1) rounds after
+  command_turn : (number next rounds : ℕ) (before after : TurnState) → (was : Simulated number next rounds before) →
+      IsCommandTurn script next before after → Stepped (TheCommand next) was.order number (next + 1) rounds after
   command_turn number next rounds before after was turn =
       let done = command_by_pass plan count numbered turn.fault was.order was.controller before.controller before.all turn.command.action after.controller
       after.all (record { sound = was.sound; left = was.left; mine = was.controls }) turn.did turn.first in
@@ -154,27 +191,30 @@ module _ (program : Program) (updates : List MapUpdate) (script : List Command) 
       subst (λ (o : Options). IsScriptAccount plan program.maps o updates script size (before.noted ++ last ∷ []) after.controller done.pass') options_are
       (subst (λ (m : List MapDef). IsScriptAccount plan m after.all.options updates script size (before.noted ++ last ∷ []) after.controller done.pass') maps more) in
       record {
-        order = done.order';
-        sound = done.stands.sound;
-        left = done.stands.left;
-        maps = maps;
-        options_are = options_are;
-        runs = was.runs;
-        lists = was.lists;
-        passes = was.passes;
-        mine = λ worker below. others_stay count Controller (Worker worker) was.order done.order' (was.passes worker) done.more refl (was.mine worker below);
-        outside = was.outside;
-        handled = was.handled;
-        counts = turn.counts ∙ was.counts;
-        sent = ap sent_frames turn.sent ∙ was.sent;
-        ends = turn.ends ∙ was.ends;
-        controller = done.pass';
-        controls = done.stands.mine;
-        each_once = numbers_next before.noted after.noted last next was.each_once refl turn.noted;
-        account = subst (λ (noted : List Applied). IsScriptAccount plan program.maps options updates script size noted after.controller done.pass') (sym turn.noted) moved;
-        reclaimer = was.reclaimer;
-        reclaims = others_stay count Controller Reclaimer was.order done.order' was.reclaimer done.more refl was.reclaims;
-        reclaimed = was.reclaimed;
+        now = record {
+          order = done.order';
+          sound = done.stands.sound;
+          left = done.stands.left;
+          maps = maps;
+          options_are = options_are;
+          runs = was.runs;
+          lists = was.lists;
+          passes = was.passes;
+          mine = λ worker below. others_stay count Controller (Worker worker) was.order done.order' (was.passes worker) done.more refl (was.mine worker below);
+          outside = was.outside;
+          handled = was.handled;
+          counts = turn.counts ∙ was.counts;
+          sent = ap sent_frames turn.sent ∙ was.sent;
+          ends = turn.ends ∙ was.ends;
+          controller = done.pass';
+          controls = done.stands.mine;
+          each_once = numbers_next before.noted after.noted last next was.each_once refl turn.noted;
+          account = subst (λ (noted : List Applied). IsScriptAccount plan program.maps options updates script size noted after.controller done.pass') (sym turn.noted) moved;
+          reclaimer = was.reclaimer;
+          reclaims = others_stay count Controller Reclaimer was.order done.order' was.reclaimer done.more refl was.reclaims;
+          reclaimed = was.reclaimed;
+        };
+        more = done.more;
       }
 
   -- ---- a run
@@ -220,44 +260,48 @@ module _ (program : Program) (updates : List MapUpdate) (script : List Command) 
   -- ---- a record
 
   -- one that is too short changes nothing
-  short_turn : (number next rounds : ℕ) (before after : TurnState) (captured : Sent) → Simulated number next rounds before →
+  short_turn : (number next rounds : ℕ) (before after : TurnState) (captured : Sent) → (was : Simulated number next rounds before) →
       frame_at frames number ≡ captured.bytes.items → is_short captured.bytes.items ≡ true → after.all.shards ≡ before.all.shards →
       after.all.maps ≡ before.all.maps → after.all.options ≡ before.all.options → after.controller ≡ before.controller → after.noted ≡ before.noted →
       after.counts ≡ counted before.counts None → sent_frames after.sent ≡ sent_frames before.sent ++ [] →
-      after.ends ≡ before.ends ++ record_end (worker_of_frame captured.bytes.items options.workers) None ∷ [] → Simulated (suc number) next rounds after
+      after.ends ≡ before.ends ++ record_end (worker_of_frame captured.bytes.items options.workers) None ∷ [] →
+      Stepped (TheRecord number) was.order (suc number) next rounds after
   short_turn number next rounds before after captured was there short shards maps opts controller noted counts sent ends =
       let is : is_short (frame_at frames number) ≡ true = ap is_short there ∙ short in
       let none : fate_of frames options.workers was.runs number ≡ None =
       ap (λ (test : Bool). if test then None else fate_long was.runs number) is in
       record {
-        order = was.order;
-        sound = was.sound;
-        left = subst (λ (list : List JournaledShard). AreLeftBy plan count was.order list) (sym shards) was.left;
-        maps = maps ∙ was.maps;
-        options_are = opts ∙ was.options_are;
-        runs = was.runs;
-        lists = was.lists;
-        passes = was.passes;
-        mine = was.mine;
-        outside = was.outside;
-        handled = λ worker below. subst (λ (numbers : List ℕ). HasHandled (IsNewPass worker) (IsRunAt (IsRunOf count plan program worker) records) numbers
-            (runs_at was.runs worker) (was.passes worker)) (sym (share_of_short frames options.workers worker number is)) (was.handled worker below);
-        counts = counts ∙ ap (λ (c : Counts). counted c None) was.counts
-            ∙ ap (λ (fate : Option RunEnd). counted (counts_of frames options.workers was.runs number) fate) (sym none);
-        sent = sent ∙ ap (λ (list : List SentFrame). list ++ sent_by None) was.sent
-            ∙ ap (λ (fate : Option RunEnd). sent_of frames options.workers was.runs number ++ sent_by fate) (sym none);
-        ends = ends ∙ ap (λ (list : List RecordEnd). list ++ record_end (worker_of_frame captured.bytes.items options.workers) None ∷ []) was.ends
-            ∙ ap (λ (bytes : List ℕ). ends_of frames options.workers was.runs number ++ record_end (worker_of_frame bytes options.workers) None ∷ []) (sym there)
-            ∙ ap (λ (fate : Option RunEnd). ends_of frames options.workers was.runs number ++
-            record_end (worker_of_frame (frame_at frames number) options.workers) fate ∷ []) (sym none);
-        controller = was.controller;
-        controls = was.controls;
-        each_once = ap numbers_of noted ∙ was.each_once;
-        account = subst (λ (state : ControllerState). IsScriptAccount plan program.maps options updates script size after.noted state was.controller) (sym controller)
-            (subst (λ (list : List Applied). IsScriptAccount plan program.maps options updates script size list before.controller was.controller) (sym noted) was.account);
-        reclaimer = was.reclaimer;
-        reclaims = was.reclaims;
-        reclaimed = was.reclaimed;
+        now = record {
+          order = was.order;
+          sound = was.sound;
+          left = subst (λ (list : List JournaledShard). AreLeftBy plan count was.order list) (sym shards) was.left;
+          maps = maps ∙ was.maps;
+          options_are = opts ∙ was.options_are;
+          runs = was.runs;
+          lists = was.lists;
+          passes = was.passes;
+          mine = was.mine;
+          outside = was.outside;
+          handled = λ worker below. subst (λ (numbers : List ℕ). HasHandled (IsNewPass worker) (IsRunAt (IsRunOf count plan program worker) records) numbers
+              (runs_at was.runs worker) (was.passes worker)) (sym (share_of_short frames options.workers worker number is)) (was.handled worker below);
+          counts = counts ∙ ap (λ (c : Counts). counted c None) was.counts
+              ∙ ap (λ (fate : Option RunEnd). counted (counts_of frames options.workers was.runs number) fate) (sym none);
+          sent = sent ∙ ap (λ (list : List SentFrame). list ++ sent_by None) was.sent
+              ∙ ap (λ (fate : Option RunEnd). sent_of frames options.workers was.runs number ++ sent_by fate) (sym none);
+          ends = ends ∙ ap (λ (list : List RecordEnd). list ++ record_end (worker_of_frame captured.bytes.items options.workers) None ∷ []) was.ends
+              ∙ ap (λ (bytes : List ℕ). ends_of frames options.workers was.runs number ++ record_end (worker_of_frame bytes options.workers) None ∷ []) (sym there)
+              ∙ ap (λ (fate : Option RunEnd). ends_of frames options.workers was.runs number ++
+              record_end (worker_of_frame (frame_at frames number) options.workers) fate ∷ []) (sym none);
+          controller = was.controller;
+          controls = was.controls;
+          each_once = ap numbers_of noted ∙ was.each_once;
+          account = subst (λ (state : ControllerState). IsScriptAccount plan program.maps options updates script size after.noted state was.controller) (sym controller)
+              (subst (λ (list : List Applied). IsScriptAccount plan program.maps options updates script size list before.controller was.controller) (sym noted) was.account);
+          reclaimer = was.reclaimer;
+          reclaims = was.reclaims;
+          reclaimed = was.reclaimed;
+        };
+        more = no_more (actor_of records options.workers (TheRecord number)) was.order;
       }
 
   -- any other one is one run more of the worker of its flow
@@ -353,52 +397,56 @@ module _ (program : Program) (updates : List MapUpdate) (script : List Command) 
 
     long_turn : after.all.maps ≡ before.all.maps → after.all.options ≡ before.all.options → after.controller ≡ before.controller →
         after.noted ≡ before.noted → after.counts ≡ counted before.counts (Some end) → sent_frames after.sent ≡ sent_frames before.sent ++ sent_by (Some end) →
-        after.ends ≡ before.ends ++ record_end own (Some end) ∷ [] → Simulated (suc number) next rounds after
+        after.ends ≡ before.ends ++ record_end own (Some end) ∷ [] → Stepped (TheRecord number) was.order (suc number) next rounds after
     long_turn maps opts controller noted counts sent ends = record {
-      order = done.order';
-      sound = done.stands.sound;
-      left = done.stands.left;
-      maps = maps ∙ was.maps;
-      options_are = opts ∙ was.options_are;
-      runs = runs';
-      lists = set_count was.runs own _ ∙ was.lists;
-      passes = passes';
-      mine = mine_then;
-      outside = outside_then;
-      handled = handled_then;
-      counts = counts ∙ ap (λ (c : Counts). counted c (Some end)) (was.counts ∙ sym (counts_stay frames options.workers was.runs runs' number same_below))
-          ∙ ap (λ (one : Option RunEnd). counted (counts_of frames options.workers runs' number) one) (sym fate);
-      sent = sent ∙ ap (λ (list : List SentFrame). list ++ sent_by (Some end)) (was.sent ∙ sym (sent_stays frames options.workers was.runs runs' number same_below))
-          ∙ ap (λ (one : Option RunEnd). sent_of frames options.workers runs' number ++ sent_by one) (sym fate);
-      ends = ends ∙ ap (λ (list : List RecordEnd). list ++ record_end own (Some end) ∷ [])
-          (was.ends ∙ sym (ends_stay frames options.workers was.runs runs' number same_below))
-          ∙ ap (λ (worker : ℕ). ends_of frames options.workers runs' number ++ record_end worker (Some end) ∷ []) (sym who)
-          ∙ ap (λ (one : Option RunEnd). ends_of frames options.workers runs' number ++
-          record_end (worker_of_frame (frame_at frames number) options.workers) one ∷ []) (sym fate);
-      controller = was.controller;
-      controls = others_stay count (Worker own) Controller was.order done.order' was.controller done.more refl was.controls;
-      each_once = ap numbers_of noted ∙ was.each_once;
-      account = subst (λ (state : ControllerState). IsScriptAccount plan program.maps options updates script size after.noted state was.controller) (sym controller)
-          (subst (λ (list : List Applied). IsScriptAccount plan program.maps options updates script size list before.controller was.controller) (sym noted) was.account);
-      reclaimer = was.reclaimer;
-      reclaims = others_stay count (Worker own) Reclaimer was.order done.order' was.reclaimer done.more refl was.reclaims;
-      reclaimed = was.reclaimed;
+      now = record {
+        order = done.order';
+        sound = done.stands.sound;
+        left = done.stands.left;
+        maps = maps ∙ was.maps;
+        options_are = opts ∙ was.options_are;
+        runs = runs';
+        lists = set_count was.runs own _ ∙ was.lists;
+        passes = passes';
+        mine = mine_then;
+        outside = outside_then;
+        handled = handled_then;
+        counts = counts ∙ ap (λ (c : Counts). counted c (Some end)) (was.counts ∙ sym (counts_stay frames options.workers was.runs runs' number same_below))
+            ∙ ap (λ (one : Option RunEnd). counted (counts_of frames options.workers runs' number) one) (sym fate);
+        sent = sent ∙ ap (λ (list : List SentFrame). list ++ sent_by (Some end)) (was.sent ∙ sym (sent_stays frames options.workers was.runs runs' number same_below))
+            ∙ ap (λ (one : Option RunEnd). sent_of frames options.workers runs' number ++ sent_by one) (sym fate);
+        ends = ends ∙ ap (λ (list : List RecordEnd). list ++ record_end own (Some end) ∷ [])
+            (was.ends ∙ sym (ends_stay frames options.workers was.runs runs' number same_below))
+            ∙ ap (λ (worker : ℕ). ends_of frames options.workers runs' number ++ record_end worker (Some end) ∷ []) (sym who)
+            ∙ ap (λ (one : Option RunEnd). ends_of frames options.workers runs' number ++
+            record_end (worker_of_frame (frame_at frames number) options.workers) one ∷ []) (sym fate);
+        controller = was.controller;
+        controls = others_stay count (Worker own) Controller was.order done.order' was.controller done.more refl was.controls;
+        each_once = ap numbers_of noted ∙ was.each_once;
+        account = subst (λ (state : ControllerState). IsScriptAccount plan program.maps options updates script size after.noted state was.controller) (sym controller)
+            (subst (λ (list : List Applied). IsScriptAccount plan program.maps options updates script size list before.controller was.controller) (sym noted) was.account);
+        reclaimer = was.reclaimer;
+        reclaims = others_stay count (Worker own) Reclaimer was.order done.order' was.reclaimer done.more refl was.reclaims;
+        reclaimed = was.reclaimed;
+      };
+      more = subst (λ (worker : ℕ). IsMoreBy (Worker worker) was.order done.order') (sym who) done.more;
     }
 
-  by_end : (number next rounds : ℕ) (before after : TurnState) (captured : Sent) → Simulated number next rounds before →
+  by_end : (number next rounds : ℕ) (before after : TurnState) (captured : Sent) → (was : Simulated number next rounds before) →
       slice_get records number ≡ Some captured → (end : Option RunEnd) →
-      IsHandled program options.workers captured before.all.shards end after.all.shards →
+      IsHandledInTurn program options.workers captured before.all.shards end after.all.shards →
       after.all.maps ≡ before.all.maps → after.all.options ≡ before.all.options → after.controller ≡ before.controller → after.noted ≡ before.noted →
       after.counts ≡ counted before.counts end → sent_frames after.sent ≡ sent_frames before.sent ++ sent_by end →
-      after.ends ≡ before.ends ++ record_end (worker_of_frame captured.bytes.items options.workers) end ∷ [] → Simulated (suc number) next rounds after
+      after.ends ≡ before.ends ++ record_end (worker_of_frame captured.bytes.items options.workers) end ∷ [] →
+      Stepped (TheRecord number) was.order (suc number) next rounds after
   by_end number next rounds before after captured was known None handled maps opts controller noted counts sent ends =
       short_turn number next rounds before after captured was (record_there records number captured known) handled.short handled.nothing maps opts controller
       noted counts sent ends
   by_end number next rounds before after captured was known (Some end) handled maps opts controller noted counts sent ends =
       long_turn number next rounds before after captured was known handled.long end handled.run maps opts controller noted counts sent ends
 
-  record_turn : (number next rounds : ℕ) (before after : TurnState) → Simulated number next rounds before →
-      IsRecordTurn program records options.workers number before after → Simulated (suc number) next rounds after
+  record_turn : (number next rounds : ℕ) (before after : TurnState) → (was : Simulated number next rounds before) →
+      IsRecordTurn program records options.workers number before after → Stepped (TheRecord number) was.order (suc number) next rounds after
   record_turn number next rounds before after was turn =
       by_end number next rounds before after turn.captured was turn.known turn.end turn.handled turn.maps turn.options turn.controller turn.noted turn.counts
       turn.sent turn.ends
@@ -415,18 +463,59 @@ module _ (program : Program) (updates : List MapUpdate) (script : List Command) 
       let rest = turns_split first second turns.0 after turns.2 in
       (rest.0, (turns.0, turns.1, rest.1), rest.2)
 
-  commands_turned : (count_of : ℕ) (number next rounds : ℕ) (before after : TurnState) → Simulated number next rounds before →
-      Turned (map (λ (one : ℕ). TheCommand one) (numbers_from next count_of)) before after → Simulated number (next + count_of) rounds after
-  commands_turned zero number next rounds before after was turns =
-      subst (λ (n : ℕ). Simulated number n rounds after) (omega arith) (subst (λ (state : TurnState). Simulated number next rounds state) (sym turns) was)
-  commands_turned (suc count_of) number next rounds before after was turns =
-      subst (λ (n : ℕ). Simulated number n rounds after) (omega arith)
-      (commands_turned count_of number (next + 1) rounds turns.0 after (command_turn number next rounds before turns.0 was turns.1) turns.2)
+  -- the order goes through the states
+  abbrev Through : (turns : List Turn) (before after : TurnState) → Turned turns before after → List Deed → List Deed → Type 0
+  Through = GoesThrough program script records options.workers count
 
-  between_turned : (number from end rounds : ℕ) (before after : TurnState) → from ≤ end → Simulated number from rounds before →
-      Turned (commands_between from end) before after → Simulated number end rounds after
+  then_through : (turn : Turn) (later : List Turn) (before after : TurnState) (are : Turned (turn ∷ later) before after) (begun middle order : List Deed) →
+      IsMoreBy (actor_of records options.workers turn) begun middle → AreLeftBy plan count middle are.0.all.shards →
+      Through later are.0 after are.2 middle order → Through (turn ∷ later) before after are begun order
+  then_through turn later before after are begun middle order more left rest = (
+    more.deeds,
+    more.made_by,
+    λ number within. ap (made_on number) (sym more.more) ∙ sym (left.written number within),
+    subst (λ (list : List Deed). Through later are.0 after are.2 list order) more.more rest,
+  )
+
+  through_both : (first second : List Turn) (before after : TurnState) (are : Turned (first ++ second) before after) (begun middle order : List Deed) →
+      Through first before (turns_split first second before after are).0 (turns_split first second before after are).1 begun middle →
+      Through second (turns_split first second before after are).0 after (turns_split first second before after are).2 middle order →
+      Through (first ++ second) before after are begun order
+  unfolding turns_split
+  through_both [] second before after are begun middle order same rest =
+      subst (λ (list : List Deed). Through second before after are list order) same rest
+  through_both (turn ∷ first) second before after are begun middle order one rest = (
+    one.0,
+    one.1,
+    one.2,
+    through_both first second are.0 after are.2 (one.0 ++ begun) middle order one.3 rest,
+  )
+
+  -- what was done up to the end of some turns, and how it grew
+  pub record Went (turns : List Turn) (before after : TurnState) (are : Turned turns before after) (begun : List Deed) (number next rounds : ℕ) : Type 0 where
+    pub now : Simulated number next rounds after
+    pub through : Through turns before after are begun now.order
+
+  commands_turned : (count_of : ℕ) (number next rounds : ℕ) (before after : TurnState) → (was : Simulated number next rounds before) →
+      (turns : Turned (map (λ (one : ℕ). TheCommand one) (numbers_from next count_of)) before after) →
+      Went (map (λ (one : ℕ). TheCommand one) (numbers_from next count_of)) before after turns was.order number (next + count_of) rounds
+  commands_turned zero number next rounds before after was turns =
+      subst (λ (n : ℕ). Went [] before after turns was.order number n rounds) (omega arith)
+      (record { now = at_same number next rounds before after turns was; through = refl })
+  commands_turned (suc count_of) number next rounds before after was turns =
+      let one = command_turn number next rounds before turns.0 was turns.1 in
+      let rest = commands_turned count_of number (next + 1) rounds turns.0 after one.now turns.2 in
+      subst (λ (n : ℕ). Went (map (λ (one : ℕ). TheCommand one) (numbers_from next (suc count_of))) before after turns was.order number n rounds) (omega arith)
+      (record {
+        now = rest.now;
+        through = then_through (TheCommand next) (map (λ (one : ℕ). TheCommand one) (numbers_from (next + 1) count_of)) before after turns was.order
+            one.now.order rest.now.order one.more one.now.left rest.through;
+      })
+
+  between_turned : (number from end rounds : ℕ) (before after : TurnState) → from ≤ end → (was : Simulated number from rounds before) →
+      (turns : Turned (commands_between from end) before after) → Went (commands_between from end) before after turns was.order number end rounds
   between_turned number from end rounds before after up was turns =
-      subst (λ (n : ℕ). Simulated number n rounds after) (omega (arith, up))
+      subst (λ (n : ℕ). Went (commands_between from end) before after turns was.order number n rounds) (omega (arith, up))
       (commands_turned (end - from) number from rounds before after was turns)
 
   round_over : (number : ℕ) → (suc number % 64 == 0) ≡ true → number / 64 + 1 ≡ suc number / 64
@@ -446,19 +535,20 @@ module _ (program : Program) (updates : List MapUpdate) (script : List Command) 
       let less = mod-lt number {m = 64} (omega arith) in
       omega (arith, some, now, earlier, less, more)
 
-  round_turned : (number next : ℕ) (before after : TurnState) → Simulated (suc number) next (number / 64) before →
-      Turned (rounds_at (suc number)) before after → Simulated (suc number) next (suc number / 64) after
+  round_turned : (number next : ℕ) (before after : TurnState) → (was : Simulated (suc number) next (number / 64) before) →
+      (turns : Turned (rounds_at (suc number)) before after) → Went (rounds_at (suc number)) before after turns was.order (suc number) next (suc number / 64)
   round_turned number next before after was turns = by_test (suc number % 64 == 0) refl turns
     where
-      by_test : (due : Bool) → (suc number % 64 == 0) ≡ due → Turned (if due then TheRound ∷ [] else []) before after →
-          Simulated (suc number) next (suc number / 64) after
+      by_test : (due : Bool) → (suc number % 64 == 0) ≡ due → (turns : Turned (if due then TheRound ∷ [] else []) before after) →
+          Went (if due then TheRound ∷ [] else []) before after turns was.order (suc number) next (suc number / 64)
       by_test true is one =
-          subst (λ (n : ℕ). Simulated (suc number) next n after) (round_over number is)
-          (subst (λ (state : TurnState). Simulated (suc number) next (number / 64 + 1) state) (sym one.2)
-          (round_turn (suc number) next (number / 64) before one.0 was one.1))
+          let done = round_turn (suc number) next (number / 64) before one.0 was one.1 in
+          let now = at_same (suc number) next (number / 64 + 1) one.0 after one.2 done.now in
+          subst (λ (n : ℕ). Went (TheRound ∷ []) before after one was.order (suc number) next n) (round_over number is)
+          (record { now = now; through = then_through TheRound [] before after one was.order done.now.order done.now.order done.more done.now.left refl })
       by_test false is none =
-          subst (λ (n : ℕ). Simulated (suc number) next n after) (round_on number is)
-          (subst (λ (state : TurnState). Simulated (suc number) next (number / 64) state) (sym none) was)
+          subst (λ (n : ℕ). Went [] before after none was.order (suc number) next n) (round_on number is)
+          (record { now = at_same (suc number) next (number / 64) before after none was; through = refl })
 
   -- ---- which commands are due
 
@@ -490,24 +580,56 @@ module _ (program : Program) (updates : List MapUpdate) (script : List Command) 
 
   -- ---- all of them
 
-  records_turned : (starts : List ℕ) (number : ℕ) (first after : TurnState) → Simulated 0 0 0 first → Turned (turns_to starts number) first after →
-      Simulated number (due_before starts number) (number / 64) after
-  records_turned starts zero first after was turns = subst (λ (state : TurnState). Simulated 0 0 0 state) (sym turns) was
-  records_turned starts (suc number) first after was turns =
-      let parts = turns_split (turns_to starts number)
-      (commands_between (due_before starts number) (due_to starts number) ++ TheRecord number ∷ rounds_at (suc number)) first after turns in
-      let earlier = records_turned starts number first parts.0 was parts.1 in
-      let due = turns_split (commands_between (due_before starts number) (due_to starts number)) (TheRecord number ∷ rounds_at (suc number)) parts.0 after parts.2 in
-      let commanded = between_turned number (due_before starts number) (due_to starts number) (number / 64) parts.0 due.0 (due_after starts number) earlier due.1 in
-      let ran = record_turn number (due_to starts number) (number / 64) due.0 due.2.0 commanded due.2.1 in
-      round_turned number (due_to starts number) due.2.0 after ran due.2.2
+  abbrev turns_of_record : List ℕ → ℕ → List Turn
+  turns_of_record starts number =
+      commands_between (due_before starts number) (due_to starts number) ++ TheRecord number ∷ rounds_at (suc number)
 
-  pub all_turned : (starts : List ℕ) (number : ℕ) (first after : TurnState) → Simulated 0 0 0 first → Turned (all_turns starts number) first after →
-      Simulated number (length starts) (number / 64 + 1) after
-  all_turned starts number first after was turns =
-      let parts = turns_split (turns_to starts number) (commands_between (due_before starts number) (length starts) ++ TheRound ∷ []) first after turns in
+  -- the turns from one record to the next
+  one_more : (starts : List ℕ) (number : ℕ) (before after : TurnState) → (was : Simulated number (due_before starts number) (number / 64) before) →
+      (turns : Turned (turns_of_record starts number) before after) →
+      Went (turns_of_record starts number) before after turns was.order (suc number) (due_to starts number) (suc number / 64)
+  one_more starts number before after was turns =
+      let commands = commands_between (due_before starts number) (due_to starts number) in
+      let due = turns_split commands (TheRecord number ∷ rounds_at (suc number)) before after turns in
+      let commanded = between_turned number (due_before starts number) (due_to starts number) (number / 64) before due.0 (due_after starts number) was due.1 in
+      let ran = record_turn number (due_to starts number) (number / 64) due.0 due.2.0 commanded.now due.2.1 in
+      let rest = round_turned number (due_to starts number) due.2.0 after ran.now due.2.2 in
+      record {
+        now = rest.now;
+        through = through_both commands (TheRecord number ∷ rounds_at (suc number)) before after turns was.order commanded.now.order rest.now.order
+            commanded.through
+            (then_through (TheRecord number) (rounds_at (suc number)) due.0 after due.2 commanded.now.order ran.now.order rest.now.order ran.more ran.now.left
+            rest.through);
+      }
+
+  records_turned : (starts : List ℕ) (number : ℕ) (first after : TurnState) → (was : Simulated 0 0 0 first) →
+      (turns : Turned (turns_to starts number) first after) →
+      Went (turns_to starts number) first after turns was.order number (due_before starts number) (number / 64)
+  records_turned starts zero first after was turns = record { now = at_same 0 0 0 first after turns was; through = refl }
+  records_turned starts (suc number) first after was turns =
+      let parts = turns_split (turns_to starts number) (turns_of_record starts number) first after turns in
       let earlier = records_turned starts number first parts.0 was parts.1 in
-      let left = turns_split (commands_between (due_before starts number) (length starts)) (TheRound ∷ []) parts.0 after parts.2 in
-      let commanded = between_turned number (due_before starts number) (length starts) (number / 64) parts.0 left.0 (before_within starts number) earlier left.1 in
-      subst (λ (state : TurnState). Simulated number (length starts) (number / 64 + 1) state) (sym left.2.2)
-      (round_turn number (length starts) (number / 64) left.0 left.2.0 commanded left.2.1)
+      let rest = one_more starts number parts.0 after earlier.now parts.2 in
+      record {
+        now = rest.now;
+        through = through_both (turns_to starts number) (turns_of_record starts number) first after turns was.order earlier.now.order rest.now.order
+            earlier.through rest.through;
+      }
+
+  pub all_turned : (starts : List ℕ) (number : ℕ) (first after : TurnState) → (was : Simulated 0 0 0 first) →
+      (turns : Turned (all_turns starts number) first after) →
+      Went (all_turns starts number) first after turns was.order number (length starts) (number / 64 + 1)
+  all_turned starts number first after was turns =
+      let commands = commands_between (due_before starts number) (length starts) in
+      let parts = turns_split (turns_to starts number) (commands ++ TheRound ∷ []) first after turns in
+      let earlier = records_turned starts number first parts.0 was parts.1 in
+      let left = turns_split commands (TheRound ∷ []) parts.0 after parts.2 in
+      let commanded = between_turned number (due_before starts number) (length starts) (number / 64) parts.0 left.0 (before_within starts number) earlier.now left.1 in
+      let done = round_turn number (length starts) (number / 64) left.0 left.2.0 commanded.now left.2.1 in
+      let last = at_same number (length starts) (number / 64 + 1) left.2.0 after left.2.2 done.now in
+      record {
+        now = last;
+        through = through_both (turns_to starts number) (commands ++ TheRound ∷ []) first after turns was.order earlier.now.order last.order earlier.through
+            (through_both commands (TheRound ∷ []) parts.0 after parts.2 earlier.now.order commanded.now.order last.order commanded.through
+            (then_through TheRound [] left.0 after left.2 commanded.now.order done.now.order last.order done.more done.now.left refl));
+      }

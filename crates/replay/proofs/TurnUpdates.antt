@@ -19,7 +19,7 @@ use Rattle.control.specs.declared.fault.ControlFault.TheVariants.{BadSize, BadLi
 use Rattle.control.specs.declared.update.Update.{Update as Change}
 use Rattle.control.specs.MapUpdates.{AreMade}
 use Rattle.control.specs.Controlling.{ControllerState, IsCarriedOut, IsLeft, updates_of}
-use Rattle.replay.specs.SharedUpdates.{shard_of_map_key}
+use Rattle.actors.specs.SharedUpdates.{shard_of_map_key}
 use Rattle.replay.specs.InTurn.{TurnMaps, ServesTurns, may_update_at, IsUpdatedAt, IsFullAt, IsUpdatedInTurn, IsTurnedAwayInTurn}
 use Rattle.replay.proofs.TurnLemmas.{ready_for, may_make, update_serves}
 

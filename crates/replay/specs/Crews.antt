@@ -7,12 +7,12 @@ use Rattle.wire.specs.declared.records.Sent.{Sent}
 use Rattle.wire.specs.declared.records.Capture.{Capture}
 use Rattle.rx_queues.specs.declared.passes.Queues.{Queues}
 use Rattle.replay.specs.declared.crew.Handled.{Handled}
-use Rattle.replay.specs.declared.worker.Lane.{Lane}
-use Rattle.replay.specs.declared.runner.RunEnd.{RunEnd}
-use Rattle.replay.specs.declared.runner.Ran.{Ran}
-use Rattle.replay.specs.Accounts.{runs_at}
-use Rattle.replay.specs.RunsInOrder.{IsRunAt, HasHandled}
-use Rattle.replay.specs.Shares.{frames_of, share}
+use Rattle.actors.specs.declared.worker.Lane.{Lane}
+use Rattle.actors.specs.declared.runner.RunEnd.{RunEnd}
+use Rattle.actors.specs.declared.runner.Ran.{Ran}
+use Rattle.actors.specs.Accounts.{runs_at}
+use Rattle.actors.specs.RunsInOrder.{IsRunAt, HasHandled}
+use Rattle.actors.specs.Shares.{frames_of, share}
 
 -- a worker's state that may go to its thread
 pub record IsReadyAt {S : Type 0} (IsNew IsIdle : ℕ → S → Type 0) (worker : ℕ) (state : S) : Type 0 where

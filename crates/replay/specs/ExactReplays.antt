@@ -12,12 +12,12 @@ use Rattle.shard_core.specs.JournaledShard.{JournaledShard}
 use Rattle.shards.specs.NewShards.{shard_at}
 use Rattle.shards.specs.Opening.{AreOpened}
 use Rattle.control.specs.declared.command.Command.{Command}
-use Rattle.replay.specs.declared.outcome.Outcome.{Outcome}
-use Rattle.replay.specs.Accounts.{no_counts, frames_in}
+use Rattle.actors.specs.declared.outcome.Outcome.{Outcome}
+use Rattle.actors.specs.Accounts.{no_counts, frames_in}
 use Rattle.control.specs.Controlling.{opened_controller}
-use Rattle.replay.specs.Commands.{ServesScript}
-use Rattle.replay.specs.FirstUpdates.{AreSet}
-use Rattle.replay.specs.Parts.{refused_of}
+use Rattle.actors.specs.Commands.{ServesScript}
+use Rattle.actors.specs.FirstUpdates.{AreSet}
+use Rattle.actors.specs.Parts.{refused_of}
 use Rattle.replay.specs.Turns.{all_turns}
 use Rattle.replay.specs.InTurn.{TurnMaps, TurnState, IsUpdatedInTurn, AreTurns}
 

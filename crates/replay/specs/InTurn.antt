@@ -29,16 +29,16 @@ use Rattle.control.specs.declared.command.Command.{Command}
 use Rattle.control.specs.declared.fault.ControlFault.{ControlFault}
 use Rattle.control.specs.MapUpdates.{UpdateBytes}
 use Rattle.control.specs.Controlling.{ControllerState, IsCarriedOut, IsLeft, refusal_of, first_updates, up_after}
-use Rattle.replay.specs.declared.account.Counts.{Counts}
-use Rattle.replay.specs.declared.outcome.Applied.{Applied}
-use Rattle.replay.specs.declared.outcome.RecordEnd.{RecordEnd}
-use Rattle.replay.specs.declared.runner.RunEnd.{RunEnd}
-use Rattle.replay.specs.declared.runner.RunEnd.TheVariants.{Stopped}
-use Rattle.replay.specs.Shares.{is_short, worker_of_frame}
-use Rattle.replay.specs.Accounts.{counted, sent_by, sent_frames, record_end}
-use Rattle.replay.specs.Rounds.{is_keyed}
-use Rattle.replay.specs.RunsOverShards.{start_of, IsTold, steps_in}
-use Rattle.replay.specs.SharedUpdates.{shard_of}
+use Rattle.actors.specs.declared.account.Counts.{Counts}
+use Rattle.actors.specs.declared.outcome.Applied.{Applied}
+use Rattle.actors.specs.declared.outcome.RecordEnd.{RecordEnd}
+use Rattle.actors.specs.declared.runner.RunEnd.{RunEnd}
+use Rattle.actors.specs.declared.runner.RunEnd.TheVariants.{Stopped}
+use Rattle.actors.specs.Shares.{is_short, worker_of_frame}
+use Rattle.actors.specs.Accounts.{counted, sent_by, sent_frames, record_end}
+use Rattle.semantics.specs.Replay.{is_keyed}
+use Rattle.actors.specs.RunsOverShards.{start_of, IsTold, steps_in}
+use Rattle.actors.specs.SharedUpdates.{shard_of}
 use Rattle.replay.specs.Turns.{Turn, TheCommand, TheRecord, TheRound}
 
 -- ---- a run
@@ -90,9 +90,9 @@ pub record IsRun (program : Program) (workers : ℕ) (captured : Sent) (before :
     pub long : is_short captured.bytes.items ≡ false
     pub run : IsRunInTurn program captured (worker_of_frame captured.bytes.items workers) before end after
 
-abbrev pub IsHandled : Program → ℕ → Sent → List JournaledShard → Option RunEnd → List JournaledShard → Type 0
-IsHandled program workers captured before None after = IsPassedOver captured before after
-IsHandled program workers captured before (Some end) after = IsRun program workers captured before end after
+abbrev pub IsHandledInTurn : Program → ℕ → Sent → List JournaledShard → Option RunEnd → List JournaledShard → Type 0
+IsHandledInTurn program workers captured before None after = IsPassedOver captured before after
+IsHandledInTurn program workers captured before (Some end) after = IsRun program workers captured before end after
 
 -- ---- a command
 
@@ -201,7 +201,7 @@ pub record IsRecordTurn (program : Program) (records : List Sent) (workers numbe
   pub captured : Sent
   pub known : slice_get records number ≡ Some captured
   pub end : Option RunEnd
-  pub handled : IsHandled program workers captured before.all.shards end after.all.shards
+  pub handled : IsHandledInTurn program workers captured before.all.shards end after.all.shards
   pub maps : after.all.maps ≡ before.all.maps
   pub options : after.all.options ≡ before.all.options
   pub controller : after.controller ≡ before.controller

@@ -8,13 +8,14 @@ use Rattle.semantics.specs.ShardPlan.{AreOptions}
 use Rattle.maglev.specs.RingSize.{IsRingSize}
 use Rattle.control.specs.declared.command.Command.{Command}
 use Rattle.replay.specs.declared.in_pieces.PieceReplay.{PieceReplay}
-use Rattle.replay.specs.declared.outcome.Outcome.{Outcome}
-use Rattle.replay.specs.declared.outcome.RecordEnd.{RecordEnd}
-use Rattle.replay.specs.Accounted.{IsAccounted}
-use Rattle.replay.specs.Accounts.{frames_in}
-use Rattle.replay.specs.Commands.{ServesScript}
-use Rattle.replay.specs.ExactReplays.{IsInTurn, HasBegun, starts_in, first_state}
+use Rattle.actors.specs.declared.outcome.Outcome.{Outcome}
+use Rattle.actors.specs.declared.outcome.RecordEnd.{RecordEnd}
+use Rattle.actors.specs.Accounted.{IsAccounted}
+use Rattle.actors.specs.Accounts.{frames_in}
+use Rattle.actors.specs.Commands.{ServesScript}
+use Rattle.replay.specs.ExactReplays.{HasBegun, starts_in, first_state}
 use Rattle.replay.specs.InTurn.{TurnMaps, AreTurns}
+use Rattle.replay.specs.TurnOrder.{IsInTurnOrder}
 use Rattle.replay.specs.TurnStates.{state_in, with_earlier}
 use Rattle.replay.specs.Turns.{due_before, turns_to}
 
@@ -61,9 +62,9 @@ pub record IsWholeOutcome (rest : Outcome) (sent : List Sent) (ends : List Recor
   pub ends_are : whole.ends.items ≡ ends
 
 -- with the frames and the ends that were handed out, it is the outcome of an exact replay of all records
-pub record IsReplayed (program : Program) (script : List Command) (options : Options) (records sent : List Sent) (ends : List RecordEnd)
+pub record IsReplayedInPieces (program : Program) (script : List Command) (options : Options) (records sent : List Sent) (ends : List RecordEnd)
     (rest : Outcome) : Type 0 where
   pub whole : Outcome
   pub is_whole : IsWholeOutcome rest sent ends whole
-  pub in_turn : IsInTurn program script options records whole
   pub accounted : IsAccounted program script options records whole
+  pub in_order : IsInTurnOrder program script options records whole accounted

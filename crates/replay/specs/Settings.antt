@@ -8,14 +8,14 @@ use Rattle.rx_queues.specs.declared.passes.PutPass.{PutPass}
 use Rattle.rx_queues.specs.declared.passes.TakePass.{TakePass}
 use Rattle.rx_queues.specs.declared.passes.Queues.{Queues}
 use Rattle.rx_queues.specs.Passes.{IsPutPassOf, AreTakePasses, workers_of, records_of, commands_of, jobs_put}
-use Rattle.replay.specs.declared.runner.RunEnd.{RunEnd}
+use Rattle.actors.specs.declared.runner.RunEnd.{RunEnd}
 use Rattle.replay.specs.declared.threads.AllEnded.{AllEnded}
 use Rattle.replay.specs.declared.threads.Setting.{Setting}
-use Rattle.replay.specs.declared.fault.ReplayFault.{ReplayFault}
-use Rattle.replay.specs.declared.fault.ReplayFault.TheVariants.{Memory, NoThread}
-use Rattle.replay.specs.Actors.{OfCommandsFrom, AreAllEnded, round_jobs}
+use Rattle.actors.specs.declared.fault.ReplayFault.{ReplayFault}
+use Rattle.actors.specs.declared.fault.ReplayFault.TheVariants.{Memory, NoThread}
+use Rattle.actors.specs.Actors.{OfCommandsFrom, AreAllEnded, round_jobs}
 use Rattle.replay.specs.Crews.{IsReadyAt, AreHandled}
-use Rattle.replay.specs.Puts.{AreNonePut, AreAllPut}
+use Rattle.actors.specs.Puts.{AreNonePut, AreAllPut}
 
 -- the passes of queues for N workers, a controller and a reclaimer, through which nothing was put yet
 pub record AreFreshPasses (queues : Queues) (workers : ℕ) (put : PutPass) (takes : List TakePass) : Type 0 where

@@ -10,7 +10,7 @@ use Rattle.semantics.specs.LittleEndian.{number_of_bytes}
 use Rattle.shard_core.specs.JournaledShard.{state_of}
 use Rattle.control.specs.MapUpdates.{UpdateBytes, IsInArray}
 use Rattle.replay.specs.InTurn.{TurnMaps, IsUpdatedInTurn, IsTurnedAwayInTurn}
-use Rattle.replay.specs.SharedLaws.{array_answer}
+use Rattle.actors.specs.SharedLaws.{array_answer}
 
 pub refused_keeps : (before : TurnMaps) (update : UpdateBytes) (after : TurnMaps) → IsTurnedAwayInTurn before update after →
     after.maps ≡ before.maps

@@ -1,7 +1,7 @@
 -- How far a replay on one thread is, by what it keeps and what it handed out.
 use Rattle.std.specs.Prelude.{◌≡◌, List, [], ◌++◌}
 use Rattle.wire.specs.declared.records.Sent.{Sent}
-use Rattle.replay.specs.declared.outcome.RecordEnd.{RecordEnd}
+use Rattle.actors.specs.declared.outcome.RecordEnd.{RecordEnd}
 use Rattle.replay.specs.declared.single_thread.Turns.{Turns}
 use Rattle.replay.specs.InTurn.{TurnState}
 

@@ -1,6 +1,6 @@
 -- The turns of an exact replay, one after the other: the order in which commands, records and rounds come.
 use Rattle.std.specs.Prelude.{ℕ, zero, suc, ◌-◌, ◌%◌, ◌==◌, nat_lt, List, [], ◌∷◌, ◌++◌, map, length, if◌then◌else◌}
-use Rattle.replay.specs.Actors.{numbers_from}
+use Rattle.actors.specs.Actors.{numbers_from}
 
 pub data Turn : Type 0 where
   -- the script's command of this number is applied

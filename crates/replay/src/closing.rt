@@ -4,20 +4,20 @@ ghost use Rattle.std.specs.Prelude.{◌≡◌, ◌<◌, ◌≤◌, ◌∷◌, �
 ghost use Rattle.semantics.specs.declared.call.Caller.TheVariants.{Reclaimer};
 ghost use Rattle.machine.specs.Running.{program_of};
 ghost use Rattle.maglev.specs.RingSize.{IsRingSize};
-ghost use Rattle.replay.specs.Commands.{ServesScript};
-ghost use Rattle.replay.specs.Rounds.{AreReclaimed};
+ghost use Rattle.actors.specs.Commands.{ServesScript};
+ghost use Rattle.actors.specs.Rounds.{AreReclaimed};
 ghost use Rattle.replay.specs.Crews.{AreHandled};
-ghost use Rattle.replay.specs.Accounted.{IsAccounted};
-ghost use Rattle.replay.specs.Parts.{IsScriptRun, rounds_of, refused_of};
-ghost use Rattle.replay.specs.RunsOverShards.{IsNewAt, IsRunBy, pass_in};
+ghost use Rattle.actors.specs.Accounted.{IsAccounted};
+ghost use Rattle.actors.specs.Parts.{IsScriptRun, round_count, refused_of};
+ghost use Rattle.actors.specs.RunsOverShards.{IsNewAt, IsRunBy, pass_in};
 
-use crate::account::{Counts, account};
-use crate::controller::Commanded;
 use crate::crew::parted;
-use crate::first_updates::copied;
-use crate::outcome::{Applied, Outcome, RecordEnd};
 use crate::threads::AllEnded;
-use crate::worker::Working;
+use actors::account::{Counts, account};
+use actors::controller::Commanded;
+use actors::first_updates::copied;
+use actors::worker::Working;
+use actors::{Applied, Outcome, RecordEnd};
 use control::Script;
 use journals::Journals;
 use map_updates::MapUpdate;
@@ -113,7 +113,7 @@ pub(crate) fn closed<B: Naming, R: Wait>(
     requires serves { ServesScript shards.maps size script.now }
     requires script { IsScriptRun B.plan shards.maps shards.options updates.now script.now size ended.controller.noted.items
         ended.controller.pass }
-    requires rounds { AreReclaimed B.plan B.count (rounds_of (length capture.now.records.items)) ended.reclaimer ×
+    requires rounds { AreReclaimed B.plan B.count (round_count (length capture.now.records.items)) ended.reclaimer ×
         (ended.reclaimer.who ≡ Reclaimer) }
     ensures accounted { IfOk result (IsAccounted (program_of verified.now shards.options.shards) script.now shards.options
         capture.now.records.items) }

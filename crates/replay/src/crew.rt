@@ -3,16 +3,16 @@
 ghost use Rattle.std.specs.Prelude.{◌≡◌, ◌<◌, ◌≤◌, ◌++◌, ◌∷◌, [], length, IfOk, IfSome, IsSome, vec_capacity};
 ghost use Rattle.rx_queues.specs.declared.job.Job.TheVariants.{End};
 ghost use Rattle.rx_queues.specs.Passes.{IsPutPassOf, TakeAtTheirPlaces, workers_of, records_of, jobs_put};
-ghost use Rattle.replay.specs.Accounts.{lists_of};
+ghost use Rattle.actors.specs.Accounts.{lists_of};
 ghost use Rattle.semantics.specs.Each.{Each};
 ghost use Rattle.replay.specs.Crews.{IsReadyAt, IsLane, AreHandled, IsPart};
-ghost use Rattle.replay.specs.Puts.{AreAllPut, ArePutWithEnd, put_at, frame_jobs};
-ghost use Rattle.replay.specs.RunsInOrder.{IsRunAt, HasHandled};
-ghost use Rattle.replay.specs.Shares.{frames_of, share};
+ghost use Rattle.actors.specs.Puts.{AreAllPut, ArePutWithEnd, put_at, frame_jobs};
+ghost use Rattle.actors.specs.RunsInOrder.{IsRunAt, HasHandled};
+ghost use Rattle.actors.specs.Shares.{frames_of, share};
 
-use crate::dispatch::end_all;
-use crate::runner::{Ran, Runner};
-use crate::worker::{Lane, WorkerEnded, start};
+use actors::dispatch::end_all;
+use actors::worker::{Lane, WorkerEnded, start};
+use actors::{Ran, Runner};
 use rx_queues::{PutPass, Queues, TakePass};
 use std::alloc::{AllocError, Global};
 use std::sync::Wait;

@@ -1,6 +1,7 @@
 //! An exact replay of a capture that comes in pieces: between two pieces nothing is kept of the records that were run.
 
 ghost use Rattle.std.specs.Prelude.{◌≡◌, ◌<◌, ◌+◌, ◌^◌, ◌++◌, ◌↔◌, [], List, length};
+ghost use Rattle.std.specs.List.{AllByRecursion};
 ghost use Rattle.std.specs.Prelude.{OnOk, IfOk, IfErr, IsErrOf, IsTrue};
 ghost use Rattle.machine.specs.Running.{program_of};
 ghost use Rattle.maglev.specs.RingSize.{IsRingSize};
@@ -10,21 +11,24 @@ ghost use Rattle.semantics.specs.declared.options.Options.{Options as Settings};
 ghost use Rattle.map_updates.specs.Misfits.{AreFitting};
 ghost use Rattle.map_updates.specs.declared.update.MapUpdate.{MapUpdate as Update};
 ghost use Rattle.wire.specs.declared.records.Sent.{Sent as Record};
-ghost use Rattle.replay.specs.Commands.{ServesScript};
+ghost use Rattle.actors.specs.Commands.{ServesScript};
 ghost use Rattle.replay.specs.ExactReplays.{HasBegun};
-ghost use Rattle.replay.specs.Parts.{AreBadOptions};
-ghost use Rattle.replay.specs.Pieces.{GoesOn, IsUnderway, IsReplayed};
-ghost use Rattle.replay.specs.UpdateFaults.{OfUpdate, IsWhyInTurn};
-ghost use Rattle.replay.specs.declared.fault.ReplayFault.TheVariants.{BadOptions, NoThread};
-ghost use Rattle.replay.specs.declared.outcome.RecordEnd.{RecordEnd as End};
+ghost use Rattle.actors.specs.Parts.{AreBadOptions};
+ghost use Rattle.replay.specs.Pieces.{GoesOn, IsUnderway, IsReplayedInPieces};
+ghost use Rattle.actors.specs.UpdateFaults.{OfUpdate};
+ghost use Rattle.replay.specs.TurnFaults.{IsWhyInTurn};
+ghost use Rattle.actors.specs.Captured.{IsCaptured};
+ghost use Rattle.guarantees.specs.HeadlineOf.{HeadlineOf};
+ghost use Rattle.actors.specs.declared.fault.ReplayFault.TheVariants.{BadOptions, NoThread};
+ghost use Rattle.actors.specs.declared.outcome.RecordEnd.{RecordEnd as End};
 
-use crate::fault::ReplayFault;
 use crate::laws::turns_are_accounted;
-use crate::outcome::{Outcome, PieceOutcome};
 use crate::setting::{starts_of, table_for};
 use crate::single_thread::{Turns, begun};
 use crate::turn_shards::TurnShards;
+use actors::{Outcome, PieceOutcome, ReplayFault};
 use control::{Command, Script};
+use guarantees::{commands_fit, headline};
 use map_updates::MapUpdate;
 use semantics::{Options, Recording};
 use shard_port::Gate;
@@ -174,18 +178,26 @@ impl PieceReplay {
     pub fn finish(
         self,
         alloc: Global,
+        verified: &Verified,
         updates: &[MapUpdate],
         script: &Script,
     ) -> Result<Outcome, AllocError>
         requires { GoesOn script.now self }
         ensures replayed { IfOk result (λ rest. (program : Program) (options : Settings) (records sent : List Record) (ends : List End) →
             IsUnderway program script.now options updates.now records sent ends self →
-            IsReplayed program script.now options records sent ends rest) }
+            IsReplayedInPieces program script.now options records sent ends rest) }
+        ensures one_list { IfOk result (λ rest. (options : Settings) (records sent : List Record) (ends : List End) →
+            AllByRecursion IsCaptured records →
+            IsUnderway (program_of verified.now options.shards) script.now options updates.now records sent ends self →
+            (replayed : IsReplayedInPieces (program_of verified.now options.shards) script.now options records sent ends rest) →
+            HeadlineOf verified.now script.now options records replayed.whole replayed.accounted) }
         ensures updates { IfOk result (λ rest. rest.updates.items ≡ updates.now) }
         ensures none_sent { IfOk result (λ rest. rest.sent.items ≡ []) }
         ensures no_ends { IfOk result (λ rest. rest.ends.items ≡ []) }
     {
         turns_are_accounted();
+        headline(verified);
+        commands_fit(script);
         let PieceReplay {
             mut turns,
             starts,

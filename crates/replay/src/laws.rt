@@ -4,7 +4,9 @@ ghost use Rattle.replay.specs.TurnsAccounted.{TurnsAreAccounted};
 
 use shard_port::laws::{own_entries_after_a_refusal, own_entries_are_sessions};
 
-/// A replay on one thread is accounted for as one on threads is: there is one order of all deeds, and each caller has its part of it, so that each entry of each journal belongs to a run, to a command or to a round.
+/// A replay on one thread is accounted for as one on threads is: there is one order of all deeds, and each caller has its part of it, so
+/// that each entry of each journal belongs to a run, to a command or to a round. And this order goes through the states of the turns: behind
+/// the deeds of the updates come, turn after turn, those of the turn's actor alone, which write what the turn wrote.
 pub fn turns_are_accounted()
     ensures { TurnsAreAccounted }
 {

@@ -5,23 +5,25 @@ ghost use Rattle.machine.specs.Running.{program_of};
 ghost use Rattle.semantics.specs.ShardPlan.{KeepsRows, recorded};
 ghost use Rattle.rx_queues.specs.Passes.{IsPutPassOf, AreTakePasses, jobs_put, workers_of, records_of, commands_of};
 ghost use Rattle.maglev.specs.RingSize.{IsRingSize};
-ghost use Rattle.replay.specs.Commands.{ServesScript};
+ghost use Rattle.actors.specs.Commands.{ServesScript};
 ghost use Rattle.shards.specs.NewShards.{IsNamed};
-ghost use Rattle.replay.specs.Accounted.{IsAccounted};
-ghost use Rattle.replay.specs.Parts.{AreBadOptions};
-ghost use Rattle.replay.specs.UpdateFaults.{OfUpdate, IsOfNoUpdate, IsWhyByPass};
+ghost use Rattle.actors.specs.Accounted.{IsAccounted};
+ghost use Rattle.actors.specs.Parts.{AreBadOptions};
+ghost use Rattle.actors.specs.UpdateFaults.{OfUpdate, IsOfNoUpdate, IsWhyByPass};
 ghost use Rattle.map_updates.specs.Misfits.{AreFitting};
-ghost use Rattle.replay.specs.declared.fault.ReplayFault.TheVariants.{BadOptions};
+ghost use Rattle.guarantees.specs.Headline.{Headline};
+ghost use Rattle.guarantees.specs.HeadlineOf.{HeadlineOf};
+ghost use Rattle.actors.specs.declared.fault.ReplayFault.TheVariants.{BadOptions};
 
 use crate::closing::closed;
-use crate::fault::ReplayFault;
-use crate::outcome::Outcome;
 use crate::setting::{
     new_controller, new_reclaimer, new_workers, run_threads, starts_of, table_for,
 };
 use crate::threads::Setting;
-use crate::worker::ShardRunner;
+use actors::worker::ShardRunner;
+use actors::{Outcome, ReplayFault, all_are_captured};
 use control::Script;
+use guarantees::{commands_fit, headline};
 use map_updates::MapUpdate;
 use rx_queues::{PutPass, Queues, TakePass};
 use semantics::{Options, Recording};
@@ -134,33 +136,8 @@ fn replay_over<'x, B: Naming + Send + Sync, R: Threads + Wait + Sync, G: Gate + 
     )?)
 }
 
-/// Runs the program of an accepted image on the frames of a capture, by as many workers on threads as the options say, over shared maps
-/// in which nothing has happened. Before the first record a controller makes these updates, one after the other, each whether or not its
-/// key is there. On a thread of its own it applies the commands of a script: those at frame 0 before the first record, behind the updates,
-/// and each other one when as many records as its frame number were dispatched, no later than after the last; and a reclaimer frees what no
-/// run can hold, in a round after every 64 records and one after the workers' end.
-///
-/// Each record is counted once: as short where it has fewer than 14 bytes, and else by its run, which the worker of its flow makes, in
-/// the capture's order. Verdict and frame of a run are the program's own on the replies that are among its worker's entries; these
-/// are, run after run, Enter, its calls with their replies, and Leave, on each shard that it called; and every journal is legal. A run
-/// is stopped only where the journal of the shard of its next call is full for good. The controller's entries are the first updates, each
-/// answered 0, and those of the script's commands, and the reclaimer's are those of its rounds. What is sent is in the capture's order.
-///
-/// What all callers did on all shards is one order: shard by shard it is the journal, and of each caller it has what the caller did, looks
-/// at full journals among it: of a worker its runs, of the controller the first updates and the commands' in the script's order, of the
-/// reclaimer a round after the other, each from the lowest shard up.
-///
-/// Each reply to a run, to the controller and to the reclaimer goes through the gate: the actor that has it calls the gate, and holds no
-/// lock then.
-///
-/// Where no rows of journals are kept, a journal has room for 134,217,728 entries, and all of this holds of journals that proofs alone
-/// know.
-///
-/// Refused with 51 where no shards of the image's maps can be opened with the options, or where there are commands and the image's maps
-/// are not those of steering; with 52 for lack of memory; with 93 for the first update that a map refused, and with 94 for the first for
-/// which a journal was full, before any thread is started; with 56 where a thread could not be started. Then nothing is left, and every
-/// thread that was started has ended.
-pub fn replay<R: Threads + Wait + Sync, G: Gate + Sync>(
+/// The replay, and what is accounted for.
+fn accounted_replay<R: Threads + Wait + Sync, G: Gate + Sync>(
     rt: &R,
     alloc: Global,
     verified: &Verified,
@@ -198,4 +175,66 @@ pub fn replay<R: Threads + Wait + Sync, G: Gate + Sync>(
         ),
         Err(fault) => Err(fault_of(fault)),
     }
+}
+
+/// Runs the program of an accepted image on the frames of a capture, by as many workers on threads as the options say, over shared maps
+/// in which nothing has happened. Before the first record a controller makes these updates, one after the other, each whether or not its
+/// key is there. On a thread of its own it applies the commands of a script: those at frame 0 before the first record, behind the updates,
+/// and each other one when as many records as its frame number were dispatched, no later than after the last; and a reclaimer frees what no
+/// run can hold, in a round after every 64 records and one after the workers' end.
+///
+/// **The headline** holds of what it returns (`headline`): the image is safe, and the replay is one list of events of the system, in the words
+/// of the model alone; this list is that of what is accounted for (`one_list`).
+///
+/// Each record is counted once: as short where it has fewer than 14 bytes, and else by its run, which the worker of its flow makes, in
+/// the capture's order. Verdict and frame of a run are the program's own on the replies that are among its worker's entries; these
+/// are, run after run, Enter, its calls with their replies, and Leave, on each shard that it called; and every journal is legal. A run
+/// is stopped only where the journal of the shard of its next call is full for good. The controller's entries are the first updates, each
+/// answered 0, and those of the script's commands, and the reclaimer's are those of its rounds. What is sent is in the capture's order.
+///
+/// What all callers did on all shards is one order: shard by shard it is the journal, and of each caller it has what the caller did, looks
+/// at full journals among it: of a worker its runs, of the controller the first updates and the commands' in the script's order, of the
+/// reclaimer a round after the other, each from the lowest shard up.
+///
+/// Each reply to a run, to the controller and to the reclaimer goes through the gate: the actor that has it calls the gate, and holds no
+/// lock then.
+///
+/// Where no rows of journals are kept, a journal has room for 134,217,728 entries, and all of this holds of journals that proofs alone
+/// know.
+///
+/// Refused with 51 where no shards of the image's maps can be opened with the options, or where there are commands and the image's maps
+/// are not those of steering; with 52 for lack of memory; with 93 for the first update that a map refused, and with 94 for the first for
+/// which a journal was full, before any thread is started; with 56 where a thread could not be started. Then nothing is left, and every
+/// thread that was started has ended.
+pub fn replay<R: Threads + Wait + Sync, G: Gate + Sync>(
+    rt: &R,
+    alloc: Global,
+    verified: &Verified,
+    capture: &Capture,
+    updates: &[MapUpdate],
+    script: &Script,
+    options: Options,
+    recording: Recording,
+    gate: &G,
+) -> Result<Outcome, ReplayFault>
+    requires fit { AreFitting verified.now.maps updates.now }
+    ensures accounted { IfOk result (IsAccounted (program_of verified.now options.shards) script.now (recorded recording options)
+        capture.now.records.items) }
+    ensures headline { IfOk result (Headline verified.now script.now (recorded recording options) capture.now.records.items) }
+    ensures one_list { IfOk result (λ outcome. (accounted : IsAccounted (program_of verified.now options.shards) script.now
+        (recorded recording options) capture.now.records.items outcome) →
+        HeadlineOf verified.now script.now (recorded recording options) capture.now.records.items outcome accounted) }
+    ensures updates { IfOk result (λ outcome. outcome.updates.items ≡ updates.now) }
+    ensures refused { IfErr result (OfUpdate (IsWhyByPass verified.now.maps (recorded recording options) updates.now)) }
+    ensures served { OnOk result (KeepsRows options.journal) }
+    ensures bad_options { IsErrOf result BadOptions ↔ AreBadOptions verified.now.maps options script.now }
+{
+    headline(verified);
+    commands_fit(script);
+    all_are_captured(capture);
+    let outcome = accounted_replay(
+        rt, alloc, verified, capture, updates, script, options, recording, gate,
+    )?;
+    let _ = outcome.journals.options();
+    Ok(outcome)
 }

@@ -7,23 +7,23 @@ ghost use Rattle.maglev.specs.RingSize.{IsRingSize};
 ghost use Rattle.control.specs.declared.command.Command.{Command as Line};
 ghost use Rattle.semantics.specs.declared.call.Caller.TheVariants.{Reclaimer};
 ghost use Rattle.semantics.specs.Each.{Each};
-ghost use Rattle.replay.specs.Actors.{AreDue, IsUnused, numbers_from};
-ghost use Rattle.replay.specs.Commands.{ServesScript, StaysOf};
+ghost use Rattle.actors.specs.Actors.{AreDue, IsUnused, numbers_from};
+ghost use Rattle.actors.specs.Commands.{ServesScript, StaysOf};
 ghost use Rattle.replay.specs.Crews.{AreHandled};
-ghost use Rattle.replay.specs.Parts.{HasNoTable, IsStarted, IsScriptRun, numbers_of, rounds_of};
-ghost use Rattle.replay.specs.Rounds.{AreReclaimed};
+ghost use Rattle.actors.specs.Parts.{HasNoTable, IsStarted, IsScriptRun, numbers_of, round_count};
+ghost use Rattle.actors.specs.Rounds.{AreReclaimed};
 ghost use Rattle.replay.specs.Settings.{AreFreshPasses, AreForAll};
-ghost use Rattle.replay.specs.RunsOverShards.{IsNewAt, IsRunBy};
-ghost use Rattle.replay.specs.UpdateFaults.{OfUpdate, IsOfNoUpdate, IsWhyByPass};
+ghost use Rattle.actors.specs.RunsOverShards.{IsNewAt, IsRunBy};
+ghost use Rattle.actors.specs.UpdateFaults.{OfUpdate, IsOfNoUpdate, IsWhyByPass};
 ghost use Rattle.map_updates.specs.Misfits.{AreFitting};
-ghost use Rattle.replay.specs.declared.fault.ReplayFault.TheVariants.{BadOptions};
+ghost use Rattle.actors.specs.declared.fault.ReplayFault.TheVariants.{BadOptions};
 
-use crate::controller::{Commanded, Commander};
-use crate::dispatch::due;
-use crate::fault::ReplayFault;
-use crate::reclaimer::Reclaiming;
 use crate::threads::{AllEnded, Setting, run_all};
-use crate::worker::{ShardRunner, Working};
+use actors::ReplayFault;
+use actors::controller::{Commanded, Commander};
+use actors::dispatch::due;
+use actors::reclaimer::Reclaiming;
+use actors::worker::{ShardRunner, Working};
 use conntrack::table_size;
 use control::{Command, Script};
 use ebpf_decode::MapDef;
@@ -186,7 +186,7 @@ pub(crate) fn run_threads<'x, B: Naming + Send + Sync, R: Threads + Wait + Sync,
         setting.entry.runner.now.shards.now.options updates.now script.now size it.controller.noted.items it.controller.pass) }
     ensures served { ¬ IsErrOf result BadOptions }
     ensures no_update { IfErr result IsOfNoUpdate }
-    ensures rounds { IfOk result (λ it. AreReclaimed B.plan B.count (rounds_of (length setting.entry.capture.now.records.items))
+    ensures rounds { IfOk result (λ it. AreReclaimed B.plan B.count (round_count (length setting.entry.capture.now.records.items))
         it.reclaimer × (it.reclaimer.who ≡ Reclaimer)) }
 {
     let _ = updates;

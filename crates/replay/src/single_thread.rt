@@ -15,35 +15,38 @@ ghost use Rattle.control.specs.declared.fault.ControlFault.{ControlFault as Faul
 ghost use Rattle.control.specs.Controlling.{refusal_of, opened_controller};
 ghost use Rattle.journals.specs.JournalsView.{entries_at};
 ghost use Rattle.shards.specs.NewShards.{shard_at};
-ghost use Rattle.replay.specs.declared.fault.ReplayFault.TheVariants.{BadOptions, NoThread};
-ghost use Rattle.replay.specs.declared.outcome.RecordEnd.{RecordEnd as End};
-ghost use Rattle.replay.specs.Accounted.{IsAccounted};
-ghost use Rattle.replay.specs.Accounts.{frames_in, no_counts, counted};
-ghost use Rattle.replay.specs.Commands.{ServesScript};
+ghost use Rattle.actors.specs.declared.fault.ReplayFault.TheVariants.{BadOptions, NoThread};
+ghost use Rattle.actors.specs.declared.outcome.RecordEnd.{RecordEnd as End};
+ghost use Rattle.actors.specs.Accounted.{IsAccounted};
+ghost use Rattle.actors.specs.Accounts.{frames_in, no_counts, counted};
+ghost use Rattle.actors.specs.Commands.{ServesScript};
 ghost use Rattle.replay.specs.ExactReplays.{IsInTurn, HasBegun, starts_in};
-ghost use Rattle.replay.specs.UpdateFaults.{OfUpdate, IsWhyInTurn};
+ghost use Rattle.replay.specs.TurnOrder.{IsExact};
+ghost use Rattle.actors.specs.UpdateFaults.{OfUpdate};
+ghost use Rattle.replay.specs.TurnFaults.{IsWhyInTurn};
 ghost use Rattle.map_updates.specs.Misfits.{AreFitting};
-ghost use Rattle.replay.specs.InTurn.{TurnState as State, IsRunInTurn, IsHandled, IsAppliedInTurn, IsSameSetting};
+ghost use Rattle.guarantees.specs.Headline.{Headline};
+ghost use Rattle.guarantees.specs.HeadlineOf.{HeadlineOf};
+ghost use Rattle.replay.specs.InTurn.{TurnState as State, IsRunInTurn, IsHandledInTurn, IsAppliedInTurn, IsSameSetting};
 ghost use Rattle.replay.specs.InTurn.{IsRecordTurn, IsCommandTurn, IsRoundTurn, AreTurns};
-ghost use Rattle.replay.specs.Parts.{AreBadOptions, refused_of};
+ghost use Rattle.actors.specs.Parts.{AreBadOptions, refused_of};
 ghost use Rattle.replay.specs.Pieces.{HasPiece, GoesOn, IsUnderway, IsWholeOutcome};
 ghost use Rattle.replay.specs.TurnStates.{state_in, with_earlier, with_none_kept, HasSameEnds};
 ghost use Rattle.replay.specs.Turns.{commands_between, rounds_at, due_before, turns_to, all_turns};
 
-use crate::account::{Counts, record_end, send};
 use crate::closing::refused;
-use crate::controller::command_at;
-use crate::dispatch::{ROUND_EVERY, due, is_short, worker_of};
-use crate::fault::ReplayFault;
-use crate::first_updates::{copied, set_all};
 use crate::in_pieces::PieceReplay;
 use crate::laws::turns_are_accounted;
-use crate::outcome::{Applied, Outcome, PieceOutcome, RecordEnd};
 use crate::replaying::fault_of;
-use crate::runner::RunEnd;
 use crate::turn_shards::TurnShards;
-use crate::worker::{end_of, moment_of};
+use actors::account::{Counts, record_end, send};
+use actors::controller::command_at;
+use actors::dispatch::{ROUND_EVERY, due, is_short, worker_of};
+use actors::first_updates::{copied, set_all};
+use actors::worker::{end_of, moment_of};
+use actors::{Applied, Outcome, PieceOutcome, RecordEnd, ReplayFault, RunEnd, all_are_captured};
 use control::{Command, ControlFault, Controller, Script};
+use guarantees::{commands_fit, headline};
 use map_updates::MapUpdate;
 use runs::closing::journals_of;
 use semantics::{Caller, Options, Recording};
@@ -100,7 +103,7 @@ fn handle(
     sent: &Sent,
 ) -> Result<Option<RunEnd>, AllocError>
     requires maps { all.old.maps ≡ verified.now.maps }
-    ensures handled { IfOk result (λ end. IsHandled (program_of verified.now all.old.options.shards) all.old.options.workers sent.now
+    ensures handled { IfOk result (λ end. IsHandledInTurn (program_of verified.now all.old.options.shards) all.old.options.workers sent.now
         all.old.shards end all.new.shards) }
     ensures maps { all.new.maps ≡ all.old.maps }
     ensures options { all.new.options ≡ all.old.options }
@@ -457,7 +460,7 @@ fn whole<G: Gate>(
     ensures updates { IfOk result (λ outcome. outcome.updates.items ≡ updates.now) }
 {
     let done = replay.go_on(alloc, verified, script, capture, gate)?;
-    let rest = replay.finish(alloc, updates, script)?;
+    let rest = replay.finish(alloc, verified, updates, script)?;
     Ok(with_records(rest, done))
 }
 
@@ -489,7 +492,8 @@ fn with_records(rest: Outcome, done: PieceOutcome) -> Outcome
 /// of its flow, if it has 14 bytes; and after every 64 records the reclaimer makes a round. Behind the last record come the commands that
 /// are left, and one more round. So a command finds what the runs of all frames before it left, and what it sets is found by every later
 /// one. Two such replays of the same input give the same outcome, unless memory was refused to a command (no law says so). What is returned
-/// is accounted for as what a replay on threads returns, also where no rows of journals are kept.
+/// is accounted for as what a replay on threads returns, also where no rows of journals are kept; the one order of all deeds is that of the
+/// turns (`in_turn`), and the headline holds (`headline`, `one_list`).
 ///
 /// The gate is called after each round that follows a record, as for a reply of the reclaimer, with the number of such rounds: it shows how
 /// far the replay is.
@@ -508,9 +512,11 @@ pub fn replay_in_turn<G: Gate>(
     gate: &G,
 ) -> Result<Outcome, ReplayFault>
     requires fit { AreFitting verified.now.maps updates.now }
-    ensures accounted { IfOk result (IsAccounted (program_of verified.now options.shards) script.now (recorded recording options)
-        capture.now.records.items) }
-    ensures in_turn { IfOk result (IsInTurn (program_of verified.now options.shards) script.now (recorded recording options)
+    ensures headline { IfOk result (Headline verified.now script.now (recorded recording options) capture.now.records.items) }
+    ensures one_list { IfOk result (λ outcome. (accounted : IsAccounted (program_of verified.now options.shards) script.now
+        (recorded recording options) capture.now.records.items outcome) →
+        HeadlineOf verified.now script.now (recorded recording options) capture.now.records.items outcome accounted) }
+    ensures in_turn { IfOk result (IsExact (program_of verified.now options.shards) script.now (recorded recording options)
         capture.now.records.items) }
     ensures updates { IfOk result (λ outcome. outcome.updates.items ≡ updates.now) }
     ensures refused { IfErr result (OfUpdate (IsWhyInTurn verified.now.maps (recorded recording options) updates.now)) }
@@ -519,6 +525,9 @@ pub fn replay_in_turn<G: Gate>(
     ensures no_thread { ¬ IsErrOf result NoThread }
 {
     turns_are_accounted();
+    headline(verified);
+    commands_fit(script);
+    all_are_captured(capture);
     match PieceReplay::open(alloc, verified, updates, script, options, recording) {
         Ok(replay) => Ok(whole(alloc, verified, capture, updates, script, replay, gate)?),
         Err(fault) => Err(fault),

@@ -10,11 +10,11 @@ ghost use Rattle.machine.specs.Running.{program_of};
 ghost use Rattle.shards.specs.NewShards.{shard_at};
 ghost use Rattle.shards.specs.Opening.{AreOpened};
 ghost use Rattle.shard_port.specs.PortView.{ServesMaps};
-ghost use Rattle.replay.specs.Rounds.{is_keyed};
+ghost use Rattle.semantics.specs.Replay.{is_keyed};
 ghost use Rattle.replay.specs.InTurn.{EndsInTurn, StopsInTurn, IsAskedInTurn, IsPartOfRound, IsRoundTo};
 ghost use Rattle.replay.specs.InTurn.{IsUpdatedAt, IsFullAt, may_update_at};
 
-use crate::reclaimer::is_keyed;
+use actors::reclaimer::is_keyed;
 use control::UpdatePort;
 use ebpf_decode::MapDef;
 use machine::{Exit, Moment, Stop};
@@ -128,7 +128,7 @@ impl Model for TurnShards {
 }
 
 impl TurnShards {
-    ghost use Rattle.replay.specs.SharedUpdates.{HasUpdateOf, shard_of_map_key};
+    ghost use Rattle.actors.specs.SharedUpdates.{HasUpdateOf, shard_of_map_key};
 
     /// The shards of an accepted image's maps, in which nothing has happened. Refused with 51 where none are opened with these options, and
     /// with 52 for lack of memory.

@@ -3,9 +3,9 @@
 ghost use Rattle.std.specs.Prelude.{◌≡◌, ◌≤◌, [], IfOk};
 ghost use Rattle.semantics.specs.declared.call.Caller.TheVariants.{Controller as TheController};
 ghost use Rattle.maglev.specs.RingSize.{IsRingSize};
-ghost use Rattle.replay.specs.Commands.{ServesScript};
-ghost use Rattle.replay.specs.ActorJobs.{IsForCommands};
-ghost use Rattle.replay.specs.Actors.{IsUnused};
+ghost use Rattle.actors.specs.Commands.{ServesScript};
+ghost use Rattle.actors.specs.ActorJobs.{IsForCommands};
+ghost use Rattle.actors.specs.Actors.{IsUnused};
 ghost use Rattle.rx_queues.specs.Passes.{HasQueue, IsTakePassOf, jobs_taken, place_taken_from, queue_of, workers_of, commands_of};
 ghost use Rattle.shards.specs.NewShards.{IsNamed};
 

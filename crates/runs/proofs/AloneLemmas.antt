@@ -17,7 +17,7 @@ use Rattle.journals.specs.JournalsView.{JournalsView, entries_at}
 use Rattle.machine.specs.declared.exit.Exit.{Exit}
 use Rattle.machine.specs.declared.exit.Stop.{Stop}
 use Rattle.machine.specs.declared.exit.Stop.TheVariants.{JournalFull}
-use Rattle.shard_port.specs.PassSessions.{session_at, AreWithin}
+use Rattle.shard_port.specs.PassSessions.{session_at, AreCallsWithin}
 use Rattle.shards.specs.NewShards.{shard_at}
 use Rattle.runs.specs.ShardRuns.{HasMore, HasRunOver, HasStoppedOver, IsFullAfter}
 use Rattle.runs.specs.Updates.{served_by, updates_at, AreUpdated}
@@ -61,7 +61,7 @@ module _ (program : Program) (start : MachineState) (options : Options) (worker 
       journals_are = are_journals (λ number below. ap (λ (one : JournaledShard). one.plan) (ran.written number below));
       exchanges = ran.exchanges;
       ended = ran.ended;
-      within = subst (λ (n : ℕ). AreWithin n ran.exchanges) (sym (closed ∙ count)) ran.within;
+      within = subst (λ (n : ℕ). AreCallsWithin n ran.exchanges) (sym (closed ∙ count)) ran.within;
       written = λ number below. written_by number (session_at worker number ran.exchanges) below (ran.written number (among_old number below));
     }
 
@@ -73,7 +73,7 @@ module _ (program : Program) (start : MachineState) (options : Options) (worker 
       refused = was.refused;
       named = was.named;
       waited = was.waited;
-      within = subst (λ (n : ℕ). AreWithin n was.exchanges) (sym (closed ∙ count)) was.within;
+      within = subst (λ (n : ℕ). AreCallsWithin n was.exchanges) (sym (closed ∙ count)) was.within;
       refused_within = subst (λ (n : ℕ). shard < n) (sym (closed ∙ count)) was.refused_within;
       written = λ number below.
           let cut = was.written number (among_old number below) in

@@ -22,8 +22,8 @@ use Rattle.shard_port.specs.Asking.{is_in, enter_by, leave_by, all_left, left, c
 use Rattle.shard_port.specs.declared.plain.PlainPort.{PlainPort}
 use Rattle.shard_port.specs.PlainPorts.{PortGives, PortRefuses, maps_of}
 use Rattle.shard_port.specs.PortLaws.{append_none, set_here}
-use Rattle.shard_port.specs.Sessions.{WritesSessions, WritesRefusedSessions, IsVisited, entries_at, begun, session, with_entries}
-use Rattle.shard_port.specs.PassSessions.{session_at, AreWithin}
+use Rattle.shard_port.specs.Sessions.{WritesSessions, WritesRefusedSessions, IsVisited, exchange_entries, behind_enter, session, with_entries}
+use Rattle.shard_port.specs.PassSessions.{session_at, AreCallsWithin}
 use Rattle.runs.specs.FrameRuns.{AreFormed}
 use Rattle.shards.specs.Seats.{no_plan}
 use Rattle.shards.specs.NewShards.{shard_at}
@@ -40,7 +40,7 @@ as_many one two call reply given =
     ∙ length-set one.shards.now (shard_of_call call) given.given.answered.new
 
 within_by : (count : ℕ) (before after : PlainPort) (exchanges : List Exchange) → IsChain PortGives before exchanges after →
-    length before.shards.now ≡ count → AreWithin count exchanges
+    length before.shards.now ≡ count → AreCallsWithin count exchanges
 within_by count before after [] chain many = tt
 within_by count before after (exchange ∷ later) chain many = (
   subst (λ (n : ℕ). shard_of_call exchange.call < n) many
@@ -120,17 +120,17 @@ module _ (program : Program) (start : MachineState) (worker : ℕ) (before after
 
     -- with the worker's number and the shard's in place of the port's and the plan's
     session_is : (number : ℕ) (exchanges : List Exchange) → number < length before →
-        session port.worker (shard_at before number).plan.number (entries_at port.worker number exchanges) ≡ session_at worker number exchanges
+        session port.worker (shard_at before number).plan.number (exchange_entries port.worker number exchanges) ≡ session_at worker number exchanges
     session_is number exchanges below =
-        ap (λ (n : ℕ). session n (shard_at before number).plan.number (entries_at n number exchanges)) same_worker
-        ∙ ap (λ (n : ℕ). session worker n (entries_at worker number exchanges)) (outside.numbered number below)
+        ap (λ (n : ℕ). session n (shard_at before number).plan.number (exchange_entries n number exchanges)) same_worker
+        ∙ ap (λ (n : ℕ). session worker n (exchange_entries worker number exchanges)) (outside.numbered number below)
 
     begun_is : (number : ℕ) (exchanges : List Exchange) → number < length before →
-        begun port.worker (shard_at before number).plan.number (entries_at port.worker number exchanges)
-        ≡ begun worker number (entries_at worker number exchanges)
+        behind_enter port.worker (shard_at before number).plan.number (exchange_entries port.worker number exchanges)
+        ≡ behind_enter worker number (exchange_entries worker number exchanges)
     begun_is number exchanges below =
-        ap (λ (n : ℕ). begun n (shard_at before number).plan.number (entries_at n number exchanges)) same_worker
-        ∙ ap (λ (n : ℕ). begun worker n (entries_at worker number exchanges)) (outside.numbered number below)
+        ap (λ (n : ℕ). behind_enter n (shard_at before number).plan.number (exchange_entries n number exchanges)) same_worker
+        ∙ ap (λ (n : ℕ). behind_enter worker n (exchange_entries worker number exchanges)) (outside.numbered number below)
 
     -- what is at a place after the finish
     left_as : (number : ℕ) (one : JournaledShard) → slice_get (all_left later.worker later.shards.now) number ≡ Some one → shard_at after number ≡ one
@@ -163,17 +163,17 @@ module _ (program : Program) (start : MachineState) (worker : ℕ) (before after
     cut_at writes middle exchanges call chain refused number below =
         ⊎_elim
         (λ (same : slice_get (all_left later.worker later.shards.now) number ≡ Some
-        (with_entries (shard_at before number) (session port.worker (shard_at before number).plan.number (entries_at port.worker number exchanges)))). (
+        (with_entries (shard_at before number) (session port.worker (shard_at before number).plan.number (exchange_entries port.worker number exchanges)))). (
           session_at worker number exchanges,
           left_as number _ same ∙ ap (with_entries (shard_at before number)) (session_is number exchanges below),
           inl refl,
         ))
-        (λ (visited : IsVisited port.worker later number (shard_at before number) (entries_at port.worker number exchanges) call). (
+        (λ (visited : IsVisited port.worker later number (shard_at before number) (exchange_entries port.worker number exchanges) call). (
           _,
           left_as number _ visited.finished,
           inr (record {
             own_shard = visited.own;
-            first_call = ap (λ (n : ℕ). entries_at n number exchanges) (sym same_worker) ∙ visited.first_call;
+            first_call = ap (λ (n : ℕ). exchange_entries n number exchanges) (sym same_worker) ∙ visited.first_call;
             visit = ap (λ (n : ℕ). visit_by n (shard_at before number).plan.number) same_worker ∙ ap (visit_by worker) (outside.numbered number below);
           }),
         ))
@@ -184,7 +184,7 @@ module _ (program : Program) (start : MachineState) (worker : ℕ) (before after
         IsFullAfter worker (shard_of_call call) exchanges call (shard_at before (shard_of_call call)) (shard_at after (shard_of_call call)).journal
     full_at writes middle exchanges call chain refused below =
         let number : ℕ = shard_of_call call in
-        let here : JournaledShard = with_entries (shard_at before number) (begun worker number (entries_at worker number exchanges)) in
+        let here : JournaledShard = with_entries (shard_at before number) (behind_enter worker number (exchange_entries worker number exchanges)) in
         let away = refused.refused.turned_away in
         let there : slice_get middle.shards.now number ≡ Some here =
         (writes port middle exchanges chain number (shard_at before number) (known_at number below) (outside_at number below)).0

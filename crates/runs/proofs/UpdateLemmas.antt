@@ -24,7 +24,7 @@ use Rattle.semantics.proofs.shared.ConditionLemmas.{bytes_test}
 use Rattle.semantics.proofs.shared.PlanLemmas.{each_at}
 use Rattle.shard_core.specs.JournaledShard.{JournaledShard, opened_shard}
 use Rattle.map_port.specs.Served.{Maps}
-use Rattle.shard_port.specs.PortView.{AreShardsOf, IsReady, ServesMaps}
+use Rattle.shard_port.specs.PortView.{AreShardsOf, IsPortReady, ServesMaps}
 use Rattle.shard_port.specs.Sessions.{CallsKeepServing}
 use Rattle.shard_port.proofs.shared.MayAskLemmas.{at_key, same_test, flags_test}
 use Rattle.shard_port.proofs.shared.ReadyLemmas.{plan_number}
@@ -32,7 +32,7 @@ use Rattle.shard_port.specs.PortLaws.{both_true}
 use Rattle.shards.specs.Seats.{no_plan}
 use Rattle.shards.specs.NewShards.{shard_at}
 use Rattle.semantics.proofs.shared.EachLemmas.{or_set_here, or_set_else}
-use Rattle.runs.specs.Updates.{served_by, shard_of_update, entry_of_update, is_update_at, updates_at, AreUpdated, may_update, IsMade, IsNext}
+use Rattle.runs.specs.Updates.{served_by, shard_of_update, entry_of_update, is_update_at, updates_at, AreUpdated, may_update, IsUpdateMade, IsNext}
 
 -- ---- an update that fits its map
 
@@ -70,7 +70,7 @@ index_size maps update definition sizes fits found =
     (each_at HasImageSizes maps update.map definition sizes found).index_size
 
 -- the controller may make it
-pub may_make : (maps : List MapDef) (options : Options) (shards : List JournaledShard) (update : MapUpdate) → IsReady maps options 0 shards →
+pub may_make : (maps : List MapDef) (options : Options) (shards : List JournaledShard) (update : MapUpdate) → IsPortReady maps options 0 shards →
     Fits maps update → All (λ byte. byte < 256) update.key → All (λ byte. byte < 256) update.value →
     IsTrue (may_update (slice_get shards (shard_of_update (served_by maps options) update)) update)
 may_make maps options shards update ready fits bytes value_bytes =
@@ -123,7 +123,7 @@ others served number updates place update within is apart =
 module _ (maps : List MapDef) (options : Options) (updates : List MapUpdate) (place : ℕ) (update : MapUpdate) (before after : List JournaledShard)
     (number : ℕ) (were : AreUpdated maps options (take place updates) before) (within : place < length updates)
     (is : slice_index_or updates place update ≡ update) (at : number ≡ shard_of_update (served_by maps options) update)
-    (made : IsMade before number update (pos 0) after)
+    (made : IsUpdateMade before number update (pos 0) after)
   where
     abbrev served : Maps
     served = served_by maps options
@@ -215,7 +215,7 @@ module _ (maps : List MapDef) (options : Options) (updates : List MapUpdate) (pl
 
 -- the shards serve the maps as before
 pub still_serve : CallsKeepServing → (maps : List MapDef) (options : Options) (update : MapUpdate) (before after : List JournaledShard) (number : ℕ) →
-    ServesMaps maps options before → All (λ byte. byte < 256) update.value → IsMade before number update (pos 0) after → ServesMaps maps options after
+    ServesMaps maps options before → All (λ byte. byte < 256) update.value → IsUpdateMade before number update (pos 0) after → ServesMaps maps options after
 still_serve keep maps options update before after number serve bytes made =
     subst (ServesMaps maps options) (sym made.put_back)
     (keep maps options before number made.one _ serve made.known (recursion_from_All (λ byte. byte < 256) update.value bytes) made.legal)
@@ -249,7 +249,7 @@ fits_at maps updates place update within is fit =
 
 -- shards that serve the maps are ready for a caller
 pub ready_for : (maps : List MapDef) (options : Options) (shards : List JournaledShard) → length maps ≤ 16 → AllByRecursion HasImageSizes maps →
-    AreOptions maps options → AreShardsOf maps options shards → IsReady maps options 0 shards
+    AreOptions maps options → AreShardsOf maps options shards → IsPortReady maps options 0 shards
 ready_for maps options shards few sizes are shards_are = record {
   few = few;
   sizes = sizes;

@@ -18,7 +18,7 @@ use Rattle.machine.specs.declared.exit.Stop.{Stop}
 use Rattle.machine.specs.declared.exit.Stop.TheVariants.{JournalFull}
 use Rattle.machine.specs.Running.{Ends, StopsSo}
 use Rattle.shards.specs.Passes.{PassView}
-use Rattle.shard_port.specs.PassPorts.{PassPort, IsGivenBy, IsRefusedBy, IsFinishedBy}
+use Rattle.shard_port.specs.PassPorts.{PassPort, PassGives, PassRefuses, IsFinishedBy}
 use Rattle.shard_port.specs.PassSessions.{HasSessions, HasRefusedSessions, IsOutsideAt, WritesOwnSessions, WritesRefusedOwnSessions}
 use Rattle.shard_port.proofs.shared.Chains.{chain_of, chain_keeps}
 use Rattle.runs.specs.FrameRuns.{AreFormed, HasRun, HasStopped, ToldPort, IsGivenTold, IsRefusedUntold, HasRunTold, HasStoppedTold}
@@ -91,7 +91,7 @@ form_of : (program : Program) (call : Call) (reply : Reply) → IsReplyTo (progr
 form_of program call reply formed = formed
 
 formed_by_chain : (program : Program) (plan : ℕ → ShardPlan) (count : ℕ) (before after : PassPort) (exchanges : List Exchange) →
-    before.served ≡ maps_in program → IsChain (IsGivenBy plan count) before exchanges after → AreFormed program exchanges
+    before.served ≡ maps_in program → IsChain (PassGives plan count) before exchanges after → AreFormed program exchanges
 formed_by_chain program plan count before after [] same chain = tt
 formed_by_chain program plan count before after (exchange ∷ later) same chain = (
   form_of program exchange.call exchange.reply
@@ -104,7 +104,7 @@ formed_by_chain program plan count before after (exchange ∷ later) same chain 
 pub ran_so : WritesOwnSessions → (plan : ℕ → ShardPlan) (count worker : ℕ) (program : Program) (state : MachineState)
     (old final : PassView) (before after : PassPort) (verdict : Verdict) (steps : ℕ) (frame : FrameView) → before.pass ≡ old →
     before.served ≡ maps_in program → old.who ≡ Worker worker → ((number : ℕ) → number < count → IsOutsideAt worker old number) →
-    Ends (IsGivenBy plan count) program state before after verdict steps frame → IsFinishedBy plan count after.pass final →
+    Ends (PassGives plan count) program state before after verdict steps frame → IsFinishedBy plan count after.pass final →
     HasRun program state count worker old final verdict steps frame
 ran_so writes plan count worker program state old final before after verdict steps frame same served who outside ends finished = record {
   exchanges = ends.exchanges;
@@ -124,7 +124,7 @@ pub stopped_so : WritesRefusedOwnSessions → (plan : ℕ → ShardPlan) (count 
     (old final : PassView) (before after : PassPort) (frame : FrameView) (stop : Stop) → before.pass ≡ old →
     before.served ≡ maps_in program → old.who ≡ Worker worker →
     ((number : ℕ) → number < count → IsOutsideAt worker old number) →
-    StopsSo (IsGivenBy plan count) (IsRefusedBy plan count) program state before after frame stop →
+    StopsSo (PassGives plan count) (PassRefuses plan count) program state before after frame stop →
     IsFinishedBy plan count after.pass final → HasStopped program state plan count worker old final frame stop
 stopped_so writes plan count worker program state old final before after frame (JournalFull shard) same served who outside stops finished = record {
   exchanges = stops.exchanges;
@@ -175,7 +175,7 @@ pub ran_told : WritesOwnSessions → (plan : ℕ → ShardPlan) (count worker : 
 unfolding ran_so ends_seen
 ran_told writes plan count worker program state old final before after verdict steps frame same served who outside below ends finished = (
   ran_so writes plan count worker program state old final before.port after.port verdict steps frame same served who outside
-      (ends_seen before after (λ (one : ToldPort). one.port) (IsGivenTold plan count) (IsGivenBy plan count) (λ one two call reply given. given.0)
+      (ends_seen before after (λ (one : ToldPort). one.port) (IsGivenTold plan count) (PassGives plan count) (λ one two call reply given. given.0)
       program state verdict steps frame ends)
       finished,
   told_by_chain (2 ^ 64) some_words (λ (one : ToldPort). one.told) (IsGivenTold plan count) (λ one two call reply given. given.1) before after
@@ -192,8 +192,8 @@ pub stopped_told : WritesRefusedOwnSessions → (plan : ℕ → ShardPlan) (coun
 unfolding stopped_so stops_seen
 stopped_told writes plan count worker program state old final before after frame (JournalFull shard) same served who outside below stops finished = (
   stopped_so writes plan count worker program state old final before.port after.port frame (JournalFull shard) same served who outside
-      (stops_seen before after (λ (one : ToldPort). one.port) (IsGivenTold plan count) (IsRefusedUntold plan count) (IsGivenBy plan count)
-      (IsRefusedBy plan count) (λ one two call reply given. given.0) (λ one two call refused. refused.0) program state frame (JournalFull shard)
+      (stops_seen before after (λ (one : ToldPort). one.port) (IsGivenTold plan count) (IsRefusedUntold plan count) (PassGives plan count)
+      (PassRefuses plan count) (λ one two call reply given. given.0) (λ one two call refused. refused.0) program state frame (JournalFull shard)
       stops)
       finished,
   stops.refused.1

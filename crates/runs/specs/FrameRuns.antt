@@ -20,7 +20,7 @@ use Rattle.machine.specs.declared.moment.Moment.{Moment}
 use Rattle.machine.specs.Running.{program_of, Ends, StopsSo}
 use Rattle.shards.specs.SharedMaps.{SharedMaps}
 use Rattle.shards.specs.Passes.{PassView}
-use Rattle.shard_port.specs.PassPorts.{PassPort, port_of, IsGivenBy, IsRefusedBy}
+use Rattle.shard_port.specs.PassPorts.{PassPort, port_of, PassGives, PassRefuses}
 use Rattle.shard_port.specs.PassSessions.{HasSessions, HasRefusedSessions}
 use Rattle.shard_port.specs.ScheduleHook.{next_count, count_after}
 
@@ -73,11 +73,11 @@ told_port port told = record { port = port; told = told }
 -- the port gave the reply, and the gate was called for one more
 abbrev pub IsGivenTold : (ℕ → ShardPlan) → ℕ → ToldPort → Call → Reply → ToldPort → Type 0
 IsGivenTold plan count before call reply after =
-    IsGivenBy plan count before.port call reply after.port × (after.told ≡ next_count before.told)
+    PassGives plan count before.port call reply after.port × (after.told ≡ next_count before.told)
 
 -- the port refused the call, and the gate was called for nothing
 abbrev pub IsRefusedUntold : (ℕ → ShardPlan) → ℕ → ToldPort → Call → ToldPort → Type 0
-IsRefusedUntold plan count before call after = IsRefusedBy plan count before.port call after.port × (after.told ≡ before.told)
+IsRefusedUntold plan count before call after = PassRefuses plan count before.port call after.port × (after.told ≡ before.told)
 
 -- the port of a pass over these shards, and how many replies the gate was called for
 abbrev pub told_by : SharedMaps → PassView → ℕ → ToldPort

@@ -14,8 +14,8 @@ use Rattle.map_port.specs.Exchanges.{Exchange, calls_in, replies_in}
 use Rattle.machine.specs.declared.exit.Stop.{Stop}
 use Rattle.machine.specs.declared.exit.Stop.TheVariants.{JournalFull}
 use Rattle.shard_port.specs.Asking.{is_in, can_enter, entered, enter_by, leave_by}
-use Rattle.shard_port.specs.Sessions.{entries_at, begun, with_entries}
-use Rattle.shard_port.specs.PassSessions.{session_at, AreWithin}
+use Rattle.shard_port.specs.Sessions.{exchange_entries, behind_enter, with_entries}
+use Rattle.shard_port.specs.PassSessions.{session_at, AreCallsWithin}
 use Rattle.runs.specs.FrameRuns.{AreFormed}
 use Rattle.shards.specs.NewShards.{shard_at}
 
@@ -44,7 +44,7 @@ pub record HasWaited (program : Program) (start : MachineState) (exchanges : Lis
 -- the worker entered the shard for this call alone, which was refused there
 pub record IsVisit (worker number : ℕ) (exchanges : List Exchange) (refused : Call) (written : List Entry) : Type 0 where
   pub own_shard : shard_of_call refused ≡ number
-  pub first_call : entries_at worker number exchanges ≡ []
+  pub first_call : exchange_entries worker number exchanges ≡ []
   pub visit : written ≡ enter_by worker number ∷ leave_by worker number ∷ []
 
 -- what the run's worker wrote on the shard of a number: its session, or that visit
@@ -60,7 +60,7 @@ pub record IsFullForEnter (worker : ℕ) (here : JournaledShard) (journal : List
 -- after what the run had done there, the journal was full for the Enter before the call, or for the call
 abbrev pub IsFullAfter : ℕ → ℕ → List Exchange → Call → JournaledShard → List Entry → Type 0
 IsFullAfter worker number exchanges refused before journal =
-    let here : JournaledShard = with_entries before (begun worker number (entries_at worker number exchanges)) in
+    let here : JournaledShard = with_entries before (behind_enter worker number (exchange_entries worker number exchanges)) in
     IsFullForEnter worker here journal ⊎ IsJournalFull here.plan (reverse (entered worker here).journal) refused
 
 -- ---- over shards
@@ -74,7 +74,7 @@ pub record HasRunOver (program : Program) (start : MachineState) (worker : ℕ) 
     (frame : FrameView) : Type 0 where
   pub exchanges : List Exchange
   pub ended : HasEnded program start exchanges verdict steps frame
-  pub within : AreWithin (length before) exchanges
+  pub within : AreCallsWithin (length before) exchanges
   pub count : length after ≡ length before
   pub written : (number : ℕ) → number < length before → HasMore before after number (session_at worker number exchanges)
 
@@ -85,7 +85,7 @@ pub record WasRefusedOver (program : Program) (start : MachineState) (worker : �
   pub refused : Call
   pub named : shard ≡ shard_of_call refused
   pub waited : HasWaited program start exchanges refused frame
-  pub within : AreWithin (length before) exchanges
+  pub within : AreCallsWithin (length before) exchanges
   pub refused_within : shard < length before
   pub count : length after ≡ length before
   pub written : (number : ℕ) → number < length before →

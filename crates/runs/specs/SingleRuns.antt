@@ -17,7 +17,7 @@ use Rattle.journals.specs.JournalsView.{JournalsView, entries_at}
 use Rattle.map_port.specs.Exchanges.{Exchange}
 use Rattle.machine.specs.declared.exit.Stop.{Stop}
 use Rattle.machine.specs.declared.exit.Stop.TheVariants.{JournalFull}
-use Rattle.shard_port.specs.PassSessions.{session_at, AreWithin}
+use Rattle.shard_port.specs.PassSessions.{session_at, AreCallsWithin}
 use Rattle.runs.specs.ShardRuns.{HasEnded, HasWaited, IsCutSession, IsFullAfter}
 use Rattle.runs.specs.Updates.{served_by, updates_at, updated_shard, IsRefusedUpdate, IsFullForUpdate}
 use Rattle.runs.specs.declared.fault.RunFault.{RunFault}
@@ -44,7 +44,7 @@ pub record HasRunAlone (program : Program) (start : MachineState) (options : Opt
   pub journals_are : AreJournalsOf program.maps options journals
   pub exchanges : List Exchange
   pub ended : HasEnded program start exchanges verdict steps frame
-  pub within : AreWithin (length journals.shards) exchanges
+  pub within : AreCallsWithin (length journals.shards) exchanges
   pub written :
       (number : ℕ) → number < length journals.shards → entries_at journals number
       ≡ updates_at (served_by program.maps options) number updates ++ session_at worker number exchanges
@@ -56,7 +56,7 @@ pub record IsCutBehind (before : List Entry) (worker number : ℕ) (exchanges : 
   pub session : IsCutSession worker number exchanges refused own
   pub both : journal ≡ before ++ own
 
--- the same of a run that was stopped, since a journal was full for a call or for the Enter before it
+-- the run was stopped, since a journal was full for a call or for the Enter before it; the journals have what it wrote by then
 pub record WasRefusedAlone (program : Program) (start : MachineState) (options : Options) (worker : ℕ) (updates : List MapUpdate)
     (frame : FrameView)
     (journals : JournalsView) (shard : ℕ) : Type 0 where
@@ -65,7 +65,7 @@ pub record WasRefusedAlone (program : Program) (start : MachineState) (options :
   pub refused : Call
   pub named : shard ≡ shard_of_call refused
   pub waited : HasWaited program start exchanges refused frame
-  pub within : AreWithin (length journals.shards) exchanges
+  pub within : AreCallsWithin (length journals.shards) exchanges
   pub refused_within : shard < length journals.shards
   pub written :
       (number : ℕ) → number < length journals.shards →
@@ -81,7 +81,7 @@ HasStoppedAlone program start options worker updates frame (JournalFull shard) j
     WasRefusedAlone program start options worker updates frame journals shard
 
 -- why no run was made
-abbrev pub IsWhyNone : List MapDef → Options → List MapUpdate → RunFault → Type 0
-IsWhyNone maps options updates (Open fault) = Unit {0}
-IsWhyNone maps options updates (Refused place answer) = IsRefusedUpdate maps options updates place answer
-IsWhyNone maps options updates (Full place) = IsFullForUpdate maps options updates place
+abbrev pub IsWhyNoRun : List MapDef → Options → List MapUpdate → RunFault → Type 0
+IsWhyNoRun maps options updates (Open fault) = Unit {0}
+IsWhyNoRun maps options updates (Refused place answer) = IsRefusedUpdate maps options updates place answer
+IsWhyNoRun maps options updates (Full place) = IsFullForUpdate maps options updates place

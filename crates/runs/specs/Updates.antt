@@ -99,7 +99,8 @@ may_update (Some one) update =
 may_update None update = false
 
 -- the shard of this number took the update, or gave another answer; either way it has the entry
-pub record IsMade (before : List JournaledShard) (number : ℕ) (update : MapUpdate) (answer : ℤ) (after : List JournaledShard) : Type 0 where
+pub record IsUpdateMade (before : List JournaledShard) (number : ℕ) (update : MapUpdate) (answer : ℤ)
+    (after : List JournaledShard) : Type 0 where
   pub one : JournaledShard
   pub known : slice_get before number ≡ Some one
   pub answered : answer ≡ update_answer one.plan (state_of one) update.key (flags_number Any)

@@ -1,4 +1,4 @@
-//! The run.
+//! One frame's run over shards of its own, after updates of their maps.
 
 ghost use Rattle.std.specs.Prelude.{◌≡◌, ◌⊎◌, ◌≤◌, ◌↔◌, IfOk, IfErr, OnErr, IsErrOf, IsFalse};
 ghost use Rattle.semantics.specs.MachineState.{initial_state};
@@ -7,7 +7,7 @@ ghost use Rattle.machine.specs.Running.{program_of};
 ghost use Rattle.map_rules.specs.declared.open_fault.OpenFault.TheVariants.{BadOptions};
 ghost use Rattle.map_updates.specs.Misfits.{AreFitting};
 ghost use Rattle.runs.specs.declared.fault.RunFault.TheVariants.{Open};
-ghost use Rattle.runs.specs.SingleRuns.{HasRunAlone, HasStoppedAlone, IsWhyNone};
+ghost use Rattle.runs.specs.SingleRuns.{HasRunAlone, HasStoppedAlone, IsWhyNoRun};
 
 use crate::closing::journals_of;
 use crate::fault::RunFault;
@@ -59,7 +59,7 @@ pub fn run_alone(
         frame.new stop single.journals)) }
     ensures bad_options { IsErrOf result (Open BadOptions) ↔
         (IsFalse (are_served_options verified.now.maps options) ⊎ (options.workers ≤ moment.now.worker)) }
-    ensures why { IfErr result (IsWhyNone verified.now.maps options updates.now) }
+    ensures why { IfErr result (IsWhyNoRun verified.now.maps options updates.now) }
     ensures unchanged { OnErr result (frame.new ≡ frame.old) }
 {
     if options.workers <= u32::from(moment.worker) {

@@ -9,8 +9,8 @@ ghost use Rattle.shard_port.specs.PortView.{ServesMaps};
 ghost use Rattle.map_updates.specs.Misfits.{misfit_of, AreFitting};
 ghost use Rattle.map_rules.specs.declared.open_fault.OpenFault.TheVariants.{BadOptions};
 ghost use Rattle.runs.specs.declared.fault.RunFault.TheVariants.{Open};
-ghost use Rattle.runs.specs.SingleRuns.{IsWhyNone};
-ghost use Rattle.runs.specs.Updates.{served_by, shard_of_update, AreUpdated, may_update, IsMade, IsFull};
+ghost use Rattle.runs.specs.SingleRuns.{IsWhyNoRun};
+ghost use Rattle.runs.specs.Updates.{served_by, shard_of_update, AreUpdated, may_update, IsUpdateMade, IsFull};
 
 use crate::fault::RunFault;
 use ebpf_decode::{Image, MapDef};
@@ -35,7 +35,7 @@ pub(crate) fn make_all(
     requires fit { AreFitting image.now.maps updates.now }
     ensures made { OnOk result (AreUpdated image.now.maps options.now updates.now shards.new) }
     ensures serve { OnOk result (ServesMaps image.now.maps options.now shards.new) }
-    ensures refused { IfErr result (IsWhyNone image.now.maps options.now updates.now) }
+    ensures refused { IfErr result (IsWhyNoRun image.now.maps options.now updates.now) }
     ensures no_options { ¬ IsErrOf result (Open BadOptions) }
 {
     opened_serve();
@@ -72,7 +72,7 @@ fn shard_of(maps: &[MapDef], options: &Options, update: &MapUpdate) -> u32
 /// Makes one update at the shard of a number.
 fn make(shards: &mut PlainShards, number: u32, update: &MapUpdate) -> Result<i32, JournalFull>
     requires { IsTrue (may_update (slice_get shards.old number) update.now) }
-    ensures made { IfOk result (λ answer. IsMade shards.old number update.now answer shards.new) }
+    ensures made { IfOk result (λ answer. IsUpdateMade shards.old number update.now answer shards.new) }
     ensures full { OnErr result (IsFull shards.old number update.now) }
 {
     let one = shards.shard(number);

@@ -4,7 +4,7 @@ ghost use Rattle.std.specs.Prelude.{◌≡◌, ◌<◌, ℕ, IsTrue, IfOk, IfErr
 ghost use Rattle.semantics.specs.declared.call.Caller.TheVariants.{Worker};
 ghost use Rattle.semantics.specs.MachineState.{initial_state};
 ghost use Rattle.machine.specs.Running.{program_of};
-ghost use Rattle.shard_port.specs.PassPorts.{is_worker_below, worker_of, IsFinishedBy};
+ghost use Rattle.shard_port.specs.PassPorts.{is_worker_below, worker_number, IsFinishedBy};
 ghost use Rattle.shard_port.specs.PassSessions.{IsOutsideAt};
 ghost use Rattle.runs.specs.FrameRuns.{told_by, EndsTold, StopsTold, HasRunTold, HasStoppedTold};
 
@@ -83,15 +83,16 @@ pub fn run_frame<B: Naming, W: Wait, G: Gate>(
     requires headroom { frame.old.headroom ≡ 256 }
     requires moment { moment.now.worker < 8 }
     requires worker { IsTrue (is_worker_below shards.now.options.workers pass.old.who) }
-    requires outside { (number : ℕ) → number < B.count → IsOutsideAt (worker_of pass.old.who) pass.old number }
+    requires outside { (number : ℕ) → number < B.count → IsOutsideAt (worker_number pass.old.who) pass.old number }
     ensures exit { IfOk result (λ exit. HasRunTold (program_of verified.now shards.now.options.shards)
-        (initial_state frame.old moment.now.worker moment.now.now_ns) B.count (worker_of pass.old.who)
+        (initial_state frame.old moment.now.worker moment.now.now_ns) B.count (worker_number pass.old.who)
         pass.old pass.new exit.verdict exit.steps frame.new replies.old replies.new) }
     ensures stop { IfErr result (HasStoppedTold (program_of verified.now shards.now.options.shards)
-        (initial_state frame.old moment.now.worker moment.now.now_ns) B.plan B.count (worker_of pass.old.who) pass.old pass.new frame.new
+        (initial_state frame.old moment.now.worker moment.now.now_ns) B.plan B.count (worker_number pass.old.who) pass.old pass.new
+        frame.new
         replies.old replies.new) }
     ensures same_caller { pass.new.who ≡ pass.old.who }
-    ensures outside { (number : ℕ) → number < B.count → IsOutsideAt (worker_of pass.old.who) pass.new number }
+    ensures outside { (number : ℕ) → number < B.count → IsOutsideAt (worker_number pass.old.who) pass.new number }
 {
     own_entries_are_sessions();
     own_entries_after_a_refusal();

@@ -28,22 +28,22 @@ use wire::{FlowKey, fnv1a64};
 /// How many jobs a queue holds at most.
 const CAPACITY: usize = 64;
 
-/// How often whoever waits asks again at once. A job mostly goes in or out in this time where the other side is at work.
+/// How often a thread that waits asks again at once. A job mostly goes in or out in this time where the other side is at work.
 const SPINS: u32 = 64;
 
-/// How often a worker then yields the processor before it sleeps: whoever puts may be waking up.
+/// How often a worker then yields the processor before it sleeps: the dispatcher may be waking up.
 const WORKERS_YIELDS: u32 = 100;
 
 /// How often the controller and the reclaimer do, which have little to do.
 const OTHERS_YIELDS: u32 = 4;
 
-/// The longest sleep of whoever takes. The system adds what its timers are late, mostly 50 µs.
+/// The longest sleep of a thread that takes jobs. The system adds what its timers are late, mostly 50 µs.
 const LONGEST_NAP_MICROS: u64 = 64;
 
-/// The longest sleep of whoever puts, if nobody rings.
+/// The longest sleep of the dispatcher, if nobody rings.
 const LONGEST_SLEEP_MICROS: u64 = 1000;
 
-/// After how many jobs whoever takes looks whether somebody waits for room.
+/// After how many jobs a thread that takes them looks whether the dispatcher waits for room.
 const RING_EVERY: u8 = 16;
 
 /// No queue.
@@ -277,7 +277,7 @@ fn pop<R: Wait>(rt: &R, queue: &Queue, pass: &mut QueuePass) -> Option<Job>
     queue.pop_as::<TakesJob, R>(rt, pass)
 }
 
-/// How whoever takes from an empty queue waits: what is left before it sleeps, and how long it sleeps next.
+/// How a thread that takes from an empty queue waits: what is left before it sleeps, and how long it sleeps next.
 #[derive(Drop)]
 struct Patience {
     spins: u32,
@@ -317,7 +317,7 @@ impl Patience {
     }
 }
 
-/// Where whoever puts sleeps while a queue is full. Whoever takes from that queue rings once there is room for some jobs.
+/// Where the dispatcher sleeps while a queue is full. The thread that takes from that queue rings once there is room for some jobs.
 #[derive(Drop)]
 pub(crate) struct Bell {
     /// The place of the queue that is full, or none.
@@ -341,7 +341,7 @@ impl Bell {
         self.awaited.store(NOWHERE, Ordering::SeqCst);
     }
 
-    /// Wakes whoever waits for room in the queue at a place. Done only after every 16th question for a job: so a sleep is worth its price.
+    /// Wakes the dispatcher where it waits for room in the queue at a place. Done only after every 16th question for a job: so a sleep is worth its price.
     fn ring(&self, place: usize, questions: u8) {
         if questions % RING_EVERY == 0 && self.awaited.load(Ordering::SeqCst) == place {
             self.sleeper.unpark();

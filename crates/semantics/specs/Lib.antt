@@ -33,3 +33,5 @@ pub mod Safety
 pub mod SystemLaws
 pub mod SystemRows
 pub mod TraceRows
+pub mod Events
+pub mod Replay

@@ -38,7 +38,7 @@ use Rattle.shard_core.specs.JournaledShard.{JournaledShard}
 use Rattle.map_port.specs.Served.{Maps, program_over, reply_of_handle}
 use Rattle.semantics.proofs.shared.PlanLemmas.{some_shards, few_parts}
 use Rattle.shard_port.specs.Asking.{entered, IsAnsweredAmong}
-use Rattle.shard_port.specs.PortView.{IsShardOf, IsReady, IsRunCall, SetsBytes, IsGivenBy, cell_of_handle, handle_of, has_small_cell}
+use Rattle.shard_port.specs.PortView.{IsShardOf, IsPortReady, IsRunCall, SetsBytes, IsGivenBy, cell_of_handle, handle_of, has_small_cell}
 use Rattle.shard_port.specs.PortLaws.{both_true}
 use Rattle.semantics.proofs.shared.CellBytes.{number_in_cell-below}
 use Rattle.semantics.proofs.shared.CallNumbers.{not_over}
@@ -61,7 +61,7 @@ index_size_prop Hash size = λ one other. refl
 index_size_prop Array size = ℕ_set size 4
 index_size_prop LruHash size = λ one other. refl
 
-pub index_size : (maps : List MapDef) (options : Options) (worker : ℕ) (shards : List JournaledShard) (map : ℕ) (key : List ℕ) (definition : MapDef) → IsReady maps options worker shards → IsKeyOf maps map key → slice_get maps map ≡ Some definition → IsIndexSize definition.kind (length key)
+pub index_size : (maps : List MapDef) (options : Options) (worker : ℕ) (shards : List JournaledShard) (map : ℕ) (key : List ℕ) (definition : MapDef) → IsPortReady maps options worker shards → IsKeyOf maps map key → slice_get maps map ≡ Some definition → IsIndexSize definition.kind (length key)
 index_size maps options worker shards map key definition ready of_map known =
     let same : of_map.definition ≡ definition = some_same _ _ (sym of_map.known ∙ known) in
     let sized : length key ≡ definition.key_size = of_map.key_size ∙ ap (λ (one : MapDef). one.key_size) same in
@@ -89,7 +89,7 @@ small_present plan key present few below = by_found (find (λ (one : PresentKey)
     by_found None is = refl
     by_found (Some one) is = small plan one.cell few (each_find (λ (one : PresentKey). one.cell < 2 ^ 32) (λ (one : PresentKey). bytes_eq one.key key) present one below is)
 
-few_shards : (maps : List MapDef) (options : Options) (worker : ℕ) (shards : List JournaledShard) → IsReady maps options worker shards → length shards ≤ 128
+few_shards : (maps : List MapDef) (options : Options) (worker : ℕ) (shards : List JournaledShard) → IsPortReady maps options worker shards → length shards ≤ 128
 few_shards maps options worker shards ready =
     let counted : length shards ≡ length maps * options.shards = ready.are_shards.count in
     let at_most : length maps * options.shards ≤ 16 * options.shards = mul-le-mul_right options.shards ready.few in
@@ -119,7 +119,7 @@ plan_reserve options number (Some definition) plan is =
     let same : (record { number = number; part = number % options.shards; parts = options.shards; definition = definition; workers = options.workers; reserve = options.journal }) ≡ plan = cc in
     ap (λ (one : ShardPlan). one.reserve) (sym same)
 
-pub small_lookup : (maps : List MapDef) (options : Options) (worker : ℕ) (before : List JournaledShard) (number : ℕ) (key : List ℕ) (reply : Reply) (after : List JournaledShard) → IsReady maps options worker before → IsAnsweredAmong worker before (Lookup number key) reply after → IsTrue (has_small_cell reply)
+pub small_lookup : (maps : List MapDef) (options : Options) (worker : ℕ) (before : List JournaledShard) (number : ℕ) (key : List ℕ) (reply : Reply) (after : List JournaledShard) → IsPortReady maps options worker before → IsAnsweredAmong worker before (Lookup number key) reply after → IsTrue (has_small_cell reply)
 small_lookup maps options worker before number key reply after ready among =
     let plan : ShardPlan = among.shard.plan in
     let is : IsShardOf maps options number among.shard = ready.are_shards.each number among.shard among.known in
@@ -163,7 +163,7 @@ found_there {worker} {before} {number} {key} among =
 
 -- where nothing was found, nothing has to be there
 absent_where : (maps : List MapDef) (options : Options) (worker : ℕ) (before : List JournaledShard) (number : ℕ) (key : List ℕ) (reply : Reply) (after : List JournaledShard) →
-    IsReady maps options worker before → (among : IsAnsweredAmong worker before (Lookup number key) reply after) → found_there among ≡ None →
+    IsPortReady maps options worker before → (among : IsAnsweredAmong worker before (Lookup number key) reply after) → found_there among ≡ None →
     MayBeAbsent (program_over (served_by maps options)) number key
 absent_where maps options worker before number key reply after ready among none =
     let plan : ShardPlan = among.shard.plan in
@@ -174,11 +174,11 @@ absent_where maps options worker before number key reply after ready among none 
     (some_shards maps options ready.are_options) planned.4 sizes.some_entries none
 
 may_be_absent : (maps : List MapDef) (options : Options) (worker : ℕ) (before : List JournaledShard) (number : ℕ) (key : List ℕ) (reply : Reply) (after : List JournaledShard) →
-    ∥ IsReady maps options worker before ∥₁ → (among : IsAnsweredAmong worker before (Lookup number key) reply after) → found_there among ≡ None →
+    ∥ IsPortReady maps options worker before ∥₁ → (among : IsAnsweredAmong worker before (Lookup number key) reply after) → found_there among ≡ None →
     MayBeAbsent (program_over (served_by maps options)) number key
 may_be_absent maps options worker before number key reply after is_ready among none map definition known array own first =
     let impossible : false ≡ true = ∥∥₁_elim is_ready (Coded-set coded_bool false true)
-    (λ (ready : IsReady maps options worker before). absurd (absent_where maps options worker before number key reply after ready among none map definition known array own first)) in
+    (λ (ready : IsPortReady maps options worker before). absurd (absent_where maps options worker before number key reply after ready among none map definition known array own first)) in
     absurd (false≢true impossible)
 
 pub found_formed : (served : Maps) (plan : ShardPlan) (number : ℕ) (key : List ℕ) (found : Option ℕ) → plan.number ≡ number → (found ≡ None → MayBeAbsent (program_over served) number key) →
@@ -187,7 +187,7 @@ found_formed served plan number key None same absent = absent refl
 found_formed served plan number key (Some id) same absent = same
 
 pub lookup_formed : (maps : List MapDef) (options : Options) (worker : ℕ) (before : List JournaledShard) (number : ℕ) (key : List ℕ) (reply : Reply) (after : List JournaledShard) →
-    ∥ IsReady maps options worker before ∥₁ → IsAnsweredAmong worker before (Lookup number key) reply after →
+    ∥ IsPortReady maps options worker before ∥₁ → IsAnsweredAmong worker before (Lookup number key) reply after →
     IsReplyTo (program_over (served_by maps options)) (Lookup number key) reply
 lookup_formed maps options worker before number key reply after ready among =
     let named : IsTrue (number == among.shard.plan.number) = first_true (number == among.shard.plan.number) (meets_part among.shard.plan (reverse (entered worker among.shard).journal) (Worker worker) (Lookup number key)) among.answered.met in
@@ -206,13 +206,13 @@ load_told worker before cell offset size reply after among = word_again reply _ 
 pub change_told : (worker : ℕ) (before : List JournaledShard) (cell : CellRef) (offset size op value expected : ℕ) (reply : Reply) (after : List JournaledShard) → IsAnsweredAmong worker before (Atomic cell offset size op value expected) reply after → reply ≡ Word (word_in reply)
 change_told worker before cell offset size op value expected reply after among = word_again reply _ among.answered.replied
 
-pub load_below : (maps : List MapDef) (options : Options) (worker : ℕ) (before : List JournaledShard) (cell : CellRef) (offset size : ℕ) (reply : Reply) (after : List JournaledShard) → IsReady maps options worker before → IsAnsweredAmong worker before (Load cell offset size) reply after → word_in reply < 256 ^ size
+pub load_below : (maps : List MapDef) (options : Options) (worker : ℕ) (before : List JournaledShard) (cell : CellRef) (offset size : ℕ) (reply : Reply) (after : List JournaledShard) → IsPortReady maps options worker before → IsAnsweredAmong worker before (Load cell offset size) reply after → word_in reply < 256 ^ size
 load_below maps options worker before cell offset size reply after ready among =
     let is : IsShardOf maps options cell.shard among.shard = ready.are_shards.each cell.shard among.shard among.known in
     subst (λ (one : Reply). word_in one < 256 ^ size) (sym among.answered.replied)
     (number_in_cell-below (shard_after among.shard.plan (reverse (entered worker among.shard).journal)) cell.id offset size (bytes_entered worker among.shard is.bytes))
 
-pub change_below : (maps : List MapDef) (options : Options) (worker : ℕ) (before : List JournaledShard) (cell : CellRef) (offset size op value expected : ℕ) (reply : Reply) (after : List JournaledShard) → IsReady maps options worker before → IsAnsweredAmong worker before (Atomic cell offset size op value expected) reply after → word_in reply < 256 ^ size
+pub change_below : (maps : List MapDef) (options : Options) (worker : ℕ) (before : List JournaledShard) (cell : CellRef) (offset size op value expected : ℕ) (reply : Reply) (after : List JournaledShard) → IsPortReady maps options worker before → IsAnsweredAmong worker before (Atomic cell offset size op value expected) reply after → word_in reply < 256 ^ size
 change_below maps options worker before cell offset size op value expected reply after ready among =
     let is : IsShardOf maps options cell.shard among.shard = ready.are_shards.each cell.shard among.shard among.known in
     subst (λ (one : Reply). word_in one < 256 ^ size) (sym among.answered.replied)

@@ -20,10 +20,10 @@ use Rattle.shards.specs.CallerView.{CallerView}
 use Rattle.shards.specs.Passes.{PassView, own_at, IsElsewhereSame}
 use Rattle.shard_port.specs.Asking.{enter_by, leave_by, asked_entry}
 use Rattle.shard_port.specs.PortLaws.{inside_after_call}
-use Rattle.shard_port.specs.Sessions.{entry_of}
-use Rattle.shard_port.specs.PassPorts.{PassPort, worker_of, inside_own, entered_deeds, left_deeds, all_left_deeds, CannotEnterBy, CannotCallBy, IsGivenBy, IsRefusedBy, IsFinishedBy}
+use Rattle.shard_port.specs.Sessions.{exchange_entry}
+use Rattle.shard_port.specs.PassPorts.{PassPort, worker_number, inside_own, entered_deeds, left_deeds, all_left_deeds, CannotEnterBy, CannotCallBy, PassGives, PassRefuses, IsFinishedBy}
 use Rattle.shard_port.specs.PassPortLaws.{inside_once}
-use Rattle.shard_port.specs.PassDeeds.{entered_now, entering_deeds, asked_deeds, entered_by, rising, leaving_deeds, run_deeds, deeds_to_call, deeds_to_enter}
+use Rattle.shard_port.specs.PassDeeds.{entered_now, entering_deeds, asked_deeds, shards_entered, rising, leaving_deeds, run_deeds, deeds_to_call, deeds_to_enter}
 use Rattle.shard_port.specs.PassSessions.{IsOutsideAt}
 
 -- ---- the shards that a run has entered, by its worker's own entries
@@ -108,11 +108,11 @@ turned first later deed before same =
 
 pub record HasDone (count worker : ℕ) (entered : List ℕ) (exchanges : List Exchange) (before after : PassView) : Type 0 where
   pub did : after.deeds ≡ reverse (asked_deeds worker entered exchanges) ++ before.deeds
-  pub inside : AreInside count worker (entered_by entered exchanges) after
+  pub inside : AreInside count worker (shards_entered entered exchanges) after
   pub who : after.who ≡ Worker worker
 
 chain_deeds : (plan : ℕ → ShardPlan) (count worker : ℕ) (before after : PassPort) (exchanges : List Exchange) (entered : List ℕ) →
-    before.pass.who ≡ Worker worker → AreInside count worker entered before.pass → IsChain (IsGivenBy plan count) before exchanges after →
+    before.pass.who ≡ Worker worker → AreInside count worker entered before.pass → IsChain (PassGives plan count) before exchanges after →
     HasDone count worker entered exchanges before.pass after.pass
 chain_deeds plan count worker before after [] entered who are chain = record {
   did = ap (λ (port : PassPort). port.pass.deeds) (sym chain);
@@ -123,7 +123,7 @@ chain_deeds plan count worker before after (exchange ∷ later) entered who are 
     let middle : PassPort = chain.0 in
     let given = chain.1 in
     let shard : ℕ = shard_of_call exchange.call in
-    let mine : worker_of before.pass.who ≡ worker = ap worker_of who in
+    let mine : worker_number before.pass.who ≡ worker = ap worker_number who in
     let inside : is_inside worker (own_at middle.pass shard) ≡ true =
     subst (λ (own : List Entry). is_inside worker own ≡ true)
     (sym (given.asked.at.own
@@ -131,16 +131,16 @@ chain_deeds plan count worker before after (exchange ∷ later) entered who are 
     (inside_after_call worker exchange.call exchange.reply (inside_own worker shard (own_at before.pass shard)) given.run_call
     (inside_once worker shard (own_at before.pass shard))) in
     let first : List Deed = entering_deeds worker entered shard in
-    let did : middle.pass.deeds ≡ Wrote (entry_of worker exchange) ∷ first ++ before.pass.deeds =
+    let did : middle.pass.deeds ≡ Wrote (exchange_entry worker exchange) ∷ first ++ before.pass.deeds =
     given.asked.did
     ∙ ap (λ (w : ℕ). Wrote (asked_entry w exchange.call exchange.reply) ∷ entered_deeds w shard (own_at before.pass shard) ++ before.pass.deeds) mine
-    ∙ ap (λ (list : List Deed). Wrote (entry_of worker exchange) ∷ list ++ before.pass.deeds)
+    ∙ ap (λ (list : List Deed). Wrote (exchange_entry worker exchange) ∷ list ++ before.pass.deeds)
     (entered_are worker shard entered (own_at before.pass shard) (are shard given.within)) in
     let rest = chain_deeds plan count worker middle after later (entered_now shard entered) (given.elsewhere.who ∙ who)
     (inside_then count worker shard entered before.pass middle.pass are given.elsewhere inside) chain.2 in
     record {
       did = rest.did ∙ ap (λ (list : List Deed). reverse (asked_deeds worker (entered_now shard entered) later) ++ list) did
-          ∙ turned first (asked_deeds worker (entered_now shard entered) later) (Wrote (entry_of worker exchange)) before.pass.deeds
+          ∙ turned first (asked_deeds worker (entered_now shard entered) later) (Wrote (exchange_entry worker exchange)) before.pass.deeds
           (entering_back worker entered shard);
       inside = rest.inside;
       who = rest.who;
@@ -176,7 +176,7 @@ finished_deeds : (plan : ℕ → ShardPlan) (count worker : ℕ) (entered : List
 finished_deeds plan count worker entered before finished did earlier who are left done =
     let leaves : List Deed = leaving_deeds worker (rising count entered) in
     left.did
-    ∙ ap (λ (w : ℕ). all_left_deeds w before count ++ before.deeds) (ap worker_of who)
+    ∙ ap (λ (w : ℕ). all_left_deeds w before count ++ before.deeds) (ap worker_number who)
     ∙ ap (λ (list : List Deed). list ++ before.deeds) (all_left count worker entered before are count (omega arith))
     ∙ ap (λ (list : List Deed). reverse leaves ++ list) done
     ∙ sym (append_assoc (reverse leaves) (reverse did) earlier)
@@ -191,22 +191,22 @@ module _ (plan : ℕ → ShardPlan) (count worker : ℕ) (before : PassPort) (wh
 
 pub done_deeds : (plan : ℕ → ShardPlan) (count worker : ℕ) (before after : PassPort) (finished : PassView) (exchanges : List Exchange) →
     before.pass.who ≡ Worker worker → ((number : ℕ) → number < count → IsOutsideAt worker before.pass number) →
-    IsChain (IsGivenBy plan count) before exchanges after → IsFinishedBy plan count after.pass finished →
+    IsChain (PassGives plan count) before exchanges after → IsFinishedBy plan count after.pass finished →
     finished.deeds ≡ reverse (run_deeds worker count exchanges) ++ before.pass.deeds
 done_deeds plan count worker before after finished exchanges who outside chain left =
     let done = chain_deeds plan count worker before after exchanges [] who (none_inside plan count worker before who outside) chain in
-    finished_deeds plan count worker (entered_by [] exchanges) after.pass finished (asked_deeds worker [] exchanges) before.pass.deeds done.who
+    finished_deeds plan count worker (shards_entered [] exchanges) after.pass finished (asked_deeds worker [] exchanges) before.pass.deeds done.who
     done.inside left done.did
 
 pub enter_deeds : (plan : ℕ → ShardPlan) (count worker : ℕ) (before middle after : PassPort) (finished : PassView) (exchanges : List Exchange)
     (call : Call) → before.pass.who ≡ Worker worker → ((number : ℕ) → number < count → IsOutsideAt worker before.pass number) →
-    IsChain (IsGivenBy plan count) before exchanges middle → IsRefusedBy plan count middle call after →
+    IsChain (PassGives plan count) before exchanges middle → PassRefuses plan count middle call after →
     CannotEnterBy (plan (shard_of_call call)) (shard_of_call call) middle.pass after.pass → IsFinishedBy plan count after.pass finished →
     finished.deeds ≡ reverse (deeds_to_enter worker count exchanges call) ++ before.pass.deeds
 enter_deeds plan count worker before middle after finished exchanges call who outside chain refused cannot left =
     let done = chain_deeds plan count worker before middle exchanges [] who (none_inside plan count worker before who outside) chain in
     let shard : ℕ = shard_of_call call in
-    let entered : List ℕ = entered_by [] exchanges in
+    let entered : List ℕ = shards_entered [] exchanges in
     let asked : List Deed = asked_deeds worker [] exchanges in
     let look : Deed = MetFull (Worker worker) (Enter shard) in
     let did : after.pass.deeds ≡ reverse (asked ++ look ∷ []) ++ before.pass.deeds =
@@ -218,23 +218,23 @@ enter_deeds plan count worker before middle after finished exchanges call who ou
 
 pub call_deeds : (plan : ℕ → ShardPlan) (count worker : ℕ) (before middle after : PassPort) (finished : PassView) (exchanges : List Exchange)
     (call : Call) → before.pass.who ≡ Worker worker → ((number : ℕ) → number < count → IsOutsideAt worker before.pass number) →
-    IsChain (IsGivenBy plan count) before exchanges middle → IsRefusedBy plan count middle call after →
+    IsChain (PassGives plan count) before exchanges middle → PassRefuses plan count middle call after →
     CannotCallBy (plan (shard_of_call call)) (shard_of_call call) middle.pass after.pass call → IsFinishedBy plan count after.pass finished →
     finished.deeds ≡ reverse (deeds_to_call worker count exchanges call) ++ before.pass.deeds
 call_deeds plan count worker before middle after finished exchanges call who outside chain refused cannot left =
     let done = chain_deeds plan count worker before middle exchanges [] who (none_inside plan count worker before who outside) chain in
     let shard : ℕ = shard_of_call call in
-    let entered : List ℕ = entered_by [] exchanges in
+    let entered : List ℕ = shards_entered [] exchanges in
     let asked : List Deed = asked_deeds worker [] exchanges in
     let first : List Deed = entering_deeds worker entered shard in
     let look : Deed = MetFull (Worker worker) call in
-    let mine : worker_of middle.pass.who ≡ worker = ap worker_of done.who in
+    let mine : worker_number middle.pass.who ≡ worker = ap worker_number done.who in
     let inside : is_inside worker (own_at after.pass shard) ≡ true =
     subst (λ (own : List Entry). is_inside worker own ≡ true)
     (sym (cannot.at.own ∙ ap (λ (w : ℕ). inside_own w shard (own_at middle.pass shard)) mine)) (inside_once worker shard (own_at middle.pass shard)) in
     let did : after.pass.deeds ≡ reverse (asked ++ first ++ look ∷ []) ++ before.pass.deeds =
     cannot.did
-    ∙ ap (λ (one : Caller). MetFull one call ∷ entered_deeds (worker_of one) shard (own_at middle.pass shard) ++ middle.pass.deeds) done.who
+    ∙ ap (λ (one : Caller). MetFull one call ∷ entered_deeds (worker_number one) shard (own_at middle.pass shard) ++ middle.pass.deeds) done.who
     ∙ ap (λ (list : List Deed). look ∷ list ++ middle.pass.deeds)
     (entered_are worker shard entered (own_at middle.pass shard) (done.inside shard refused.within))
     ∙ ap (λ (list : List Deed). look ∷ first ++ list) done.did

@@ -30,7 +30,7 @@ use Rattle.shards.specs.SharedMaps.{ArePlans}
 use Rattle.shards.specs.Passes.{PassView, own_at}
 use Rattle.shards.proofs.shared.Keys as keys
 use Rattle.shard_port.specs.PortLaws.{both_true}
-use Rattle.shard_port.specs.PassPorts.{is_worker_below, worker_of, inside_own, has_found}
+use Rattle.shard_port.specs.PassPorts.{is_worker_below, worker_number, inside_own, has_found}
 use Rattle.shards.specs.HeldCells.{holds_own}
 use Rattle.shard_port.specs.PassPortLaws.{inside_once, stays_inside}
 use Rattle.shard_port.proofs.shared.ReadyLemmas.{plan_number}
@@ -55,12 +55,12 @@ pub record IsAtKey (options : Options) (count : ℕ) (plan : ℕ → ShardPlan) 
     (definition : MapDef) (key : List ℕ) : Type 0 where
   pub within : number < count
   pub numbered : (number == (plan number).number) ≡ true
-  pub inside : is_inside_worker (plan number) (inside_own (worker_of who) number own) who ≡ true
+  pub inside : is_inside_worker (plan number) (inside_own (worker_number who) number own) who ≡ true
   pub own_key : is_own_key (plan number) key ≡ true
   pub defined : (plan number).definition ≡ definition
 
 inside_worker : (options : Options) (plan : ShardPlan) (who : Caller) (number : ℕ) (own : List Entry) → plan.workers ≡ options.workers →
-    IsTrue (is_worker_below options.workers who) → is_inside_worker plan (inside_own (worker_of who) number own) who ≡ true
+    IsTrue (is_worker_below options.workers who) → is_inside_worker plan (inside_own (worker_number who) number own) who ≡ true
 inside_worker options plan (Worker worker) number own same below =
     both_true _ _ (below_workers options plan worker same below) (inside_once worker number own)
 inside_worker options plan Controller number own same below = cc
@@ -89,7 +89,7 @@ pub lookup_met : (maps : List MapDef) (options : Options) (count : ℕ) (plan : 
     (key : List ℕ) → ArePlans maps options count plan → AreOptions maps options → IsTrue (is_worker_below options.workers who) →
     IsKeyOf maps map key →
     Meets (plan (shard_of (served_by maps options) map key))
-    (inside_own (worker_of who) (shard_of (served_by maps options) map key) own) who (lookup_call (served_by maps options) map key)
+    (inside_own (worker_number who) (shard_of (served_by maps options) map key) own) who (lookup_call (served_by maps options) map key)
 lookup_met maps options count plan who own map key plans are below of_map =
     let at = at_key maps options count plan who own map key plans are below of_map in
     both_true _ _ at.numbered (both_true _ _ at.inside at.own_key)
@@ -98,7 +98,7 @@ pub delete_met : (maps : List MapDef) (options : Options) (count : ℕ) (plan : 
     (key : List ℕ) → ArePlans maps options count plan → AreOptions maps options → IsTrue (is_worker_below options.workers who) →
     IsKeyOf maps map key →
     Meets (plan (shard_of (served_by maps options) map key))
-    (inside_own (worker_of who) (shard_of (served_by maps options) map key) own) who (delete_call (served_by maps options) map key)
+    (inside_own (worker_number who) (shard_of (served_by maps options) map key) own) who (delete_call (served_by maps options) map key)
 delete_met maps options count plan (Worker worker) own map key plans are below of_map =
     let at = at_key maps options count plan (Worker worker) own map key plans are below of_map in
     both_true _ _ at.numbered (both_true _ _ at.inside at.own_key)
@@ -109,7 +109,7 @@ pub update_met : (maps : List MapDef) (options : Options) (count : ℕ) (plan : 
     (key value : List ℕ) (flags : ℕ) → ArePlans maps options count plan → AreOptions maps options →
     IsTrue (is_worker_below options.workers who) → flags < 2 ^ 64 → IsPairOf maps map key value →
     Meets (plan (shard_of (served_by maps options) map key))
-    (inside_own (worker_of who) (shard_of (served_by maps options) map key) own) who
+    (inside_own (worker_number who) (shard_of (served_by maps options) map key) own) who
     (update_call (served_by maps options) map key value flags)
 update_met maps options count plan (Worker worker) own map key value flags plans are below few pair =
     let at = at_key maps options count plan (Worker worker) own map key plans are below pair.at in
@@ -129,7 +129,7 @@ pub record IsAtPlace (options : Options) (count : ℕ) (plan : ℕ → ShardPlan
     (offset size : ℕ) : Type 0 where
   pub within : cell.shard < count
   pub numbered : (cell.shard == (plan cell.shard).number) ≡ true
-  pub holder : is_holder (plan cell.shard) (inside_own (worker_of who) cell.shard own) who cell.id ≡ true
+  pub holder : is_holder (plan cell.shard) (inside_own (worker_number who) cell.shard own) who cell.id ≡ true
   pub is_size : is_load_size size ≡ true
   pub in_cell : is_in_cell (plan cell.shard) offset size ≡ true
 
@@ -143,7 +143,7 @@ some_map maps map offset size None is size_is inside =
 
 holder_of : (options : Options) (plan : ShardPlan) (who : Caller) (number cell : ℕ) (own : List Entry) → plan.workers ≡ options.workers →
     IsTrue (is_worker_below options.workers who) → IsTrue (holds_own who own cell) →
-    is_holder plan (inside_own (worker_of who) number own) who cell ≡ true
+    is_holder plan (inside_own (worker_number who) number own) who cell ≡ true
 holder_of options plan (Worker worker) number cell own same below held =
     let inside : is_inside worker own ≡ true = first_true (is_inside worker own) (holds worker cell own) held in
     let found : holds worker cell own ≡ true = second_true (is_inside worker own) (holds worker cell own) held in
@@ -185,7 +185,7 @@ at_place maps options count plan pass cell offset size plans are below readable 
 pub load_met : (maps : List MapDef) (options : Options) (count : ℕ) (plan : ℕ → ShardPlan) (pass : PassView) (cell : CellRef)
     (offset size : ℕ) → ArePlans maps options count plan → AreOptions maps options → IsTrue (is_worker_below options.workers pass.who) →
     IsReadable (served_by maps options) (has_found (record { served = served_by maps options; pass = pass })) cell offset size →
-    Meets (plan cell.shard) (inside_own (worker_of pass.who) cell.shard (own_at pass cell.shard)) pass.who (Load cell offset size)
+    Meets (plan cell.shard) (inside_own (worker_number pass.who) cell.shard (own_at pass cell.shard)) pass.who (Load cell offset size)
 load_met maps options count plan pass cell offset size plans are below readable =
     let at = at_place maps options count plan pass cell offset size plans are below readable in
     both_true _ _ at.numbered (both_true _ _ (both_true _ _ at.holder at.is_size) at.in_cell)
@@ -194,7 +194,7 @@ pub store_met : (maps : List MapDef) (options : Options) (count : ℕ) (plan : �
     (offset size value : ℕ) → ArePlans maps options count plan → AreOptions maps options →
     IsTrue (is_worker_below options.workers pass.who) →
     IsStorable (served_by maps options) (has_found (record { served = served_by maps options; pass = pass })) cell offset size value →
-    Meets (plan cell.shard) (inside_own (worker_of pass.who) cell.shard (own_at pass cell.shard)) pass.who (Store cell offset size value)
+    Meets (plan cell.shard) (inside_own (worker_number pass.who) cell.shard (own_at pass cell.shard)) pass.who (Store cell offset size value)
 store_met maps options count plan pass cell offset size value plans are below storable =
     let at = at_place maps options count plan pass cell offset size plans are below storable.at in
     both_true _ _ at.numbered
@@ -205,7 +205,7 @@ pub change_met : (maps : List MapDef) (options : Options) (count : ℕ) (plan : 
     IsTrue (is_worker_below options.workers pass.who) →
     IsAtomic (served_by maps options) (has_found (record { served = served_by maps options; pass = pass })) cell offset size op value
     expected →
-    Meets (plan cell.shard) (inside_own (worker_of pass.who) cell.shard (own_at pass cell.shard)) pass.who
+    Meets (plan cell.shard) (inside_own (worker_number pass.who) cell.shard (own_at pass cell.shard)) pass.who
     (atomic_call cell offset size op value expected)
 change_met maps options count plan pass cell offset size op value expected plans are below atomic =
     let at = at_place maps options count plan pass cell offset size plans are below (load_of_atomic atomic) in

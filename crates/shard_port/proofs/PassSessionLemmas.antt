@@ -12,15 +12,15 @@ use Rattle.semantics.specs.declared.call.Entry.{Entry}
 use Rattle.semantics.specs.Reclamation.{is_inside}
 use Rattle.semantics.specs.History.{shard_of_call}
 use Rattle.map_port.specs.Exchanges.{Exchange, IsChain}
-use Rattle.shards.specs.CallerView.{CallerView, BeginsWith, IsServed}
+use Rattle.shards.specs.CallerView.{CallerView, BeginsWith, ViewIsServed}
 use Rattle.shards.specs.Passes.{PassView, view_at, own_at, seen_at}
 use Rattle.shard_port.specs.Asking.{enter_by, leave_by, asked_entry}
 use Rattle.shard_port.specs.PortView.{IsRunCall}
 use Rattle.shard_port.specs.PortLaws.{same_worker, inside_after_call}
-use Rattle.shard_port.specs.Sessions.{entry_of, is_at, entries_at, begun, session}
-use Rattle.shard_port.specs.PassPorts.{PassPort, worker_of, entering, inside_own, IsAskedAt, CannotEnterAt, CannotCallAt, CannotEnterBy, CannotCallBy, IsTurnedAwayBy, IsLeft, IsGivenBy, IsRefusedBy, IsFinishedBy}
+use Rattle.shard_port.specs.Sessions.{exchange_entry, is_asked_of, exchange_entries, behind_enter, session}
+use Rattle.shard_port.specs.PassPorts.{PassPort, worker_number, entering, inside_own, IsAskedAt, CannotEnterAt, CannotCallAt, CannotEnterBy, CannotCallBy, IsTurnedAwayBy, ViewHasLeft, PassGives, PassRefuses, IsFinishedBy}
 use Rattle.shard_port.specs.PassPortLaws.{inside_once, stays_inside}
-use Rattle.shard_port.specs.PassSessions.{session_at, IsOutsideAt, AreWithin, HasSessions, IsVisitedAt, IsKeptOut, HasRefusedSessions}
+use Rattle.shard_port.specs.PassSessions.{session_at, IsOutsideAt, AreCallsWithin, HasSessions, IsVisitedAt, IsKeptOut, HasRefusedSessions}
 use Rattle.shard_port.proofs.PassDeedLemmas.{done_deeds, call_deeds, enter_deeds}
 use Rattle.shard_port.proofs.SessionLemmas.{is_some_entry}
 
@@ -91,7 +91,7 @@ asked_is_inside plan number worker before after call reply run asked =
     subst (λ (own : List Entry). is_inside worker own ≡ true) (sym asked.own)
     (inside_after_call worker call reply (inside_own worker number before.own) run (inside_once worker number before.own))
 
-served_grown : (plan : ShardPlan) (before after : CallerView) (entry : Entry) → IsServed plan before after entry →
+served_grown : (plan : ShardPlan) (before after : CallerView) (entry : Entry) → ViewIsServed plan before after entry →
     IsGrown (entry ∷ []) before after
 served_grown plan before after entry served = record {
   own = served.own;
@@ -101,11 +101,11 @@ served_grown plan before after entry served = record {
 -- ---- a chain
 
 asked_here : (plan : ℕ → ShardPlan) (count worker number : ℕ) (before after : PassPort) (call : Call) (reply : Reply) →
-    before.pass.who ≡ Worker worker → IsGivenBy plan count before call reply after → (shard_of_call call == number) ≡ true →
+    before.pass.who ≡ Worker worker → PassGives plan count before call reply after → (shard_of_call call == number) ≡ true →
     IsAskedAt (plan number) number worker (view_at before.pass number) (view_at after.pass number) call reply
 asked_here plan count worker number before after call reply who given here =
     let same : shard_of_call call ≡ number = grind (arith, nat_tests) in
-    let mine : worker_of before.pass.who ≡ worker = ap worker_of who in
+    let mine : worker_number before.pass.who ≡ worker = ap worker_number who in
     subst (λ (n : ℕ). IsAskedAt (plan n) n worker (view_at before.pass n) (view_at after.pass n) call reply) same
     (subst (λ (w : ℕ). IsAskedAt (plan (shard_of_call call)) (shard_of_call call) w (view_at before.pass (shard_of_call call))
     (view_at after.pass (shard_of_call call)) call reply) mine given.asked.at)
@@ -125,85 +125,85 @@ inside_join worker first second before middle after one rest = record {
 }
 
 chain_inside : (plan : ℕ → ShardPlan) (count worker number : ℕ) (before after : PassPort) (exchanges : List Exchange) →
-    before.pass.who ≡ Worker worker → IsChain (IsGivenBy plan count) before exchanges after →
+    before.pass.who ≡ Worker worker → IsChain (PassGives plan count) before exchanges after →
     is_inside worker (own_at before.pass number) ≡ true →
-    IsInsideAfter worker (entries_at worker number exchanges) (view_at before.pass number) (view_at after.pass number)
+    IsInsideAfter worker (exchange_entries worker number exchanges) (view_at before.pass number) (view_at after.pass number)
 chain_inside plan count worker number before after [] who chain inside = record {
   grown = grown_none _ _ (ap (λ (port : PassPort). view_at port.pass number) (sym chain));
   inside = subst (λ (port : PassPort). is_inside worker (own_at port.pass number) ≡ true) chain inside;
 }
 chain_inside plan count worker number before after (exchange ∷ later) who chain inside =
-    by_place (is_at number exchange) refl
+    by_place (is_asked_of number exchange) refl
     (chain_inside plan count worker number chain.0 after later (chain.1.elsewhere.who ∙ who) chain.2)
   where
-    by_place : (here : Bool) → is_at number exchange ≡ here →
+    by_place : (here : Bool) → is_asked_of number exchange ≡ here →
         (is_inside worker (own_at chain.0.pass number) ≡ true →
-        IsInsideAfter worker (entries_at worker number later) (view_at chain.0.pass number) (view_at after.pass number)) →
-        IsInsideAfter worker (map (entry_of worker) (cond here (exchange ∷ filter (is_at number) later) (filter (is_at number) later)))
+        IsInsideAfter worker (exchange_entries worker number later) (view_at chain.0.pass number) (view_at after.pass number)) →
+        IsInsideAfter worker (map (exchange_entry worker) (cond here (exchange ∷ filter (is_asked_of number) later) (filter (is_asked_of number) later)))
         (view_at before.pass number) (view_at after.pass number)
     by_place true is onward =
         let asked = asked_here plan count worker number before chain.0 exchange.call exchange.reply who chain.1 is in
-        inside_join worker (entry_of worker exchange ∷ []) (entries_at worker number later) _ _ _
+        inside_join worker (exchange_entry worker exchange ∷ []) (exchange_entries worker number later) _ _ _
         (step_inside (plan number) number worker _ _ exchange.call exchange.reply asked inside)
         (onward (asked_is_inside (plan number) number worker _ _ exchange.call exchange.reply chain.1.run_call asked))
     by_place false is onward =
         let same : view_at chain.0.pass number ≡ view_at before.pass number =
         chain.1.elsewhere.others number (differ (shard_of_call exchange.call) number is) in
-        inside_join worker [] (entries_at worker number later) _ _ _ (grown_none _ _ same)
+        inside_join worker [] (exchange_entries worker number later) _ _ _ (grown_none _ _ same)
         (onward (subst (λ (view : CallerView). is_inside worker view.own ≡ true) (sym same) inside))
 
 -- from outside
 pub record IsWrittenAt (worker number : ℕ) (entries : List Entry) (before after : CallerView) : Type 0 where
-  pub grown : IsGrown (begun worker number entries) before after
+  pub grown : IsGrown (behind_enter worker number entries) before after
   pub inside : is_inside worker after.own ≡ is_some_entry entries
 
 pub chain_outside : (plan : ℕ → ShardPlan) (count worker number : ℕ) (before after : PassPort) (exchanges : List Exchange) →
-    before.pass.who ≡ Worker worker → IsChain (IsGivenBy plan count) before exchanges after →
+    before.pass.who ≡ Worker worker → IsChain (PassGives plan count) before exchanges after →
     is_inside worker (own_at before.pass number) ≡ false →
-    IsWrittenAt worker number (entries_at worker number exchanges) (view_at before.pass number) (view_at after.pass number)
+    IsWrittenAt worker number (exchange_entries worker number exchanges) (view_at before.pass number) (view_at after.pass number)
 chain_outside plan count worker number before after [] who chain outside = record {
   grown = grown_none _ _ (ap (λ (port : PassPort). view_at port.pass number) (sym chain));
   inside = subst (λ (port : PassPort). is_inside worker (own_at port.pass number) ≡ false) chain outside;
 }
 chain_outside plan count worker number before after (exchange ∷ later) who chain outside =
-    by_place (is_at number exchange) refl
+    by_place (is_asked_of number exchange) refl
     (chain_outside plan count worker number chain.0 after later (chain.1.elsewhere.who ∙ who) chain.2)
   where
-    by_place : (here : Bool) → is_at number exchange ≡ here →
+    by_place : (here : Bool) → is_asked_of number exchange ≡ here →
         (is_inside worker (own_at chain.0.pass number) ≡ false →
-        IsWrittenAt worker number (entries_at worker number later) (view_at chain.0.pass number) (view_at after.pass number)) →
+        IsWrittenAt worker number (exchange_entries worker number later) (view_at chain.0.pass number) (view_at after.pass number)) →
         IsWrittenAt worker number
-        (map (entry_of worker) (cond here (exchange ∷ filter (is_at number) later) (filter (is_at number) later)))
+        (map (exchange_entry worker) (cond here (exchange ∷ filter (is_asked_of number) later) (filter (is_asked_of number) later)))
         (view_at before.pass number) (view_at after.pass number)
     by_place true is onward =
         let asked = asked_here plan count worker number before chain.0 exchange.call exchange.reply who chain.1 is in
-        let rest : IsInsideAfter worker (entries_at worker number later) (view_at chain.0.pass number) (view_at after.pass number) =
+        let rest : IsInsideAfter worker (exchange_entries worker number later) (view_at chain.0.pass number) (view_at after.pass number) =
         chain_inside plan count worker number chain.0 after later (chain.1.elsewhere.who ∙ who) chain.2
         (asked_is_inside (plan number) number worker _ _ exchange.call exchange.reply chain.1.run_call asked) in
         record {
           grown =
-              grown_join (enter_by worker number ∷ entry_of worker exchange ∷ []) (entries_at worker number later) _ _ _
+              grown_join (enter_by worker number ∷ exchange_entry worker exchange ∷ []) (exchange_entries worker number later) _ _ _
               (step_outside (plan number) number worker _ _ exchange.call exchange.reply asked outside) rest.grown;
           inside = rest.inside;
         }
     by_place false is onward =
         let same : view_at chain.0.pass number ≡ view_at before.pass number =
         chain.1.elsewhere.others number (differ (shard_of_call exchange.call) number is) in
-        let rest : IsWrittenAt worker number (entries_at worker number later) (view_at chain.0.pass number) (view_at after.pass number) =
+        let rest : IsWrittenAt worker number (exchange_entries worker number later) (view_at chain.0.pass number) (view_at after.pass number) =
         onward (subst (λ (view : CallerView). is_inside worker view.own ≡ false) (sym same) outside) in
         record {
-          grown = grown_join [] (begun worker number (entries_at worker number later)) _ _ _ (grown_none _ _ same) rest.grown;
+          grown = grown_join [] (behind_enter worker number (exchange_entries worker number later)) _ _ _ (grown_none _ _ same) rest.grown;
           inside = rest.inside;
         }
 
 pub chain_who : (plan : ℕ → ShardPlan) (count : ℕ) (before after : PassPort) (exchanges : List Exchange) →
-    IsChain (IsGivenBy plan count) before exchanges after → after.pass.who ≡ before.pass.who
+    IsChain (PassGives plan count) before exchanges after → after.pass.who ≡ before.pass.who
 chain_who plan count before after [] chain = ap (λ (port : PassPort). port.pass.who) (sym chain)
 chain_who plan count before after (exchange ∷ later) chain =
     chain_who plan count chain.0 after later chain.2 ∙ chain.1.elsewhere.who
 
 chain_within : (plan : ℕ → ShardPlan) (count : ℕ) (before after : PassPort) (exchanges : List Exchange) →
-    IsChain (IsGivenBy plan count) before exchanges after → AreWithin count exchanges
+    IsChain (PassGives plan count) before exchanges after → AreCallsWithin count exchanges
 chain_within plan count before after [] chain = tt
 chain_within plan count before after (exchange ∷ later) chain =
     (chain.1.within, chain_within plan count chain.0 after later chain.2)
@@ -216,15 +216,15 @@ pub record IsWholeAt (worker number : ℕ) (entries : List Entry) (before after 
   pub outside : is_inside worker after.own ≡ false
 
 left_is_outside : (plan : ShardPlan) (worker number : ℕ) (before after : CallerView) →
-    IsServed plan before after (leave_by worker number) → is_inside worker after.own ≡ false
+    ViewIsServed plan before after (leave_by worker number) → is_inside worker after.own ≡ false
 left_is_outside plan worker number before after served =
     subst (λ (own : List Entry). is_inside worker own ≡ false) (sym served.own) (rw (same_worker worker) refl)
 
 left_at : (plan : ShardPlan) (worker number : ℕ) (entries : List Entry) (before middle after : CallerView) →
-    IsWrittenAt worker number entries before middle → IsLeft (is_inside worker middle.own) plan number worker middle after →
+    IsWrittenAt worker number entries before middle → ViewHasLeft (is_inside worker middle.own) plan number worker middle after →
     IsWholeAt worker number entries before after
 left_at plan worker number [] before middle after written left =
-    let same : after ≡ middle = subst (λ (test : Bool). IsLeft test plan number worker middle after) written.inside left in
+    let same : after ≡ middle = subst (λ (test : Bool). ViewHasLeft test plan number worker middle after) written.inside left in
     record {
       grown =
           grown_on [] before middle after written.grown (ap (λ (view : CallerView). view.own) same)
@@ -232,8 +232,8 @@ left_at plan worker number [] before middle after written left =
       outside = subst (λ (view : CallerView). is_inside worker view.own ≡ false) (sym same) written.inside;
     }
 left_at plan worker number (first ∷ later) before middle after written left =
-    let served : IsServed plan middle after (leave_by worker number) =
-    subst (λ (test : Bool). IsLeft test plan number worker middle after) written.inside left in
+    let served : ViewIsServed plan middle after (leave_by worker number) =
+    subst (λ (test : Bool). ViewHasLeft test plan number worker middle after) written.inside left in
     record {
       grown =
           grown_join (enter_by worker number ∷ first ∷ later) (leave_by worker number ∷ []) before middle after written.grown
@@ -243,14 +243,14 @@ left_at plan worker number (first ∷ later) before middle after written left =
 
 left_here : (plan : ℕ → ShardPlan) (count worker number : ℕ) (before after : PassView) → before.who ≡ Worker worker →
     IsFinishedBy plan count before after → number < count →
-    IsLeft (is_inside worker (own_at before number)) (plan number) number worker (view_at before number) (view_at after number)
+    ViewHasLeft (is_inside worker (own_at before number)) (plan number) number worker (view_at before number) (view_at after number)
 left_here plan count worker number before after who finished within =
-    subst (λ (w : ℕ). IsLeft (is_inside w (own_at before number)) (plan number) number w (view_at before number) (view_at after number))
-    (ap worker_of who) (finished.left number within)
+    subst (λ (w : ℕ). ViewHasLeft (is_inside w (own_at before number)) (plan number) number w (view_at before number) (view_at after number))
+    (ap worker_number who) (finished.left number within)
 
 pub writes_own_sessions : (plan : ℕ → ShardPlan) (count worker : ℕ) (before after : PassPort) (finished : PassView)
     (exchanges : List Exchange) → before.pass.who ≡ Worker worker →
-    ((number : ℕ) → number < count → IsOutsideAt worker before.pass number) → IsChain (IsGivenBy plan count) before exchanges after →
+    ((number : ℕ) → number < count → IsOutsideAt worker before.pass number) → IsChain (PassGives plan count) before exchanges after →
     IsFinishedBy plan count after.pass finished → HasSessions count worker exchanges before.pass finished
 writes_own_sessions plan count worker before after finished exchanges who outside chain left = record {
   same_caller = left.same_caller ∙ chain_who plan count before after exchanges chain;
@@ -262,9 +262,9 @@ writes_own_sessions plan count worker before after finished exchanges who outsid
 }
   where
     whole : (number : ℕ) → number < count →
-        IsWholeAt worker number (entries_at worker number exchanges) (view_at before.pass number) (view_at finished number)
+        IsWholeAt worker number (exchange_entries worker number exchanges) (view_at before.pass number) (view_at finished number)
     whole number within =
-        left_at (plan number) worker number (entries_at worker number exchanges) _ (view_at after.pass number) _
+        left_at (plan number) worker number (exchange_entries worker number exchanges) _ (view_at after.pass number) _
         (chain_outside plan count worker number before after exchanges who chain (outside number within))
         (left_here plan count worker number after.pass finished (chain_who plan count before after exchanges chain ∙ who) left within)
 
@@ -284,18 +284,18 @@ pub record IsRefusedHere (plan : ShardPlan) (worker number : ℕ) (entries : Lis
     pub outside : is_inside worker after.own ≡ false
 
 left_begins : (plan : ShardPlan) (worker number : ℕ) (inside : Bool) (before after : CallerView) →
-    IsLeft inside plan number worker before after → BeginsWith after.seen before.seen
+    ViewHasLeft inside plan number worker before after → BeginsWith after.seen before.seen
 left_begins plan worker number true before after served = (served_grown plan before after (leave_by worker number) served).begins
 left_begins plan worker number false before after same = ([], ap (λ (view : CallerView). view.seen) same)
 
 refused_enter : (plan : ShardPlan) (worker number : ℕ) (entries : List Entry) (call : Call) (before middle after finished : CallerView) →
     IsWrittenAt worker number entries before middle → CannotEnterAt plan number worker middle after →
-    IsLeft (is_inside worker after.own) plan number worker after finished →
+    ViewHasLeft (is_inside worker after.own) plan number worker after finished →
     IsRefusedHere plan worker number entries call before finished
 refused_enter plan worker number entries call before middle after finished written cannot left =
     let same : after.own ≡ middle.own = cannot.refused.own in
     let still : IsWrittenAt worker number entries before after = record {
-      grown = grown_on (begun worker number entries) before middle after written.grown same cannot.refused.begins;
+      grown = grown_on (behind_enter worker number entries) before middle after written.grown same cannot.refused.begins;
       inside = ap (is_inside worker) same ∙ written.inside;
     } in
     let whole : IsWholeAt worker number entries before finished = left_at plan worker number entries before after finished still left in
@@ -304,12 +304,12 @@ refused_enter plan worker number entries call before middle after finished writt
 -- a worker that was kept out had not called the shard, and wrote nothing there
 kept_out : (plan : ShardPlan) (worker number : ℕ) (entries : List Entry) (before middle after finished : CallerView) →
     IsWrittenAt worker number entries before middle → CannotEnterAt plan number worker middle after →
-    IsLeft (is_inside worker after.own) plan number worker after finished →
+    ViewHasLeft (is_inside worker after.own) plan number worker after finished →
     (entries ≡ []) × (finished.own ≡ before.own)
 kept_out plan worker number entries before middle after finished written cannot left =
     let same : after.own ≡ middle.own = cannot.refused.own in
     let still : IsWrittenAt worker number entries before after = record {
-      grown = grown_on (begun worker number entries) before middle after written.grown same cannot.refused.begins;
+      grown = grown_on (behind_enter worker number entries) before middle after written.grown same cannot.refused.begins;
       inside = ap (is_inside worker) same ∙ written.inside;
     } in
     let whole : IsWholeAt worker number entries before finished = left_at plan worker number entries before after finished still left in
@@ -327,19 +327,19 @@ call_begins plan worker number call middle after cannot =
 
 -- a worker that had not called the shard entered it, met a full journal there, and left it
 pub record IsVisit (plan : ShardPlan) (worker number : ℕ) (before after finished : CallerView) : Type 0 where
-  pub served : IsServed plan after finished (leave_by worker number)
+  pub served : ViewIsServed plan after finished (leave_by worker number)
   pub grown : IsGrown (enter_by worker number ∷ leave_by worker number ∷ []) before finished
 
 visit : (plan : ShardPlan) (worker number : ℕ) (call : Call) (before middle after finished : CallerView) →
     IsWrittenAt worker number [] before middle → CannotCallAt plan number worker middle after call →
-    IsLeft (is_inside worker after.own) plan number worker after finished → IsVisit plan worker number before after finished
+    ViewHasLeft (is_inside worker after.own) plan number worker after finished → IsVisit plan worker number before after finished
 visit plan worker number call before middle after finished written cannot left =
     let outside : is_inside worker middle.own ≡ false = written.inside in
     let entered : after.own ≡ enter_by worker number ∷ middle.own =
     cannot.own ∙ ap (λ (test : Bool). (if test then [] else enter_by worker number ∷ []) ++ middle.own) outside in
     let inside : is_inside worker after.own ≡ true = ap (is_inside worker) entered ∙ rw (same_worker worker) refl in
-    let served : IsServed plan after finished (leave_by worker number) =
-    subst (λ (test : Bool). IsLeft test plan number worker after finished) inside left in
+    let served : ViewIsServed plan after finished (leave_by worker number) =
+    subst (λ (test : Bool). ViewHasLeft test plan number worker after finished) inside left in
     let visited : IsGrown (enter_by worker number ∷ []) middle after =
     record { own = entered; begins = call_begins plan worker number call middle after cannot } in
     let grown : IsGrown (enter_by worker number ∷ leave_by worker number ∷ []) middle finished =
@@ -352,7 +352,7 @@ visit plan worker number call before middle after finished written cannot left =
 
 visited_own : (plan : ShardPlan) (worker number : ℕ) (entries : List Entry) (call : Call) (before middle after finished : CallerView) →
     IsWrittenAt worker number entries before middle → CannotCallAt plan number worker middle after call →
-    IsLeft (is_inside worker after.own) plan number worker after finished → entries ≡ [] →
+    ViewHasLeft (is_inside worker after.own) plan number worker after finished → entries ≡ [] →
     finished.own ≡ leave_by worker number ∷ enter_by worker number ∷ before.own
 visited_own plan worker number entries call before middle after finished written cannot left none =
     (visit plan worker number call before middle after finished
@@ -360,7 +360,7 @@ visited_own plan worker number entries call before middle after finished written
 
 refused_call : (plan : ShardPlan) (worker number : ℕ) (entries : List Entry) (call : Call) (before middle after finished : CallerView) →
     IsWrittenAt worker number entries before middle → CannotCallAt plan number worker middle after call →
-    IsLeft (is_inside worker after.own) plan number worker after finished →
+    ViewHasLeft (is_inside worker after.own) plan number worker after finished →
     IsRefusedHere plan worker number entries call before finished
 refused_call plan worker number [] call before middle after finished written cannot left =
     let here = visit plan worker number call before middle after finished written cannot left in
@@ -373,7 +373,7 @@ refused_call plan worker number (first ∷ later) call before middle after finis
     let same : after.own ≡ middle.own = cannot.own ∙ stays_inside worker number middle.own written.inside in
     let still : IsWrittenAt worker number (first ∷ later) before after = record {
       grown =
-          grown_on (begun worker number (first ∷ later)) before middle after written.grown same
+          grown_on (behind_enter worker number (first ∷ later)) before middle after written.grown same
           (call_begins plan worker number call middle after cannot);
       inside = ap (is_inside worker) same ∙ written.inside;
     } in
@@ -390,13 +390,13 @@ IsTurnedAwayAt plan number worker before after call =
     CannotEnterAt plan number worker before after ⊎ CannotCallAt plan number worker before after call
 
 away_at : (plan : ShardPlan) (number : ℕ) (before after : PassView) (call : Call) → IsTurnedAwayBy plan number before after call →
-    IsTurnedAwayAt plan number (worker_of before.who) (view_at before number) (view_at after number) call
+    IsTurnedAwayAt plan number (worker_number before.who) (view_at before number) (view_at after number) call
 away_at plan number before after call away = ⊎_elim (λ (cannot : CannotEnterBy plan number before after). inl cannot.at)
     (λ (cannot : CannotCallBy plan number before after call). inr cannot.at) away
 
 refused_here : (plan : ShardPlan) (worker number : ℕ) (entries : List Entry) (call : Call) (before middle after finished : CallerView) →
     IsWrittenAt worker number entries before middle → IsTurnedAwayAt plan number worker middle after call →
-    IsLeft (is_inside worker after.own) plan number worker after finished →
+    ViewHasLeft (is_inside worker after.own) plan number worker after finished →
     IsRefusedHere plan worker number entries call before finished
 refused_here plan worker number entries call before middle after finished written away left =
     ⊎_elim (λ (cannot : CannotEnterAt plan number worker middle after).
@@ -405,12 +405,12 @@ refused_here plan worker number entries call before middle after finished writte
     refused_call plan worker number entries call before middle after finished written cannot left) away
 
 away_here : (plan : ℕ → ShardPlan) (count worker number : ℕ) (before after : PassPort) (call : Call) → before.pass.who ≡ Worker worker →
-    IsRefusedBy plan count before call after → shard_of_call call ≡ number →
+    PassRefuses plan count before call after → shard_of_call call ≡ number →
     IsTurnedAwayAt (plan number) number worker (view_at before.pass number) (view_at after.pass number) call
 away_here plan count worker number before after call who refused same =
     subst (λ (n : ℕ). IsTurnedAwayAt (plan n) n worker (view_at before.pass n) (view_at after.pass n) call) same
     (subst (λ (w : ℕ). IsTurnedAwayAt (plan (shard_of_call call)) (shard_of_call call) w (view_at before.pass (shard_of_call call))
-    (view_at after.pass (shard_of_call call)) call) (ap worker_of who)
+    (view_at after.pass (shard_of_call call)) call) (ap worker_number who)
     (away_at (plan (shard_of_call call)) (shard_of_call call) before.pass after.pass call refused.turned_away))
 
 -- what each shard has more after a run that ended by a refusal
@@ -422,12 +422,12 @@ pub record IsEndedAt (worker : ℕ) (exchanges : List Exchange) (call : Call) (n
   pub outside : is_inside worker after.own ≡ false
 
 ended_here : (plan : ShardPlan) (worker number : ℕ) (exchanges : List Exchange) (call : Call) (before after : CallerView) →
-    shard_of_call call ≡ number → IsRefusedHere plan worker number (entries_at worker number exchanges) call before after →
+    shard_of_call call ≡ number → IsRefusedHere plan worker number (exchange_entries worker number exchanges) call before after →
     IsEndedAt worker exchanges call number before after
 ended_here plan worker number exchanges call before after same here = record {
   written =
-      ⊎_elim (λ (grown : IsGrown (session worker number (entries_at worker number exchanges)) before after). inl grown.own)
-      (λ (visited : (entries_at worker number exchanges ≡ []) × IsGrown (enter_by worker number ∷ leave_by worker number ∷ []) before after).
+      ⊎_elim (λ (grown : IsGrown (session worker number (exchange_entries worker number exchanges)) before after). inl grown.own)
+      (λ (visited : (exchange_entries worker number exchanges ≡ []) × IsGrown (enter_by worker number ∷ leave_by worker number ∷ []) before after).
       inr (record { own_shard = same; first_call = visited.0; written = visited.1.own })) here.written;
   begins = here.begins;
   outside = here.outside;
@@ -435,8 +435,8 @@ ended_here plan worker number exchanges call before after same here = record {
 
 pub writes_refused_own_sessions : (plan : ℕ → ShardPlan) (count worker : ℕ) (before middle after : PassPort) (finished : PassView)
     (exchanges : List Exchange) (call : Call) → before.pass.who ≡ Worker worker →
-    ((number : ℕ) → number < count → IsOutsideAt worker before.pass number) → IsChain (IsGivenBy plan count) before exchanges middle →
-    IsRefusedBy plan count middle call after → IsFinishedBy plan count after.pass finished →
+    ((number : ℕ) → number < count → IsOutsideAt worker before.pass number) → IsChain (PassGives plan count) before exchanges middle →
+    PassRefuses plan count middle call after → IsFinishedBy plan count after.pass finished →
     HasRefusedSessions plan count worker exchanges call before.pass finished
 writes_refused_own_sessions plan count worker before middle after finished exchanges call who outside chain refused left = record {
   same_caller = left.same_caller ∙ (refused.elsewhere.who ∙ chain_who plan count before middle exchanges chain);
@@ -465,33 +465,33 @@ writes_refused_own_sessions plan count worker before middle after finished excha
     middle_who = chain_who plan count before middle exchanges chain ∙ who
 
     written_at : (number : ℕ) → number < count →
-        IsWrittenAt worker number (entries_at worker number exchanges) (view_at before.pass number) (view_at middle.pass number)
+        IsWrittenAt worker number (exchange_entries worker number exchanges) (view_at before.pass number) (view_at middle.pass number)
     written_at number within = chain_outside plan count worker number before middle exchanges who chain (outside number within)
 
     left_there : (number : ℕ) → number < count →
-        IsLeft (is_inside worker (own_at after.pass number)) (plan number) number worker (view_at after.pass number)
+        ViewHasLeft (is_inside worker (own_at after.pass number)) (plan number) number worker (view_at after.pass number)
         (view_at finished number)
     left_there number within =
         left_here plan count worker number after.pass finished (refused.elsewhere.who ∙ middle_who) left within
 
     at : (number : ℕ) → number < count → shard_of_call call ≡ number →
-        IsRefusedHere (plan number) worker number (entries_at worker number exchanges) call (view_at before.pass number)
+        IsRefusedHere (plan number) worker number (exchange_entries worker number exchanges) call (view_at before.pass number)
         (view_at finished number)
     at number within same =
-        refused_here (plan number) worker number (entries_at worker number exchanges) call _ (view_at middle.pass number)
+        refused_here (plan number) worker number (exchange_entries worker number exchanges) call _ (view_at middle.pass number)
         (view_at after.pass number) _ (written_at number within) (away_here plan count worker number middle after call middle_who refused same)
         (left_there number within)
 
     visited_at : CannotCallBy (plan (shard_of_call call)) (shard_of_call call) middle.pass after.pass call →
-        entries_at worker (shard_of_call call) exchanges ≡ [] →
+        exchange_entries worker (shard_of_call call) exchanges ≡ [] →
         own_at finished (shard_of_call call)
         ≡ leave_by worker (shard_of_call call) ∷ enter_by worker (shard_of_call call) ∷ own_at before.pass (shard_of_call call)
     visited_at cannot none =
         let mine : CannotCallAt (plan (shard_of_call call)) (shard_of_call call) worker (view_at middle.pass (shard_of_call call))
         (view_at after.pass (shard_of_call call)) call =
         subst (λ (w : ℕ). CannotCallAt (plan (shard_of_call call)) (shard_of_call call) w (view_at middle.pass (shard_of_call call))
-        (view_at after.pass (shard_of_call call)) call) (ap worker_of middle_who) cannot.at in
-        visited_own (plan (shard_of_call call)) worker (shard_of_call call) (entries_at worker (shard_of_call call) exchanges) call
+        (view_at after.pass (shard_of_call call)) call) (ap worker_number middle_who) cannot.at in
+        visited_own (plan (shard_of_call call)) worker (shard_of_call call) (exchange_entries worker (shard_of_call call) exchanges) call
         (view_at before.pass (shard_of_call call)) (view_at middle.pass (shard_of_call call)) (view_at after.pass (shard_of_call call))
         (view_at finished (shard_of_call call)) (written_at (shard_of_call call) refused.within) mine (left_there (shard_of_call call) refused.within) none
 
@@ -502,8 +502,8 @@ writes_refused_own_sessions plan count worker before middle after finished excha
         let mine : CannotEnterAt (plan (shard_of_call call)) (shard_of_call call) worker (view_at middle.pass (shard_of_call call))
         (view_at after.pass (shard_of_call call)) =
         subst (λ (w : ℕ). CannotEnterAt (plan (shard_of_call call)) (shard_of_call call) w (view_at middle.pass (shard_of_call call))
-        (view_at after.pass (shard_of_call call))) (ap worker_of middle_who) cannot.at in
-        let kept = kept_out (plan (shard_of_call call)) worker (shard_of_call call) (entries_at worker (shard_of_call call) exchanges) _
+        (view_at after.pass (shard_of_call call))) (ap worker_number middle_who) cannot.at in
+        let kept = kept_out (plan (shard_of_call call)) worker (shard_of_call call) (exchange_entries worker (shard_of_call call) exchanges) _
         (view_at middle.pass (shard_of_call call)) (view_at after.pass (shard_of_call call)) _ (written_at (shard_of_call call) refused.within) mine
         (left_there (shard_of_call call) refused.within) in
         record { first_call = kept.0; nothing = kept.1; full = cannot.at.refused.full }
@@ -516,10 +516,10 @@ writes_refused_own_sessions plan count worker before middle after finished excha
     by_place number within false is =
         let same : view_at after.pass number ≡ view_at middle.pass number =
         refused.elsewhere.others number (differ (shard_of_call call) number is) in
-        let still : IsWrittenAt worker number (entries_at worker number exchanges) (view_at before.pass number) (view_at after.pass number) =
-        subst (λ (view : CallerView). IsWrittenAt worker number (entries_at worker number exchanges) (view_at before.pass number) view)
+        let still : IsWrittenAt worker number (exchange_entries worker number exchanges) (view_at before.pass number) (view_at after.pass number) =
+        subst (λ (view : CallerView). IsWrittenAt worker number (exchange_entries worker number exchanges) (view_at before.pass number) view)
         (sym same) (written_at number within) in
-        let whole = left_at (plan number) worker number (entries_at worker number exchanges) _ (view_at after.pass number) _ still
+        let whole = left_at (plan number) worker number (exchange_entries worker number exchanges) _ (view_at after.pass number) _ still
         (left_there number within) in
         record { written = inl whole.grown.own; begins = whole.grown.begins; outside = whole.outside }
 

@@ -23,31 +23,31 @@ use Rattle.map_port.specs.Exchanges.{Exchange, IsChain}
 use Rattle.shard_port.specs.Asking.{is_in, left, entered, all_left, leave_by, CannotEnter, CannotCall, IsTurnedAwayAmong}
 use Rattle.shard_port.specs.PortView.{PortView, SetsBytes, IsShardOf, AreShardsOf, ServesMaps, IsGivenBy}
 use Rattle.shard_port.specs.declared.plain.PlainPort.{PlainPort}
-use Rattle.shard_port.specs.PlainPorts.{view_of, IsSamePort, PortGives, PortRefuses}
-use Rattle.shard_port.specs.Sessions.{entry_of, is_at, with_entries, begun, session, entries_at, IsVisited}
+use Rattle.shard_port.specs.PlainPorts.{port_view, IsSamePort, PortGives, PortRefuses}
+use Rattle.shard_port.specs.Sessions.{exchange_entry, is_asked_of, with_entries, behind_enter, session, exchange_entries, IsVisited}
 use Rattle.shard_port.proofs.shared.ReadyLemmas.{shards_with, bytes_with_entry}
 use Rattle.shard_port.specs.PortLaws.{set_here}
 use Rattle.shard_port.proofs.SessionLemmas.{after_outside, chain_worker, left_at, set_other, IsWritten, IsAdded, added_nothing, added_enter, entered_added}
 use Rattle.semantics.proofs.shared.CellBytes.{opening_bytes}
 
 chain_of_views : (before after : PlainPort) (exchanges : List Exchange) → IsChain PortGives before exchanges after →
-    IsChain IsGivenBy (view_of before) exchanges (view_of after)
-chain_of_views before after [] chain = ap view_of chain
-chain_of_views before after (exchange ∷ later) chain = (view_of chain.0, chain.1.given, chain_of_views chain.0 after later chain.2)
+    IsChain IsGivenBy (port_view before) exchanges (port_view after)
+chain_of_views before after [] chain = ap port_view chain
+chain_of_views before after (exchange ∷ later) chain = (port_view chain.0, chain.1.given, chain_of_views chain.0 after later chain.2)
 
 pub writes_sessions : (before after : PlainPort) (exchanges : List Exchange) → IsChain PortGives before exchanges after →
     (number : ℕ) (shard : JournaledShard) → slice_get before.shards.now number ≡ Some shard → IsFalse (is_in before.worker shard) →
     (slice_get after.shards.now number ≡ Some
-    (with_entries shard (begun before.worker shard.plan.number (entries_at before.worker number exchanges))))
+    (with_entries shard (behind_enter before.worker shard.plan.number (exchange_entries before.worker number exchanges))))
     × (slice_get (all_left after.worker after.shards.now) number ≡ Some
-    (with_entries shard (session before.worker shard.plan.number (entries_at before.worker number exchanges))))
+    (with_entries shard (session before.worker shard.plan.number (exchange_entries before.worker number exchanges))))
 writes_sessions before after exchanges chain number shard known outside =
-    let views : IsChain IsGivenBy (view_of before) exchanges (view_of after) = chain_of_views before after exchanges chain in
-    let written = after_outside (view_of before) (view_of after) exchanges views number shard known outside in
-    let worker : after.worker ≡ before.worker = chain_worker (view_of before) (view_of after) exchanges views in (
+    let views : IsChain IsGivenBy (port_view before) exchanges (port_view after) = chain_of_views before after exchanges chain in
+    let written = after_outside (port_view before) (port_view after) exchanges views number shard known outside in
+    let worker : after.worker ≡ before.worker = chain_worker (port_view before) (port_view after) exchanges views in (
       written.there,
       rw worker (left_at before.worker after.shards.now number
-          (with_entries shard (begun before.worker shard.plan.number (entries_at before.worker number exchanges))) written.there
+          (with_entries shard (behind_enter before.worker shard.plan.number (exchange_entries before.worker number exchanges))) written.there
           ∙ ap Some written.finished),
     )
 
@@ -70,16 +70,16 @@ turned_away_at : (worker number : ℕ) (shard : JournaledShard) (call : Call) (e
     (new : JournaledShard) × (slice_get after number ≡ Some new) × IsAdded worker number shard call entries new
 turned_away_at worker number shard call entries before after port is written among = by_place (shard_of_call call == number) refl
   where
-    there : slice_get before number ≡ Some (with_entries shard (begun worker shard.plan.number entries))
+    there : slice_get before number ≡ Some (with_entries shard (behind_enter worker shard.plan.number entries))
     there = ap (λ shards. slice_get shards number) (sym is) ∙ written.there
 
     by_place : (here : Bool) → (shard_of_call call == number) ≡ here →
         (new : JournaledShard) × (slice_get after number ≡ Some new) × IsAdded worker number shard call entries new
     by_place true here =
         let place : shard_of_call call ≡ number = grind (arith, nat_tests) in
-        let known_there : slice_get before (shard_of_call call) ≡ Some (with_entries shard (begun worker shard.plan.number entries)) =
+        let known_there : slice_get before (shard_of_call call) ≡ Some (with_entries shard (behind_enter worker shard.plan.number entries)) =
         ap (slice_get before) place ∙ there in
-        let same : among.shard ≡ with_entries shard (begun worker shard.plan.number entries) = cc (among.known, known_there) in
+        let same : among.shard ≡ with_entries shard (behind_enter worker shard.plan.number entries) = cc (among.known, known_there) in
         let at : slice_get after number ≡ Some among.new = ap (λ shards. slice_get shards number) among.put_back ∙
         ap (λ n. slice_get (slice_set before (shard_of_call call) among.new) n) (sym place) ∙
         set_here before (shard_of_call call) among.shard among.new among.known in
@@ -91,7 +91,7 @@ turned_away_at worker number shard call entries before after port is written amo
         (entered_added worker number shard call entries place written.inside written.finished)) among.turned_away in
         (among.new, at, added)
     by_place false other = (
-      with_entries shard (begun worker shard.plan.number entries),
+      with_entries shard (behind_enter worker shard.plan.number entries),
       ap (λ shards. slice_get shards number) among.put_back ∙
           set_other before (shard_of_call call) number among.new other ∙ there,
       added_nothing written.finished,
@@ -101,18 +101,18 @@ pub writes_refused_sessions : (before middle after : PlainPort) (exchanges : Lis
     IsChain PortGives before exchanges middle → PortRefuses middle call after → (number : ℕ) (shard : JournaledShard) →
     slice_get before.shards.now number ≡ Some shard → IsFalse (is_in before.worker shard) →
     (slice_get (all_left after.worker after.shards.now) number ≡ Some
-    (with_entries shard (session before.worker shard.plan.number (entries_at before.worker number exchanges)))) ⊎ IsVisited before.worker
-    after number shard (entries_at before.worker number exchanges) call
+    (with_entries shard (session before.worker shard.plan.number (exchange_entries before.worker number exchanges)))) ⊎ IsVisited before.worker
+    after number shard (exchange_entries before.worker number exchanges) call
 writes_refused_sessions before middle after exchanges call chain refuses number shard known outside =
-    let views : IsChain IsGivenBy (view_of before) exchanges (view_of middle) = chain_of_views before middle exchanges chain in
-    let written = after_outside (view_of before) (view_of middle) exchanges views number shard known outside in
-    let worker : middle.worker ≡ before.worker = chain_worker (view_of before) (view_of middle) exchanges views in
+    let views : IsChain IsGivenBy (port_view before) exchanges (port_view middle) = chain_of_views before middle exchanges chain in
+    let written = after_outside (port_view before) (port_view middle) exchanges views number shard known outside in
+    let worker : middle.worker ≡ before.worker = chain_worker (port_view before) (port_view middle) exchanges views in
     let same : after.worker ≡ before.worker = refuses.refused.same_worker ∙ worker in
     let away : IsTurnedAwayAmong before.worker middle.shards.now call after.shards.now =
     subst (λ one. IsTurnedAwayAmong one middle.shards.now call after.shards.now) worker refuses.refused.turned_away in
-    let at = turned_away_at before.worker number shard call (entries_at before.worker number exchanges) middle.shards.now after.shards.now
-    (view_of middle) refl written away in
-    visited before.worker number shard call (entries_at before.worker number exchanges) at.0 after same at.1 at.2
+    let at = turned_away_at before.worker number shard call (exchange_entries before.worker number exchanges) middle.shards.now after.shards.now
+    (port_view middle) refl written away in
+    visited before.worker number shard call (exchange_entries before.worker number exchanges) at.0 after same at.1 at.2
 
 one_port : (before after : PlainPort) → before ≡ after → IsSamePort before after
 one_port before after same = subst (IsSamePort before) same
@@ -174,7 +174,7 @@ calls_keep_serving maps options shards number shard entry serve known sets legal
 abbrev IsOwn : ℕ → Entry → Type 0
 IsOwn worker entry = entry.who ≡ Worker worker
 
-own_entries : (worker : ℕ) (exchanges : List Exchange) → AllByRecursion (IsOwn worker) (map (entry_of worker) exchanges)
+own_entries : (worker : ℕ) (exchanges : List Exchange) → AllByRecursion (IsOwn worker) (map (exchange_entry worker) exchanges)
 own_entries worker [] = tt
 own_entries worker (exchange ∷ later) = (refl, own_entries worker later)
 
@@ -204,7 +204,7 @@ still_entered worker other (entry ∷ later) journal differ own =
     ∙ passed_over worker other entry (reverse journal) differ own.0
 
 pub leaves_others : (worker other number : ℕ) (shard : JournaledShard) (exchanges : List Exchange) → IsFalse (worker == other) →
-    is_in other (with_entries shard (session worker shard.plan.number (entries_at worker number exchanges))) ≡ is_in other shard
+    is_in other (with_entries shard (session worker shard.plan.number (exchange_entries worker number exchanges))) ≡ is_in other shard
 leaves_others worker other number shard exchanges differ =
-    ap is_some (still_entered worker other (session worker shard.plan.number (entries_at worker number exchanges)) shard.journal differ
-    (own_session worker shard.plan.number (entries_at worker number exchanges) (own_entries worker (filter (is_at number) exchanges))))
+    ap is_some (still_entered worker other (session worker shard.plan.number (exchange_entries worker number exchanges)) shard.journal differ
+    (own_session worker shard.plan.number (exchange_entries worker number exchanges) (own_entries worker (filter (is_asked_of number) exchanges))))

@@ -13,7 +13,7 @@ use Rattle.map_port.specs.Exchanges.{Exchange, IsChain}
 use Rattle.shard_port.specs.Asking.{is_in, enter_by, leave_by, entered, left, asked_entry, all_left}
 use Rattle.shard_port.specs.PortView.{PortView, IsRunCall, IsGivenBy}
 use Rattle.shard_port.specs.PortLaws.{same_worker, inside_after_call, append_none, newest_first, stays_entered, set_here}
-use Rattle.shard_port.specs.Sessions.{entry_of, is_at, entries_at, begun, session, with_entries}
+use Rattle.shard_port.specs.Sessions.{exchange_entry, is_asked_of, exchange_entries, behind_enter, session, with_entries}
 
 -- ---- inside and outside
 
@@ -89,34 +89,34 @@ pub record IsInsideAfter (worker : ℕ) (after : PortView) (number : ℕ) (shard
 
 after_inside : (before after : PortView) (exchanges : List Exchange) → IsChain IsGivenBy before exchanges after →
     (number : ℕ) (shard : JournaledShard) → slice_get before.shards number ≡ Some shard → is_in before.worker shard ≡ true →
-    IsInsideAfter before.worker after number shard (entries_at before.worker number exchanges)
+    IsInsideAfter before.worker after number shard (exchange_entries before.worker number exchanges)
 after_inside before after [] chain number shard known inside = record {
   there = ap (λ (port : PortView). slice_get port.shards number) (sym chain) ∙ known ∙
       ap (λ journal. Some (record { plan = shard.plan; journal = journal })) (sym (append_none shard.journal));
   inside = rw (append_none shard.journal) inside;
 }
 after_inside before after (exchange ∷ later) chain number shard known inside =
-    by_place (is_at number exchange) refl (after_inside chain.0 after later chain.2 number)
+    by_place (is_asked_of number exchange) refl (after_inside chain.0 after later chain.2 number)
   where
-    by_place : (here : Bool) → is_at number exchange ≡ here →
+    by_place : (here : Bool) → is_asked_of number exchange ≡ here →
         ((one : JournaledShard) → slice_get chain.0.shards number ≡ Some one → is_in chain.0.worker one ≡ true →
-        IsInsideAfter chain.0.worker after number one (entries_at chain.0.worker number later)) →
-        IsInsideAfter before.worker after number shard (map (entry_of before.worker)
-        (cond here (exchange ∷ filter (is_at number) later) (filter (is_at number) later)))
+        IsInsideAfter chain.0.worker after number one (exchange_entries chain.0.worker number later)) →
+        IsInsideAfter before.worker after number shard (map (exchange_entry before.worker)
+        (cond here (exchange ∷ filter (is_asked_of number) later) (filter (is_asked_of number) later)))
     by_place true is onward =
-        let new : JournaledShard = with_entry shard (entry_of before.worker exchange) in
+        let new : JournaledShard = with_entry shard (exchange_entry before.worker exchange) in
         let there : slice_get chain.0.shards number ≡ Some new =
         step_here before chain.0 exchange.call exchange.reply number shard chain.1 known is ∙
-        ap (λ (one : JournaledShard). Some (with_entry one (entry_of before.worker exchange)))
+        ap (λ (one : JournaledShard). Some (with_entry one (exchange_entry before.worker exchange)))
         (stays_entered before.worker shard inside) in
         let still : is_in before.worker new ≡ true = inside_with before.worker shard exchange.call exchange.reply chain.1.run_call inside in
-        let rest : IsInsideAfter chain.0.worker after number new (entries_at chain.0.worker number later) =
+        let rest : IsInsideAfter chain.0.worker after number new (exchange_entries chain.0.worker number later) =
         onward new there (rw chain.1.same_worker still) in
-        let same : IsInsideAfter before.worker after number new (entries_at before.worker number later) =
-        subst (λ worker. IsInsideAfter worker after number new (entries_at worker number later)) chain.1.same_worker rest in
-        let joined : new.journal ++ entries_at before.worker number later ≡ shard.journal ++
-        (entry_of before.worker exchange ∷ entries_at before.worker number later) =
-        append_assoc shard.journal (entry_of before.worker exchange ∷ []) (entries_at before.worker number later) in
+        let same : IsInsideAfter before.worker after number new (exchange_entries before.worker number later) =
+        subst (λ worker. IsInsideAfter worker after number new (exchange_entries worker number later)) chain.1.same_worker rest in
+        let joined : new.journal ++ exchange_entries before.worker number later ≡ shard.journal ++
+        (exchange_entry before.worker exchange ∷ exchange_entries before.worker number later) =
+        append_assoc shard.journal (exchange_entry before.worker exchange ∷ []) (exchange_entries before.worker number later) in
         record {
           there = same.there ∙ ap (λ journal. Some (record { plan = shard.plan; journal = journal })) joined;
           inside = subst (λ journal. is_inside before.worker (reverse journal) ≡ true) joined same.inside;
@@ -124,9 +124,9 @@ after_inside before after (exchange ∷ later) chain number shard known inside =
     by_place false is onward =
         let there : slice_get chain.0.shards number ≡ Some shard =
         step_other before chain.0 exchange.call exchange.reply number chain.1 is ∙ known in
-        let rest : IsInsideAfter chain.0.worker after number shard (entries_at chain.0.worker number later) =
+        let rest : IsInsideAfter chain.0.worker after number shard (exchange_entries chain.0.worker number later) =
         onward shard there (rw chain.1.same_worker inside) in
-        subst (λ worker. IsInsideAfter worker after number shard (entries_at worker number later)) chain.1.same_worker rest
+        subst (λ worker. IsInsideAfter worker after number shard (exchange_entries worker number later)) chain.1.same_worker rest
 
 -- the shard as the chain left it, and as it is once the port is finished
 abbrev pub is_some_entry : List Entry → Bool
@@ -134,9 +134,9 @@ is_some_entry [] = false
 is_some_entry (first ∷ later) = true
 
 pub record IsWritten (worker : ℕ) (after : PortView) (number : ℕ) (shard : JournaledShard) (entries : List Entry) : Type 0 where
-  pub there : slice_get after.shards number ≡ Some (with_entries shard (begun worker shard.plan.number entries))
-  pub inside : is_in worker (with_entries shard (begun worker shard.plan.number entries)) ≡ is_some_entry entries
-  pub finished : left worker (with_entries shard (begun worker shard.plan.number entries)) ≡ with_entries shard
+  pub there : slice_get after.shards number ≡ Some (with_entries shard (behind_enter worker shard.plan.number entries))
+  pub inside : is_in worker (with_entries shard (behind_enter worker shard.plan.number entries)) ≡ is_some_entry entries
+  pub finished : left worker (with_entries shard (behind_enter worker shard.plan.number entries)) ≡ with_entries shard
       (session worker shard.plan.number entries)
 
 left_inside : (worker : ℕ) (shard : JournaledShard) → is_in worker shard ≡ true →
@@ -155,7 +155,7 @@ left_outside worker shard outside =
 
 pub after_outside : (before after : PortView) (exchanges : List Exchange) → IsChain IsGivenBy before exchanges after →
     (number : ℕ) (shard : JournaledShard) → slice_get before.shards number ≡ Some shard → is_in before.worker shard ≡ false →
-    IsWritten before.worker after number shard (entries_at before.worker number exchanges)
+    IsWritten before.worker after number shard (exchange_entries before.worker number exchanges)
 after_outside before after [] chain number shard known outside = record {
   there = ap (λ (port : PortView). slice_get port.shards number) (sym chain) ∙ known ∙
       ap (λ journal. Some (record { plan = shard.plan; journal = journal })) (sym (append_none shard.journal));
@@ -163,17 +163,17 @@ after_outside before after [] chain number shard known outside = record {
   finished = left_outside before.worker (with_entries shard []) (rw (append_none shard.journal) outside);
 }
 after_outside before after (exchange ∷ later) chain number shard known outside =
-    by_place (is_at number exchange) refl (after_outside chain.0 after later chain.2 number)
+    by_place (is_asked_of number exchange) refl (after_outside chain.0 after later chain.2 number)
   where
-    by_place : (here : Bool) → is_at number exchange ≡ here →
+    by_place : (here : Bool) → is_asked_of number exchange ≡ here →
         ((one : JournaledShard) → slice_get chain.0.shards number ≡ Some one → is_in chain.0.worker one ≡ false →
-        IsWritten chain.0.worker after number one (entries_at chain.0.worker number later)) →
-        IsWritten before.worker after number shard (map (entry_of before.worker)
-        (cond here (exchange ∷ filter (is_at number) later) (filter (is_at number) later)))
+        IsWritten chain.0.worker after number one (exchange_entries chain.0.worker number later)) →
+        IsWritten before.worker after number shard (map (exchange_entry before.worker)
+        (cond here (exchange ∷ filter (is_asked_of number) later) (filter (is_asked_of number) later)))
     by_place true is onward =
         let worker : ℕ = before.worker in
-        let first : Entry = entry_of worker exchange in
-        let others : List Entry = entries_at worker number later in
+        let first : Entry = exchange_entry worker exchange in
+        let others : List Entry = exchange_entries worker number later in
         let enter : Entry = enter_by worker shard.plan.number in
         let leave : Entry = leave_by worker shard.plan.number in
         let new : JournaledShard = with_entry (with_entry shard enter) first in
@@ -182,10 +182,10 @@ after_outside before after (exchange ∷ later) chain number shard known outside
         ap (λ (one : JournaledShard). Some (with_entry one first)) (enters_with worker shard outside) in
         let inside : is_in worker new ≡ true =
         inside_with worker (with_entry shard enter) exchange.call exchange.reply chain.1.run_call (inside_entered worker shard) in
-        let rest : IsInsideAfter chain.0.worker after number new (entries_at chain.0.worker number later) =
+        let rest : IsInsideAfter chain.0.worker after number new (exchange_entries chain.0.worker number later) =
         after_inside chain.0 after later chain.2 number new there (rw chain.1.same_worker inside) in
         let same : IsInsideAfter worker after number new others =
-        subst (λ one. IsInsideAfter one after number new (entries_at one number later)) chain.1.same_worker rest in
+        subst (λ one. IsInsideAfter one after number new (exchange_entries one number later)) chain.1.same_worker rest in
         let joined : new.journal ++ others ≡ shard.journal ++ (enter ∷ first ∷ others) =
         append_assoc (shard.journal ++ enter ∷ []) (first ∷ []) others ∙ append_assoc shard.journal (enter ∷ []) (first ∷ others) in
         let still : is_in worker (with_entries shard (enter ∷ first ∷ others)) ≡ true =
@@ -200,9 +200,9 @@ after_outside before after (exchange ∷ later) chain number shard known outside
     by_place false is onward =
         let there : slice_get chain.0.shards number ≡ Some shard =
         step_other before chain.0 exchange.call exchange.reply number chain.1 is ∙ known in
-        let rest : IsWritten chain.0.worker after number shard (entries_at chain.0.worker number later) =
+        let rest : IsWritten chain.0.worker after number shard (exchange_entries chain.0.worker number later) =
         onward shard there (rw chain.1.same_worker outside) in
-        subst (λ worker. IsWritten worker after number shard (entries_at worker number later)) chain.1.same_worker rest
+        subst (λ worker. IsWritten worker after number shard (exchange_entries worker number later)) chain.1.same_worker rest
 
 pub chain_worker : (before after : PortView) (exchanges : List Exchange) → IsChain IsGivenBy before exchanges after →
     after.worker ≡ before.worker
@@ -240,11 +240,11 @@ pub data IsAdded (worker : ℕ) (number : ℕ) (shard : JournaledShard) (call : 
       IsAdded worker number shard call [] new
 
 pub entered_added : (worker number : ℕ) (shard : JournaledShard) (call : Call) (entries : List Entry) → shard_of_call call ≡ number →
-    is_in worker (with_entries shard (begun worker shard.plan.number entries)) ≡ is_some_entry entries →
-    left worker (with_entries shard (begun worker shard.plan.number entries)) ≡ with_entries shard
+    is_in worker (with_entries shard (behind_enter worker shard.plan.number entries)) ≡ is_some_entry entries →
+    left worker (with_entries shard (behind_enter worker shard.plan.number entries)) ≡ with_entries shard
     (session worker shard.plan.number entries) → IsAdded worker number shard call entries
-    (entered worker (with_entries shard (begun worker shard.plan.number entries)))
+    (entered worker (with_entries shard (behind_enter worker shard.plan.number entries)))
 entered_added worker number shard call [] place inside finished = added_enter place (left_twice worker shard inside)
 entered_added worker number shard call (first ∷ later) place inside finished =
-    added_nothing (ap (left worker) (stays_entered worker (with_entries shard (begun worker shard.plan.number (first ∷ later))) inside) ∙
+    added_nothing (ap (left worker) (stays_entered worker (with_entries shard (behind_enter worker shard.plan.number (first ∷ later))) inside) ∙
     finished)

@@ -54,7 +54,7 @@ abbrev pub asked_entry : ℕ → Call → Reply → Entry
 asked_entry worker call reply = record { who = Worker worker; call = call; reply = reply }
 
 -- the worker entered where it was not inside, and made the call: the one-thread shard's step
-pub record IsAnswered (worker : ℕ) (before : JournaledShard) (call : Call) (reply : Reply) (after : JournaledShard) : Type 0 where
+pub record EntersAndCalls (worker : ℕ) (before : JournaledShard) (call : Call) (reply : Reply) (after : JournaledShard) : Type 0 where
   pub legal : IsLegalJournal before.plan before.journal
   pub enters : IsTrue (can_enter worker before)
   pub met : Meets before.plan (reverse (entered worker before).journal) (Worker worker) call
@@ -73,8 +73,8 @@ pub record CannotCall (worker : ℕ) (before : JournaledShard) (call : Call) (af
   pub full : IsJournalFull before.plan (reverse (entered worker before).journal) call
   pub entered_only : after ≡ entered worker before
 
-abbrev pub IsTurnedAway : ℕ → JournaledShard → Call → JournaledShard → Type 0
-IsTurnedAway worker before call after = CannotEnter worker before after ⊎ CannotCall worker before call after
+abbrev pub CannotEnterOrCall : ℕ → JournaledShard → Call → JournaledShard → Type 0
+CannotEnterOrCall worker before call after = CannotEnter worker before after ⊎ CannotCall worker before call after
 
 -- ---- asking one of many shards
 
@@ -88,7 +88,7 @@ pub record IsAnsweredAmong (worker : ℕ) (before : List JournaledShard) (call :
     pub shard : JournaledShard
     pub new : JournaledShard
     pub known : slice_get before (shard_of_call call) ≡ Some shard
-    pub answered : IsAnswered worker shard call reply new
+    pub answered : EntersAndCalls worker shard call reply new
     pub legal : IsLegalJournal new.plan new.journal
     pub put_back : after ≡ slice_set before (shard_of_call call) new
 
@@ -97,7 +97,7 @@ pub record IsTurnedAwayAmong (worker : ℕ) (before : List JournaledShard) (call
   pub shard : JournaledShard
   pub new : JournaledShard
   pub known : slice_get before (shard_of_call call) ≡ Some shard
-  pub turned_away : IsTurnedAway worker shard call new
+  pub turned_away : CannotEnterOrCall worker shard call new
   pub legal : IsLegalJournal new.plan new.journal
   pub put_back : after ≡ slice_set before (shard_of_call call) new
 

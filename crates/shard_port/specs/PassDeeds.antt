@@ -9,7 +9,7 @@ use Rattle.map_port.specs.Exchanges.{Exchange}
 use Rattle.shards.specs.declared.deeds.Deed.{Deed}
 use Rattle.shards.specs.declared.deeds.Deed.TheVariants.{Wrote, MetFull}
 use Rattle.shard_port.specs.Asking.{enter_by, leave_by}
-use Rattle.shard_port.specs.Sessions.{entry_of}
+use Rattle.shard_port.specs.Sessions.{exchange_entry}
 
 -- ---- entering, asking, leaving
 
@@ -25,13 +25,13 @@ entering_deeds worker entered shard = if is_entered shard entered then [] else W
 abbrev pub asked_deeds : ℕ → List ℕ → List Exchange → List Deed
 asked_deeds worker entered [] = []
 asked_deeds worker entered (exchange ∷ later) =
-    entering_deeds worker entered (shard_of_call exchange.call) ++ Wrote (entry_of worker exchange) ∷
+    entering_deeds worker entered (shard_of_call exchange.call) ++ Wrote (exchange_entry worker exchange) ∷
     asked_deeds worker (entered_now (shard_of_call exchange.call) entered) later
 
 -- the shards that the run has entered then
-abbrev pub entered_by : List ℕ → List Exchange → List ℕ
-entered_by entered [] = entered
-entered_by entered (exchange ∷ later) = entered_by (entered_now (shard_of_call exchange.call) entered) later
+abbrev pub shards_entered : List ℕ → List Exchange → List ℕ
+shards_entered entered [] = entered
+shards_entered entered (exchange ∷ later) = shards_entered (entered_now (shard_of_call exchange.call) entered) later
 
 -- those below a count, the lowest first
 abbrev pub rising : ℕ → List ℕ → List ℕ
@@ -45,16 +45,16 @@ leaving_deeds worker shards = map (λ (shard : ℕ). Wrote (leave_by worker shar
 
 -- a run that ended
 abbrev pub run_deeds : ℕ → ℕ → List Exchange → List Deed
-run_deeds worker count exchanges = asked_deeds worker [] exchanges ++ leaving_deeds worker (rising count (entered_by [] exchanges))
+run_deeds worker count exchanges = asked_deeds worker [] exchanges ++ leaving_deeds worker (rising count (shards_entered [] exchanges))
 
 -- a run whose last call met a full journal
 abbrev pub deeds_to_call : ℕ → ℕ → List Exchange → Call → List Deed
 deeds_to_call worker count exchanges call =
-    asked_deeds worker [] exchanges ++ entering_deeds worker (entered_by [] exchanges) (shard_of_call call) ++
-    MetFull (Worker worker) call ∷ leaving_deeds worker (rising count (entered_now (shard_of_call call) (entered_by [] exchanges)))
+    asked_deeds worker [] exchanges ++ entering_deeds worker (shards_entered [] exchanges) (shard_of_call call) ++
+    MetFull (Worker worker) call ∷ leaving_deeds worker (rising count (entered_now (shard_of_call call) (shards_entered [] exchanges)))
 
 -- a run whose last Enter met one
 abbrev pub deeds_to_enter : ℕ → ℕ → List Exchange → Call → List Deed
 deeds_to_enter worker count exchanges call =
     asked_deeds worker [] exchanges ++
-    MetFull (Worker worker) (Enter (shard_of_call call)) ∷ leaving_deeds worker (rising count (entered_by [] exchanges))
+    MetFull (Worker worker) (Enter (shard_of_call call)) ∷ leaving_deeds worker (rising count (shards_entered [] exchanges))

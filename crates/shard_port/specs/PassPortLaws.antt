@@ -24,7 +24,7 @@ use Rattle.shards.specs.Passes.{own_at}
 use Rattle.shard_port.specs.Asking.{enter_by, asked_entry}
 use Rattle.shard_port.specs.PortView.{IsRunCall, cell_of_handle}
 use Rattle.shard_port.specs.PortLaws.{same_worker, both_true, held_after_call, inside_after_call}
-use Rattle.shard_port.specs.PassPorts.{PassPort, worker_of, inside_own, has_found, IsGivenBy}
+use Rattle.shard_port.specs.PassPorts.{PassPort, worker_number, inside_own, has_found, PassGives}
 use Rattle.shards.specs.HeldCells.{holds_own}
 
 -- ---- one shard
@@ -56,12 +56,12 @@ kept_at worker number cell call reply own run held =
 -- ---- all shards
 
 kept_place : (plan : ℕ → ShardPlan) (count : ℕ) (before after : PassPort) (call : Call) (reply : Reply) →
-    IsGivenBy plan count before call reply after →
+    PassGives plan count before call reply after →
     (shard cell : ℕ) (here : Bool) → (shard == shard_of_call call) ≡ here →
-    IsTrue (holds_own (Worker (worker_of before.pass.who)) (own_at before.pass shard) cell) →
-    IsTrue (holds_own (Worker (worker_of before.pass.who)) (own_at after.pass shard) cell)
+    IsTrue (holds_own (Worker (worker_number before.pass.who)) (own_at before.pass shard) cell) →
+    IsTrue (holds_own (Worker (worker_number before.pass.who)) (own_at after.pass shard) cell)
 kept_place plan count before after call reply given shard cell true is held =
-    let worker : ℕ = worker_of before.pass.who in
+    let worker : ℕ = worker_number before.pass.who in
     let same : shard ≡ shard_of_call call = grind (arith, nat_tests) in
     let held_there : IsTrue (holds_own (Worker worker) (own_at before.pass (shard_of_call call)) cell) =
     subst (λ (n : ℕ). IsTrue (holds_own (Worker worker) (own_at before.pass n) cell)) same held in
@@ -72,18 +72,18 @@ kept_place plan count before after call reply given shard cell true is held =
     (subst (λ (own : List Entry). IsTrue (holds_own (Worker worker) own cell)) (sym given.asked.at.own) now)
 kept_place plan count before after call reply given shard cell false is held =
     let other : (shard ≡ shard_of_call call → ⊥) = (λ same. grind (arith, nat_tests)) in
-    subst (λ (own : List Entry). IsTrue (holds_own (Worker (worker_of before.pass.who)) own cell))
+    subst (λ (own : List Entry). IsTrue (holds_own (Worker (worker_number before.pass.who)) own cell))
     (sym (ap (λ (view : CallerView). view.own) (given.elsewhere.others shard other))) held
 
 kept_by : (plan : ℕ → ShardPlan) (count : ℕ) (before after : PassPort) (call : Call) (reply : Reply) →
-    IsGivenBy plan count before call reply after →
+    PassGives plan count before call reply after →
     (map shard cell : ℕ) → IsTrue (has_found before map shard cell) → IsTrue (has_found after map shard cell)
 kept_by plan count before after call reply given map shard cell held =
     let own : IsTrue (shard / before.served.shards == map) =
     first_true (shard / before.served.shards == map) (holds_own before.pass.who (own_at before.pass shard) cell) held in
     let there : IsTrue (holds_own before.pass.who (own_at before.pass shard) cell) =
     second_true (shard / before.served.shards == map) (holds_own before.pass.who (own_at before.pass shard) cell) held in
-    let worker : ℕ = worker_of before.pass.who in
+    let worker : ℕ = worker_number before.pass.who in
     let mine : IsTrue (holds_own (Worker worker) (own_at before.pass shard) cell) =
     subst (λ (who : Caller). IsTrue (holds_own who (own_at before.pass shard) cell)) given.is_worker there in
     let kept : IsTrue (holds_own (Worker worker) (own_at after.pass shard) cell) =
@@ -92,10 +92,10 @@ kept_by plan count before after call reply given map shard cell held =
     subst (λ (who : Caller). IsTrue (holds_own who (own_at after.pass shard) cell)) (sym (given.elsewhere.who ∙ given.is_worker)) kept in
     rw given.same_maps (both_true _ _ own theirs)
 
-pub keeps_by : (plan : ℕ → ShardPlan) (count : ℕ) (before after : PassPort) (call : Call) (reply : Reply) →
-    IsGivenBy plan count before call reply after →
+pub pass_keeps : (plan : ℕ → ShardPlan) (count : ℕ) (before after : PassPort) (call : Call) (reply : Reply) →
+    PassGives plan count before call reply after →
     Keeps before.served after.served (has_found before) (has_found after) cell_of_handle cell_of_handle
-keeps_by plan count before after call reply given = record {
+pass_keeps plan count before after call reply given = record {
   same = given.same_maps;
   kept = kept_by plan count before after call reply given;
   named = λ map handle held. refl;
@@ -111,7 +111,7 @@ found_own worker number shard key cell own =
     (rw (same_worker worker, same_worker cell.id) refl)
 
 found_by : (plan : ℕ → ShardPlan) (count : ℕ) (before after : PassPort) (shard : ℕ) (key : List ℕ) (cell : CellRef) →
-    IsGivenBy plan count before (Lookup shard key) (Cell cell) after →
+    PassGives plan count before (Lookup shard key) (Cell cell) after →
     IsHandedOut (program_over before.served) (has_found after) (Lookup shard key) (Cell cell)
 found_by plan count before after shard key cell given map definition known own =
     let parts : ℕ = before.served.shards in
@@ -120,7 +120,7 @@ found_by plan count before after shard key cell given map definition known own =
     let at : cell.shard ≡ map * parts + part = given.formed ∙ own in
     let of_map : cell.shard / parts ≡ map = ap (λ number. number / parts) at ∙ div-mul-add map parts part below in
     let of_map_test : (cell.shard / parts == map) ≡ true = grind (arith, nat_tests) in
-    let worker : ℕ = worker_of before.pass.who in
+    let worker : ℕ = worker_number before.pass.who in
     let mine : IsTrue (holds_own (Worker worker) (own_at after.pass shard) cell.id) =
     subst (λ (list : List Entry). IsTrue (holds_own (Worker worker) list cell.id)) (sym given.asked.at.own)
     (found_own worker shard shard key cell (own_at before.pass shard)) in
@@ -131,7 +131,7 @@ found_by plan count before after shard key cell given map definition known own =
     rw given.same_maps (both_true _ _ of_map_test there)
 
 found_in : (plan : ℕ → ShardPlan) (count : ℕ) (before after : PassPort) (shard : ℕ) (key : List ℕ) (reply : Reply) →
-    IsGivenBy plan count before (Lookup shard key) reply after →
+    PassGives plan count before (Lookup shard key) reply after →
     IsHandedOut (program_over before.served) (has_found after) (Lookup shard key) reply
 found_in plan count before after shard key (Cell cell) given = found_by plan count before after shard key cell given
 found_in plan count before after shard key Entered given = tt
@@ -142,15 +142,15 @@ found_in plan count before after shard key Done given = tt
 found_in plan count before after shard key (Answer code) given = tt
 found_in plan count before after shard key (Freed freed) given = tt
 
-pub hands_out_by : (plan : ℕ → ShardPlan) (count : ℕ) (before after : PassPort) (call : Call) (reply : Reply) →
-    IsGivenBy plan count before call reply after →
+pub pass_hands_out : (plan : ℕ → ShardPlan) (count : ℕ) (before after : PassPort) (call : Call) (reply : Reply) →
+    PassGives plan count before call reply after →
     IsHandedOut (program_over before.served) (has_found after) call reply
-hands_out_by plan count before after (Lookup shard key) reply given = found_in plan count before after shard key reply given
-hands_out_by plan count before after (Enter shard) reply given = tt
-hands_out_by plan count before after (Leave shard) reply given = tt
-hands_out_by plan count before after (Load cell offset size) reply given = tt
-hands_out_by plan count before after (Store cell offset size value) reply given = tt
-hands_out_by plan count before after (Atomic cell offset size op value expected) reply given = tt
-hands_out_by plan count before after (Update shard key value flags) reply given = tt
-hands_out_by plan count before after (Delete shard key) reply given = tt
-hands_out_by plan count before after (Reclaim shard) reply given = tt
+pass_hands_out plan count before after (Lookup shard key) reply given = found_in plan count before after shard key reply given
+pass_hands_out plan count before after (Enter shard) reply given = tt
+pass_hands_out plan count before after (Leave shard) reply given = tt
+pass_hands_out plan count before after (Load cell offset size) reply given = tt
+pass_hands_out plan count before after (Store cell offset size value) reply given = tt
+pass_hands_out plan count before after (Atomic cell offset size op value expected) reply given = tt
+pass_hands_out plan count before after (Update shard key value flags) reply given = tt
+pass_hands_out plan count before after (Delete shard key) reply given = tt
+pass_hands_out plan count before after (Reclaim shard) reply given = tt

@@ -15,7 +15,7 @@ use Rattle.semantics.specs.RunTrace.{IsReplyTo}
 use Rattle.map_port.specs.Served.{Maps, program_over}
 use Rattle.shards.specs.declared.deeds.Deed.{Deed}
 use Rattle.shards.specs.declared.deeds.Deed.TheVariants.{Wrote, MetFull}
-use Rattle.shards.specs.CallerView.{CallerView, BeginsWith, IsServed, IsRefused}
+use Rattle.shards.specs.CallerView.{CallerView, BeginsWith, ViewIsServed, ViewIsRefused}
 use Rattle.shards.specs.Passes.{PassView, view_at, own_at, IsElsewhereSame}
 use Rattle.shards.specs.SharedMaps.{SharedMaps}
 use Rattle.shards.specs.HeldCells.{holds_own}
@@ -28,9 +28,9 @@ is_worker_below most (Worker number) = nat_lt number most
 is_worker_below most who = false
 
 -- the worker's number
-abbrev pub worker_of : Caller → ℕ
-worker_of (Worker number) = number
-worker_of who = 0
+abbrev pub worker_number : Caller → ℕ
+worker_number (Worker number) = number
+worker_number who = 0
 
 -- ---- entering and leaving
 
@@ -63,7 +63,7 @@ pub record IsAskedAt (plan : ShardPlan) (number worker : ℕ) (before after : Ca
 -- the worker is outside, and the journal had no room for its Enter at the end of what it has seen
 pub record CannotEnterAt (plan : ShardPlan) (number worker : ℕ) (before after : CallerView) : Type 0 where
   pub outside : IsFalse (is_inside worker before.own)
-  pub refused : IsRefused plan before after (Enter number)
+  pub refused : ViewIsRefused plan before after (Enter number)
 
 -- the worker is inside, by its Enter where it was outside, and the journal had no room for the call at the end of what it has seen
 pub record CannotCallAt (plan : ShardPlan) (number worker : ℕ) (before after : CallerView) (call : Call) : Type 0 where
@@ -75,39 +75,39 @@ pub record CannotCallAt (plan : ShardPlan) (number worker : ℕ) (before after :
   pub own : after.own ≡ inside_own worker number before.own
 
 -- the worker left the shard, if it was inside; a Leave is never refused
-abbrev pub IsLeft : Bool → ShardPlan → ℕ → ℕ → CallerView → CallerView → Type 0
-IsLeft true plan number worker before after = IsServed plan before after (leave_by worker number)
-IsLeft false plan number worker before after = after ≡ before
+abbrev pub ViewHasLeft : Bool → ShardPlan → ℕ → ℕ → CallerView → CallerView → Type 0
+ViewHasLeft true plan number worker before after = ViewIsServed plan before after (leave_by worker number)
+ViewHasLeft false plan number worker before after = after ≡ before
 
 -- ---- one shard, by the worker's pass
 
 -- once it is inside, the worker may make the call on the shard of this number
 abbrev pub MayAskOnceInside : ShardPlan → ℕ → PassView → Call → Type 0
-MayAskOnceInside plan number pass call = Meets plan (inside_own (worker_of pass.who) number (own_at pass number)) pass.who call
+MayAskOnceInside plan number pass call = Meets plan (inside_own (worker_number pass.who) number (own_at pass number)) pass.who call
 
 -- the shard answered the call, and the worker's deeds, newest first, are the call and the Enter before it more
 pub record IsAskedBy (plan : ShardPlan) (number : ℕ) (before after : PassView) (call : Call) (reply : Reply) : Type 0 where
-  pub at : IsAskedAt plan number (worker_of before.who) (view_at before number) (view_at after number) call reply
+  pub at : IsAskedAt plan number (worker_number before.who) (view_at before number) (view_at after number) call reply
   pub did :
-      after.deeds ≡ Wrote (asked_entry (worker_of before.who) call reply) ∷
-      entered_deeds (worker_of before.who) number (own_at before number) ++ before.deeds
+      after.deeds ≡ Wrote (asked_entry (worker_number before.who) call reply) ∷
+      entered_deeds (worker_number before.who) number (own_at before number) ++ before.deeds
 
 -- its Enter met a full journal
 pub record CannotEnterBy (plan : ShardPlan) (number : ℕ) (before after : PassView) : Type 0 where
-  pub at : CannotEnterAt plan number (worker_of before.who) (view_at before number) (view_at after number)
+  pub at : CannotEnterAt plan number (worker_number before.who) (view_at before number) (view_at after number)
   pub did : after.deeds ≡ MetFull before.who (Enter number) ∷ before.deeds
 
 -- its call met one, behind the Enter where it was outside
 pub record CannotCallBy (plan : ShardPlan) (number : ℕ) (before after : PassView) (call : Call) : Type 0 where
-  pub at : CannotCallAt plan number (worker_of before.who) (view_at before number) (view_at after number) call
-  pub did : after.deeds ≡ MetFull before.who call ∷ entered_deeds (worker_of before.who) number (own_at before number) ++ before.deeds
+  pub at : CannotCallAt plan number (worker_number before.who) (view_at before number) (view_at after number) call
+  pub did : after.deeds ≡ MetFull before.who call ∷ entered_deeds (worker_number before.who) number (own_at before number) ++ before.deeds
 
 abbrev pub IsTurnedAwayBy : ShardPlan → ℕ → PassView → PassView → Call → Type 0
 IsTurnedAwayBy plan number before after call = CannotEnterBy plan number before after ⊎ CannotCallBy plan number before after call
 
 abbrev pub IsLeftBy : ShardPlan → ℕ → PassView → PassView → Type 0
 IsLeftBy plan number before after =
-    IsLeft (is_inside (worker_of before.who) (own_at before number)) plan number (worker_of before.who) (view_at before number)
+    ViewHasLeft (is_inside (worker_number before.who) (own_at before number)) plan number (worker_number before.who) (view_at before number)
     (view_at after number)
 
 -- ---- the port
@@ -130,22 +130,22 @@ abbrev pub has_found : PassPort → ℕ → ℕ → ℕ → Bool
 has_found port map shard cell = (shard / port.served.shards == map) && holds_own port.pass.who (own_at port.pass shard) cell
 
 -- the worker asked the call's shard, which is one of this many; its views of the others stay
-pub record IsGivenBy (plan : ℕ → ShardPlan) (count : ℕ) (before : PassPort) (call : Call) (reply : Reply) (after : PassPort) : Type 0 where
+pub record PassGives (plan : ℕ → ShardPlan) (count : ℕ) (before : PassPort) (call : Call) (reply : Reply) (after : PassPort) : Type 0 where
   pub same_maps : after.served ≡ before.served
   pub some_shard : 0 < before.served.shards
   pub within : shard_of_call call < count
   pub elsewhere : IsElsewhereSame (shard_of_call call) before.pass after.pass
-  pub is_worker : before.pass.who ≡ Worker (worker_of before.pass.who)
+  pub is_worker : before.pass.who ≡ Worker (worker_number before.pass.who)
   pub run_call : IsRunCall call
   pub formed : IsReplyTo (program_over before.served) call reply
   pub asked : IsAskedBy (plan (shard_of_call call)) (shard_of_call call) before.pass after.pass call reply
 
 -- the call's shard had no room for the Enter or for the call; its views of the others stay
-pub record IsRefusedBy (plan : ℕ → ShardPlan) (count : ℕ) (before : PassPort) (call : Call) (after : PassPort) : Type 0 where
+pub record PassRefuses (plan : ℕ → ShardPlan) (count : ℕ) (before : PassPort) (call : Call) (after : PassPort) : Type 0 where
   pub same_maps : after.served ≡ before.served
   pub within : shard_of_call call < count
   pub elsewhere : IsElsewhereSame (shard_of_call call) before.pass after.pass
-  pub is_worker : before.pass.who ≡ Worker (worker_of before.pass.who)
+  pub is_worker : before.pass.who ≡ Worker (worker_number before.pass.who)
   pub turned_away : IsTurnedAwayBy (plan (shard_of_call call)) (shard_of_call call) before.pass after.pass call
 
 -- the deeds by which it leaves those of N shards that it is inside of, the lowest number first: newest first
@@ -157,4 +157,4 @@ all_left_deeds worker pass (suc number) = left_deeds worker number (own_at pass 
 pub record IsFinishedBy (plan : ℕ → ShardPlan) (count : ℕ) (before after : PassView) : Type 0 where
   pub same_caller : after.who ≡ before.who
   pub left : (number : ℕ) → number < count → IsLeftBy (plan number) number before after
-  pub did : after.deeds ≡ all_left_deeds (worker_of before.who) before count ++ before.deeds
+  pub did : after.deeds ≡ all_left_deeds (worker_number before.who) before count ++ before.deeds

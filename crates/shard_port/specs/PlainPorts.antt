@@ -9,8 +9,8 @@ use Rattle.shard_port.specs.declared.plain.PlainPort.{PlainPort}
 abbrev pub maps_of : PlainPort → Maps
 maps_of port = record { maps = port.image.now.maps; shards = port.options.shards }
 
-abbrev pub view_of : PlainPort → PortView
-view_of port = record { served = maps_of port; worker = port.worker; shards = port.shards.now }
+abbrev pub port_view : PlainPort → PortView
+port_view port = record { served = maps_of port; worker = port.worker; shards = port.shards.now }
 
 -- the same port over the same shards
 pub record IsSamePort (before after : PlainPort) : Type 0 where
@@ -21,8 +21,8 @@ pub record IsSamePort (before after : PlainPort) : Type 0 where
 
 pub record PortGives (before : PlainPort) (call : Call) (reply : Reply) (after : PlainPort) : Type 0 where
   pub same_port : IsSamePort before after
-  pub given : IsGivenBy (view_of before) call reply (view_of after)
+  pub given : IsGivenBy (port_view before) call reply (port_view after)
 
 pub record PortRefuses (before : PlainPort) (call : Call) (after : PlainPort) : Type 0 where
   pub same_port : IsSamePort before after
-  pub refused : IsRefusedBy (view_of before) call (view_of after)
+  pub refused : IsRefusedBy (port_view before) call (port_view after)

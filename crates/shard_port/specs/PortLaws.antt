@@ -21,7 +21,7 @@ use Rattle.semantics.proofs.shared.HoldingLemmas.{found_cell, held_by_lookup, gu
 use Rattle.semantics.specs.ServedCalls.{IsHandedOut}
 use Rattle.shard_core.specs.JournaledShard.{JournaledShard, with_entry}
 use Rattle.map_port.specs.Served.{Keeps, program_over}
-use Rattle.shard_port.specs.Asking.{is_in, entered, asked_entry, enter_by, IsAnswered}
+use Rattle.shard_port.specs.Asking.{is_in, entered, asked_entry, enter_by, EntersAndCalls}
 use Rattle.shard_port.specs.PortView.{PortView, IsGivenBy, IsRunCall, cell_of_handle, holds_at, is_handed_out}
 
 -- ---- one shard
@@ -87,7 +87,7 @@ pub newest_first : (shard : JournaledShard) (entry : Entry) → reverse (with_en
 newest_first shard entry = reverse-append shard.journal (entry ∷ [])
 
 held_after : (worker cell : ℕ) (before : JournaledShard) (call : Call) (reply : Reply) (after : JournaledShard) → IsRunCall call →
-    IsAnswered worker before call reply after → holds worker cell (reverse before.journal) ≡ true →
+    EntersAndCalls worker before call reply after → holds worker cell (reverse before.journal) ≡ true →
     holds worker cell (reverse after.journal) ≡ true
 held_after worker cell before call reply after run answered held =
     let inside : is_in worker before ≡ true = held_is_inside before.plan worker cell (reverse before.journal) answered.legal held in
@@ -145,7 +145,7 @@ keeps_by before after call reply given = record {
 }
 
 held_new : (worker : ℕ) (before : JournaledShard) (shard : ℕ) (key : List ℕ) (cell : CellRef) (after : JournaledShard) →
-    IsAnswered worker before (Lookup shard key) (Cell cell) after → holds worker cell.id (reverse after.journal) ≡ true
+    EntersAndCalls worker before (Lookup shard key) (Cell cell) after → holds worker cell.id (reverse after.journal) ≡ true
 held_new worker before shard key cell after answered =
     let entry : Entry = asked_entry worker (Lookup shard key) (Cell cell) in
     let found : holds worker cell.id (entry ∷ reverse (entered worker before).journal) ≡ true =

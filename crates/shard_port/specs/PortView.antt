@@ -37,12 +37,12 @@ pub record AreShardsOf (maps : List MapDef) (options : Options) (shards : List J
   pub count : length shards ≡ length maps * options.shards
   pub each : (number : ℕ) (shard : JournaledShard) → slice_get shards number ≡ Some shard → IsShardOf maps options number shard
 
--- the same, without a choice of its proof: so it may be in a type
+-- shards of these maps, without a choice of the proof that they are: so it may be in a type
 abbrev pub ServesMaps : List MapDef → Options → List JournaledShard → Type 0
 ServesMaps maps options shards = ∥ AreShardsOf maps options shards ∥₁
 
 -- what each port keeps: maps that an image may have, options that shards are opened with, one of their workers, the shards
-pub record IsReady (maps : List MapDef) (options : Options) (worker : ℕ) (shards : List JournaledShard) : Type 0 where
+pub record IsPortReady (maps : List MapDef) (options : Options) (worker : ℕ) (shards : List JournaledShard) : Type 0 where
   pub few : length maps ≤ 16
   pub sizes : AllByRecursion HasImageSizes maps
   pub are_options : AreOptions maps options

@@ -14,20 +14,20 @@ use Rattle.shard_port.specs.PortView.{ServesMaps, SetsBytes}
 use Rattle.shard_port.specs.declared.plain.PlainPort.{PlainPort}
 use Rattle.shard_port.specs.PlainPorts.{IsSamePort, PortGives, PortRefuses}
 
-abbrev pub entry_of : ℕ → Exchange → Entry
-entry_of worker exchange = asked_entry worker exchange.call exchange.reply
+abbrev pub exchange_entry : ℕ → Exchange → Entry
+exchange_entry worker exchange = asked_entry worker exchange.call exchange.reply
 
-abbrev pub is_at : ℕ → Exchange → Bool
-is_at number exchange = shard_of_call exchange.call == number
+abbrev pub is_asked_of : ℕ → Exchange → Bool
+is_asked_of number exchange = shard_of_call exchange.call == number
 
 -- the entries of the exchanges with the shard of this number, in order
-abbrev pub entries_at : ℕ → ℕ → List Exchange → List Entry
-entries_at worker number exchanges = map (entry_of worker) (filter (is_at number) exchanges)
+abbrev pub exchange_entries : ℕ → ℕ → List Exchange → List Entry
+exchange_entries worker number exchanges = map (exchange_entry worker) (filter (is_asked_of number) exchanges)
 
 -- entries behind the Enter that the first of them asks for
-abbrev pub begun : ℕ → ℕ → List Entry → List Entry
-begun worker number [] = []
-begun worker number (first ∷ later) = enter_by worker number ∷ first ∷ later
+abbrev pub behind_enter : ℕ → ℕ → List Entry → List Entry
+behind_enter worker number [] = []
+behind_enter worker number (first ∷ later) = enter_by worker number ∷ first ∷ later
 
 -- and before the Leave
 abbrev pub session : ℕ → ℕ → List Entry → List Entry
@@ -54,9 +54,9 @@ WritesSessions =
     (before after : PlainPort) (exchanges : List Exchange) → IsChain PortGives before exchanges after →
     (number : ℕ) (shard : JournaledShard) → slice_get before.shards.now number ≡ Some shard → IsFalse (is_in before.worker shard) →
     (slice_get after.shards.now number ≡ Some
-    (with_entries shard (begun before.worker shard.plan.number (entries_at before.worker number exchanges))))
+    (with_entries shard (behind_enter before.worker shard.plan.number (exchange_entries before.worker number exchanges))))
     × (slice_get (all_left after.worker after.shards.now) number ≡ Some
-    (with_entries shard (session before.worker shard.plan.number (entries_at before.worker number exchanges))))
+    (with_entries shard (session before.worker shard.plan.number (exchange_entries before.worker number exchanges))))
 
 -- where the run ended because a call was refused: the same, except that the shard of this call, if it was the first there, may
 -- have an Enter and a Leave with no call between
@@ -66,8 +66,8 @@ WritesRefusedSessions =
     IsChain PortGives before exchanges middle → PortRefuses middle call after →
     (number : ℕ) (shard : JournaledShard) → slice_get before.shards.now number ≡ Some shard → IsFalse (is_in before.worker shard) →
     (slice_get (all_left after.worker after.shards.now) number ≡ Some
-    (with_entries shard (session before.worker shard.plan.number (entries_at before.worker number exchanges))))
-    ⊎ IsVisited before.worker after number shard (entries_at before.worker number exchanges) call
+    (with_entries shard (session before.worker shard.plan.number (exchange_entries before.worker number exchanges))))
+    ⊎ IsVisited before.worker after number shard (exchange_entries before.worker number exchanges) call
 
 -- calls leave a port over the same shards, maps and options, for the same worker
 abbrev pub StaysOnePort : Type 0
@@ -82,7 +82,7 @@ IsOutsideAll = (worker : ℕ) (shards : List JournaledShard) (number : ℕ) (sha
 abbrev pub LeavesOthersAlone : Type 0
 LeavesOthersAlone =
     (worker other number : ℕ) (shard : JournaledShard) (exchanges : List Exchange) → IsFalse (worker == other) →
-    is_in other (with_entries shard (session worker shard.plan.number (entries_at worker number exchanges))) ≡ is_in other shard
+    is_in other (with_entries shard (session worker shard.plan.number (exchange_entries worker number exchanges))) ≡ is_in other shard
 
 -- shards that were opened are those of the maps, and stay that by every call that sets bytes, of any caller
 abbrev pub OpenedServe : Type 0

@@ -10,8 +10,9 @@ pub fn journals_have_the_calls()
     ensures { WritesSessions }
 {}
 
-/// The same where the run ended because a call was refused: then the refused call's shard may have an Enter and a Leave more, with
-/// no call between.
+/// From a port whose worker is outside a shard, of a run that ended because a call was refused: what the shard was asked and what it
+/// answered is what its journal then has more, between one Enter and one Leave. Where the refused call alone was of this shard, the
+/// journal may have an Enter and a Leave more with no call between.
 pub fn journals_after_a_refusal()
     ensures { WritesRefusedSessions }
 {}
@@ -37,7 +38,7 @@ pub fn opened_serve()
     ensures { OpenedServe }
 {}
 
-/// And nobody is inside one of them: so what is said of a worker's sessions holds of the first run over them.
+/// Nobody is inside a shard that was opened: so what is said of a worker's sessions holds of the first run over them.
 pub fn opened_are_outside()
     ensures { OpenedAreOutside }
 {}
@@ -53,8 +54,10 @@ pub fn own_entries_are_sessions()
     ensures { WritesOwnSessions }
 {}
 
-/// The same where the run ended because a call was refused: then the refused call's shard may have an Enter and a Leave more, with no call
-/// between; and its journal was full for the call, or for the Enter where the run had not entered it.
+/// From a pass whose worker is outside the shards, of a run that ended because a call was refused: what the run asked of each shard and
+/// what it was answered is, between an Enter and a Leave, what the worker's own entries have more once the port is finished. Where the
+/// refused call alone was of a shard, there may be an Enter and a Leave with no call between. The journal was full for the call, or for
+/// the Enter where the run had not entered the shard.
 pub fn own_entries_after_a_refusal()
     ensures { WritesRefusedOwnSessions }
 {}

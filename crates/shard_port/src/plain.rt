@@ -5,8 +5,8 @@ ghost use Rattle.std.specs.Prelude.{IsFalse, OnOk};
 ghost use Rattle.semantics.specs.ShardPlan.{AreOptions};
 ghost use Rattle.semantics.specs.History.{shard_of_call, IsLegalJournal};
 ghost use Rattle.shard_port.specs.Asking.{may_ask_at, all_left, IsAnsweredAmong, IsTurnedAwayAmong, entered, left, can_enter, may_ask};
-ghost use Rattle.shard_port.specs.Asking.{IsAnswered, IsTurnedAway, IsWorkerOf};
-ghost use Rattle.shard_port.specs.PortView.{ServesMaps, IsReady, IsRunCall, SetsBytes, cell_of_handle, handle_of, has_small_cell};
+ghost use Rattle.shard_port.specs.Asking.{EntersAndCalls, CannotEnterOrCall, IsWorkerOf};
+ghost use Rattle.shard_port.specs.PortView.{ServesMaps, IsPortReady, IsRunCall, SetsBytes, cell_of_handle, handle_of, has_small_cell};
 ghost use Rattle.map_port.specs.Served.{handle_limit};
 ghost use Rattle.std.specs.List.{AllByRecursion};
 
@@ -28,7 +28,7 @@ pub struct PlainPort<'a> {
     options: Options,
     /// Its number.
     worker: u8,
-    ghost ready: { ∥ IsReady image.now.maps options worker shards.now ∥₁ },
+    ghost ready: { ∥ IsPortReady image.now.maps options worker shards.now ∥₁ },
 }
 
 impl<'a> PlainPort<'a> {
@@ -103,7 +103,7 @@ impl<'a> PlainPort<'a> {
 
 impl<'a> MapPort for PlainPort<'a> {
     ghost use Rattle.shard_port.specs.PortView.{cell_of_handle, is_handed_out};
-    ghost use Rattle.shard_port.specs.PlainPorts.{maps_of, view_of, PortGives, PortRefuses};
+    ghost use Rattle.shard_port.specs.PlainPorts.{maps_of, port_view, PortGives, PortRefuses};
     ghost use Rattle.shard_port.specs.PortLaws.{keeps_by, hands_out_by};
 
     ghost serves = { maps_of };
@@ -112,15 +112,15 @@ impl<'a> MapPort for PlainPort<'a> {
 
     ghost refuses = { PortRefuses };
 
-    ghost has_handed_out = { λ port. is_handed_out (view_of port) };
+    ghost has_handed_out = { λ port. is_handed_out (port_view port) };
 
     ghost cell_of = { λ port. cell_of_handle };
 
     ghost stays = { λ before after call refused. refused.refused.same_maps };
 
-    ghost keeps = { λ before after call reply given. keeps_by (view_of before) (view_of after) call reply given.given };
+    ghost keeps = { λ before after call reply given. keeps_by (port_view before) (port_view after) call reply given.given };
 
-    ghost hands_out = { λ before after call reply given. hands_out_by (view_of before) (view_of after) call reply given.given };
+    ghost hands_out = { λ before after call reply given. hands_out_by (port_view before) (port_view after) call reply given.given };
 
     ghost replies = { λ before after call reply given. given.given.formed };
 
@@ -274,8 +274,8 @@ fn enter(shard: &mut Shard, worker: u8) -> Result<(), JournalFull>
 #[inline(always)]
 fn ask(shard: &mut Shard, worker: u8, call: &Call) -> Result<Reply, JournalFull>
     requires { IsTrue (may_ask worker shard.old call.now) }
-    ensures answered { IfOk result (λ reply. IsAnswered worker shard.old call.now reply shard.new) }
-    ensures turned_away { OnErr result (IsTurnedAway worker shard.old call.now shard.new) }
+    ensures answered { IfOk result (λ reply. EntersAndCalls worker shard.old call.now reply shard.new) }
+    ensures turned_away { OnErr result (CannotEnterOrCall worker shard.old call.now shard.new) }
     ensures legal { IsLegalJournal shard.new.plan shard.new.journal }
     ensures names_the_shard { IfErr result (λ fault. fault.shard ≡ shard.old.plan.number) }
 {

@@ -6,8 +6,8 @@ ghost use Rattle.map_port.specs.Served.{handle_limit};
 ghost use Rattle.shard_port.specs.ScheduleHook.{next_count};
 ghost use Rattle.shards.specs.Passes.{IsElsewhereSame, own_at};
 ghost use Rattle.shard_port.specs.PortView.{handle_of, has_small_cell};
-ghost use Rattle.shard_port.specs.PassPorts.{is_worker_below, worker_of, left_deeds, MayAskOnceInside, IsAskedBy, IsTurnedAwayBy, IsLeftBy};
-ghost use Rattle.shard_port.specs.PassPorts.{IsFinishedBy};
+ghost use Rattle.shard_port.specs.PassPorts.{is_worker_below, worker_number, left_deeds, MayAskOnceInside, IsAskedBy, IsTurnedAwayBy};
+ghost use Rattle.shard_port.specs.PassPorts.{IsLeftBy, IsFinishedBy};
 
 use crate::plain::cell_of_handle;
 use crate::schedule_hook::{Gate, Tally};
@@ -109,19 +109,19 @@ impl<'a, B: Naming, W: Wait, G: Gate> ShardPort<'a, B, W, G> {
 }
 
 impl<'a, B: Naming, W: Wait, G: Gate> MapPort for ShardPort<'a, B, W, G> {
-    ghost use Rattle.shard_port.specs.ScheduleHook.{IsCounted, IsUncounted};
+    ghost use Rattle.shard_port.specs.ScheduleHook.{IsReplyCounted, IsRefusalUncounted};
     ghost use Rattle.shard_port.specs.PortView.{cell_of_handle};
-    ghost use Rattle.shard_port.specs.PassPorts.{served_of, port_of, has_found, IsGivenBy, IsRefusedBy};
-    ghost use Rattle.shard_port.specs.PassPortLaws.{keeps_by, hands_out_by};
+    ghost use Rattle.shard_port.specs.PassPorts.{served_of, port_of, has_found, PassGives, PassRefuses};
+    ghost use Rattle.shard_port.specs.PassPortLaws.{pass_keeps, pass_hands_out};
 
     ghost serves = { λ port. served_of port.shards.now };
 
-    ghost gives = { λ before call reply after. IsCounted ((after.pass.ghost_name ≡ before.pass.ghost_name)
-        × IsGivenBy B.plan B.count (port_of before.shards.now before.pass.now) call reply (port_of after.shards.now after.pass.now))
+    ghost gives = { λ before call reply after. IsReplyCounted ((after.pass.ghost_name ≡ before.pass.ghost_name)
+        × PassGives B.plan B.count (port_of before.shards.now before.pass.now) call reply (port_of after.shards.now after.pass.now))
         before.tally.who after.tally.who before.tally.count after.tally.count };
 
-    ghost refuses = { λ before call after. IsUncounted ((after.pass.ghost_name ≡ before.pass.ghost_name)
-        × IsRefusedBy B.plan B.count (port_of before.shards.now before.pass.now) call (port_of after.shards.now after.pass.now))
+    ghost refuses = { λ before call after. IsRefusalUncounted ((after.pass.ghost_name ≡ before.pass.ghost_name)
+        × PassRefuses B.plan B.count (port_of before.shards.now before.pass.now) call (port_of after.shards.now after.pass.now))
         before.tally.who after.tally.who before.tally.count after.tally.count };
 
     ghost has_handed_out = { λ port. has_found (port_of port.shards.now port.pass.now) };
@@ -130,9 +130,9 @@ impl<'a, B: Naming, W: Wait, G: Gate> MapPort for ShardPort<'a, B, W, G> {
 
     ghost stays = { λ before after call refused. refused.refused_within.1.same_maps };
 
-    ghost keeps = { λ before after call reply given. keeps_by B.plan B.count _ _ call reply given.given_within.1 };
+    ghost keeps = { λ before after call reply given. pass_keeps B.plan B.count _ _ call reply given.given_within.1 };
 
-    ghost hands_out = { λ before after call reply given. hands_out_by B.plan B.count _ _ call reply given.given_within.1 };
+    ghost hands_out = { λ before after call reply given. pass_hands_out B.plan B.count _ _ call reply given.given_within.1 };
 
     ghost replies = { λ before after call reply given. given.given_within.1.formed };
 
@@ -298,7 +298,7 @@ fn leave<B: Naming>(rt: &impl Wait, shards: &Shards<B>, pass: &mut Pass<B>, shar
     requires worker { IsTrue (is_worker_below shards.now.options.workers pass.old.who) }
     ensures elsewhere { IsElsewhereSame shard pass.old pass.new }
     ensures left { IsLeftBy (B.plan shard) shard pass.old pass.new }
-    ensures did { pass.new.deeds ≡ left_deeds (worker_of pass.old.who) shard (own_at pass.old shard) ++ pass.old.deeds }
+    ensures did { pass.new.deeds ≡ left_deeds (worker_number pass.old.who) shard (own_at pass.old shard) ++ pass.old.deeds }
 {
     shards.planned();
     if pass.is_inside(shard) {

@@ -4,9 +4,9 @@ use Rattle.semantics.specs.declared.call.Caller.{Caller}
 use Rattle.semantics.specs.declared.call.Caller.TheVariants.{Worker, Controller, Reclaimer}
 use Rattle.semantics.specs.declared.call.Entry.{Entry}
 use Rattle.semantics.specs.CallerLaws.{is_caller, own_entries}
-use Rattle.shards.specs.LockRule.{caller_at, place_of}
+use Rattle.shards.specs.LockRule.{caller_at, caller_place}
 
-pub place_at : (number : ℕ) → place_of (caller_at number) ≡ number
+pub place_at : (number : ℕ) → caller_place (caller_at number) ≡ number
 place_at zero = refl
 place_at (suc zero) = refl
 place_at (suc (suc number)) = refl
@@ -16,7 +16,7 @@ is_own (Worker number) = eq-eqb number number refl
 is_own Controller = refl
 is_own Reclaimer = refl
 
-pub is_other : (who other : Caller) → place_of other ≢ place_of who → is_caller who other ≡ false
+pub is_other : (who other : Caller) → caller_place other ≢ caller_place who → is_caller who other ≡ false
 is_other (Worker n) (Worker m) apart = ne_eqb m n (λ same. apart (ap (λ k. suc (suc k)) same))
 is_other (Worker n) Controller apart = refl
 is_other (Worker n) Reclaimer apart = refl
@@ -32,5 +32,5 @@ pub own_of_maker : (entry : Entry) (log : List Entry) → own_entries entry.who 
 own_of_maker entry log = ap (λ mine. cond mine (entry ∷ own_entries entry.who log) (own_entries entry.who log)) (is_own entry.who)
 
 -- and of another
-pub own_of_other : (who : Caller) (entry : Entry) (log : List Entry) → place_of entry.who ≢ place_of who → own_entries who (entry ∷ log) ≡ own_entries who log
+pub own_of_other : (who : Caller) (entry : Entry) (log : List Entry) → caller_place entry.who ≢ caller_place who → own_entries who (entry ∷ log) ≡ own_entries who log
 own_of_other who entry log apart = ap (λ mine. cond mine (entry ∷ own_entries who log) (own_entries who log)) (is_other who entry.who apart)

@@ -10,11 +10,11 @@ use Rattle.shards.specs.CallerView.{nothing_seen}
 use Rattle.atomic_table.specs.Table.{Me}
 use Rattle.atomic_table.specs.declared.shared.Seat.{Seat}
 use Rattle.shards.specs.declared.deeds.Deed.{Deed}
-use Rattle.shards.specs.Lodged.{KeyedPlan, Lodged}
-use Rattle.shards.specs.LockRule.{caller_at, place_of, pass_of, nobody}
+use Rattle.shards.specs.GuardedView.{KeyedPlan, GuardedView}
+use Rattle.shards.specs.LockRule.{caller_at, caller_place, pass_of, nobody}
 use Rattle.shards.specs.Seats.{has_shard, view_of}
 use Rattle.shards.specs.ShardPasses.{ShardPassView, shard_pass_view}
-use Rattle.shards.specs.Passes.{badge_at, view_at, pass_view, part_at, no_part, IsPartOf, IsPass}
+use Rattle.shards.specs.Passes.{badge_at, view_at, pass_view, shard_pass_at, no_part, IsPartOf, IsPass}
 use Rattle.shards.specs.NewShards.{IsNewBadge, row_at, is_dealt_at, IsDealer, IsNewSeat, IsPartOfSeat, view_of_known}
 use Rattle.shards.specs.HeldCells.{HeldIds, most_held, room_at, room_of}
 use Rattle.shards.proofs.PartLemmas.{view_is}
@@ -25,7 +25,7 @@ abbrev first_known : List Known → Known
 first_known [] = nobody
 first_known (v ∷ vs) = v
 
-pub caller_is : (who : Caller) → caller_at (place_of who) ≡ who
+pub caller_is : (who : Caller) → caller_at (caller_place who) ≡ who
 caller_is (Worker number) = refl
 caller_is Controller = refl
 caller_is Reclaimer = refl
@@ -36,7 +36,7 @@ room_enough Controller most room enough = omega arith
 room_enough Reclaimer most room enough = omega arith
 
 module _ (table : ℕ → TableId) (key : ℕ → KeyedPlan) (count : ℕ) (rooms : List ℕ) (dealt : List Bool) (rows : List (List (Badge Known))) (place : ℕ) (who : Caller)
-    (dealer : IsDealer table key count rooms dealt rows) (waits : is_dealt_at dealt place ≡ false) (placed : place ≡ place_of who) where
+    (dealer : IsDealer table key count rooms dealt rows) (waits : is_dealt_at dealt place ≡ false) (placed : place ≡ caller_place who) where
   pub place_within : (number : ℕ) → number < length rows → place < length (row_at rows number)
   place_within number below = (dealer.waiting number (let sized = dealer.sized in omega (arith, sized, below)) place waits).0
 
@@ -52,8 +52,8 @@ module _ (table : ℕ → TableId) (key : ℕ → KeyedPlan) (count : ℕ) (room
     room = (let more = room_enough who (most_held (key number).plan) (room_at rooms number) (dealer.enough number (let sized = dealer.sized in omega (arith, sized, below))) in omega (arith, more, enough));
   }
 
-  module _ (parts : List ShardPassView) (same_count : length parts ≡ length rows) (made : (number : ℕ) → number < length rows → IsPartOfSeat (badge_at (row_at rows number) place) (part_at parts number)) where
-    part_is : (number : ℕ) → number < length rows → part_at parts number ≡ view_of_known (badge_at (row_at rows number) place).table_id (pass_of (key number) who [] [])
+  module _ (parts : List ShardPassView) (same_count : length parts ≡ length rows) (made : (number : ℕ) → number < length rows → IsPartOfSeat (badge_at (row_at rows number) place) (shard_pass_at parts number)) where
+    part_is : (number : ℕ) → number < length rows → shard_pass_at parts number ≡ view_of_known (badge_at (row_at rows number) place).table_id (pass_of (key number) who [] [])
     part_is number below = made number below (pass_of (key number) who [] []) (new_at_seat number below).fresh
 
     pub nothing_at : (deeds : List Deed) (number : ℕ) → view_at (pass_view who parts deeds) number ≡ nothing_seen
@@ -122,16 +122,16 @@ module _ (old rows : List (List (Badge Known))) (number place : ℕ) (row after 
 
 -- one more part is made
 pub parts_more : (P : ℕ → ShardPassView → Type 0) (parts grown : List ShardPassView) (number : ℕ) (part : ShardPassView) → length parts ≡ number → grown ≡ parts ++ part ∷ [] → P number part →
-    ((k : ℕ) → k < number → P k (part_at parts k)) → (k : ℕ) → k < number + 1 → P k (part_at grown k)
+    ((k : ℕ) → k < number → P k (shard_pass_at parts k)) → (k : ℕ) → k < number + 1 → P k (shard_pass_at grown k)
 parts_more P parts grown number part counted is new were k within = ⊎_elim
-    (λ (here : k ≡ number). subst (P k) (sym (ap (λ (ps : List ShardPassView). part_at ps k) is ∙ or_push_here parts part no_part k (counted ∙ sym here))) (subst (λ (m : ℕ). P m part) (sym here) new))
-    (λ (apart : k ≢ number). subst (P k) (sym (ap (λ (ps : List ShardPassView). part_at ps k) is ∙ or_push_else parts part no_part k (omega (arith, counted, within, apart)))) (were k (omega (arith, within, apart))))
+    (λ (here : k ≡ number). subst (P k) (sym (ap (λ (ps : List ShardPassView). shard_pass_at ps k) is ∙ or_push_here parts part no_part k (counted ∙ sym here))) (subst (λ (m : ℕ). P m part) (sym here) new))
+    (λ (apart : k ≢ number). subst (P k) (sym (ap (λ (ps : List ShardPassView). shard_pass_at ps k) is ∙ or_push_else parts part no_part k (omega (arith, counted, within, apart)))) (were k (omega (arith, within, apart))))
     (same_or_other k number)
 
 -- ---- the seat of a badge
 
 -- what a new seat of a badge knows, and the part that is made of it
-module _ (badge : Badge Known) (held : HeldIds) (new : IsNewSeat badge held) (me : Me Lodged Known) (knows : badge.views ≡ me.0 ∷ []) (empty : me.1 ≡ []) where
+module _ (badge : Badge Known) (held : HeldIds) (new : IsNewSeat badge held) (me : Me GuardedView Known) (knows : badge.views ≡ me.0 ∷ []) (empty : me.1 ≡ []) where
   known_is : me.0 ≡ pass_of new.key new.who [] []
   known_is = ap (λ (vs : List Known). first_known vs) (sym knows ∙ new.fresh)
 
@@ -143,7 +143,7 @@ module _ (badge : Badge Known) (held : HeldIds) (new : IsNewSeat badge held) (me
   pub room_of_new : room_of me.0.who (most_held me.0.key.plan) ≤ held.room
   room_of_new = subst (λ (v : Known). room_of v.who (most_held v.key.plan) ≤ held.room) (sym known_is) new.room
 
-pub part_of_seat : (badge : Badge Known) (seat : Seat Lodged Known) (part : ShardPassView) → seat.table_id ≡ badge.table_id → badge.views ≡ seat.me.0 ∷ [] → seat.me.1 ≡ [] → part ≡ shard_pass_view seat → IsPartOfSeat badge part
+pub part_of_seat : (badge : Badge Known) (seat : Seat GuardedView Known) (part : ShardPassView) → seat.table_id ≡ badge.table_id → badge.views ≡ seat.me.0 ∷ [] → seat.me.1 ≡ [] → part ≡ shard_pass_view seat → IsPartOfSeat badge part
 part_of_seat badge seat part same knows empty is v views =
     let known : seat.me.0 ≡ v = ap (λ (vs : List Known). first_known vs) (sym knows ∙ views) in
     is ∙ (λ i. record { table = seat.table_id; key = seat.me.0.key; who = seat.me.0.who; has_it = has_shard (seat.me.0, empty i); view = view_of (seat.me.0, empty i) })

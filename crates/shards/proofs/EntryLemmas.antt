@@ -11,21 +11,21 @@ use Rattle.semantics.specs.CallerLaws.{own_entries}
 use Rattle.semantics.specs.History.{IsLegalHistory, meets_part, shard_of_call}
 use Rattle.semantics.proofs.shared.ConditionLemmas.{second_true}
 use Rattle.semantics.proofs.shared.CallNumbers.{part_below}
-use Rattle.shards.specs.LockRule.{caller_at, place_of}
+use Rattle.shards.specs.LockRule.{caller_at, caller_place}
 use Rattle.shards.specs.EntryCounts.{own_total, AllEntriesAreSomebodys}
 use Rattle.shards.proofs.Callers.{place_at, own_of_maker, own_of_other}
 use Rattle.shards.proofs.Settling.{same_or_other}
 
 -- ---- callers that the plan knows
 
-place_within : (plan : ShardPlan) (history : List Entry) (who : Caller) (call : Call) → IsTrue (meets_part plan history who call) → place_of who < suc (suc plan.workers)
+place_within : (plan : ShardPlan) (history : List Entry) (who : Caller) (call : Call) → IsTrue (meets_part plan history who call) → caller_place who < suc (suc plan.workers)
 place_within plan history Controller call met = omega arith
 place_within plan history Reclaimer call met = omega arith
 place_within plan history (Worker number) call met = (let below = part_below plan history number call met in omega (arith, below))
 
 -- ---- own entries, counted
 
-at_place : (who : Caller) → caller_at (place_of who) ≡ who
+at_place : (who : Caller) → caller_at (caller_place who) ≡ who
 at_place Controller = refl
 at_place Reclaimer = refl
 at_place (Worker number) = refl
@@ -35,21 +35,21 @@ total_none zero = refl
 total_none (suc callers) = (let rest = total_none callers in omega (arith, rest))
 
 -- an entry of none of them
-total_same : (callers : ℕ) (entry : Entry) (log : List Entry) → callers ≤ place_of entry.who → own_total callers (entry ∷ log) ≡ own_total callers log
+total_same : (callers : ℕ) (entry : Entry) (log : List Entry) → callers ≤ caller_place entry.who → own_total callers (entry ∷ log) ≡ own_total callers log
 total_same zero entry log past = refl
 total_same (suc callers) entry log past =
     let at = place_at callers in
-    let apart : place_of entry.who ≢ place_of (caller_at callers) = (λ same. omega (arith, same, at, past)) in
+    let apart : caller_place entry.who ≢ caller_place (caller_at callers) = (λ same. omega (arith, same, at, past)) in
     let one = ap (λ (own : List Entry). length own) (own_of_other (caller_at callers) entry log apart) in
     let rest = total_same callers entry log (omega (arith, past)) in
     omega (arith, one, rest)
 
 -- an entry of one of them
-total_more : (callers : ℕ) (entry : Entry) (log : List Entry) → place_of entry.who < callers → own_total callers (entry ∷ log) ≡ suc (own_total callers log)
+total_more : (callers : ℕ) (entry : Entry) (log : List Entry) → caller_place entry.who < callers → own_total callers (entry ∷ log) ≡ suc (own_total callers log)
 total_more zero entry log within = absurd (omega (arith, within))
-total_more (suc callers) entry log within = ⊎_elim mine (other (total_more callers entry log)) (same_or_other (place_of entry.who) callers)
+total_more (suc callers) entry log within = ⊎_elim mine (other (total_more callers entry log)) (same_or_other (caller_place entry.who) callers)
   where
-    mine : place_of entry.who ≡ callers → own_total (suc callers) (entry ∷ log) ≡ suc (own_total (suc callers) log)
+    mine : caller_place entry.who ≡ callers → own_total (suc callers) (entry ∷ log) ≡ suc (own_total (suc callers) log)
     mine same =
         let is : entry.who ≡ caller_at callers = sym (at_place entry.who) ∙ ap caller_at same in
         let one : length (own_entries (caller_at callers) (entry ∷ log)) ≡ suc (length (own_entries (caller_at callers) log)) =
@@ -57,10 +57,10 @@ total_more (suc callers) entry log within = ⊎_elim mine (other (total_more cal
         let rest = total_same callers entry log (omega (arith, same)) in
         omega (arith, one, rest)
 
-    other : (place_of entry.who < callers → own_total callers (entry ∷ log) ≡ suc (own_total callers log)) → place_of entry.who ≢ callers → own_total (suc callers) (entry ∷ log) ≡ suc (own_total (suc callers) log)
+    other : (caller_place entry.who < callers → own_total callers (entry ∷ log) ≡ suc (own_total callers log)) → caller_place entry.who ≢ callers → own_total (suc callers) (entry ∷ log) ≡ suc (own_total (suc callers) log)
     other earlier apart =
         let at = place_at callers in
-        let others : place_of entry.who ≢ place_of (caller_at callers) = (λ same. apart (same ∙ at)) in
+        let others : caller_place entry.who ≢ caller_place (caller_at callers) = (λ same. apart (same ∙ at)) in
         let one = ap (λ (own : List Entry). length own) (own_of_other (caller_at callers) entry log others) in
         let rest = earlier (omega (arith, within, apart)) in
         omega (arith, one, rest)

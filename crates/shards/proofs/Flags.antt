@@ -12,7 +12,7 @@ use Rattle.semantics.specs.declared.full.JournalFull.{JournalFull}
 use Rattle.semantics.specs.declared.plan.ShardPlan.{ShardPlan}
 use Rattle.semantics.specs.Sections.{section_change}
 use Rattle.semantics.specs.Reclamation.{is_inside, entered_at, entered_where}
-use Rattle.shards.specs.CallerView.{CallerView, IsServed, IsRefused}
+use Rattle.shards.specs.CallerView.{CallerView, ViewIsServed, ViewIsRefused}
 use Rattle.shards.specs.ShardPasses.{IsFlagOf}
 use Rattle.shards.specs.Passes.{after_section, flag_after}
 
@@ -35,7 +35,7 @@ flag_one Controller call reply own own' flag grown is = tt
 flag_one Reclaimer call reply own own' flag grown is = tt
 
 pub flag_moves : {A : Type 0} (answer : Result A JournalFull) (plan : ShardPlan) (who : Caller) (call : Call) (replies : A → Reply) (before after : CallerView) (flag : Bool) →
-    IfOk answer (λ a. IsServed plan before after (record { who = who; call = call; reply = replies a })) → OnErr answer (IsRefused plan before after call) →
+    IfOk answer (λ a. ViewIsServed plan before after (record { who = who; call = call; reply = replies a })) → OnErr answer (ViewIsRefused plan before after call) →
     IsFlagOf who before.own flag → IsFlagOf who after.own (flag_after answer (section_change call) flag)
 flag_moves (Ok a) plan who call replies before after flag served refused is = flag_one who call (replies a) before.own after.own flag served.own is
 flag_moves (Err full) plan who call replies before after flag served refused is = subst (λ (own : List Entry). IsFlagOf who own flag) (sym refused.own) is

@@ -16,11 +16,11 @@ use Rattle.semantics.specs.History.{IsLegalHistory, is_own_key, meets_part, shar
 use Rattle.semantics.proofs.shared.ConditionLemmas.{first_true, second_true}
 use Rattle.semantics.proofs.shared.CallerLemmas.{own_holds}
 use Rattle.shard_core.specs.FewHeld.{is_among, AreOnce, FewAreHeld}
-use Rattle.shards.specs.CallerView.{CallerView, IsServed, IsRefused}
+use Rattle.shards.specs.CallerView.{CallerView, ViewIsServed, ViewIsRefused}
 use Rattle.semantics.specs.declared.call.HeldChange.{HeldChange}
 use Rattle.semantics.specs.declared.call.HeldChange.TheVariants.{LetsGo, Finds, Stays}
 use Rattle.semantics.proofs.shared.CallNumbers.{part_below}
-use Rattle.shards.specs.HeldCells.{HeldIds, ids_after, held_after, held_when, most_held, HasRoomFor, AreHeld, AreHeldOf, room_of}
+use Rattle.shards.specs.HeldCells.{HeldIds, ids_after, held_after, held_when, most_held, HasRoomFor, AreHeldBy, AreHeldOf, room_of}
 
 -- ---- what the list says
 
@@ -95,8 +95,8 @@ holds_after : (number cell : ℕ) (call : Call) (reply : Reply) (own : List Entr
 holds_after number cell call reply own =
     ap (λ (mine : Bool). if mine then held_by call reply cell (holds number cell own) else holds number cell own) (eq-eqb number number refl)
 
-are_held : (number : ℕ) (plan : ShardPlan) (call : Call) (reply : Reply) (own : List Entry) (held : HeldIds) → AreHeld number plan own held →
-    AreHeld number plan ((record { who = Worker number; call = call; reply = reply }) ∷ own) (held_after (held_change call reply) held)
+are_held : (number : ℕ) (plan : ShardPlan) (call : Call) (reply : Reply) (own : List Entry) (held : HeldIds) → AreHeldBy number plan own held →
+    AreHeldBy number plan ((record { who = Worker number; call = call; reply = reply }) ∷ own) (held_after (held_change call reply) held)
 are_held number plan call reply own held are = record {
   some_room = are.some_room;
   once = once_after (held_change call reply) held.ids are.once;
@@ -106,12 +106,12 @@ are_held number plan call reply own held are = record {
 held_one : (who : Caller) (plan : ShardPlan) (call : Call) (reply : Reply) (own own' : List Entry) (held : HeldIds) →
     own' ≡ (record { who = who; call = call; reply = reply }) ∷ own → AreHeldOf who plan own held → AreHeldOf who plan own' (held_after (held_change call reply) held)
 held_one (Worker number) plan call reply own own' held grown are =
-    subst (λ (entries : List Entry). AreHeld number plan entries (held_after (held_change call reply) held)) (sym grown) (are_held number plan call reply own held are)
+    subst (λ (entries : List Entry). AreHeldBy number plan entries (held_after (held_change call reply) held)) (sym grown) (are_held number plan call reply own held are)
 held_one Controller plan call reply own own' held grown are = tt
 held_one Reclaimer plan call reply own own' held grown are = tt
 
 pub held_moves : {A : Type 0} (answer : Result A JournalFull) (plan : ShardPlan) (who : Caller) (call : Call) (replies : A → Reply) (before after : CallerView) (held : HeldIds) →
-    IfOk answer (λ a. IsServed plan before after (record { who = who; call = call; reply = replies a })) → OnErr answer (IsRefused plan before after call) →
+    IfOk answer (λ a. ViewIsServed plan before after (record { who = who; call = call; reply = replies a })) → OnErr answer (ViewIsRefused plan before after call) →
     AreHeldOf who plan before.own held → AreHeldOf who plan after.own (held_when answer (λ a. held_change call (replies a)) held)
 held_moves (Ok a) plan who call replies before after held served refused are = held_one who plan call (replies a) before.own after.own held served.own are
 held_moves (Err full) plan who call replies before after held served refused are = subst (λ (own : List Entry). AreHeldOf who plan own held) (sym refused.own) are
@@ -137,7 +137,7 @@ room_of_others plan earlier who never (Delete shard key) reply held met = tt
 room_of_others plan earlier who never (Reclaim shard) reply held met = tt
 
 room_after : (plan : ShardPlan) (who : Caller) (call : Call) (reply : Reply) (before after : CallerView) (held : HeldIds) →
-    IsServed plan before after (record { who = who; call = call; reply = reply }) → after.own ≡ own_entries who after.seen → FewAreHeld plan after.seen →
+    ViewIsServed plan before after (record { who = who; call = call; reply = reply }) → after.own ≡ own_entries who after.seen → FewAreHeld plan after.seen →
     AreHeldOf who plan before.own held → HasRoomFor (held_change call reply) held
 room_after plan Controller call reply before after held served mine few are =
     let legal = subst (IsLegalHistory plan) served.seen served.legal in
@@ -150,14 +150,14 @@ room_after plan Reclaimer call reply before after held served mine few are =
 room_after plan (Worker number) call reply before after held served mine few are =
     let legal = subst (IsLegalHistory plan) served.seen served.legal in
     let known = part_below plan served.earlier number call (second_true (shard_of_call call == plan.number) (meets_part plan served.earlier (Worker number) call) legal.0.step.met) in
-    let grown : AreHeld number plan after.own (held_after (held_change call reply) held) = held_one (Worker number) plan call reply before.own after.own held served.own are in
+    let grown : AreHeldBy number plan after.own (held_after (held_change call reply) held) = held_one (Worker number) plan call reply before.own after.own held served.own are in
     let all = few.most number (ids_after (held_change call reply) held.ids) known grown.once
     (λ cell among. sym (own_holds number cell after.seen) ∙ ap (holds number cell) (sym mine) ∙ sym (grown.each cell) ∙ among) in
     let enough = are.some_room in
     room_from (held_change call reply) held (omega (arith, all, enough))
 
 pub room_when : {A : Type 0} (answer : Result A JournalFull) (plan : ShardPlan) (who : Caller) (call : Call) (replies : A → Reply) (before after : CallerView) (held : HeldIds) →
-    IfOk answer (λ a. IsServed plan before after (record { who = who; call = call; reply = replies a })) → after.own ≡ own_entries who after.seen → FewAreHeld plan after.seen →
+    IfOk answer (λ a. ViewIsServed plan before after (record { who = who; call = call; reply = replies a })) → after.own ≡ own_entries who after.seen → FewAreHeld plan after.seen →
     AreHeldOf who plan before.own held → IfOk answer (λ a. HasRoomFor (held_change call (replies a)) held)
 room_when (Ok a) plan who call replies before after held served mine few are = room_after plan who call (replies a) before after held served mine few are
 room_when (Err full) plan who call replies before after held served mine few are = served

@@ -3,6 +3,7 @@ mod PlainOpenings
 mod PlanLemmas
 pub mod Callers
 pub mod Holding
+pub mod AddLemmas
 pub mod RoomLemmas
 pub mod PartLemmas
 pub mod ShardPassLemmas

@@ -16,11 +16,11 @@ use Rattle.shards.specs.declared.deeds.Account.{Account}
 use Rattle.shards.specs.declared.deeds.OrderPart.TheVariants.{ByCaller}
 use Rattle.shards.specs.declared.order_rule.OrderKey.{OrderKey}
 use Rattle.shards.specs.LockRule.{caller_at}
-use Rattle.shards.specs.OrderRule.{IsFresh, IsOrderOf, AreCallerPlaces, no_place, place_at}
+use Rattle.shards.specs.OrderRule.{IsFresh, IsOrderOf, AreCallerPlaces, no_order_place, order_place_at}
 use Rattle.shards.specs.Opening.{AreOpened}
-use Rattle.shards.specs.NewShards.{OpenedShards, AreAtOrder, shard_at, NewShardView, no_shard, new_at, IsOpening, IsNamed, IsNamedAt, row_at, is_dealt_at, IsRowOf, IsDealer}
+use Rattle.shards.specs.NewShards.{OpenedShards, AreAtOrder, shard_at, NewShardView, no_shard, new_at, IsOpening, IsNamed, IsNamedAt, row_at, is_dealt_at, HasAllSeats, IsDealer}
 use Rattle.shards.proofs.Openings.{opened_at}
-use Rattle.shards.specs.Lodged.{keys}
+use Rattle.shards.specs.GuardedView.{keys}
 use Rattle.shards.specs.HeldCells.{room_at, IsRoomOf}
 use Rattle.semantics.proofs.shared.EachLemmas.{within, at_or, each_at, each_start, or_within}
 
@@ -56,13 +56,13 @@ below_places (suc places) zero waits = omega arith
 below_places (suc places) (suc place) waits = (let rest = below_places places place waits in omega (arith, rest))
 
 pub all_wait : (table : ℕ → TableId) (plan : ℕ → ShardPlan) (order name : TableId) (count : ℕ) (rooms : List ℕ) (maps : List MapDef) (options : Options) (shards : List NewShardView) (rows : List (List (Badge Known))) (dealt : List Bool) →
-    IsOpening maps options name shards → IsNamed count table plan order (record { maps = maps; options = options; shards = shards; order = name }) → (length rooms ≡ length shards) → Each (IsRoomOf plan) 0 rooms → length rows ≡ length shards → Each (IsRowOf table (keys plan order) shards) 0 rows →
+    IsOpening maps options name shards → IsNamed count table plan order (record { maps = maps; options = options; shards = shards; order = name }) → (length rooms ≡ length shards) → Each (IsRoomOf plan) 0 rooms → length rows ≡ length shards → Each (HasAllSeats table (keys plan order) shards) 0 rows →
     dealt ≡ replicate (options.workers + 2) false → IsDealer table (keys plan order) count rooms dealt rows
 all_wait table plan order name count rooms maps options shards rows dealt opening named as_many fit rows_are_as_many rows_are dealt_is = record {
   sized = rows_are_as_many ∙ sym named.count_is;
   waiting = λ number below place waits.
       let there : number < length rows = (let a = rows_are_as_many in let count_is = named.count_is in omega (arith, a, count_is)) in
-      let row = each_at (IsRowOf table (keys plan order) shards) rows number (row_at rows number) rows_are there (or_within rows [] (row_at rows number) number there) in
+      let row = each_at (HasAllSeats table (keys plan order) shards) rows number (row_at rows number) rows_are there (or_within rows [] (row_at rows number) number there) in
       let few = below_places (options.workers + 2) place (ap (λ (d : List Bool). is_dealt_at d place) (sym dealt_is) ∙ waits) in
       let long : place < length (row_at rows number) =
       (let a = row.count in let b = opening.places number (let a = rows_are_as_many in omega (arith, a, there)) in omega (arith, a, b, few)) in
@@ -93,7 +93,7 @@ at_order order callers dealt places counted are dealt_is place waits =
     let few = below_places callers place (ap (λ (d : List Bool). is_dealt_at d place) (sym dealt_is) ∙ waits) in
     let there : place < length places = omega (arith, few, counted) in (
       there,
-      each_at (λ (number : ℕ) (p : Badge (List Account)). IsFresh order (ByCaller (caller_at number)) p) places place (place_at places place) are there (or_within places no_place (place_at places place) place there),
+      each_at (λ (number : ℕ) (p : Badge (List Account)). IsFresh order (ByCaller (caller_at number)) p) places place (order_place_at places place) are there (or_within places no_order_place (order_place_at places place) place there),
     )
 
 pub numbers_when_opened : (maps : List MapDef) (options : Options) (shards : List JournaledShard) → AreOpened maps options shards →

@@ -11,7 +11,7 @@ use Rattle.shards.specs.Opening.{AreOpened}
 use Rattle.journals.specs.JournalsView.{AreImageMaps}
 use Rattle.semantics.specs.Each.{Each}
 use Rattle.shards.specs.Seats.{no_plan}
-use Rattle.shards.specs.NewShards.{NewShardView, no_shard, new_at, shard_at, IsUnused, AreUnused, IsMadeOf, IsOpening}
+use Rattle.shards.specs.NewShards.{NewShardView, no_shard, new_at, shard_at, IsUnusedShard, AreUnused, IsNewShardOf, IsOpening}
 use Rattle.semantics.proofs.shared.EachLemmas.{within, at_or, each_at}
 
 module _ {A : Type 0} where
@@ -27,7 +27,7 @@ some_is {A} a b same = ap (λ (o : Option A). or_first o) same where
   or_first None = a
 
 -- of a shard that was opened by its plan, if it has one
-by_plan : (shard : JournaledShard) (plan : Option ShardPlan) → Some shard ≡ option_map opened_shard plan → IsUnused shard × (plan ≡ Some shard.plan)
+by_plan : (shard : JournaledShard) (plan : Option ShardPlan) → Some shard ≡ option_map opened_shard plan → IsUnusedShard shard × (plan ≡ Some shard.plan)
 by_plan shard None same = absurd (none_is_some same) where
   none_is_some : Some shard ≡ None → ⊥
   none_is_some e = subst (λ (o : Option JournaledShard). is_there o) e tt where
@@ -40,20 +40,20 @@ by_plan shard (Some plan) same =
     (is ∙ ap opened_shard (sym planned), ap Some (sym planned))
 
 pub opened_at : (maps : List MapDef) (options : Options) (shards : List JournaledShard) → AreOpened maps options shards → (number : ℕ) → number < length shards →
-    IsUnused (shard_at shards number) × (plan_at maps options number ≡ Some (shard_at shards number).plan)
+    IsUnusedShard (shard_at shards number) × (plan_at maps options number ≡ Some (shard_at shards number).plan)
 opened_at maps options shards opened number below =
     by_plan (shard_at shards number) (plan_at maps options number) (sym (get_is shards number (opened_shard no_plan) below) ∙ opened.each number below)
 
 pub unused_when_opened : (maps : List MapDef) (options : Options) (shards : List JournaledShard) → AreOpened maps options shards → AreUnused shards
 unused_when_opened maps options shards opened place shard there =
-    subst IsUnused (sym (at_or shards place shard (opened_shard no_plan) there)) (opened_at maps options shards opened place (within shards place shard there)).0
+    subst IsUnusedShard (sym (at_or shards place shard (opened_shard no_plan) there)) (opened_at maps options shards opened place (within shards place shard there)).0
 
 pub is_opening : (maps copy : List MapDef) (options : Options) (order : TableId) (shards : List JournaledShard) (callers : ℕ) (all : List NewShardView) →
     AreImageMaps maps → AreOptions maps options → AreOpened maps options shards → copy ≡ maps → callers ≡ options.workers + 2 → length all ≡ length shards →
-    Each (IsMadeOf shards order callers) 0 all → IsOpening copy options order all
+    Each (IsNewShardOf shards order callers) 0 all → IsOpening copy options order all
 is_opening maps copy options order shards callers all allowed fit opened same_maps enough same_count made =
-    let made_at : (number : ℕ) → number < length all → IsMadeOf shards order callers number (new_at all number) =
-    λ number below. each_at (IsMadeOf shards order callers) all number (new_at all number) made below (default_is number below) in
+    let made_at : (number : ℕ) → number < length all → IsNewShardOf shards order callers number (new_at all number) =
+    λ number below. each_at (IsNewShardOf shards order callers) all number (new_at all number) made below (default_is number below) in
     subst (λ (ms : List MapDef). IsOpening ms options order all) (sym same_maps) (record {
       maps_are = allowed;
       options_fit = fit;

@@ -13,9 +13,9 @@ use Rattle.shards.specs.declared.deeds.Deed.TheVariants.{Wrote, MetFull}
 use Rattle.shards.specs.declared.deeds.OrderPart.{OrderPart}
 use Rattle.shards.specs.declared.deeds.OrderPart.TheVariants.{OnShard}
 use Rattle.shards.specs.declared.deeds.Account.{Account}
-use Rattle.shards.specs.Deeds.{entries_made, made_on, deeds_of, AreMet, AreWithin}
+use Rattle.shards.specs.Deeds.{entries_made, made_on, deeds_of, AreMet, AreDeedsWithin}
 use Rattle.shards.specs.ClosedOrders.{HasGathered, IsOneOrder, account_of}
-use Rattle.shards.specs.OrderRule.{account, deeds_at, deeds_in, plan_in, with_first, HasAccount, IsEnd}
+use Rattle.shards.specs.OrderRule.{account, deeds_at, account_deeds, plan_in, with_first, IsOneOfAccounts, IsEnd}
 use Rattle.shards.specs.Passes.{PassView, pass_at}
 use Rattle.shards.proofs.Settling.{same_or_other}
 use Rattle.shards.proofs.OrderMoves.{made_by_deeds, view_there, sits_so}
@@ -25,7 +25,7 @@ use Rattle.semantics.proofs.shared.EachLemmas.{or_push_here, or_push_else}
 pub record HasShard (number : ℕ) (journal : List Entry) (accounts : List Account) : Type 0 where
   pub deeds : List Deed
   pub written : entries_made deeds ≡ reverse journal
-  pub has : HasAccount (account (OnShard number) deeds) accounts
+  pub has : IsOneOfAccounts (account (OnShard number) deeds) accounts
 
 -- one more
 pub gathered_more : {S : Type 0} (number : ℕ) (journals : List (List Entry)) (journal : List Entry) (before after : Me S (List Account)) → length journals ≡ number → HasGathered number journal before after →
@@ -34,7 +34,7 @@ gathered_more {S} number journals journal before after made more were k within =
     (λ (here : k ≡ number). record {
       deeds = more.deeds;
       written = more.written ∙ ap (λ (l : List Entry). reverse l) (sym (or_push_here journals journal [] k (made ∙ sym here)));
-      has = subst (λ (l : List Account). HasAccount (account (OnShard k) more.deeds) l) (sym is)
+      has = subst (λ (l : List Account). IsOneOfAccounts (account (OnShard k) more.deeds) l) (sym is)
           (inl (ap (λ (n : ℕ). account (OnShard n) more.deeds) (sym here)));
     })
     (λ (apart : k ≢ number).
@@ -42,7 +42,7 @@ gathered_more {S} number journals journal before after made more were k within =
     let was = were k less in record {
       deeds = was.deeds;
       written = was.written ∙ ap (λ (l : List Entry). reverse l) (sym (or_push_else journals journal [] k (omega (arith, made, less))));
-      has = subst (λ (l : List Account). HasAccount (account (OnShard k) was.deeds) l) (sym is) (inr was.has);
+      has = subst (λ (l : List Account). IsOneOfAccounts (account (OnShard k) was.deeds) l) (sym is) (inr was.has);
     })
     (same_or_other k number)
   where
@@ -51,25 +51,25 @@ gathered_more {S} number journals journal before after made more were k within =
 
 -- a seat has taken in another
 pub gathered : {S : Type 0} (before after other : Me S (List Account)) (part : OrderPart) (deeds : List Deed) → after ≡ (with_first before.0 other.0, before.1) →
-    other ≡ (account part (deeds_in other.0) ∷ [], []) → deeds_in other.0 ≡ deeds → after ≡ (account part deeds ∷ before.0, before.1)
+    other ≡ (account part (account_deeds other.0) ∷ [], []) → account_deeds other.0 ≡ deeds → after ≡ (account part deeds ∷ before.0, before.1)
 gathered {S} before after other part deeds both is same =
     both ∙ ap (λ (m : Me S (List Account)). (with_first before.0 m.0, before.1)) is ∙ ap (λ (l : List Deed). (account part l ∷ before.0, before.1)) same
 
 -- one more caller's
 pub callers_more : (passes : List PassView) (number : ℕ) (pass : PassView) (before after : List Account) → pass ≡ pass_at passes number → after ≡ account_of pass ∷ before →
-    ((place : ℕ) → place < number → HasAccount (account_of (pass_at passes place)) before) → (place : ℕ) → place < number + 1 → HasAccount (account_of (pass_at passes place)) after
-callers_more passes number pass before after first is were place within = subst (λ (l : List Account). HasAccount (account_of (pass_at passes place)) l) (sym is) (⊎_elim
+    ((place : ℕ) → place < number → IsOneOfAccounts (account_of (pass_at passes place)) before) → (place : ℕ) → place < number + 1 → IsOneOfAccounts (account_of (pass_at passes place)) after
+callers_more passes number pass before after first is were place within = subst (λ (l : List Account). IsOneOfAccounts (account_of (pass_at passes place)) l) (sym is) (⊎_elim
     (λ (here : place ≡ number). inl (ap account_of (first ∙ ap (λ (n : ℕ). pass_at passes n) (sym here))))
     (λ (apart : place ≢ number). inr (were place (omega (arith, within, apart)))) (same_or_other place number))
 
 -- the seat of a place
 pub seat_of_place : {S : Type 0} (place : Badge (List Account)) (me : Me S (List Account)) (part : OrderPart) → place.views ≡ (account part (deeds_at place) ∷ []) ∷ [] → place.views ≡ me.0 ∷ [] → me.1 ≡ [] →
-    (me ≡ (account part (deeds_in me.0) ∷ [], [])) × (deeds_in me.0 ≡ deeds_at place)
+    (me ≡ (account part (account_deeds me.0) ∷ [], [])) × (account_deeds me.0 ≡ deeds_at place)
 seat_of_place {S} place me part rests is empty =
     let there : me.0 ≡ account part (deeds_at place) ∷ [] = view_there place me.0 part is rests in sits_so me part (deeds_at place) (λ i. (there i, empty i))
 
 -- plans that agree on the shards
-met_alike : (plan other : ℕ → ShardPlan) (count : ℕ) → ((number : ℕ) → number < count → plan number ≡ other number) → (deeds : List Deed) → AreWithin count deeds → AreMet plan deeds → AreMet other deeds
+met_alike : (plan other : ℕ → ShardPlan) (count : ℕ) → ((number : ℕ) → number < count → plan number ≡ other number) → (deeds : List Deed) → AreDeedsWithin count deeds → AreMet plan deeds → AreMet other deeds
 met_alike plan other count same [] within met = tt
 met_alike plan other count same (Wrote entry ∷ earlier) within met = (tt, met_alike plan other count same earlier within.1 met.1)
 met_alike plan other count same (MetFull who call ∷ earlier) within met = (
@@ -79,9 +79,9 @@ met_alike plan other count same (MetFull who call ∷ earlier) within met = (
 
 pub one_order : (plan : ℕ → ShardPlan) (count : ℕ) (plans : List ShardPlan) (journals : JournalsView) (passes : List PassView) (accounts : List Account) → IsEnd plans accounts → length plans ≡ count →
     ((number : ℕ) → number < count → plan_in plans number ≡ plan number) → ((number : ℕ) → number < count → HasShard number (entries_at journals number) accounts) →
-    ((place : ℕ) → place < length passes → HasAccount (account_of (pass_at passes place)) accounts) → IsOneOrder plan count journals passes
+    ((place : ℕ) → place < length passes → IsOneOfAccounts (account_of (pass_at passes place)) accounts) → IsOneOrder plan count journals passes
 one_order plan count plans journals passes accounts end sized alike shards callers =
-    let within : AreWithin count end.all = subst (λ (n : ℕ). AreWithin n end.all) sized end.within in record {
+    let within : AreDeedsWithin count end.all = subst (λ (n : ℕ). AreDeedsWithin n end.all) sized end.within in record {
       deeds = end.all;
       within = within;
       journals_are = λ number below.

@@ -19,7 +19,7 @@ use Rattle.shards.specs.declared.deeds.OrderPart.TheVariants.{OnShard, ByCaller}
 use Rattle.shards.specs.declared.deeds.Account.{Account}
 use Rattle.shards.specs.LockRule.{caller_at}
 use Rattle.shards.specs.Deeds.{shard_of_deed, caller_of_deed, is_deed_of, deeds_of, entries_made, made_on, IsMetBehind}
-use Rattle.shards.specs.OrderRule.{code_of, plan_in, account, caller_accounts, first_accounts, all_others, first_alone, with_first, AreOther, deeds_in, deeds_viewed, deeds_at, IsAccount, AreAccounts, IsOrder, IsEnd, HasAccount, noted, Adds, Comes}
+use Rattle.shards.specs.OrderRule.{part_code, plan_in, account, caller_accounts, first_accounts, all_others, first_alone, with_first, AreOther, account_deeds, deeds_viewed, deeds_at, IsAccount, AreAccounts, IsOrderRuleKept, IsEnd, IsOneOfAccounts, noted, AddsDeed, MakesEmptySeat}
 use Rattle.shards.proofs.Callers.{is_own, is_other}
 use Rattle.shards.proofs.Moves.{moved, moved_here, moved_else}
 
@@ -42,7 +42,7 @@ others_stay : (owner : ℕ → ℕ) (all : List Deed) (code id new : ℕ) (v : L
     AreAccounts (moved owner code new) all id v
 others_stay owner all code id new [] apart are = tt
 others_stay owner all code id new (one ∷ others) apart are =
-    (record { own = moved_else owner code new (code_of one.part) apart.0 ∙ are.0.own; kept = are.0.kept }, others_stay owner all code id new others apart.1 are.1)
+    (record { own = moved_else owner code new (part_code one.part) apart.0 ∙ are.0.own; kept = are.0.kept }, others_stay owner all code id new others apart.1 are.1)
 
 -- accounts of a seat that does not have this part
 elsewhere : (owner : ℕ → ℕ) (all : List Deed) (code id : ℕ) (v : List Account) → owner code ≢ id → AreAccounts owner all id v → AreOther code v
@@ -53,10 +53,10 @@ elsewhere owner all code id (one ∷ others) apart are =
 -- a part comes to the seat that has these
 joins_them : (owner : ℕ → ℕ) (all : List Deed) (code id : ℕ) (v : List Account) → AreAccounts owner all id v → AreAccounts (moved owner code id) all id v
 joins_them owner all code id [] are = tt
-joins_them owner all code id (one ∷ others) are = (record { own = here (code_of one.part == code) refl; kept = are.0.kept }, joins_them owner all code id others are.1) where
-  here : (b : Bool) → (code_of one.part == code) ≡ b → moved owner code id (code_of one.part) ≡ id
-  here true is = ap (λ (c : Bool). cond c id (owner (code_of one.part))) is
-  here false is = ap (λ (c : Bool). cond c id (owner (code_of one.part))) is ∙ are.0.own
+joins_them owner all code id (one ∷ others) are = (record { own = here (part_code one.part == code) refl; kept = are.0.kept }, joins_them owner all code id others are.1) where
+  here : (b : Bool) → (part_code one.part == code) ≡ b → moved owner code id (part_code one.part) ≡ id
+  here true is = ap (λ (c : Bool). cond c id (owner (part_code one.part))) is
+  here false is = ap (λ (c : Bool). cond c id (owner (part_code one.part))) is ∙ are.0.own
 
 -- ---- the opening
 
@@ -72,7 +72,7 @@ all_begin number zero callers = callers_begin 0 callers
 all_begin number (suc left) callers = (nothing_yet 0 (OnShard number), all_begin (suc number) left callers)
 
 pub order_begins : {S : Type 0} (plans : List ShardPlan) (words : List ℕ) (slots : List S) (callers : ℕ) →
-    IsOrder plans (opening words slots (first_accounts 0 (length plans) callers))
+    IsOrderRuleKept plans (opening words slots (first_accounts 0 (length plans) callers))
 order_begins plans words slots callers = record { all = []; owner = λ _. 0; within = tt; met = tt; fits = one } where
   one : (id : ℕ) (v : List Account) → get_elem? (first_accounts 0 (length plans) callers ∷ []) id ≡ some v → AreAccounts (λ _. 0) [] id v
   one zero v e = subst (AreAccounts (λ _. 0) [] 0) (some-injective _ _ e) (all_begin 0 (length plans) callers)
@@ -81,26 +81,26 @@ order_begins plans words slots callers = record { all = []; owner = λ _. 0; wit
 -- ---- seats
 
 -- the first account goes to a new seat
-pub deals_first : {S : Type 0} (plans : List ShardPlan) (id : ℕ) (one : Account) (v : List Account) → AreOther (code_of one.part) v →
-    Splits {S = S} (IsOrder plans) id (one ∷ v) v (one ∷ [])
+pub deals_first : {S : Type 0} (plans : List ShardPlan) (id : ℕ) (one : Account) (v : List Account) → AreOther (part_code one.part) v →
+    Splits {S = S} (IsOrderRuleKept plans) id (one ∷ v) v (one ∷ [])
 deals_first plans id one v apart s h at =
     let are = h.fits id (one ∷ v) at in
     let new : ℕ = length (set s.views id v) in
-    let owner' = moved h.owner (code_of one.part) new in
+    let owner' = moved h.owner (part_code one.part) new in
     let F : ℕ → List Account → Type 0 = AreAccounts owner' h.all in record {
       all = h.all;
       owner = owner';
       within = h.within;
       met = h.met;
       fits = all_push F (set s.views id v) (one ∷ [])
-          (all_set F s.views id v (others_stay h.owner h.all (code_of one.part) id new v apart are.1)
-          (λ j u other e. others_stay h.owner h.all (code_of one.part) j new u
-          (elsewhere h.owner h.all (code_of one.part) j u (λ same. other (sym same ∙ are.0.own)) (h.fits j u e)) (h.fits j u e)))
-          (record { own = moved_here h.owner (code_of one.part) new; kept = are.0.kept }, tt);
+          (all_set F s.views id v (others_stay h.owner h.all (part_code one.part) id new v apart are.1)
+          (λ j u other e. others_stay h.owner h.all (part_code one.part) j new u
+          (elsewhere h.owner h.all (part_code one.part) j u (λ same. other (sym same ∙ are.0.own)) (h.fits j u e)) (h.fits j u e)))
+          (record { own = moved_here h.owner (part_code one.part) new; kept = are.0.kept }, tt);
     }
 
 -- a seat with nothing comes
-pub order_comes : {S : Type 0} (plans : List ShardPlan) (slots : ℕ) → Enters {S = S} (IsOrder plans) slots 0 (λ n w. Comes {S = S} (w, []))
+pub order_comes : {S : Type 0} (plans : List ShardPlan) (slots : ℕ) → Enters {S = S} (IsOrderRuleKept plans) slots 0 (λ n w. MakesEmptySeat {S = S} (w, []))
 order_comes plans slots s h l fits = (
   [],
   record { all = h.all; owner = h.owner; within = h.within; met = h.met; fits = all_push (AreAccounts h.owner h.all) s.views [] h.fits tt },
@@ -109,11 +109,11 @@ order_comes plans slots s h l fits = (
 
 -- a seat takes in the one account of another
 pub takes_first : {S : Type 0} (plans : List ShardPlan) (id : ℕ) (v : List Account) (other : ℕ) (one : Account) →
-    Joins {S = S} (IsOrder plans) id v other (one ∷ []) (one ∷ v) []
+    Joins {S = S} (IsOrderRuleKept plans) id v other (one ∷ []) (one ∷ v) []
 takes_first plans id v other one s h at apart there =
     let was : get_elem? s.views other ≡ some (one ∷ []) = ⊎_elim (λ x. absurd (apart x.0)) (λ x. x.1) (at_set s.views id other (one ∷ v) (one ∷ []) there) in
     let theirs = (h.fits other (one ∷ []) was).0 in
-    let code : ℕ = code_of one.part in
+    let code : ℕ = part_code one.part in
     let owner' = moved h.owner code id in
     let F : ℕ → List Account → Type 0 = AreAccounts owner' h.all in
     let Now : ℕ → List Account → Type 0 = λ j y. j ≢ other → F j y in
@@ -131,12 +131,12 @@ takes_first plans id v other one s h at apart there =
 -- ---- a deed more
 
 -- it is no deed of another part
-no_deed_of : (deed : Deed) (part : OrderPart) → code_of part ≢ code_of (OnShard (shard_of_deed deed)) → code_of part ≢ code_of (ByCaller (caller_of_deed deed)) → is_deed_of part deed ≡ false
+no_deed_of : (deed : Deed) (part : OrderPart) → part_code part ≢ part_code (OnShard (shard_of_deed deed)) → part_code part ≢ part_code (ByCaller (caller_of_deed deed)) → is_deed_of part deed ≡ false
 no_deed_of deed (OnShard number) not_there not_by = ne_eqb (shard_of_deed deed) number (λ same. not_there (ap (λ n. 2 * n) (sym same)))
 no_deed_of deed (ByCaller who) not_there not_by = is_other who (caller_of_deed deed) (λ same. not_by (ap (λ n. suc (2 * n)) (sym same)))
 
 -- accounts to which it does not belong
-others_same : (owner : ℕ → ℕ) (all : List Deed) (deed : Deed) (id : ℕ) (v : List Account) → AreOther (code_of (OnShard (shard_of_deed deed))) v → AreOther (code_of (ByCaller (caller_of_deed deed))) v →
+others_same : (owner : ℕ → ℕ) (all : List Deed) (deed : Deed) (id : ℕ) (v : List Account) → AreOther (part_code (OnShard (shard_of_deed deed))) v → AreOther (part_code (ByCaller (caller_of_deed deed))) v →
     AreAccounts owner all id v → AreAccounts owner (deed ∷ all) id v
 others_same owner all deed id [] not_there not_by are = tt
 others_same owner all deed id (one ∷ others) not_there not_by are = (
@@ -173,9 +173,9 @@ made_by_deeds number (MetFull who call ∷ others) = met_more number who call ot
 
 -- who has the account of a shard and that of a caller adds what the caller does there
 pub adds_deed : {S : Type 0} (plans : List ShardPlan) (slots id word : ℕ) (deed : Deed) (there by : List Deed) → shard_of_deed deed < length plans →
-    IsMetBehind (plan_in plans) deed (entries_made there) → (s : State S (List Account)) → IsOrder plans s →
+    IsMetBehind (plan_in plans) deed (entries_made there) → (s : State S (List Account)) → IsOrderRuleKept plans s →
     get_elem? s.views id ≡ some (account (OnShard (shard_of_deed deed)) there ∷ account (ByCaller (caller_of_deed deed)) by ∷ []) →
-    IsOrder plans (stepped s word (slice_index s.words word) id []
+    IsOrderRuleKept plans (stepped s word (slice_index s.words word) id []
     (noted deed (account (OnShard (shard_of_deed deed)) there ∷ account (ByCaller (caller_of_deed deed)) by ∷ [])) keeps)
 adds_deed plans slots id word deed there by below met s h at =
     let are = h.fits id _ at in
@@ -193,21 +193,21 @@ adds_deed plans slots id word deed there by below met s h at =
         (belongs h.owner h.all deed id caller by (is_own (caller_of_deed deed)) are.1.0, tt),
       )
           (λ j u other e. others_same h.owner h.all deed j u
-          (elsewhere h.owner h.all (code_of shard) j u (λ same. other (sym same ∙ are.0.own)) (h.fits j u e))
-          (elsewhere h.owner h.all (code_of caller) j u (λ same. other (sym same ∙ are.1.0.own)) (h.fits j u e)) (h.fits j u e));
+          (elsewhere h.owner h.all (part_code shard) j u (λ same. other (sym same ∙ are.0.own)) (h.fits j u e))
+          (elsewhere h.owner h.all (part_code caller) j u (λ same. other (sym same ∙ are.1.0.own)) (h.fits j u e)) (h.fits j u e));
     }
 
 -- ---- the same of views that are known to be these
 
 pub takes_one : {S : Type 0} (plans : List ShardPlan) (id : ℕ) (v : List Account) (other : ℕ) (w : List Account) (one : Account) → w ≡ one ∷ [] →
-    Joins {S = S} (IsOrder plans) id v other w (with_first v w) []
+    Joins {S = S} (IsOrderRuleKept plans) id v other w (with_first v w) []
 takes_one {S} plans id v other w one is =
-    subst (λ (u : List Account). Joins {S = S} (IsOrder plans) id v other u (with_first v u) []) (sym is) (takes_first plans id v other one)
+    subst (λ (u : List Account). Joins {S = S} (IsOrderRuleKept plans) id v other u (with_first v u) []) (sym is) (takes_first plans id v other one)
 
-pub deals_one : {S : Type 0} (plans : List ShardPlan) (id : ℕ) (accounts : List Account) (one : Account) (v : List Account) → accounts ≡ one ∷ v → AreOther (code_of one.part) v →
-    Splits {S = S} (IsOrder plans) id accounts (all_others accounts) (first_alone accounts)
+pub deals_one : {S : Type 0} (plans : List ShardPlan) (id : ℕ) (accounts : List Account) (one : Account) (v : List Account) → accounts ≡ one ∷ v → AreOther (part_code one.part) v →
+    Splits {S = S} (IsOrderRuleKept plans) id accounts (all_others accounts) (first_alone accounts)
 deals_one {S} plans id accounts one v is apart =
-    subst (λ (u : List Account). Splits {S = S} (IsOrder plans) id u (all_others u) (first_alone u)) (sym is) (deals_first plans id one v apart)
+    subst (λ (u : List Account). Splits {S = S} (IsOrderRuleKept plans) id u (all_others u) (first_alone u)) (sym is) (deals_first plans id one v apart)
 
 -- the accounts of a shard and of a caller, where the caller does something there
 abbrev pub the_two : Deed → List Deed → List Deed → List Account
@@ -215,13 +215,13 @@ the_two deed there by = account (OnShard (shard_of_deed deed)) there ∷ account
 
 pub adds_one : {S : Type 0} (plans : List ShardPlan) (slots id word : ℕ) (me : Me S (List Account)) (deed : Deed) (there by : List Deed) → me ≡ (the_two deed there by, []) →
     shard_of_deed deed < length plans → IsMetBehind (plan_in plans) deed (entries_made there) →
-    Allows {S = S} (IsOrder plans) slots id me word (λ n. n) (λ n w. Adds deed me w)
+    Allows {S = S} (IsOrderRuleKept plans) slots id me word (λ n. n) (λ n w. AddsDeed deed me w)
 adds_one {S} plans slots id word me deed there by is below met =
-    subst (λ (m : Me S (List Account)). Allows {S = S} (IsOrder plans) slots id m word (λ n. n) (λ n w. Adds deed m w)) (sym is)
+    subst (λ (m : Me S (List Account)). Allows {S = S} (IsOrderRuleKept plans) slots id m word (λ n. n) (λ n w. AddsDeed deed m w)) (sym is)
     (λ s h l at fits. (noted deed (the_two deed there by), keeps, tt, adds_deed plans slots id word deed there by below met s h at, refl))
 
 -- the shard's account is not the caller's
-pub two_parts : (number : ℕ) (who : Caller) (by : List Deed) → AreOther (code_of (OnShard number)) (account (ByCaller who) by ∷ [])
+pub two_parts : (number : ℕ) (who : Caller) (by : List Deed) → AreOther (part_code (OnShard number)) (account (ByCaller who) by ∷ [])
 two_parts number who by = (λ same. omega (arith, same), tt)
 
 -- a seat that rests in a place
@@ -241,18 +241,18 @@ pub rests_so : (views : List (List Account)) (part : OrderPart) (deeds : List De
 rests_so views part deeds is = (is ∙ ap (λ (l : List Deed). (account part l ∷ []) ∷ []) (sym (ap deeds_viewed is)), ap deeds_viewed is)
 
 pub sits_so : {S : Type 0} (me : Me S (List Account)) (part : OrderPart) (deeds : List Deed) → me ≡ (account part deeds ∷ [], []) →
-    (me ≡ (account part (deeds_in me.0) ∷ [], [])) × (deeds_in me.0 ≡ deeds)
+    (me ≡ (account part (account_deeds me.0) ∷ [], [])) × (account_deeds me.0 ≡ deeds)
 sits_so {S} me part deeds is =
-    let same : deeds_in me.0 ≡ deeds = ap (λ (m : Me S (List Account)). deeds_in m.0) is in
+    let same : account_deeds me.0 ≡ deeds = ap (λ (m : Me S (List Account)). account_deeds m.0) is in
     (is ∙ ap (λ (l : List Deed). (account part l ∷ [], [])) (sym same), same)
 
 -- ---- the end
 
-in_order : (owner : ℕ → ℕ) (all : List Deed) (id : ℕ) (v : List Account) → AreAccounts owner all id v → (one : Account) → HasAccount one v → one.deeds ≡ deeds_of one.part all
+in_order : (owner : ℕ → ℕ) (all : List Deed) (id : ℕ) (v : List Account) → AreAccounts owner all id v → (one : Account) → IsOneOfAccounts one v → one.deeds ≡ deeds_of one.part all
 in_order owner all id [] are one has = absurd has
 in_order owner all id (other ∷ others) are one has = ⊎_elim
     (λ (same : other ≡ one). subst (λ (a : Account). a.deeds ≡ deeds_of a.part all) same are.0.kept) (in_order owner all id others are.1 one) has
 
-pub order_ends : {S : Type 0} (plans : List ShardPlan) (id : ℕ) (v : List Account) (words : List ℕ) (slots : List S) → Final (Seen (IsOrder plans) id v) words slots → IsEnd plans v
+pub order_ends : {S : Type 0} (plans : List ShardPlan) (id : ℕ) (v : List Account) (words : List ℕ) (slots : List S) → Final (Seen (IsOrderRuleKept plans) id v) words slots → IsEnd plans v
 order_ends plans id v words slots final =
     let h = final.1.0 in record { all = h.all; within = h.within; met = h.met; each = in_order h.owner h.all id v (h.fits id v final.1.1) }

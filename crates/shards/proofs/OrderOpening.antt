@@ -6,7 +6,7 @@ use Rattle.semantics.proofs.shared.EachLemmas.{within}
 use Rattle.shards.specs.declared.deeds.OrderPart.TheVariants.{OnShard, ByCaller}
 use Rattle.shards.specs.declared.deeds.Account.{Account}
 use Rattle.shards.specs.LockRule.{caller_at}
-use Rattle.shards.specs.OrderRule.{code_of, account, account_at, caller_accounts, first_accounts, AreOther, AreApart, IsPlaced, ArePlaces, AreShardPlaces, AreCallerPlaces}
+use Rattle.shards.specs.OrderRule.{part_code, account, account_at, caller_accounts, first_accounts, AreOther, HaveDistinctParts, IsPlaced, ArePlaces, AreShardPlaces, AreCallerPlaces}
 use Rattle.shards.proofs.Callers.{place_at}
 
 -- ---- one account after another
@@ -16,7 +16,7 @@ rest_at [] k below = absurd (omega (arith, below))
 rest_at (x ∷ xs) zero below = refl
 rest_at (x ∷ xs) (suc k) below = rest_at xs k (omega (arith, below))
 
-pub apart_at : (v : List Account) (k : ℕ) → k < length v → AreApart v → AreOther (code_of (account_at v k).part) (drop (suc k) v)
+pub apart_at : (v : List Account) (k : ℕ) → k < length v → HaveDistinctParts v → AreOther (part_code (account_at v k).part) (drop (suc k) v)
 apart_at [] k below are = absurd (omega (arith, below))
 apart_at (x ∷ xs) zero below are = are.0
 apart_at (x ∷ xs) (suc k) below are = apart_at xs k (omega (arith, below)) are.1
@@ -34,7 +34,7 @@ later_callers k place (suc left) below = (
   later_callers k (suc place) left (omega (arith, below)),
 )
 
-pub callers_apart : (place left : ℕ) → AreApart (caller_accounts place left)
+pub callers_apart : (place left : ℕ) → HaveDistinctParts (caller_accounts place left)
 callers_apart place zero = tt
 callers_apart place (suc left) = (
   subst (λ (k : ℕ). AreOther (suc (2 * k)) (caller_accounts (suc place) left)) (sym (place_at place)) (later_callers place (suc place) left (omega arith)),
@@ -45,7 +45,7 @@ later_shards : (k number left callers : ℕ) → k < number → AreOther (2 * k)
 later_shards k number zero callers below = callers_not_shards k 0 callers
 later_shards k number (suc left) callers below = ((λ same. omega (arith, same, below)), later_shards k (suc number) left callers (omega (arith, below)))
 
-pub first_apart : (number left callers : ℕ) → AreApart (first_accounts number left callers)
+pub first_apart : (number left callers : ℕ) → HaveDistinctParts (first_accounts number left callers)
 first_apart number zero callers = callers_apart 0 callers
 first_apart number (suc left) callers = (later_shards number (suc number) left callers (omega arith), first_apart (suc number) left callers)
 

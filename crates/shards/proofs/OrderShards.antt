@@ -8,7 +8,7 @@ use Rattle.semantics.specs.declared.options.Options.{Options}
 use Rattle.semantics.specs.declared.plan.ShardPlan.{ShardPlan}
 use Rattle.shards.specs.declared.deeds.Account.{Account}
 use Rattle.shards.specs.declared.order_rule.OrderKey.{OrderKey}
-use Rattle.shards.specs.Lodged.{keyed}
+use Rattle.shards.specs.GuardedView.{keyed}
 use Rattle.shards.specs.OrderRule.{IsOrderOf, KnowsShard, plan_in}
 use Rattle.shards.specs.SharedMaps.{ArePlans}
 use Rattle.shards.proofs.Names.{number_of}

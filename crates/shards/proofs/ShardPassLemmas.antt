@@ -1,13 +1,11 @@
 -- What a caller's part of a shard is after each of its steps.
-use Rattle.std.proofs.Common.{◌≡◌, ◌≤◌, ℕ, Bool, true, false, true≢false, List, [], ◌∷◌, ◌++◌, append_assoc, refl, sym, ap, ◌∙◌, subst, arith}
-use Rattle.std.specs.Prelude.{Result, Ok, Err, IfOk, IfErr, OnErr, reverse}
+use Rattle.std.proofs.Common.{◌≡◌, ◌≤◌, ℕ, Bool, true, false, true≢false, List, [], ◌∷◌, refl, sym, ap, ◌∙◌, subst, arith}
+use Rattle.std.specs.Prelude.{Result, Ok, Err, IfOk, OnErr, reverse}
 use Rattle.atomic_table.specs.Table.{Me}
 use Rattle.atomic_table.specs.declared.shared.Seat.{Seat}
 use Rattle.semantics.specs.declared.call.Caller.{Caller}
 use Rattle.semantics.specs.declared.call.Caller.TheVariants.{Worker, Controller, Reclaimer}
 use Rattle.semantics.specs.declared.call.Call.{Call}
-use Rattle.semantics.specs.declared.call.Call.TheVariants.{Enter}
-use Rattle.journal.specs.Entries.{enter_entry}
 use Rattle.shard_core.specs.FewHeld.{FewAreHeld}
 use Rattle.semantics.specs.declared.call.Reply.{Reply}
 use Rattle.semantics.specs.declared.call.Entry.{Entry}
@@ -15,12 +13,9 @@ use Rattle.semantics.specs.declared.full.JournalFull.{JournalFull}
 use Rattle.semantics.specs.declared.plan.ShardPlan.{ShardPlan}
 use Rattle.semantics.specs.CallerLaws.{own_entries}
 use Rattle.semantics.specs.History.{IsLegalHistory, IsJournalFull, entry_of}
-use Rattle.shards.specs.Lodged.{KeyedPlan, Lodged}
+use Rattle.shards.specs.GuardedView.{KeyedPlan, GuardedView}
 use Rattle.shards.specs.declared.rule.Known.{Known}
-use Rattle.shards.specs.declared.stopped.Stopped.{Stopped}
-use Rattle.shards.specs.declared.stopped.Stopped.TheVariants.{AtEnter, AtCall}
-use Rattle.shards.specs.Asked.{AreServed, IsStoppedAt}
-use Rattle.shards.specs.CallerView.{CallerView, BeginsWith, IsServed, IsRefused, HasLooked}
+use Rattle.shards.specs.CallerView.{CallerView, BeginsWith, ViewIsServed, ViewIsRefused, ViewHasLooked}
 use Rattle.semantics.specs.Sections.{section_change}
 use Rattle.semantics.specs.Reclamation.{held_change}
 use Rattle.shards.specs.Passes.{flag_after}
@@ -33,16 +28,13 @@ use Rattle.shards.proofs.Flags.{flag_moves}
 use Rattle.shards.proofs.HeldLemmas.{held_by_none, held_moves, room_when}
 use Rattle.shards.proofs.Holding.{with_shard, given_idle, given_seated, given_key, given_who, given_acts}
 
-pub alone_view : (me : Me Lodged Known) → has_shard me ≡ false → view_of me ≡ (record { seen = me.0.seen; own = me.0.own })
+pub alone_view : (me : Me GuardedView Known) → has_shard me ≡ false → view_of me ≡ (record { seen = me.0.seen; own = me.0.own })
 alone_view (v, []) alone = refl
 alone_view (v, (x ∷ xs)) alone = absurd (true≢false alone)
 
-pub knows_all : (me : Me Lodged Known) → has_shard me ≡ true → (view_of me).own ≡ own_entries me.0.who (view_of me).seen
+pub knows_all : (me : Me GuardedView Known) → has_shard me ≡ true → (view_of me).own ≡ own_entries me.0.who (view_of me).seen
 knows_all (v, []) taken = absurd (true≢false (sym taken))
 knows_all (v, (x ∷ xs)) taken = refl
-
-pub begins_twice : (a b c : List Entry) → BeginsWith a b → BeginsWith b c → BeginsWith a c
-begins_twice a b c ab bc = (ab.0 ++ bc.0, ab.1 ∙ ap (λ x. ab.0 ++ x) bc.1 ∙ sym (append_assoc ab.0 bc.0 c))
 
 -- ---- a new part
 
@@ -51,22 +43,22 @@ flag_of_none (Worker number) = refl
 flag_of_none Controller = tt
 flag_of_none Reclaimer = tt
 
-pub new_part : (seat : Seat Lodged Known) (held : HeldIds) → seat.me ≡ (pass_of seat.me.0.key seat.me.0.who [] [], []) → held.ids ≡ [] → room_of seat.me.0.who (most_held seat.me.0.key.plan) ≤ held.room →
+pub new_part : (seat : Seat GuardedView Known) (held : HeldIds) → seat.me ≡ (pass_of seat.me.0.key seat.me.0.who [] [], []) → held.ids ≡ [] → room_of seat.me.0.who (most_held seat.me.0.key.plan) ≤ held.room →
     IsShardPass seat false held
 new_part seat held is none enough = record {
-  seated = ap (λ (m : Me Lodged Known). m.0.seated) is;
-  acts = ap (λ (m : Me Lodged Known). m.0.acts) is;
-  holding = subst (λ (m : Me Lodged Known). IsHolding m.0 m.1) (sym is) refl;
-  flagged = subst (λ (m : Me Lodged Known). IsFlagOf seat.me.0.who (view_of m).own false) (sym is) (flag_of_none seat.me.0.who);
-  held_are = subst (λ (m : Me Lodged Known). AreHeldOf seat.me.0.who seat.me.0.key.plan (view_of m).own held) (sym is)
+  seated = ap (λ (m : Me GuardedView Known). m.0.seated) is;
+  acts = ap (λ (m : Me GuardedView Known). m.0.acts) is;
+  holding = subst (λ (m : Me GuardedView Known). IsHolding m.0 m.1) (sym is) refl;
+  flagged = subst (λ (m : Me GuardedView Known). IsFlagOf seat.me.0.who (view_of m).own false) (sym is) (flag_of_none seat.me.0.who);
+  held_are = subst (λ (m : Me GuardedView Known). AreHeldOf seat.me.0.who seat.me.0.key.plan (view_of m).own held) (sym is)
       (held_by_none seat.me.0.who seat.me.0.key.plan (most_held seat.me.0.key.plan) held none enough (omega arith));
-  knows = subst (λ (m : Me Lodged Known). (view_of m).own ≡ own_entries seat.me.0.who (view_of m).seen) (sym is) refl;
-  legal = subst (λ (m : Me Lodged Known). IsLegalHistory seat.me.0.key.plan (view_of m).seen) (sym is) tt;
+  knows = subst (λ (m : Me GuardedView Known). (view_of m).own ≡ own_entries seat.me.0.who (view_of m).seen) (sym is) refl;
+  legal = subst (λ (m : Me GuardedView Known). IsLegalHistory seat.me.0.key.plan (view_of m).seen) (sym is) tt;
 }
 
 -- ---- a part whose seat has moved, and whose own entries are the same
 
-module _ (before after : Seat Lodged Known) (inside : Bool) (held : HeldIds) (is : IsShardPass before inside held) (same_plan : after.me.0.key.plan ≡ before.me.0.key.plan) (same_who : after.me.0.who ≡ before.me.0.who)
+module _ (before after : Seat GuardedView Known) (inside : Bool) (held : HeldIds) (is : IsShardPass before inside held) (same_plan : after.me.0.key.plan ≡ before.me.0.key.plan) (same_who : after.me.0.who ≡ before.me.0.who)
     (same_own : (view_of after.me).own ≡ (view_of before.me).own) where
   pub part_moved : after.me.0.seated ≡ true → after.me.0.acts ≡ true → IsHolding after.me.0 after.me.1 → (view_of after.me).own ≡ own_entries after.me.0.who (view_of after.me).seen → IsLegalHistory after.me.0.key.plan (view_of after.me).seen →
       IsShardPass after inside held
@@ -82,28 +74,28 @@ module _ (before after : Seat Lodged Known) (inside : Bool) (held : HeldIds) (is
 
 -- ---- it has taken the shard
 
-module _ (before after : Seat Lodged Known) (inside : Bool) (held : HeldIds) (is : IsShardPass before inside held) (alone : has_shard before.me ≡ false) (taken : HasTaken before.me after.me)
+module _ (before after : Seat GuardedView Known) (inside : Bool) (held : HeldIds) (is : IsShardPass before inside held) (alone : has_shard before.me ≡ false) (taken : HasTaken before.me after.me)
     (legal : IsLegalHistory after.me.0.key.plan (view_of after.me).seen) where
   pub taken_key : after.me.0.key ≡ before.me.0.key
-  taken_key = ap (λ (m : Me Lodged Known). m.0.key) taken.has
+  taken_key = ap (λ (m : Me GuardedView Known). m.0.key) taken.has
 
   pub taken_plan : after.me.0.key.plan ≡ before.me.0.key.plan
-  taken_plan = ap (λ (m : Me Lodged Known). m.0.key.plan) taken.has
+  taken_plan = ap (λ (m : Me GuardedView Known). m.0.key.plan) taken.has
 
   pub taken_who : after.me.0.who ≡ before.me.0.who
-  taken_who = ap (λ (m : Me Lodged Known). m.0.who) taken.has
+  taken_who = ap (λ (m : Me GuardedView Known). m.0.who) taken.has
 
   taken_own : (view_of after.me).own ≡ (view_of before.me).own
-  taken_own = ap (λ (m : Me Lodged Known). (view_of m).own) taken.has ∙ sym (taken.known is.acts).own ∙ sym (ap (λ (v : CallerView). v.own) (alone_view before.me alone))
+  taken_own = ap (λ (m : Me GuardedView Known). (view_of m).own) taken.has ∙ sym (taken.known is.acts).own ∙ sym (ap (λ (v : CallerView). v.own) (alone_view before.me alone))
 
   pub part_taken : IsShardPass after inside held
   part_taken = part_moved before after inside held is taken_plan taken_who taken_own
-      (ap (λ (m : Me Lodged Known). m.0.seated) taken.has ∙ is.seated) (ap (λ (m : Me Lodged Known). m.0.acts) taken.has ∙ is.acts)
-      (with_shard before.me after.me taken) (subst (λ (m : Me Lodged Known). (view_of m).own ≡ own_entries m.0.who (view_of m).seen) (sym taken.has) refl) legal
+      (ap (λ (m : Me GuardedView Known). m.0.seated) taken.has ∙ is.seated) (ap (λ (m : Me GuardedView Known). m.0.acts) taken.has ∙ is.acts)
+      (with_shard before.me after.me taken) (subst (λ (m : Me GuardedView Known). (view_of m).own ≡ own_entries m.0.who (view_of m).seen) (sym taken.has) refl) legal
 
-  pub looked_taken : HasLooked before.me.0.key.plan (view_of before.me) (view_of after.me)
+  pub looked_taken : ViewHasLooked before.me.0.key.plan (view_of before.me) (view_of after.me)
   looked_taken = record {
-    begins = subst (λ (m : Me Lodged Known). BeginsWith (view_of m).seen (view_of before.me).seen) (sym taken.has)
+    begins = subst (λ (m : Me GuardedView Known). BeginsWith (view_of m).seen (view_of before.me).seen) (sym taken.has)
         (subst (λ (v : CallerView). BeginsWith (reverse taken.shard.journal) v.seen) (sym (alone_view before.me alone)) (taken.known is.acts).begins);
     legal = subst (λ (p : ShardPlan). IsLegalHistory p (view_of after.me).seen) taken_plan legal;
     own = taken_own;
@@ -111,20 +103,20 @@ module _ (before after : Seat Lodged Known) (inside : Bool) (held : HeldIds) (is
 
 -- ---- it has given it back
 
-pub part_given : (before after : Seat Lodged Known) (inside : Bool) (held : HeldIds) → IsShardPass before inside held → has_shard before.me ≡ true → after.me ≡ (given before.me.0 before.me.1, []) → view_of after.me ≡ view_of before.me →
+pub part_given : (before after : Seat GuardedView Known) (inside : Bool) (held : HeldIds) → IsShardPass before inside held → has_shard before.me ≡ true → after.me ≡ (given before.me.0 before.me.1, []) → view_of after.me ≡ view_of before.me →
     IsLegalHistory after.me.0.key.plan (view_of after.me).seen → IsShardPass after inside held
 part_given before after inside held is taken given_is same legal =
-    let same_who : after.me.0.who ≡ before.me.0.who = ap (λ (m : Me Lodged Known). m.0.who) given_is ∙ given_who before.me in
-    part_moved before after inside held is (ap (λ (m : Me Lodged Known). m.0.key.plan) given_is ∙ ap (λ (k : KeyedPlan). k.plan) (given_key before.me)) same_who (ap (λ (v : CallerView). v.own) same)
-    (ap (λ (m : Me Lodged Known). m.0.seated) given_is ∙ given_seated before.me ∙ is.seated) (ap (λ (m : Me Lodged Known). m.0.acts) given_is ∙ given_acts before.me ∙ is.acts)
-    (subst (λ (m : Me Lodged Known). IsHolding m.0 m.1) (sym given_is) (given_idle before.me taken))
+    let same_who : after.me.0.who ≡ before.me.0.who = ap (λ (m : Me GuardedView Known). m.0.who) given_is ∙ given_who before.me in
+    part_moved before after inside held is (ap (λ (m : Me GuardedView Known). m.0.key.plan) given_is ∙ ap (λ (k : KeyedPlan). k.plan) (given_key before.me)) same_who (ap (λ (v : CallerView). v.own) same)
+    (ap (λ (m : Me GuardedView Known). m.0.seated) given_is ∙ given_seated before.me ∙ is.seated) (ap (λ (m : Me GuardedView Known). m.0.acts) given_is ∙ given_acts before.me ∙ is.acts)
+    (subst (λ (m : Me GuardedView Known). IsHolding m.0 m.1) (sym given_is) (given_idle before.me taken))
     (ap (λ (v : CallerView). v.own) same ∙ is.knows ∙ (λ i. own_entries (sym same_who i) (sym same i).seen)) legal
 
 -- ---- it has made a call
 
-module _ {A : Type 0} (plan : ShardPlan) (who : Caller) (call : Call) (replies : A → Reply) (me me' : Me Lodged Known) (taken : has_shard me' ≡ true) (same : me'.0 ≡ me.0) (by : me.0.who ≡ who)
+module _ {A : Type 0} (plan : ShardPlan) (who : Caller) (call : Call) (replies : A → Reply) (me me' : Me GuardedView Known) (taken : has_shard me' ≡ true) (same : me'.0 ≡ me.0) (by : me.0.who ≡ who)
     (knows : (view_of me).own ≡ own_entries me.0.who (view_of me).seen) (legal : IsLegalHistory plan (view_of me').seen) where
-  served_one : (a : A) → (view_of me').seen ≡ entry_of who call (replies a) ∷ (view_of me).seen → IsServed plan (view_of me) (view_of me') (entry_of who call (replies a))
+  served_one : (a : A) → (view_of me').seen ≡ entry_of who call (replies a) ∷ (view_of me).seen → ViewIsServed plan (view_of me) (view_of me') (entry_of who call (replies a))
   served_one a next = record {
     earlier = (view_of me).seen;
     seen = next;
@@ -135,11 +127,11 @@ module _ {A : Type 0} (plan : ShardPlan) (who : Caller) (call : Call) (replies :
         ∙ ap (λ (l : List Entry). entry_of who call (replies a) ∷ l) (sym knows);
   }
 
-  pub served_by : (answer : Result A JournalFull) → IfOk answer (λ a. (view_of me').seen ≡ entry_of who call (replies a) ∷ (view_of me).seen) → IfOk answer (λ a. IsServed plan (view_of me) (view_of me') (entry_of who call (replies a)))
+  pub served_by : (answer : Result A JournalFull) → IfOk answer (λ a. (view_of me').seen ≡ entry_of who call (replies a) ∷ (view_of me).seen) → IfOk answer (λ a. ViewIsServed plan (view_of me) (view_of me') (entry_of who call (replies a)))
   served_by (Ok a) next = served_one a next
   served_by (Err full) next = next
 
-  pub refused_by : (answer : Result A JournalFull) → OnErr answer (IsJournalFull plan (view_of me).seen call) → OnErr answer (view_of me' ≡ view_of me) → OnErr answer (IsRefused plan (view_of me) (view_of me') call)
+  pub refused_by : (answer : Result A JournalFull) → OnErr answer (IsJournalFull plan (view_of me).seen call) → OnErr answer (view_of me' ≡ view_of me) → OnErr answer (ViewIsRefused plan (view_of me) (view_of me') call)
   refused_by (Ok a) full still = full
   refused_by (Err e) full still = record {
     begins = ([], ap (λ (v : CallerView). v.seen) still);
@@ -148,13 +140,13 @@ module _ {A : Type 0} (plan : ShardPlan) (who : Caller) (call : Call) (replies :
     own = ap (λ (v : CallerView). v.own) still;
   }
 
-pub view_still : {A : Type 0} (before after : Seat Lodged Known) (answer : Result A JournalFull) → OnErr answer (after ≡ before) → OnErr answer (view_of after.me ≡ view_of before.me)
+pub view_still : {A : Type 0} (before after : Seat GuardedView Known) (answer : Result A JournalFull) → OnErr answer (after ≡ before) → OnErr answer (view_of after.me ≡ view_of before.me)
 view_still before after (Ok a) still = still
-view_still before after (Err full) still = ap (λ (s : Seat Lodged Known). view_of s.me) still
+view_still before after (Err full) still = ap (λ (s : Seat GuardedView Known). view_of s.me) still
 
-module _ {A : Type 0} (call : Call) (replies : A → Reply) (before after : Seat Lodged Known) (inside : Bool) (held : HeldIds) (is : IsShardPass before inside held) (taken : has_shard after.me ≡ true) (same : after.me.0 ≡ before.me.0)
+module _ {A : Type 0} (call : Call) (replies : A → Reply) (before after : Seat GuardedView Known) (inside : Bool) (held : HeldIds) (is : IsShardPass before inside held) (taken : has_shard after.me ≡ true) (same : after.me.0 ≡ before.me.0)
     (holding : IsHolding after.me.0 after.me.1) (legal : IsLegalHistory before.me.0.key.plan (view_of after.me).seen) (answer : Result A JournalFull)
-    (served : IfOk answer (λ a. IsServed before.me.0.key.plan (view_of before.me) (view_of after.me) (entry_of before.me.0.who call (replies a)))) (refused : OnErr answer (IsRefused before.me.0.key.plan (view_of before.me) (view_of after.me) call)) where
+    (served : IfOk answer (λ a. ViewIsServed before.me.0.key.plan (view_of before.me) (view_of after.me) (entry_of before.me.0.who call (replies a)))) (refused : OnErr answer (ViewIsRefused before.me.0.key.plan (view_of before.me) (view_of after.me) call)) where
   pub part_asked : IsShardPass after (flag_after answer (section_change call) inside) (held_when answer (λ a. held_change call (replies a)) held)
   part_asked = record {
     seated = ap (λ (v : Known). v.seated) same ∙ is.seated;
@@ -169,18 +161,18 @@ module _ {A : Type 0} (call : Call) (replies : A → Reply) (before after : Seat
   }
 
 -- all of this, by what the call made of the seat
-module _ {A : Type 0} (who : Caller) (asks : ℕ → Call) (replies : ℕ → A → Reply) (before after : Seat Lodged Known) (inside : Bool) (held : HeldIds) (is : IsShardPass before inside held) (by : before.me.0.who ≡ who)
+module _ {A : Type 0} (who : Caller) (asks : ℕ → Call) (replies : ℕ → A → Reply) (before after : Seat GuardedView Known) (inside : Bool) (held : HeldIds) (is : IsShardPass before inside held) (by : before.me.0.who ≡ who)
     (taken : has_shard after.me ≡ true) (same : after.me.0 ≡ before.me.0) (legal : IsLegalHistory before.me.0.key.plan (view_of after.me).seen) (answer : Result A JournalFull)
     (next : IfOk answer (λ a. (view_of after.me).seen ≡ entry_of who (asks before.me.0.key.plan.number) (replies before.me.0.key.plan.number a) ∷ (view_of before.me).seen))
     (full : OnErr answer (IsJournalFull before.me.0.key.plan (view_of before.me).seen (asks before.me.0.key.plan.number))) (unchanged : OnErr answer (after ≡ before)) where
-  pub asked_served : IfOk answer (λ a. IsServed before.me.0.key.plan (view_of before.me) (view_of after.me) (entry_of who (asks before.me.0.key.plan.number) (replies before.me.0.key.plan.number a)))
+  pub asked_served : IfOk answer (λ a. ViewIsServed before.me.0.key.plan (view_of before.me) (view_of after.me) (entry_of who (asks before.me.0.key.plan.number) (replies before.me.0.key.plan.number a)))
   asked_served = served_by before.me.0.key.plan who (asks before.me.0.key.plan.number) (replies before.me.0.key.plan.number) before.me after.me taken same by is.knows legal answer next
 
-  pub asked_refused : OnErr answer (IsRefused before.me.0.key.plan (view_of before.me) (view_of after.me) (asks before.me.0.key.plan.number))
+  pub asked_refused : OnErr answer (ViewIsRefused before.me.0.key.plan (view_of before.me) (view_of after.me) (asks before.me.0.key.plan.number))
   asked_refused = refused_by before.me.0.key.plan who (asks before.me.0.key.plan.number) (replies before.me.0.key.plan.number) before.me after.me taken same by is.knows legal answer full (view_still before after answer unchanged)
 
-  own_served : IfOk answer (λ a. IsServed before.me.0.key.plan (view_of before.me) (view_of after.me) (entry_of before.me.0.who (asks before.me.0.key.plan.number) (replies before.me.0.key.plan.number a)))
-  own_served = subst (λ (w : Caller). IfOk answer (λ a. IsServed before.me.0.key.plan (view_of before.me) (view_of after.me) (entry_of w (asks before.me.0.key.plan.number) (replies before.me.0.key.plan.number a)))) (sym by) asked_served
+  own_served : IfOk answer (λ a. ViewIsServed before.me.0.key.plan (view_of before.me) (view_of after.me) (entry_of before.me.0.who (asks before.me.0.key.plan.number) (replies before.me.0.key.plan.number a)))
+  own_served = subst (λ (w : Caller). IfOk answer (λ a. ViewIsServed before.me.0.key.plan (view_of before.me) (view_of after.me) (entry_of w (asks before.me.0.key.plan.number) (replies before.me.0.key.plan.number a)))) (sym by) asked_served
 
   pub asked_room : FewAreHeld before.me.0.key.plan (view_of after.me).seen → IfOk answer (λ a. HasRoomFor (held_change (asks before.me.0.key.plan.number) (replies before.me.0.key.plan.number a)) held)
   asked_room few = room_when answer before.me.0.key.plan before.me.0.who (asks before.me.0.key.plan.number) (replies before.me.0.key.plan.number) (view_of before.me) (view_of after.me) held own_served
@@ -191,16 +183,16 @@ module _ {A : Type 0} (who : Caller) (asks : ℕ → Call) (replies : ℕ → A 
 
 -- ---- it was shown the whole history
 
-module _ (before after : Seat Lodged Known) (inside : Bool) (held : HeldIds) (key : KeyedPlan) (all : List Entry) (is : IsShardPass before inside held) (alone : has_shard before.me ≡ false)
+module _ (before after : Seat GuardedView Known) (inside : Bool) (held : HeldIds) (key : KeyedPlan) (all : List Entry) (is : IsShardPass before inside held) (alone : has_shard before.me ≡ false)
     (planned : key ≡ before.me.0.key) (shown : after.me ≡ (pass_of key before.me.0.who before.me.0.own all, [])) (known : IsKnownIn all before.me.0) (legal : IsLegalHistory before.me.0.key.plan all) where
   pub shown_key : after.me.0.key ≡ before.me.0.key
-  shown_key = ap (λ (m : Me Lodged Known). m.0.key) shown ∙ planned
+  shown_key = ap (λ (m : Me GuardedView Known). m.0.key) shown ∙ planned
 
   shown_plan : after.me.0.key.plan ≡ before.me.0.key.plan
   shown_plan = ap (λ (k : KeyedPlan). k.plan) shown_key
 
   pub shown_who : after.me.0.who ≡ before.me.0.who
-  shown_who = ap (λ (m : Me Lodged Known). m.0.who) shown
+  shown_who = ap (λ (m : Me GuardedView Known). m.0.who) shown
 
   pub own_before : (view_of before.me).own ≡ own_entries before.me.0.who all
   own_before = ap (λ (v : CallerView). v.own) (alone_view before.me alone) ∙ known.own
@@ -209,67 +201,20 @@ module _ (before after : Seat Lodged Known) (inside : Bool) (held : HeldIds) (ke
   begins_before = subst (λ (v : CallerView). BeginsWith all v.seen) (sym (alone_view before.me alone)) known.begins
 
   own_after : (view_of after.me).own ≡ (view_of before.me).own
-  own_after = ap (λ (m : Me Lodged Known). (view_of m).own) shown ∙ sym (ap (λ (v : CallerView). v.own) (alone_view before.me alone))
+  own_after = ap (λ (m : Me GuardedView Known). (view_of m).own) shown ∙ sym (ap (λ (v : CallerView). v.own) (alone_view before.me alone))
 
   pub seen_after : (view_of after.me).seen ≡ all
-  seen_after = ap (λ (m : Me Lodged Known). (view_of m).seen) shown
+  seen_after = ap (λ (m : Me GuardedView Known). (view_of m).seen) shown
 
   pub part_shown : IsShardPass after inside held
   part_shown = part_moved before after inside held is shown_plan shown_who own_after
-      (ap (λ (m : Me Lodged Known). m.0.seated) shown) (ap (λ (m : Me Lodged Known). m.0.acts) shown) (subst (λ (m : Me Lodged Known). IsHolding m.0 m.1) (sym shown) refl)
+      (ap (λ (m : Me GuardedView Known). m.0.seated) shown) (ap (λ (m : Me GuardedView Known). m.0.acts) shown) (subst (λ (m : Me GuardedView Known). IsHolding m.0 m.1) (sym shown) refl)
       (own_after ∙ own_before ∙ (λ i. own_entries (sym shown_who i) (sym seen_after i)))
       (subst (λ (x : ShardPlan × List Entry). IsLegalHistory x.0 x.1) (λ i. (sym shown_plan i, sym seen_after i)) legal)
 
-  pub looked_shown : HasLooked before.me.0.key.plan (view_of before.me) (view_of after.me)
+  pub looked_shown : ViewHasLooked before.me.0.key.plan (view_of before.me) (view_of after.me)
   looked_shown = record {
     begins = subst (λ (l : List Entry). BeginsWith l (view_of before.me).seen) (sym seen_after) begins_before;
     legal = subst (IsLegalHistory before.me.0.key.plan) (sym seen_after) legal;
     own = own_after;
   }
-
--- ---- a look, and then calls
-
-module _ (p : ShardPlan) (old mid : CallerView) (looked : HasLooked p old mid) where
-  served_then : (new : CallerView) (entry : Entry) → IsServed p mid new entry → IsServed p old new entry
-  served_then new entry served = record { earlier = served.earlier; seen = served.seen; begins = begins_twice served.earlier mid.seen old.seen served.begins looked.begins; legal = served.legal; own = served.own ∙ ap (λ l. entry ∷ l) looked.own }
-
-  refused_then : (new : CallerView) (call : Call) → IsRefused p mid new call → IsRefused p old new call
-  refused_then new call refused = record { begins = begins_twice new.seen mid.seen old.seen refused.begins looked.begins; legal = refused.legal; full = refused.full; own = refused.own ∙ looked.own }
-
-  both_then : (new : CallerView) (one two : Entry) → AreServed p mid new one two → AreServed p old new one two
-  both_then new one two served = record { earlier = served.earlier; seen = served.seen; begins = begins_twice served.earlier mid.seen old.seen served.begins looked.begins; legal = served.legal; own = served.own ∙ ap (λ l. two ∷ one ∷ l) looked.own }
-
-  stopped_then : (new : CallerView) (number : ℕ) (who : Caller) (call : Call) (stopped : Stopped) → IsStoppedAt p number mid new who call stopped → IsStoppedAt p number old new who call stopped
-  stopped_then new number who call (AtEnter full) is = (refused_then new (Enter number) is.0, is.1)
-  stopped_then new number who call (AtCall full) is = (
-    record {
-      earlier = is.0.earlier;
-      seen = is.0.seen;
-      begins = begins_twice is.0.earlier mid.seen old.seen is.0.begins looked.begins;
-      legal = is.0.legal;
-      full = is.0.full;
-      own = is.0.own ∙ ap (λ l. enter_entry number who ∷ l) looked.own;
-    },
-    is.1,
-  )
-
-  module _ {A : Type 0} (p' : ShardPlan) (late new : CallerView) (same : p' ≡ p) (still : new ≡ late) (asks : ℕ → Call) (replies : ℕ → A → Reply) (who : Caller) where
-    pub looked_served : (answer : Result A JournalFull) → IfOk answer (λ a. IsServed p' mid late (entry_of who (asks p'.number) (replies p'.number a))) → IfOk answer (λ a. IsServed p old new (entry_of who (asks p.number) (replies p.number a)))
-    looked_served (Ok a) served = served_then new (entry_of who (asks p.number) (replies p.number a))
-        (subst (λ (x : ShardPlan × CallerView). IsServed x.0 mid x.1 (entry_of who (asks x.0.number) (replies x.0.number a))) (λ i. (same i, sym still i)) served)
-    looked_served (Err full) served = served
-
-    pub looked_refused : (answer : Result A JournalFull) → OnErr answer (IsRefused p' mid late (asks p'.number)) → OnErr answer (IsRefused p old new (asks p.number))
-    looked_refused (Ok a) refused = refused
-    looked_refused (Err full) refused = refused_then new (asks p.number) (subst (λ (x : ShardPlan × CallerView). IsRefused x.0 mid x.1 (asks x.0.number)) (λ i. (same i, sym still i)) refused)
-
-    pub looked_both : (one : ℕ → Entry) (answer : Result A Stopped) → IfOk answer (λ a. AreServed p' mid late (one p'.number) (entry_of who (asks p'.number) (replies p'.number a))) →
-        IfOk answer (λ a. AreServed p old new (one p.number) (entry_of who (asks p.number) (replies p.number a)))
-    looked_both one (Ok a) served = both_then new (one p.number) (entry_of who (asks p.number) (replies p.number a))
-        (subst (λ (x : ShardPlan × CallerView). AreServed x.0 mid x.1 (one x.0.number) (entry_of who (asks x.0.number) (replies x.0.number a))) (λ i. (same i, sym still i)) served)
-    looked_both one (Err full) served = served
-
-    pub looked_stopped : (answer : Result A Stopped) → IfErr answer (IsStoppedAt p' p'.number mid late who (asks p'.number)) → IfErr answer (IsStoppedAt p p.number old new who (asks p.number))
-    looked_stopped (Ok a) stopped = stopped
-    looked_stopped (Err full) stopped = stopped_then new p.number who (asks p.number) full
-        (subst (λ (x : ShardPlan × CallerView). IsStoppedAt x.0 x.0.number mid x.1 who (asks x.0.number) full) (λ i. (same i, sym still i)) stopped)

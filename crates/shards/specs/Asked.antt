@@ -8,29 +8,29 @@ use Rattle.semantics.specs.declared.call.Entry.{Entry}
 use Rattle.semantics.specs.declared.plan.ShardPlan.{ShardPlan}
 use Rattle.semantics.specs.History.{IsLegalHistory, IsJournalFull, Meets, entry_of}
 use Rattle.journal.specs.Entries.{enter_entry}
-use Rattle.shards.specs.CallerView.{CallerView, BeginsWith, IsServed, IsRefused}
+use Rattle.shards.specs.CallerView.{CallerView, BeginsWith, ViewIsServed, ViewIsRefused}
 use Rattle.shards.specs.declared.stopped.Stopped.{Stopped}
 use Rattle.shards.specs.declared.stopped.Stopped.TheVariants.{AtEnter, AtCall}
 use Rattle.shards.specs.Passes.{PassView, view_at, own_at}
 
 -- the pass's caller may make the call on the shard of this number: by its own entries alone
-abbrev pub MayAsk : ShardPlan → ℕ → PassView → Call → Type 0
-MayAsk plan number pass call = Meets plan (own_at pass number) pass.who call
+abbrev pub PassMayAsk : ShardPlan → ℕ → PassView → Call → Type 0
+PassMayAsk plan number pass call = Meets plan (own_at pass number) pass.who call
 
 -- the call was served with this reply
-abbrev pub IsAnswered : ShardPlan → ℕ → PassView → PassView → Call → Reply → Type 0
-IsAnswered plan number before after call reply =
-    IsServed plan (view_at before number) (view_at after number) (entry_of before.who call reply)
+abbrev pub PassIsServed : ShardPlan → ℕ → PassView → PassView → Call → Reply → Type 0
+PassIsServed plan number before after call reply =
+    ViewIsServed plan (view_at before number) (view_at after number) (entry_of before.who call reply)
 
 -- the journal was full for the call
-abbrev pub IsTurnedAway : ShardPlan → ℕ → PassView → PassView → Call → Type 0
-IsTurnedAway plan number before after call = IsRefused plan (view_at before number) (view_at after number) call
+abbrev pub PassIsRefused : ShardPlan → ℕ → PassView → PassView → Call → Type 0
+PassIsRefused plan number before after call = ViewIsRefused plan (view_at before number) (view_at after number) call
 
 -- ---- an Enter and a call that follows it at once
 
 -- the caller may make the call once it has entered
-abbrev pub MayAskInside : ShardPlan → ℕ → PassView → Call → Type 0
-MayAskInside plan number pass call = Meets plan (enter_entry number pass.who ∷ own_at pass number) pass.who call
+abbrev pub PassMayAskInside : ShardPlan → ℕ → PassView → Call → Type 0
+PassMayAskInside plan number pass call = Meets plan (enter_entry number pass.who ∷ own_at pass number) pass.who call
 
 -- both were served, next to each other
 pub record AreServed (plan : ShardPlan) (before after : CallerView) (first second : Entry) : Type 0 where
@@ -49,17 +49,17 @@ pub record IsServedThenRefused (plan : ShardPlan) (before after : CallerView) (f
   pub full : IsJournalFull plan after.seen call
   pub own : after.own ≡ first ∷ before.own
 
-abbrev pub EnteredAndAnswered : ShardPlan → ℕ → PassView → PassView → Call → Reply → Type 0
-EnteredAndAnswered plan number before after call reply =
+abbrev pub PassEntersAndIsServed : ShardPlan → ℕ → PassView → PassView → Call → Reply → Type 0
+PassEntersAndIsServed plan number before after call reply =
     AreServed plan (view_at before number) (view_at after number) (enter_entry number before.who) (entry_of before.who call reply)
 
 -- which of the two the journal of the shard of this number was full for, and what is left then
 abbrev pub IsStoppedAt : ShardPlan → ℕ → CallerView → CallerView → Caller → Call → Stopped → Type 0
-IsStoppedAt plan number before after who call (AtEnter full) = IsRefused plan before after (Enter number) × (full.shard ≡ number)
+IsStoppedAt plan number before after who call (AtEnter full) = ViewIsRefused plan before after (Enter number) × (full.shard ≡ number)
 IsStoppedAt plan number before after who call (AtCall full) =
     IsServedThenRefused plan before after (enter_entry number who) call × (full.shard ≡ number)
 
 -- which of the two the journal was full for, and what is left then
-abbrev pub IsStopped : ShardPlan → ℕ → PassView → PassView → Call → Stopped → Type 0
-IsStopped plan number before after call stopped =
+abbrev pub PassIsStopped : ShardPlan → ℕ → PassView → PassView → Call → Stopped → Type 0
+PassIsStopped plan number before after call stopped =
     IsStoppedAt plan number (view_at before number) (view_at after number) before.who call stopped

@@ -2,7 +2,6 @@
 use Rattle.std.specs.Prelude.{◌≡◌, List, [], ◌∷◌, ◌++◌, reverse}
 use Rattle.semantics.specs.declared.call.Caller.{Caller}
 use Rattle.semantics.specs.declared.call.Entry.{Entry}
-use Rattle.semantics.specs.declared.call.Reply.{Reply}
 use Rattle.semantics.specs.declared.plan.ShardPlan.{ShardPlan}
 use Rattle.semantics.specs.CallerLaws.{own_entries}
 use Rattle.semantics.specs.History.{IsLegalHistory, IsJournalFull}
@@ -23,7 +22,7 @@ nothing_seen = record { seen = []; own = [] }
 
 -- a call was served: what was seen then is legal, begins with what was seen before, and ends with the call; and the call is one more of
 -- the caller's own
-pub record IsServed (plan : ShardPlan) (before after : CallerView) (entry : Entry) : Type 0 where
+pub record ViewIsServed (plan : ShardPlan) (before after : CallerView) (entry : Entry) : Type 0 where
   pub earlier : List Entry
   pub seen : after.seen ≡ entry ∷ earlier
   pub begins : BeginsWith earlier before.seen
@@ -31,14 +30,14 @@ pub record IsServed (plan : ShardPlan) (before after : CallerView) (entry : Entr
   pub own : after.own ≡ entry ∷ before.own
 
 -- a call was refused: what was seen then is legal, begins with what was seen before, and leaves the journal no room for the call
-pub record IsRefused (plan : ShardPlan) (before after : CallerView) (call : Call) : Type 0 where
+pub record ViewIsRefused (plan : ShardPlan) (before after : CallerView) (call : Call) : Type 0 where
   pub begins : BeginsWith after.seen before.seen
   pub legal : IsLegalHistory plan after.seen
   pub full : IsJournalFull plan after.seen call
   pub own : after.own ≡ before.own
 
 -- a look at the shard: what was seen then is legal, and begins with what was seen before
-pub record HasLooked (plan : ShardPlan) (before after : CallerView) : Type 0 where
+pub record ViewHasLooked (plan : ShardPlan) (before after : CallerView) : Type 0 where
   pub begins : BeginsWith after.seen before.seen
   pub legal : IsLegalHistory plan after.seen
   pub own : after.own ≡ before.own

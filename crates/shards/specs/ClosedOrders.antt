@@ -7,7 +7,7 @@ use Rattle.journals.specs.JournalsView.{JournalsView, entries_at}
 use Rattle.shards.specs.declared.deeds.Deed.{Deed}
 use Rattle.shards.specs.declared.deeds.OrderPart.TheVariants.{OnShard, ByCaller}
 use Rattle.shards.specs.declared.deeds.Account.{Account}
-use Rattle.shards.specs.Deeds.{deeds_of, entries_made, made_on, AreMet, AreWithin}
+use Rattle.shards.specs.Deeds.{deeds_of, entries_made, made_on, AreMet, AreDeedsWithin}
 use Rattle.shards.specs.OrderRule.{account}
 use Rattle.shards.specs.Passes.{PassView, pass_at}
 
@@ -16,7 +16,7 @@ use Rattle.shards.specs.Passes.{PassView, pass_at}
 -- where the entries before it on its shard leave the journal no room for the call.
 pub record IsOneOrder (plan : ℕ → ShardPlan) (count : ℕ) (journals : JournalsView) (passes : List PassView) : Type 0 where
   pub deeds : List Deed
-  pub within : AreWithin count deeds
+  pub within : AreDeedsWithin count deeds
   pub journals_are : (number : ℕ) → number < count → entries_at journals number ≡ reverse (made_on number deeds)
   pub own : (place : ℕ) → place < length passes → (pass_at passes place).deeds ≡ deeds_of (ByCaller (pass_at passes place).who) deeds
   pub met : AreMet plan deeds

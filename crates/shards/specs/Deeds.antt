@@ -57,8 +57,8 @@ AreMet plan [] = Unit {0}
 AreMet plan (deed ∷ earlier) = IsMetBehind plan deed (made_on (shard_of_deed deed) earlier) × AreMet plan earlier
 
 -- each is a deed on one of N shards
-abbrev pub AreWithin : ℕ → List Deed → Type 0
-AreWithin count deeds = AllByRecursion (λ (deed : Deed). shard_of_deed deed < count) deeds
+abbrev pub AreDeedsWithin : ℕ → List Deed → Type 0
+AreDeedsWithin count deeds = AllByRecursion (λ (deed : Deed). shard_of_deed deed < count) deeds
 
 -- ---- what a call makes of them
 

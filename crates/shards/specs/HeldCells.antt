@@ -55,14 +55,14 @@ HasRoomFor change held = Unit {0}
 -- ---- a pass's list
 
 -- each cell that the worker holds is among them once, and no other; there is room for as many as it can hold
-pub record AreHeld (worker : ℕ) (plan : ShardPlan) (own : List Entry) (held : HeldIds) : Type 0 where
+pub record AreHeldBy (worker : ℕ) (plan : ShardPlan) (own : List Entry) (held : HeldIds) : Type 0 where
   pub some_room : most_held plan ≤ held.room
   pub once : AreOnce held.ids
   pub each : (cell : ℕ) → is_among cell held.ids ≡ holds worker cell own
 
 -- a worker's list says it; what the others' lists say is nobody's concern, since they hold nothing
 abbrev pub AreHeldOf : Caller → ShardPlan → List Entry → HeldIds → Type 0
-AreHeldOf (Worker number) plan own held = AreHeld number plan own held
+AreHeldOf (Worker number) plan own held = AreHeldBy number plan own held
 AreHeldOf who plan own held = Unit {0}
 
 -- for how many cells of each shard a worker has room

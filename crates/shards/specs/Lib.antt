@@ -2,11 +2,11 @@
 pub mod Opening
 pub mod Lending
 pub mod CallerView
-pub mod Lodged
+pub mod GuardedView
 pub mod LockRule
 pub mod Deeds
 pub mod OrderRule
-pub mod Lodging
+pub mod GuardedShards
 pub mod EntryCounts
 pub mod Seats
 pub mod HeldCells

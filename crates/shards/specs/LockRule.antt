@@ -14,7 +14,7 @@ use Rattle.semantics.specs.declared.call.Entry.{Entry}
 use Rattle.semantics.specs.declared.plan.ShardPlan.{ShardPlan}
 use Rattle.semantics.specs.CallerLaws.{own_entries}
 use Rattle.shards.specs.CallerView.{BeginsWith}
-use Rattle.shards.specs.Lodged.{KeyedPlan, Lodged, keyed}
+use Rattle.shards.specs.GuardedView.{KeyedPlan, GuardedView, keyed}
 use Rattle.shards.specs.declared.rule.Known.{Known}
 use Rattle.ebpf_decode.specs.declared.map.MapKind.TheVariants.{Array}
 
@@ -25,10 +25,10 @@ caller_at zero = Controller
 caller_at (suc zero) = Reclaimer
 caller_at (suc (suc number)) = Worker number
 
-abbrev pub place_of : Caller → ℕ
-place_of Controller = 0
-place_of Reclaimer = 1
-place_of (Worker number) = suc (suc number)
+abbrev pub caller_place : Caller → ℕ
+caller_place Controller = 0
+caller_place Reclaimer = 1
+caller_place (Worker number) = suc (suc number)
 
 -- ---- what a seat knows
 
@@ -145,8 +145,8 @@ pub record IsKnownIn (log : List Entry) (v : Known) : Type 0 where
   pub begins : BeginsWith log v.seen
 
 pub record PassFits (dealt : ℕ) (seat : ℕ → ℕ) (log : List Entry) (id : ℕ) (v : Known) : Type 0 where
-  pub one : seat (place_of v.who) ≡ id
-  pub given : place_of v.who < dealt
+  pub one : seat (caller_place v.who) ≡ id
+  pub given : caller_place v.who < dealt
   pub known : IsKnownIn log v
 
 -- the one that has the shard: the lock is taken, and it took it with this history
@@ -161,7 +161,7 @@ pub record EndFits (phase : ℕ) (log : List Entry) (v : Known) : Type 0 where
   pub closed : phase ≡ 3
   pub all : v.all ≡ log
 
-pub record Fits (key : KeyedPlan) (dealer dealt : ℕ) (seat : ℕ → ℕ) (holder phase : ℕ) (log : List Entry) (id : ℕ)
+pub record SeatFits (key : KeyedPlan) (dealer dealt : ℕ) (seat : ℕ → ℕ) (holder phase : ℕ) (log : List Entry) (id : ℕ)
     (v : Known) : Type 0 where
   pub planned : v.seated ≡ true → v.key ≡ key
   pub dealing : v.deals ≡ true → DealerFits dealer dealt id v
@@ -170,13 +170,13 @@ pub record Fits (key : KeyedPlan) (dealer dealt : ℕ) (seat : ℕ → ℕ) (hol
   pub ending : v.ended ≡ true → EndFits phase log v
 
 -- the shard is in its slot, and its journal is the history
-pub record IsHome (key : KeyedPlan) (homes : List (Option Lodged)) (log : List Entry) : Type 0 where
-  pub shard : Lodged
+pub record IsHome (key : KeyedPlan) (homes : List (Option GuardedView)) (log : List Entry) : Type 0 where
+  pub shard : GuardedView
   pub there : get_elem? homes 0 ≡ some (some shard)
   pub planned : shard.key ≡ key
   pub written : reverse shard.journal ≡ log
 
-pub record IsKept (key : KeyedPlan) (s : State Lodged Known) : Type 0 where
+pub record IsLockRuleKept (key : KeyedPlan) (s : State GuardedView Known) : Type 0 where
   -- the dealing seat, how many seats were dealt, the seat of each caller, the seat that took the lock last, and the history
   pub dealer : ℕ
   pub dealt : ℕ
@@ -190,8 +190,8 @@ pub record IsKept (key : KeyedPlan) (s : State Lodged Known) : Type 0 where
   pub few : phase < 4
   pub free : phase ≡ 0 → IsHome key s.homes log
   pub closed : phase ≡ 3 → IsHome key s.homes log
-  pub none_yet : (who : Caller) → dealt ≤ place_of who → own_entries who log ≡ []
-  pub fits : (id : ℕ) (v : Known) → get_elem? s.views id ≡ some v → Fits key dealer dealt seat holder phase log id v
+  pub none_yet : (who : Caller) → dealt ≤ caller_place who → own_entries who log ≡ []
+  pub fits : (id : ℕ) (v : Known) → get_elem? s.views id ≡ some v → SeatFits key dealer dealt seat holder phase log id v
 
 -- ---- the steps
 
@@ -203,8 +203,8 @@ abbrev pub newcomer : Known → Known
 newcomer v = pass_of v.key (caller_at v.dealt) [] []
 
 -- a visitor comes; the table shows it the key
-abbrev pub Comes : Step Lodged → Me Lodged Known → ℕ → Me Lodged Known → Type 0
-Comes s v found w = w ≡ (visitor_of v.0.key, [])
+abbrev pub MakesVisitor : Step GuardedView → Me GuardedView Known → ℕ → Me GuardedView Known → Type 0
+MakesVisitor s v found w = w ≡ (visitor_of v.0.key, [])
 
 abbrev pub taking : Known → List Entry → Known
 taking v all = record {
@@ -223,22 +223,22 @@ taking v all = record {
 
 -- the seat has the shard, as it was planned. If it is a caller's, it learns that its own entries are all of its caller's, and that what it
 -- saw is a beginning of the history
-pub record HasTaken (before after : Me Lodged Known) : Type 0 where
-  pub shard : Lodged
+pub record HasTaken (before after : Me GuardedView Known) : Type 0 where
+  pub shard : GuardedView
   pub planned : shard.key ≡ before.0.key
   pub has : after ≡ (taking before.0 (reverse shard.journal), (0, shard) ∷ [])
   pub known : before.0.acts ≡ true → IsKnownIn (reverse shard.journal) before.0
 
 -- the lock is taken, where the word was the one expected
-abbrev pub Takes : Step Lodged → Me Lodged Known → ℕ → Me Lodged Known → Type 0
-Takes s v found w = MatchBool (found == s.first) (HasTaken v w) (w ≡ v)
+abbrev pub TakesShard : Step GuardedView → Me GuardedView Known → ℕ → Me GuardedView Known → Type 0
+TakesShard s v found w = MatchBool (found == s.first) (HasTaken v w) (w ≡ v)
 
 -- the lock is marked, where the word was the one expected
-abbrev pub Marks : Step Lodged → Me Lodged Known → ℕ → Me Lodged Known → Type 0
-Marks s v found w = w ≡ v
+abbrev pub MarksSleepers : Step GuardedView → Me GuardedView Known → ℕ → Me GuardedView Known → Type 0
+MarksSleepers s v found w = w ≡ v
 
 -- the shard is given back: its journal is the history now, and the seat has seen all of it
-abbrev pub given : Known → List (ℕ × Lodged) → Known
+abbrev pub given : Known → List (ℕ × GuardedView) → Known
 given v [] = v
 given v (x ∷ xs) = record {
   key = v.key;
@@ -254,12 +254,12 @@ given v (x ∷ xs) = record {
   all = [];
 }
 
-abbrev pub Gives : Step Lodged → Me Lodged Known → ℕ → Me Lodged Known → Type 0
-Gives s v found w = w ≡ (given v.0 v.1, [])
+abbrev pub GivesShardBack : Step GuardedView → Me GuardedView Known → ℕ → Me GuardedView Known → Type 0
+GivesShardBack s v found w = w ≡ (given v.0 v.1, [])
 
 -- the shard is put back for good, as it was found
-abbrev pub ending : Known → Known
-ending v = record {
+abbrev pub shard_closed : Known → Known
+shard_closed v = record {
   key = v.key;
   seated = v.seated;
   deals = v.deals;
@@ -273,13 +273,13 @@ ending v = record {
   all = v.all;
 }
 
-abbrev pub Ends : Step Lodged → Me Lodged Known → ℕ → Me Lodged Known → Type 0
-Ends s v found w = w ≡ (ending v.0, [])
+abbrev pub ClosesShard : Step GuardedView → Me GuardedView Known → ℕ → Me GuardedView Known → Type 0
+ClosesShard s v found w = w ≡ (shard_closed v.0, [])
 
 -- ---- a visitor's seat with a caller's, and both apart again
 
-abbrev pub joined : Known → Known → Known
-joined v w = record {
+abbrev pub visitor_with_caller : Known → Known → Known
+visitor_with_caller v w = record {
   key = v.key;
   seated = v.seated;
   deals = v.deals;
@@ -315,5 +315,5 @@ all_seen v = record {
 }
 
 -- the caller has seen all, and knows all of its own
-abbrev pub Sees : Step Lodged → Me Lodged Known → ℕ → Me Lodged Known → Type 0
-Sees s v found w = (w ≡ (all_seen v.0, v.1)) × IsKnownIn v.0.all v.0
+abbrev pub SeesHistory : Step GuardedView → Me GuardedView Known → ℕ → Me GuardedView Known → Type 0
+SeesHistory s v found w = (w ≡ (all_seen v.0, v.1)) × IsKnownIn v.0.all v.0

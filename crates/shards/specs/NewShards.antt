@@ -12,9 +12,9 @@ use Rattle.journals.specs.JournalsView.{AreImageMaps}
 use Rattle.shards.specs.declared.rule.Known.{Known}
 use Rattle.shards.specs.declared.deeds.Account.{Account}
 use Rattle.shards.specs.declared.deeds.OrderPart.TheVariants.{ByCaller}
-use Rattle.shards.specs.Lodged.{KeyedPlan}
+use Rattle.shards.specs.GuardedView.{KeyedPlan}
 use Rattle.shards.specs.LockRule.{lock_place, caller_at, pass_of, no_plan, no_table}
-use Rattle.shards.specs.OrderRule.{IsFresh, place_at}
+use Rattle.shards.specs.OrderRule.{IsFresh, order_place_at}
 use Rattle.shards.specs.Passes.{badge_at}
 use Rattle.semantics.specs.Each.{Each}
 use Rattle.shards.specs.ShardPasses.{ShardPassView}
@@ -94,21 +94,21 @@ abbrev pub is_dealt_at : List Bool → ℕ → Bool
 is_dealt_at dealt place = slice_index_or dealt place true
 
 -- the row has the seats of the callers that have none yet
-abbrev pub IsRow : (ℕ → TableId) → (ℕ → KeyedPlan) → List Bool → ℕ → List (Badge Known) → Type 0
-IsRow table key dealt number row = (place : ℕ) → is_dealt_at dealt place ≡ false →
+abbrev pub HasSeatsLeft : (ℕ → TableId) → (ℕ → KeyedPlan) → List Bool → ℕ → List (Badge Known) → Type 0
+HasSeatsLeft table key dealt number row = (place : ℕ) → is_dealt_at dealt place ≡ false →
     (place < length row) × IsNewBadge (table number) (key number) (caller_at place) (badge_at row place)
 
 pub record IsDealer (table : ℕ → TableId) (key : ℕ → KeyedPlan) (count : ℕ) (rooms : List ℕ)
     (dealt : List Bool) (rows : List (List (Badge Known))) : Type 0 where
   pub sized : length rows ≡ count
-  pub waiting : (number : ℕ) → number < count → IsRow table key dealt number (row_at rows number)
+  pub waiting : (number : ℕ) → number < count → HasSeatsLeft table key dealt number (row_at rows number)
   pub roomed : length rooms ≡ count
   pub enough : (number : ℕ) → number < count → IsRoomOf (λ (n : ℕ). (key n).plan) number (room_at rooms number)
 
 -- and at the order: the seats of the callers that have none yet
 abbrev pub AreAtOrder : TableId → List Bool → List (Badge (List Account)) → Type 0
 AreAtOrder order dealt places = (place : ℕ) → is_dealt_at dealt place ≡ false →
-    (place < length places) × IsFresh order (ByCaller (caller_at place)) (place_at places place)
+    (place < length places) × IsFresh order (ByCaller (caller_at place)) (order_place_at places place)
 
 -- ---- a caller's part, made of its seat
 
@@ -132,20 +132,20 @@ abbrev pub shard_at : List JournaledShard → ℕ → JournaledShard
 shard_at shards number = slice_index_or shards number (opened_shard no_plan)
 
 -- nothing has happened in the shard
-abbrev pub IsUnused : JournaledShard → Type 0
-IsUnused shard = shard ≡ opened_shard shard.plan
+abbrev pub IsUnusedShard : JournaledShard → Type 0
+IsUnusedShard shard = shard ≡ opened_shard shard.plan
 
 abbrev pub AreUnused : List JournaledShard → Type 0
-AreUnused shards = Each (λ number shard. IsUnused shard) 0 shards
+AreUnused shards = Each (λ number shard. IsUnusedShard shard) 0 shards
 
 -- the new shard has the plan of the shard that it was made of, and N seats
-pub record IsMadeOf (shards : List JournaledShard) (order : TableId) (callers number : ℕ) (new : NewShardView) : Type 0 where
+pub record IsNewShardOf (shards : List JournaledShard) (order : TableId) (callers number : ℕ) (new : NewShardView) : Type 0 where
   pub plan_is : new.plan ≡ (shard_at shards number).plan
   pub places_are : new.places ≡ callers
   pub order_is : new.order ≡ order
 
 -- the row has all seats of the shard that it was made of
-pub record IsRowOf (table : ℕ → TableId) (key : ℕ → KeyedPlan) (shards : List NewShardView) (number : ℕ)
+pub record HasAllSeats (table : ℕ → TableId) (key : ℕ → KeyedPlan) (shards : List NewShardView) (number : ℕ)
     (row : List (Badge Known)) : Type 0 where
   pub count : length row ≡ (new_at shards number).places
   pub fresh : AreNewSeats (table number) (key number) row

@@ -16,14 +16,14 @@ use Rattle.shards.specs.declared.deeds.OrderPart.{OrderPart}
 use Rattle.shards.specs.declared.deeds.OrderPart.TheVariants.{OnShard, ByCaller}
 use Rattle.shards.specs.declared.deeds.Account.{Account}
 use Rattle.shards.specs.declared.order_rule.OrderKey.{OrderKey}
-use Rattle.shards.specs.Deeds.{deeds_of, AreMet, AreWithin}
-use Rattle.shards.specs.Lodged.{KeyedPlan}
-use Rattle.shards.specs.LockRule.{caller_at, place_of, no_plan, no_table}
+use Rattle.shards.specs.Deeds.{deeds_of, AreMet, AreDeedsWithin}
+use Rattle.shards.specs.GuardedView.{KeyedPlan}
+use Rattle.shards.specs.LockRule.{caller_at, caller_place, no_plan, no_table}
 
 -- parts by number
-abbrev pub code_of : OrderPart → ℕ
-code_of (OnShard number) = 2 * number
-code_of (ByCaller who) = suc (2 * place_of who)
+abbrev pub part_code : OrderPart → ℕ
+part_code (OnShard number) = 2 * number
+part_code (ByCaller who) = suc (2 * caller_place who)
 
 abbrev pub plan_in : List ShardPlan → ℕ → ShardPlan
 plan_in plans number = slice_index_or plans number no_plan
@@ -58,41 +58,41 @@ with_first accounts (one ∷ others) = one ∷ accounts
 -- ---- the rule
 
 pub record IsAccount (owner : ℕ → ℕ) (all : List Deed) (id : ℕ) (one : Account) : Type 0 where
-  pub own : owner (code_of one.part) ≡ id
+  pub own : owner (part_code one.part) ≡ id
   pub kept : one.deeds ≡ deeds_of one.part all
 
 abbrev pub AreAccounts : (ℕ → ℕ) → List Deed → ℕ → List Account → Type 0
 AreAccounts owner all id [] = Unit {0}
 AreAccounts owner all id (one ∷ others) = IsAccount owner all id one × AreAccounts owner all id others
 
-pub record IsOrder {S : Type 0} (plans : List ShardPlan) (s : State S (List Account)) : Type 0 where
+pub record IsOrderRuleKept {S : Type 0} (plans : List ShardPlan) (s : State S (List Account)) : Type 0 where
   -- the order, newest first, and the seat that has the account of each part
   pub all : List Deed
   pub owner : ℕ → ℕ
-  pub within : AreWithin (length plans) all
+  pub within : AreDeedsWithin (length plans) all
   pub met : AreMet (plan_in plans) all
   pub fits : (id : ℕ) (v : List Account) → get_elem? s.views id ≡ some v → AreAccounts owner all id v
 
 -- a seat without an account comes
-abbrev pub Comes : {S : Type 0} → Me S (List Account) → Type 0
-Comes w = w ≡ ([], [])
+abbrev pub MakesEmptySeat : {S : Type 0} → Me S (List Account) → Type 0
+MakesEmptySeat w = w ≡ ([], [])
 
 -- a deed is added to the order, and to each account of the seat
 abbrev pub noted : Deed → List Account → List Account
 noted deed accounts = map (λ (one : Account). account one.part (deed ∷ one.deeds)) accounts
 
-abbrev pub Adds : {S : Type 0} → Deed → Me S (List Account) → Me S (List Account) → Type 0
-Adds deed v w = w ≡ (noted deed v.0, v.1)
+abbrev pub AddsDeed : {S : Type 0} → Deed → Me S (List Account) → Me S (List Account) → Type 0
+AddsDeed deed v w = w ≡ (noted deed v.0, v.1)
 
 -- ---- seats with one account
 
-abbrev pub deeds_in : List Account → List Deed
-deeds_in [] = []
-deeds_in (one ∷ others) = one.deeds
+abbrev pub account_deeds : List Account → List Deed
+account_deeds [] = []
+account_deeds (one ∷ others) = one.deeds
 
 abbrev pub deeds_viewed : List (List Account) → List Deed
 deeds_viewed [] = []
-deeds_viewed (accounts ∷ others) = deeds_in accounts
+deeds_viewed (accounts ∷ others) = account_deeds accounts
 
 -- and of a seat that rests
 abbrev pub deeds_at : Badge (List Account) → List Deed
@@ -102,7 +102,7 @@ abbrev pub IsPlaceOf : TableId → OrderPart → Badge (List Account) → Type 0
 IsPlaceOf table part place = (place.table_id ≡ table) × (place.views ≡ (account part (deeds_at place) ∷ []) ∷ [])
 
 abbrev pub IsSeatFor : {S : Type 0} → TableId → OrderPart → Seat S (List Account) → Type 0
-IsSeatFor table part seat = (seat.table_id ≡ table) × (seat.me ≡ (account part (deeds_in seat.me.0) ∷ [], []))
+IsSeatFor table part seat = (seat.table_id ≡ table) × (seat.me ≡ (account part (account_deeds seat.me.0) ∷ [], []))
 
 -- a seat with this account rests in the place
 pub record IsPlaced (table : TableId) (one : Account) (place : Badge (List Account)) : Type 0 where
@@ -113,11 +113,11 @@ pub record IsPlaced (table : TableId) (one : Account) (place : Badge (List Accou
 abbrev pub IsFresh : TableId → OrderPart → Badge (List Account) → Type 0
 IsFresh table part place = IsPlaced table (account part []) place
 
-abbrev pub no_place : Badge (List Account)
-no_place = record { marker = record {}; table_id = no_table; id = 0; views = [] }
+abbrev pub no_order_place : Badge (List Account)
+no_order_place = record { marker = record {}; table_id = no_table; id = 0; views = [] }
 
-abbrev pub place_at : List (Badge (List Account)) → ℕ → Badge (List Account)
-place_at places number = slice_index_or places number no_place
+abbrev pub order_place_at : List (Badge (List Account)) → ℕ → Badge (List Account)
+order_place_at places number = slice_index_or places number no_order_place
 
 -- the account at a place
 abbrev pub account_at : List Account → ℕ → Account
@@ -126,11 +126,11 @@ account_at accounts place = slice_index_or accounts place (account (OnShard 0) [
 -- the parts of accounts are not the same twice
 abbrev pub AreOther : ℕ → List Account → Type 0
 AreOther code [] = Unit {0}
-AreOther code (one ∷ others) = (code_of one.part ≢ code) × AreOther code others
+AreOther code (one ∷ others) = (part_code one.part ≢ code) × AreOther code others
 
-abbrev pub AreApart : List Account → Type 0
-AreApart [] = Unit {0}
-AreApart (one ∷ others) = AreOther (code_of one.part) others × AreApart others
+abbrev pub HaveDistinctParts : List Account → Type 0
+HaveDistinctParts [] = Unit {0}
+HaveDistinctParts (one ∷ others) = AreOther (part_code one.part) others × HaveDistinctParts others
 
 -- each account lies in its place
 abbrev pub ArePlaces : TableId → List Account → List (Badge (List Account)) → Type 0
@@ -164,13 +164,13 @@ pub record KnowsShard {S P A : Type 0} (key : KeyedPlan) (order : Table S (List 
 
 -- ---- its end
 
-abbrev pub HasAccount : Account → List Account → Type 0
-HasAccount one [] = ⊥
-HasAccount one (other ∷ others) = (other ≡ one) ⊎ HasAccount one others
+abbrev pub IsOneOfAccounts : Account → List Account → Type 0
+IsOneOfAccounts one [] = ⊥
+IsOneOfAccounts one (other ∷ others) = (other ≡ one) ⊎ IsOneOfAccounts one others
 
 -- one list of deeds; each of these accounts is a part of it
 pub record IsEnd (plans : List ShardPlan) (accounts : List Account) : Type 0 where
   pub all : List Deed
-  pub within : AreWithin (length plans) all
+  pub within : AreDeedsWithin (length plans) all
   pub met : AreMet (plan_in plans) all
-  pub each : (one : Account) → HasAccount one accounts → one.deeds ≡ deeds_of one.part all
+  pub each : (one : Account) → IsOneOfAccounts one accounts → one.deeds ≡ deeds_of one.part all

@@ -13,7 +13,7 @@ use Rattle.semantics.specs.declared.call.Entry.{Entry}
 use Rattle.journals.specs.JournalsView.{JournalsView, entries_at}
 use Rattle.shards.specs.declared.rule.Known.{Known}
 use Rattle.shards.specs.declared.deeds.Deed.{Deed}
-use Rattle.shards.specs.Lodged.{KeyedPlan}
+use Rattle.shards.specs.GuardedView.{KeyedPlan}
 use Rattle.shards.specs.CallerView.{CallerView, nothing_seen, IsSettled}
 use Rattle.shards.specs.LockRule.{no_key, no_table}
 use Rattle.shards.specs.ShardPasses.{ShardPassView}
@@ -85,8 +85,8 @@ badge_at badges number = slice_index_or badges number blank
 abbrev pub no_part : ShardPassView
 no_part = record { table = no_table; key = no_key; who = Reclaimer; has_it = false; view = nothing_seen }
 
-abbrev pub part_at : List ShardPassView → ℕ → ShardPassView
-part_at parts number = slice_index_or parts number no_part
+abbrev pub shard_pass_at : List ShardPassView → ℕ → ShardPassView
+shard_pass_at parts number = slice_index_or parts number no_part
 
 abbrev pub pass_view : Caller → List ShardPassView → List Deed → PassView
 pass_view who parts deeds = record { who = who; views = map (λ (part : ShardPassView). part.view) parts; deeds = deeds }
@@ -101,4 +101,4 @@ pub record IsPartOf (table : TableId) (key : KeyedPlan) (who : Caller) (part : S
 -- one for each shard
 pub record IsPass (table : ℕ → TableId) (key : ℕ → KeyedPlan) (count : ℕ) (who : Caller) (parts : List ShardPassView) : Type 0 where
   pub sized : length parts ≡ count
-  pub each : (number : ℕ) → number < count → IsPartOf (table number) (key number) who (part_at parts number)
+  pub each : (number : ℕ) → number < count → IsPartOf (table number) (key number) who (shard_pass_at parts number)

@@ -6,7 +6,7 @@ use Rattle.atomic_table.specs.declared.owned.Table.{Table}
 use Rattle.atomic_table.specs.declared.shared.Seat.{Seat}
 use Rattle.semantics.specs.declared.call.Entry.{Entry}
 use Rattle.semantics.specs.CallerLaws.{own_entries}
-use Rattle.shards.specs.Lodged.{KeyedPlan, Lodged}
+use Rattle.shards.specs.GuardedView.{KeyedPlan, GuardedView}
 use Rattle.shards.specs.declared.rule.Known.{Known}
 use Rattle.shards.specs.CallerView.{CallerView}
 use Rattle.shards.specs.LockRule.{lock_place, visiting}
@@ -25,11 +25,11 @@ IsLockOf table key lock = (lock.shared.table_id ≡ table) × (lock_place < tabl
 -- ---- a seat
 
 -- what a caller knows of the shard: the shard's whole journal while it has the shard
-abbrev pub view_of : Me Lodged Known → CallerView
+abbrev pub view_of : Me GuardedView Known → CallerView
 view_of (v, []) = record { seen = v.seen; own = v.own }
 view_of (v, (x ∷ xs)) = record { seen = reverse x.1.journal; own = own_entries v.who (reverse x.1.journal) }
 
-abbrev pub has_shard : Me Lodged Known → Bool
+abbrev pub has_shard : Me GuardedView Known → Bool
 has_shard (v, []) = false
 has_shard (v, (x ∷ xs)) = true
 
@@ -39,7 +39,7 @@ AreBy v [] = Unit {0}
 AreBy v (entry ∷ older) = (v.acts ≡ true) × (entry.who ≡ v.who) × AreBy v older
 
 -- it has the shard, to whose journal nobody else has added since the lock was taken
-pub record HasShard (v : Known) (x : ℕ × Lodged) (others : List (ℕ × Lodged)) : Type 0 where
+pub record HasShard (v : Known) (x : ℕ × GuardedView) (others : List (ℕ × GuardedView)) : Type 0 where
   pub holds : v.holds ≡ true
   pub slot : x.0 ≡ 0
   pub only : others ≡ []
@@ -48,20 +48,20 @@ pub record HasShard (v : Known) (x : ℕ × Lodged) (others : List (ℕ × Lodge
   pub grown : reverse x.1.journal ≡ later ++ v.all
   pub made : AreBy v later
 
-abbrev pub IsHolding : Known → List (ℕ × Lodged) → Type 0
+abbrev pub IsHolding : Known → List (ℕ × GuardedView) → Type 0
 IsHolding v [] = v.holds ≡ false
 IsHolding v (x ∷ xs) = HasShard v x xs
 
 -- a seat of this table, alone or with the shard
-pub record IsSeatOf (table : TableId) (seat : Seat Lodged Known) : Type 0 where
+pub record IsSeatOf (table : TableId) (seat : Seat GuardedView Known) : Type 0 where
   pub table_is : seat.table_id ≡ table
   pub seated : seat.me.0.seated ≡ true
   pub holding : IsHolding seat.me.0 seat.me.1
 
 -- a visitor that has this shard
-pub record IsVisitor (table : TableId) (key : KeyedPlan) (history : List Entry) (seat : Seat Lodged Known) : Type 0 where
+pub record IsVisitor (table : TableId) (key : KeyedPlan) (history : List Entry) (seat : Seat GuardedView Known) : Type 0 where
   pub table_is : seat.table_id ≡ table
-  pub shard : Lodged
+  pub shard : GuardedView
   pub planned : shard.key ≡ key
   pub written : reverse shard.journal ≡ history
   pub has : seat.me ≡ (visiting key history, (0, shard) ∷ [])

@@ -1,6 +1,7 @@
 -- What a caller's pass has for one shard.
 use Rattle.std.specs.Prelude.{◌≡◌, true, Bool, List}
 use Rattle.atomic_table.specs.Seated.{TableId}
+use Rattle.atomic_table.specs.declared.owned.Table.{Table}
 use Rattle.atomic_table.specs.declared.shared.Seat.{Seat}
 use Rattle.semantics.specs.declared.call.Caller.{Caller}
 use Rattle.semantics.specs.declared.call.Caller.TheVariants.{Worker}
@@ -8,10 +9,14 @@ use Rattle.semantics.specs.declared.call.Entry.{Entry}
 use Rattle.semantics.specs.CallerLaws.{own_entries}
 use Rattle.semantics.specs.History.{IsLegalHistory}
 use Rattle.semantics.specs.Reclamation.{is_inside}
-use Rattle.shards.specs.Lodged.{KeyedPlan, Lodged}
+use Rattle.shards.specs.GuardedView.{KeyedPlan, GuardedView}
 use Rattle.shards.specs.declared.rule.Known.{Known}
 use Rattle.shards.specs.CallerView.{CallerView}
-use Rattle.shards.specs.Seats.{view_of, has_shard, IsHolding}
+use Rattle.shards.specs.declared.deeds.Account.{Account}
+use Rattle.shards.specs.declared.deeds.OrderPart.TheVariants.{ByCaller}
+use Rattle.shards.specs.declared.order_rule.OrderKey.{OrderKey}
+use Rattle.shards.specs.OrderRule.{IsSeatFor, KnowsShard}
+use Rattle.shards.specs.Seats.{IsLockOf, view_of, has_shard, IsHolding}
 use Rattle.shards.specs.HeldCells.{HeldIds, AreHeldOf}
 
 -- the table of the shard's word, the shard's plan with the order, the caller, whether it has the shard, and what it has seen
@@ -22,7 +27,7 @@ pub record ShardPassView : Type 0 where
   pub has_it : Bool
   pub view : CallerView
 
-abbrev pub shard_pass_view : Seat Lodged Known → ShardPassView
+abbrev pub shard_pass_view : Seat GuardedView Known → ShardPassView
 shard_pass_view seat = record {
   table = seat.table_id;
   key = seat.me.0.key;
@@ -38,7 +43,7 @@ IsFlagOf who own flag = Unit {0}
 
 -- a caller's seat, with or without the shard; a flag, and a list of the cells that the caller holds, by its own entries. Its own entries
 -- are all of the caller's in what it has seen, and what it has seen is legal
-pub record IsShardPass (seat : Seat Lodged Known) (inside : Bool) (held : HeldIds) : Type 0 where
+pub record IsShardPass (seat : Seat GuardedView Known) (inside : Bool) (held : HeldIds) : Type 0 where
   pub seated : seat.me.0.seated ≡ true
   pub acts : seat.me.0.acts ≡ true
   pub holding : IsHolding seat.me.0 seat.me.1
@@ -53,3 +58,12 @@ pub record IsSameShard (before after : ShardPassView) : Type 0 where
   pub key : after.key ≡ before.key
   pub plan : after.key.plan ≡ before.key.plan
   pub who : after.who ≡ before.who
+
+-- the caller's part, with the shard or without it, at the lock of its shard; the order knows the shard, and the seat there is the caller's
+pub record IsCallerAt {S V P A T Q C U : Type 0} (has_it : Bool) (part : ShardPassView) (who : Caller) (lock : Table S V KeyedPlan P A)
+    (order : Table T (List Account) OrderKey Q C) (mine : Seat U (List Account)) : Type 0 where
+  pub lock_is : IsLockOf part.table part.key lock
+  pub caller : part.who ≡ who
+  pub has : part.has_it ≡ has_it
+  pub order_is : KnowsShard part.key order
+  pub mine_is : IsSeatFor part.key.order (ByCaller who) mine

@@ -8,7 +8,7 @@ use Rattle.semantics.specs.declared.plan.ShardPlan.{ShardPlan}
 use Rattle.semantics.specs.ShardPlan.{plan_at, AreOptions}
 use Rattle.journals.specs.JournalsView.{AreImageMaps}
 use Rattle.semantics.specs.Each.{Each}
-use Rattle.shards.specs.Lodged.{KeyedPlan, keys}
+use Rattle.shards.specs.GuardedView.{KeyedPlan, keys}
 use Rattle.shards.specs.Seats.{IsLockOf}
 
 -- what they were opened for

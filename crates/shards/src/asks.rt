@@ -11,7 +11,7 @@ ghost use Rattle.shard_core.specs.Calls.{MayCall, IsFullFor, after_call};
 ghost use Rattle.semantics.specs.Reclamation.{held_change};
 ghost use Rattle.journal.specs.Entries.{found_reply, leave_entry, load_on, store_on, atomic_on};
 ghost use Rattle.shards.specs.declared.deeds.Deed.TheVariants.{Wrote};
-ghost use Rattle.shards.specs.Asked.{MayAsk, IsAnswered, IsTurnedAway};
+ghost use Rattle.shards.specs.Asked.{PassMayAsk, PassIsServed, PassIsRefused};
 ghost use Rattle.shards.specs.Deeds.{deed_by};
 ghost use Rattle.shards.specs.Passes.{KnowsItsOwn, IsElsewhereSame};
 
@@ -347,11 +347,11 @@ impl<B: Naming> Shards<B> {
     /// A worker enters the shard.
     pub fn enter(&self, rt: &impl Wait, pass: &mut Pass<B>, shard: u32) -> Result<(), JournalFull>
         requires shard { shard < B.count }
-        requires met { MayAsk (B.plan shard) shard pass.old (Enter shard) }
+        requires met { PassMayAsk (B.plan shard) shard pass.old (Enter shard) }
         ensures elsewhere { IsElsewhereSame shard pass.old pass.new }
         ensures own { KnowsItsOwn shard pass.new }
-        ensures served { OnOk result (IsAnswered (B.plan shard) shard pass.old pass.new (Enter shard) Entered) }
-        ensures refused { OnErr result (IsTurnedAway (B.plan shard) shard pass.old pass.new (Enter shard)) }
+        ensures served { OnOk result (PassIsServed (B.plan shard) shard pass.old pass.new (Enter shard) Entered) }
+        ensures refused { OnErr result (PassIsRefused (B.plan shard) shard pass.old pass.new (Enter shard)) }
         ensures names_the_shard { IfErr result (λ fault. fault.shard ≡ shard) }
         ensures did { pass.new.deeds ≡ deed_by pass.old.who (Enter shard) (λ (done : Unit {0}). Entered) result ∷ pass.old.deeds }
     {
@@ -361,10 +361,10 @@ impl<B: Naming> Shards<B> {
     /// A worker leaves the shard, and lets its cells go. Never refused.
     pub fn leave(&self, rt: &impl Wait, pass: &mut Pass<B>, shard: u32)
         requires shard { shard < B.count }
-        requires met { MayAsk (B.plan shard) shard pass.old (Leave shard) }
+        requires met { PassMayAsk (B.plan shard) shard pass.old (Leave shard) }
         ensures elsewhere { IsElsewhereSame shard pass.old pass.new }
         ensures own { KnowsItsOwn shard pass.new }
-        ensures served { IsAnswered (B.plan shard) shard pass.old pass.new (Leave shard) Left }
+        ensures served { PassIsServed (B.plan shard) shard pass.old pass.new (Leave shard) Left }
         ensures did { pass.new.deeds ≡ Wrote (leave_entry shard pass.old.who) ∷ pass.old.deeds }
     {
         if self.ask(rt, pass, shard, Leaves).is_err() {
@@ -381,12 +381,12 @@ impl<B: Naming> Shards<B> {
         key: &[u8],
     ) -> Result<Option<u64>, JournalFull>
         requires shard { shard < B.count }
-        requires met { MayAsk (B.plan shard) shard pass.old (Lookup shard key.now) }
+        requires met { PassMayAsk (B.plan shard) shard pass.old (Lookup shard key.now) }
         ensures elsewhere { IsElsewhereSame shard pass.old pass.new }
         ensures own { KnowsItsOwn shard pass.new }
         ensures served { IfOk result
-            (λ found. IsAnswered (B.plan shard) shard pass.old pass.new (Lookup shard key.now) (found_reply shard found)) }
-        ensures refused { OnErr result (IsTurnedAway (B.plan shard) shard pass.old pass.new (Lookup shard key.now)) }
+            (λ found. PassIsServed (B.plan shard) shard pass.old pass.new (Lookup shard key.now) (found_reply shard found)) }
+        ensures refused { OnErr result (PassIsRefused (B.plan shard) shard pass.old pass.new (Lookup shard key.now)) }
         ensures names_the_shard { IfErr result (λ fault. fault.shard ≡ shard) }
         ensures did { pass.new.deeds ≡ deed_by pass.old.who (Lookup shard key.now) (found_reply shard) result ∷ pass.old.deeds }
     {
@@ -402,11 +402,11 @@ impl<B: Naming> Shards<B> {
         range: &CellRange,
     ) -> Result<u64, JournalFull>
         requires shard { shard < B.count }
-        requires met { MayAsk (B.plan shard) shard pass.old (load_on shard range.now) }
+        requires met { PassMayAsk (B.plan shard) shard pass.old (load_on shard range.now) }
         ensures elsewhere { IsElsewhereSame shard pass.old pass.new }
         ensures own { KnowsItsOwn shard pass.new }
-        ensures served { IfOk result (λ value. IsAnswered (B.plan shard) shard pass.old pass.new (load_on shard range.now) (Word value)) }
-        ensures refused { OnErr result (IsTurnedAway (B.plan shard) shard pass.old pass.new (load_on shard range.now)) }
+        ensures served { IfOk result (λ value. PassIsServed (B.plan shard) shard pass.old pass.new (load_on shard range.now) (Word value)) }
+        ensures refused { OnErr result (PassIsRefused (B.plan shard) shard pass.old pass.new (load_on shard range.now)) }
         ensures names_the_shard { IfErr result (λ fault. fault.shard ≡ shard) }
         ensures did { pass.new.deeds ≡ deed_by pass.old.who (load_on shard range.now) Word result ∷ pass.old.deeds }
     {
@@ -423,11 +423,11 @@ impl<B: Naming> Shards<B> {
         value: u64,
     ) -> Result<(), JournalFull>
         requires shard { shard < B.count }
-        requires met { MayAsk (B.plan shard) shard pass.old (store_on shard range.now value) }
+        requires met { PassMayAsk (B.plan shard) shard pass.old (store_on shard range.now value) }
         ensures elsewhere { IsElsewhereSame shard pass.old pass.new }
         ensures own { KnowsItsOwn shard pass.new }
-        ensures served { OnOk result (IsAnswered (B.plan shard) shard pass.old pass.new (store_on shard range.now value) Done) }
-        ensures refused { OnErr result (IsTurnedAway (B.plan shard) shard pass.old pass.new (store_on shard range.now value)) }
+        ensures served { OnOk result (PassIsServed (B.plan shard) shard pass.old pass.new (store_on shard range.now value) Done) }
+        ensures refused { OnErr result (PassIsRefused (B.plan shard) shard pass.old pass.new (store_on shard range.now value)) }
         ensures names_the_shard { IfErr result (λ fault. fault.shard ≡ shard) }
         ensures did { pass.new.deeds ≡
             deed_by pass.old.who (store_on shard range.now value) (λ (done : Unit {0}). Done) result ∷ pass.old.deeds }
@@ -445,12 +445,12 @@ impl<B: Naming> Shards<B> {
         change: &AtomicChange,
     ) -> Result<u64, JournalFull>
         requires shard { shard < B.count }
-        requires met { MayAsk (B.plan shard) shard pass.old (atomic_on shard range.now change.now) }
+        requires met { PassMayAsk (B.plan shard) shard pass.old (atomic_on shard range.now change.now) }
         ensures elsewhere { IsElsewhereSame shard pass.old pass.new }
         ensures own { KnowsItsOwn shard pass.new }
         ensures served { IfOk result
-            (λ value. IsAnswered (B.plan shard) shard pass.old pass.new (atomic_on shard range.now change.now) (Word value)) }
-        ensures refused { OnErr result (IsTurnedAway (B.plan shard) shard pass.old pass.new (atomic_on shard range.now change.now)) }
+            (λ value. PassIsServed (B.plan shard) shard pass.old pass.new (atomic_on shard range.now change.now) (Word value)) }
+        ensures refused { OnErr result (PassIsRefused (B.plan shard) shard pass.old pass.new (atomic_on shard range.now change.now)) }
         ensures names_the_shard { IfErr result (λ fault. fault.shard ≡ shard) }
         ensures did { pass.new.deeds ≡ deed_by pass.old.who (atomic_on shard range.now change.now) Word result ∷ pass.old.deeds }
     {
@@ -468,12 +468,12 @@ impl<B: Naming> Shards<B> {
         flags: u64,
     ) -> Result<i32, JournalFull>
         requires shard { shard < B.count }
-        requires met { MayAsk (B.plan shard) shard pass.old (Update shard key.now value.now flags) }
+        requires met { PassMayAsk (B.plan shard) shard pass.old (Update shard key.now value.now flags) }
         ensures elsewhere { IsElsewhereSame shard pass.old pass.new }
         ensures own { KnowsItsOwn shard pass.new }
         ensures served { IfOk result
-            (λ code. IsAnswered (B.plan shard) shard pass.old pass.new (Update shard key.now value.now flags) (Answer code)) }
-        ensures refused { OnErr result (IsTurnedAway (B.plan shard) shard pass.old pass.new (Update shard key.now value.now flags)) }
+            (λ code. PassIsServed (B.plan shard) shard pass.old pass.new (Update shard key.now value.now flags) (Answer code)) }
+        ensures refused { OnErr result (PassIsRefused (B.plan shard) shard pass.old pass.new (Update shard key.now value.now flags)) }
         ensures names_the_shard { IfErr result (λ fault. fault.shard ≡ shard) }
         ensures did { pass.new.deeds ≡ deed_by pass.old.who (Update shard key.now value.now flags) Answer result ∷ pass.old.deeds }
     {
@@ -489,11 +489,11 @@ impl<B: Naming> Shards<B> {
         key: &[u8],
     ) -> Result<i32, JournalFull>
         requires shard { shard < B.count }
-        requires met { MayAsk (B.plan shard) shard pass.old (Delete shard key.now) }
+        requires met { PassMayAsk (B.plan shard) shard pass.old (Delete shard key.now) }
         ensures elsewhere { IsElsewhereSame shard pass.old pass.new }
         ensures own { KnowsItsOwn shard pass.new }
-        ensures served { IfOk result (λ code. IsAnswered (B.plan shard) shard pass.old pass.new (Delete shard key.now) (Answer code)) }
-        ensures refused { OnErr result (IsTurnedAway (B.plan shard) shard pass.old pass.new (Delete shard key.now)) }
+        ensures served { IfOk result (λ code. PassIsServed (B.plan shard) shard pass.old pass.new (Delete shard key.now) (Answer code)) }
+        ensures refused { OnErr result (PassIsRefused (B.plan shard) shard pass.old pass.new (Delete shard key.now)) }
         ensures names_the_shard { IfErr result (λ fault. fault.shard ≡ shard) }
         ensures did { pass.new.deeds ≡ deed_by pass.old.who (Delete shard key.now) Answer result ∷ pass.old.deeds }
     {
@@ -508,11 +508,11 @@ impl<B: Naming> Shards<B> {
         shard: u32,
     ) -> Result<u64, JournalFull>
         requires shard { shard < B.count }
-        requires met { MayAsk (B.plan shard) shard pass.old (Reclaim shard) }
+        requires met { PassMayAsk (B.plan shard) shard pass.old (Reclaim shard) }
         ensures elsewhere { IsElsewhereSame shard pass.old pass.new }
         ensures own { KnowsItsOwn shard pass.new }
-        ensures served { IfOk result (λ count. IsAnswered (B.plan shard) shard pass.old pass.new (Reclaim shard) (Freed count)) }
-        ensures refused { OnErr result (IsTurnedAway (B.plan shard) shard pass.old pass.new (Reclaim shard)) }
+        ensures served { IfOk result (λ count. PassIsServed (B.plan shard) shard pass.old pass.new (Reclaim shard) (Freed count)) }
+        ensures refused { OnErr result (PassIsRefused (B.plan shard) shard pass.old pass.new (Reclaim shard)) }
         ensures names_the_shard { IfErr result (λ fault. fault.shard ≡ shard) }
         ensures did { pass.new.deeds ≡ deed_by pass.old.who (Reclaim shard) Freed result ∷ pass.old.deeds }
     {

@@ -6,8 +6,8 @@ ghost use Rattle.journals.specs.JournalsView.{entries_at};
 ghost use Rattle.shards.specs.CallerView.{IsSettled};
 ghost use Rattle.shards.specs.declared.deeds.Account.{Account};
 ghost use Rattle.shards.specs.ClosedOrders.{HasGathered, IsOneOrder, account_of};
-ghost use Rattle.shards.specs.Lodged.{keyed};
-ghost use Rattle.shards.specs.OrderRule.{HasAccount};
+ghost use Rattle.shards.specs.GuardedView.{keyed};
+ghost use Rattle.shards.specs.OrderRule.{IsOneOfAccounts};
 ghost use Rattle.shards.specs.Passes.{pass_at, view_at, AreSettled};
 ghost use Rattle.shards.specs.Seats.{IsLockOf};
 
@@ -88,11 +88,11 @@ fn settled<B: Naming>(
     ensures others { (place other : ℕ) → other ≢ number →
         view_at (pass_at passes.new.items place) other ≡ view_at (pass_at passes.old.items place) other }
 {
-    let mut guest = visit(rt, &lock);
+    let mut visitor_seat = visit(rt, &lock);
     'passes: for place in 0..passes.len() {
-        passes[place].see(&lock, number, &mut guest);
+        passes[place].see(&lock, number, &mut visitor_seat);
     }
-    let (shard, place) = close(lock, guest).into_parts();
+    let (shard, place) = close(lock, visitor_seat).into_parts();
     gather(order, seat, place.into_seat());
     shard.into_journal()
 }
@@ -102,8 +102,8 @@ fn gather_all<B: Naming>(order: &Order, seat: &mut OrderSeat, mut passes: Vec<Pa
     requires order { (order.now.shared.table_id ≡ B.order) × (0 < B.order.words) }
     requires seat { seat.old.table_id ≡ B.order }
     ensures seat { seat.new.table_id ≡ B.order }
-    ensures kept { (one : Account) → HasAccount one seat.old.me.0 → HasAccount one seat.new.me.0 }
-    ensures all { (place : ℕ) → place < length passes.items → HasAccount (account_of (pass_at passes.items place)) seat.new.me.0 }
+    ensures kept { (one : Account) → IsOneOfAccounts one seat.old.me.0 → IsOneOfAccounts one seat.new.me.0 }
+    ensures all { (place : ℕ) → place < length passes.items → IsOneOfAccounts (account_of (pass_at passes.items place)) seat.new.me.0 }
 {
     let count = passes.len();
     'passes: for _place in 0..count {

@@ -4,9 +4,9 @@ ghost use Rattle.std.specs.Prelude.{◌≡◌, ◌≢◌, ◌≤◌, ◌<◌, �
 ghost use Rattle.std.specs.Prelude.{slice_set};
 ghost use Rattle.shards.specs.CallerView.{nothing_seen};
 ghost use Rattle.shards.specs.HeldCells.{held_at, most_held, room_of};
-ghost use Rattle.shards.specs.LockRule.{place_of};
+ghost use Rattle.shards.specs.LockRule.{caller_place};
 ghost use Rattle.shards.specs.NewShards.{row_at, is_dealt_at, IsNewSeat, IsPartOfSeat};
-ghost use Rattle.shards.specs.Passes.{badge_at, part_at, view_at};
+ghost use Rattle.shards.specs.Passes.{badge_at, shard_pass_at, view_at};
 ghost use Rattle.shards.specs.declared.pass_fault.PassFault.TheVariants.{BadOptions, PassTaken};
 
 use crate::held::{HeldCells, none_held};
@@ -38,7 +38,7 @@ pub struct Dealer<B: Naming> {
 
 impl<B: Naming> Model for Dealer<B> {
     ghost use Rattle.std.specs.Prelude.{List, Bool};
-    ghost use Rattle.shards.specs.Lodged.{keys};
+    ghost use Rattle.shards.specs.GuardedView.{keys};
     ghost use Rattle.shards.specs.NewShards.{IsDealer, AreAtOrder};
 
     ghost Value = { List Bool };
@@ -56,12 +56,12 @@ impl<B: Naming> Dealer<B> {
         ensures who { IfOk result (λ pass. pass.who ≡ who) }
         ensures nothing { IfOk result (λ pass. (number : ℕ) → view_at pass number ≡ nothing_seen) }
         ensures idle { IfOk result (λ pass. pass.deeds ≡ []) }
-        ensures dealt { OnOk result (self.new ≡ slice_set self.old (place_of who) true) }
-        ensures bad_options { IsErrOf result BadOptions ↔ (length self.old ≤ place_of who) }
-        ensures taken { IsErrOf result PassTaken ↔ (place_of who < length self.old) × (is_dealt_at self.old (place_of who) ≡ true) }
+        ensures dealt { OnOk result (self.new ≡ slice_set self.old (caller_place who) true) }
+        ensures bad_options { IsErrOf result BadOptions ↔ (length self.old ≤ caller_place who) }
+        ensures taken { IsErrOf result PassTaken ↔ (caller_place who < length self.old) × (is_dealt_at self.old (caller_place who) ≡ true) }
         ensures refused_unchanged { OnErr result (self.new ≡ self.old) }
     {
-        let place = place_of(who);
+        let place = caller_place(who);
         if place >= self.dealt.len() {
             return Err(PassFault::BadOptions);
         }
@@ -83,8 +83,8 @@ impl<B: Naming> Dealer<B> {
 }
 
 /// The caller's place among all.
-fn place_of(who: Caller) -> usize
-    ensures { result ≡ place_of who }
+fn caller_place(who: Caller) -> usize
+    ensures { result ≡ caller_place who }
 {
     match who {
         Caller::Controller => 0,
@@ -109,7 +109,7 @@ fn column(
         IsNewSeat (badge_at (row_at rows.old.items number) place) (held_at held.items number) }
     ensures count { (length result.items ≡ length rows.old.items) × (length rows.new.items ≡ length rows.old.items) }
     ensures parts { (number : ℕ) → number < length rows.old.items →
-        IsPartOfSeat (badge_at (row_at rows.old.items number) place) (part_at result.items number) }
+        IsPartOfSeat (badge_at (row_at rows.old.items number) place) (shard_pass_at result.items number) }
     ensures others { (number other : ℕ) → other ≢ place →
         badge_at (row_at rows.new.items number) other ≡ badge_at (row_at rows.old.items number) other }
     ensures lengths { (number : ℕ) → length (row_at rows.new.items number) ≡ length (row_at rows.old.items number) }

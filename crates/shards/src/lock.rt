@@ -1,21 +1,12 @@
-//! The steps on a shard's word: take, mark, give, and what is done with the shard in between.
+//! The steps on a shard's word: take, mark, give; and visitors, who have the shard without a call.
 
-ghost use Rattle.std.specs.Prelude.{◌≡◌, ◌≢◌, ◌<◌, ◌+◌, ◌*◌, ◌%◌, ◌==◌, ◌∷◌, ◌^◌, ℕ, true, false};
-ghost use Rattle.std.specs.Prelude.{MatchBool, [], length, IfOk, IfErr, OnErr};
-ghost use Rattle.semantics.specs.ShardPlan.{KeepsRows};
-ghost use Rattle.semantics.specs.History.{Meets, meets, IsLegalHistory, IsJournalFull, entry_of};
-ghost use Rattle.semantics.specs.CallerLaws.{own_entries};
-ghost use Rattle.shard_core.specs.FewHeld.{FewAreHeld};
-ghost use Rattle.shards.specs.declared.deeds.OrderPart.TheVariants.{ByCaller};
-ghost use Rattle.shards.specs.Deeds.{deed_by};
-ghost use Rattle.shards.specs.OrderRule.{IsSeatFor, KnowsShard, deeds_in};
+ghost use Rattle.std.specs.Prelude.{◌≡◌, ◌≢◌, ◌<◌, ◌+◌, ◌*◌, ◌%◌, ◌==◌, ◌^◌, ℕ, true, false};
+ghost use Rattle.std.specs.Prelude.{MatchBool, [], length};
+ghost use Rattle.semantics.specs.History.{IsLegalHistory};
 ghost use Rattle.shards.specs.LockRule.{HasTaken, given, visitor_of};
 ghost use Rattle.shards.specs.Seats.{IsLock, IsSeatOf, IsVisitor, has_shard, view_of};
 
-use crate::asks::Ask;
-use crate::order_rule::{Order, OrderSeat};
-use crate::rule::{Comes, Gives, Lock, LockSeat, Marks, Takes};
-use semantics::{Call, Caller, JournalFull};
+use crate::rule::{GivesShardBack, Lock, LockSeat, MakesVisitor, MarksSleepers, TakesShard};
 use std::hint;
 use std::sync::Wait;
 
@@ -139,7 +130,7 @@ fn take_from(lock: &Lock, seat: &mut LockSeat, free: u64, taken: u64) -> u64
     ensures taken { MatchBool (result == free) (HasTaken seat.old.me seat.new.me) (seat.new.me ≡ seat.old.me) }
 {
     lock.shared
-        .compare_exchange::<Takes>(seat, WORD, free, taken)
+        .compare_exchange::<TakesShard>(seat, WORD, free, taken)
 }
 
 /// Notes that somebody may sleep, where the word is still this one, by which another has the shard.
@@ -152,7 +143,7 @@ fn mark(lock: &Lock, seat: &mut LockSeat, taken: u64) -> u64
     ensures same { seat.new.me ≡ seat.old.me }
 {
     lock.shared
-        .compare_exchange::<Marks>(seat, WORD, taken, taken + 1)
+        .compare_exchange::<MarksSleepers>(seat, WORD, taken, taken + 1)
 }
 
 /// Gives the shard back, whose journal has `entries` entries. Returns what the word was.
@@ -164,7 +155,7 @@ fn give_to(lock: &Lock, seat: &mut LockSeat, entries: u64) -> u64
     ensures table { seat.new.table_id ≡ seat.old.table_id }
     ensures given { seat.new.me ≡ (given seat.old.me.0 seat.old.me.1, []) }
 {
-    lock.shared.swap::<Gives>(seat, WORD, 4 * entries)
+    lock.shared.swap::<GivesShardBack>(seat, WORD, 4 * entries)
 }
 
 // ---- with the shard
@@ -180,54 +171,6 @@ pub(crate) fn count(lock: &Lock, seat: &mut LockSeat) -> u64
     ensures legal { IsLegalHistory seat.old.me.0.key.plan (view_of seat.old.me).seen }
 {
     seat.slot_mut(&lock.shared, 0).entries()
-}
-
-/// Makes a call on the shard that the seat has, for its caller, who may make it, and adds what the caller did to the order.
-pub(crate) fn add<C: Ask>(
-    lock: &Lock,
-    seat: &mut LockSeat,
-    order: &Order,
-    mine: &mut OrderSeat,
-    who: Caller,
-    ask: C,
-) -> Result<C::Answer, JournalFull>
-    requires lock { IsLock lock.now }
-    requires seat { IsSeatOf lock.now.shared.table_id seat.old }
-    requires caller { (seat.old.me.0.acts ≡ true) × (seat.old.me.0.who ≡ who) }
-    requires taken { has_shard seat.old.me ≡ true }
-    requires met { Meets seat.old.me.0.key.plan (view_of seat.old.me).own who (C.asks ask seat.old.me.0.key.plan.number) }
-    requires order { KnowsShard seat.old.me.0.key order.now }
-    requires mine { IsSeatFor seat.old.me.0.key.order (ByCaller who) mine.old }
-    ensures seat { IsSeatOf lock.now.shared.table_id seat.new }
-    ensures taken { has_shard seat.new.me ≡ true }
-    ensures same { seat.new.me.0 ≡ seat.old.me.0 }
-    ensures next { IfOk result (λ answer. (view_of seat.new.me).seen ≡ entry_of who (C.asks ask seat.old.me.0.key.plan.number)
-        (C.replies seat.old.me.0.key.plan.number answer) ∷ (view_of seat.old.me).seen) }
-    ensures full { OnErr result
-        (IsJournalFull seat.old.me.0.key.plan (view_of seat.old.me).seen (C.asks ask seat.old.me.0.key.plan.number)) }
-    ensures unchanged { OnErr result (seat.new ≡ seat.old) }
-    ensures legal { IsLegalHistory seat.old.me.0.key.plan (view_of seat.new.me).seen }
-    ensures few { FewAreHeld seat.old.me.0.key.plan (view_of seat.new.me).seen }
-    ensures names_the_shard { IfErr result (λ fault. fault.shard ≡ seat.old.me.0.key.plan.number) }
-    ensures mine { IsSeatFor seat.old.me.0.key.order (ByCaller who) mine.new }
-    ensures did { deeds_in mine.new.me.0 ≡
-        deed_by who (C.asks ask seat.old.me.0.key.plan.number) (C.replies seat.old.me.0.key.plan.number) result ∷ deeds_in mine.old.me.0 }
-{
-    seat.slot_mut(&lock.shared, 0).add(order, mine, who, ask)
-}
-
-/// Whether a caller may make a call now, by the whole journal of the shard that the seat has; no where no rows are kept.
-pub(crate) fn meets_now(lock: &Lock, seat: &mut LockSeat, who: Caller, call: &Call) -> bool
-    requires lock { IsLock lock.now }
-    requires seat { IsSeatOf lock.now.shared.table_id seat.old }
-    requires taken { has_shard seat.old.me ≡ true }
-    ensures same { seat.new ≡ seat.old }
-    ensures may { result ≡ true → Meets seat.old.me.0.key.plan (own_entries who (view_of seat.old.me).seen) who call.now }
-    ensures exact { KeepsRows seat.old.me.0.key.plan.reserve →
-        result ≡ meets seat.old.me.0.key.plan (own_entries who (view_of seat.old.me).seen) who call.now }
-    ensures no_rows { ¬ KeepsRows seat.old.me.0.key.plan.reserve → result ≡ false }
-{
-    seat.slot_mut(&lock.shared, 0).meets(who, call)
 }
 
 // ---- visitors, who make no call
@@ -248,5 +191,5 @@ pub(crate) fn visitor(lock: &Lock) -> LockSeat
     requires lock { IsLock lock.now }
     ensures { (result.table_id ≡ lock.now.shared.table_id) × (result.me ≡ (visitor_of lock.now.shared.key, [])) }
 {
-    lock.shared.load_new_seat::<Comes>(WORD).1
+    lock.shared.load_new_seat::<MakesVisitor>(WORD).1
 }

@@ -1,7 +1,7 @@
 //! What the table of a shard's word is opened with.
 
 ghost use Rattle.std.specs.Prelude.{◌≡◌};
-ghost use Rattle.shards.specs.Lodged.{keyed};
+ghost use Rattle.shards.specs.GuardedView.{keyed};
 
 use crate::order_rule::{Order, OrderPlace};
 use semantics::ShardPlan;
@@ -15,7 +15,7 @@ pub struct LockKey {
 }
 
 impl Model for LockKey {
-    ghost use Rattle.shards.specs.Lodged.{KeyedPlan, keyed};
+    ghost use Rattle.shards.specs.GuardedView.{KeyedPlan, keyed};
 
     ghost Value = { KeyedPlan };
 

@@ -5,17 +5,17 @@ ghost use Rattle.shard_core.specs.JournaledShard.{opened_shard};
 ghost use Rattle.shards.specs.HeldCells.{most_held};
 ghost use Rattle.shards.specs.LockRule.{dealer_of};
 ghost use Rattle.shards.specs.declared.deeds.OrderPart.TheVariants.{OnShard};
-ghost use Rattle.shards.specs.Lodged.{keyed};
+ghost use Rattle.shards.specs.GuardedView.{keyed};
 ghost use Rattle.shards.specs.OrderRule.{IsFresh};
 ghost use Rattle.shards.specs.NewShards.{AreNewSeats};
 ghost use Rattle.shards.specs.Seats.{IsLock};
 
+use crate::guarded_shard::GuardedShard;
 use crate::held::most_held;
 use crate::lock_key::LockKey;
-use crate::lodger::Lodger;
 use crate::order::visitor;
 use crate::order_rule::{Order, OrderPlace};
-use crate::rule::{Deals, Known, Lock, LockSeat};
+use crate::rule::{DealsSeat, Known, Lock, LockSeat};
 use atomic_table::Badge;
 use shard_core::Shard;
 use std::alloc::{AllocError, Global};
@@ -91,7 +91,7 @@ fn new_lock(
 {
     let key = LockKey::new(*shard.plan(), visitor(order).into_badge());
     let mut slots = Vec::with_capacity(alloc, 1)?;
-    slots.push_reserved(Lodger::new(shard, place));
+    slots.push_reserved(GuardedShard::new(shard, place));
     match Lock::new(alloc, &LINES, slots, &key) {
         Ok(new) => Ok(new),
         Err(_) => Err(AllocError),
@@ -112,7 +112,7 @@ fn new_seats(
 {
     let mut seats = Vec::with_capacity(alloc, callers)?;
     'callers: for _ in 0..callers {
-        let seat = lock.shared.split_seat::<Deals>(dealer);
+        let seat = lock.shared.split_seat::<DealsSeat>(dealer);
         seats.push_reserved(seat.into_badge());
     }
     Ok(seats)

@@ -6,9 +6,9 @@ ghost use Rattle.semantics.specs.ShardPlan.{AreOptions, AreServedOptions, are_se
 ghost use Rattle.shards.specs.Opening.{AreOpened};
 ghost use Rattle.map_rules.specs.declared.open_fault.OpenFault.TheVariants.{BadOptions};
 ghost use Rattle.semantics.specs.Each.{Each};
-ghost use Rattle.shards.specs.NewShards.{AreUnused, shard_at, IsMadeOf, IsNamed, IsNamedAt, IsRowOf};
+ghost use Rattle.shards.specs.NewShards.{AreUnused, shard_at, IsNewShardOf, IsNamed, IsNamedAt, HasAllSeats};
 ghost use Rattle.shards.specs.HeldCells.{IsRoomOf};
-ghost use Rattle.shards.specs.Lodged.{keys};
+ghost use Rattle.shards.specs.GuardedView.{keys};
 ghost use Rattle.shards.specs.OrderRule.{AreShardPlaces};
 ghost use Rattle.shards.specs.SharedMaps.{AreLocks};
 
@@ -71,8 +71,8 @@ impl Opened {
         Opened::open_with(alloc, image, options, Recording::Rows)
     }
 
-    /// The same, with journals whose rows are kept or not. Without rows the room of a journal does not depend on the options, which are
-    /// refused all the same.
+    /// Opens the shards with journals whose rows are kept or not. Without rows the room of a journal does not depend on the options, which
+    /// are refused all the same.
     pub fn open_with(
         alloc: Global,
         image: &Image,
@@ -168,7 +168,7 @@ fn new_shards(
     requires order { 0 < order.now.shared.table_id.words }
     requires places { (length places.items ≡ length shards.items) × AreShardPlaces order.now.shared.table_id places.items }
     ensures count { IfOk result (λ all. length all.items ≡ length shards.items) }
-    ensures made { IfOk result (λ all. Each (IsMadeOf shards.items order.now.shared.table_id callers) 0 all.items) }
+    ensures made { IfOk result (λ all. Each (IsNewShardOf shards.items order.now.shared.table_id callers) 0 all.items) }
 {
     let count = shards.len();
     let mut all = Vec::with_capacity(alloc, count)?;
@@ -188,7 +188,7 @@ fn parted<B: Naming>(
     requires { Each (IsNamedAt B.table B.plan B.order) 0 shards.items }
     ensures locks { IfOk result (λ all. (length all.0.items ≡ length shards.items) × AreLocks B.table (keys B.plan B.order) all.0.items) }
     ensures rows { IfOk result
-        (λ all. (length all.1.items ≡ length shards.items) × Each (IsRowOf B.table (keys B.plan B.order) shards.items) 0 all.1.items) }
+        (λ all. (length all.1.items ≡ length shards.items) × Each (HasAllSeats B.table (keys B.plan B.order) shards.items) 0 all.1.items) }
     ensures rooms { IfOk result (λ all. (length all.2.items ≡ length shards.items) × Each (IsRoomOf B.plan) 0 all.2.items) }
 {
     let count = shards.len();

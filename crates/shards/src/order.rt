@@ -4,13 +4,13 @@ ghost use Rattle.std.specs.Prelude.{◌≡◌, ◌<◌, ◌∷◌, ◌≤◌, []
 ghost use Rattle.shards.specs.declared.deeds.OrderPart.{OrderPart};
 ghost use Rattle.shards.specs.declared.deeds.OrderPart.TheVariants.{OnShard, ByCaller};
 ghost use Rattle.shards.specs.Deeds.{shard_of_deed, caller_of_deed, entries_made, IsMetBehind};
-ghost use Rattle.shards.specs.OrderRule.{IsPlaceOf, IsSeatFor, IsEnd, AreApart, ArePlaces, AreShardPlaces, AreCallerPlaces};
-ghost use Rattle.shards.specs.OrderRule.{deeds_at, deeds_in, plan_in, with_first};
+ghost use Rattle.shards.specs.OrderRule.{IsPlaceOf, IsSeatFor, IsEnd, HaveDistinctParts, ArePlaces, AreShardPlaces, AreCallerPlaces};
+ghost use Rattle.shards.specs.OrderRule.{deeds_at, account_deeds, plan_in, with_first};
 
 use crate::asks::Ask;
 use crate::item::Item;
 use crate::order_rule::{
-    Adds, ComesToOrder, DealsAccount, Order, OrderKey, OrderPlace, OrderSeat, TakesIn,
+    AddsDeed, DealsAccount, MakesEmptySeat, Order, OrderKey, OrderPlace, OrderSeat, TakesAccount,
 };
 use atomic_table::Badge;
 use semantics::{Caller, ShardPlan};
@@ -40,11 +40,11 @@ pub(crate) fn note<D: Item, C: Ask>(
     ensures place { IsPlaceOf order.now.shared.table_id (OnShard (shard_of_deed D.item)) place.new }
     ensures mine { IsSeatFor order.now.shared.table_id (ByCaller (caller_of_deed D.item)) mine.new }
     ensures noted { deeds_at place.new ≡ D.item ∷ deeds_at place.old }
-    ensures did { deeds_in mine.new.me.0 ≡ D.item ∷ deeds_in mine.old.me.0 }
+    ensures did { account_deeds mine.new.me.0 ≡ D.item ∷ account_deeds mine.old.me.0 }
 {
     let seat = mem::replace(place, Badge::blank()).into_seat();
-    order.shared.join_seat::<TakesIn>(mine, seat);
-    order.shared.load::<Adds<D>>(mine, 0);
+    order.shared.join_seat::<TakesAccount>(mine, seat);
+    order.shared.load::<AddsDeed<D>>(mine, 0);
     *place = order.shared.split_seat::<DealsAccount>(mine).into_badge();
 }
 
@@ -77,7 +77,7 @@ fn dealt(
     requires order { 0 < order.now.shared.table_id.words }
     requires seat { (seat.old.table_id ≡ order.now.shared.table_id) × (seat.old.me.1 ≡ []) }
     requires count { count ≤ length seat.old.me.0 }
-    requires apart { AreApart seat.old.me.0 }
+    requires apart { HaveDistinctParts seat.old.me.0 }
     ensures count { IfOk result (λ places. length places.items ≡ count) }
     ensures places { IfOk result (λ places. ArePlaces order.now.shared.table_id seat.old.me.0 places.items) }
     ensures table { seat.new.table_id ≡ order.now.shared.table_id }
@@ -96,7 +96,7 @@ pub(crate) fn visitor(order: &Order) -> OrderSeat
     requires { 0 < order.now.shared.table_id.words }
     ensures { (result.table_id ≡ order.now.shared.table_id) × (result.me ≡ ([], [])) }
 {
-    order.shared.load_new_seat::<ComesToOrder>(0).1
+    order.shared.load_new_seat::<MakesEmptySeat>(0).1
 }
 
 /// A seat takes in another with one account.
@@ -107,7 +107,7 @@ pub(crate) fn gather(order: &Order, seat: &mut OrderSeat, other: OrderSeat)
     ensures table { seat.new.table_id ≡ order.now.shared.table_id }
     ensures both { seat.new.me ≡ (with_first seat.old.me.0 other.me.0, seat.old.me.1) }
 {
-    order.shared.join_seat::<TakesIn>(seat, other);
+    order.shared.join_seat::<TakesAccount>(seat, other);
 }
 
 /// Ends the order, in which the seat's accounts are.

@@ -20,9 +20,9 @@ pub struct OrderRule;
 
 impl TableRule<u8, LinkedList<Account>, OrderKey> for OrderRule {
     ghost use Rattle.std.specs.Prelude.{length};
-    ghost use Rattle.shards.specs.OrderRule.{IsOrder, first_accounts};
+    ghost use Rattle.shards.specs.OrderRule.{IsOrderRuleKept, first_accounts};
 
-    ghost holds = { λ key s. IsOrder key.plans.items s };
+    ghost holds = { λ key s. IsOrderRuleKept key.plans.items s };
 
     ghost first = { λ key. first_accounts 0 (length key.plans.items) key.callers };
 }
@@ -39,18 +39,18 @@ impl Split<LinkedList<Account>> for DealsAccount {
 }
 
 /// A step that makes a seat without an account.
-pub struct ComesToOrder;
+pub struct MakesEmptySeat;
 
-impl Play<u8, LinkedList<Account>> for ComesToOrder {
-    ghost use Rattle.shards.specs.OrderRule.{Comes};
+impl Play<u8, LinkedList<Account>> for MakesEmptySeat {
+    ghost use Rattle.shards.specs.OrderRule.{MakesEmptySeat};
 
-    ghost then = { λ s v found w. Comes w };
+    ghost then = { λ s v found w. MakesEmptySeat w };
 }
 
 /// A seat takes in the first account of another.
-pub struct TakesIn;
+pub struct TakesAccount;
 
-impl Join<LinkedList<Account>> for TakesIn {
+impl Join<LinkedList<Account>> for TakesAccount {
     ghost use Rattle.std.specs.Prelude.{[]};
     ghost use Rattle.shards.specs.OrderRule.{with_first};
 
@@ -60,14 +60,14 @@ impl Join<LinkedList<Account>> for TakesIn {
 }
 
 /// A step that adds a deed to the order.
-pub struct Adds<D: Item> {
+pub struct AddsDeed<D: Item> {
     of: PhantomData<D>,
 }
 
-impl<D: Item> Play<u8, LinkedList<Account>> for Adds<D> {
-    ghost use Rattle.shards.specs.OrderRule.{Adds};
+impl<D: Item> Play<u8, LinkedList<Account>> for AddsDeed<D> {
+    ghost use Rattle.shards.specs.OrderRule.{AddsDeed};
 
-    ghost then = { λ s v found w. Adds D.item v w };
+    ghost then = { λ s v found w. AddsDeed D.item v w };
 }
 
 /// The order. Its word is never written.
@@ -76,5 +76,5 @@ pub type Order = Table<u8, LinkedList<Account>, OrderKey, OrderRule, Global>;
 /// A seat at the order.
 pub type OrderSeat = Seat<u8, LinkedList<Account>>;
 
-/// The same, as it lies in a place.
+/// A seat at the order that lies in a place, where its owner can keep it.
 pub type OrderPlace = Badge<LinkedList<Account>>;

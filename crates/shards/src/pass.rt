@@ -1,27 +1,22 @@
 //! What a caller has for its calls.
 
-ghost use Rattle.std.specs.Prelude.{◌≡◌, ◌<◌, ◌∷◌, ◌++◌, true, false, IfOk, IfErr, OnErr};
+ghost use Rattle.std.specs.Prelude.{◌≡◌, ◌<◌, true, false};
 ghost use Rattle.semantics.specs.ShardPlan.{KeepsRows};
 ghost use Rattle.semantics.specs.History.{Meets, meets, IsLegalHistory};
-ghost use Rattle.semantics.specs.declared.call.Call.TheVariants.{Enter};
-ghost use Rattle.shards.specs.CallerView.{BeginsWith, HasLooked};
+ghost use Rattle.shards.specs.CallerView.{BeginsWith, ViewHasLooked};
 ghost use Rattle.semantics.specs.CallerLaws.{own_entries};
 ghost use Rattle.shards.specs.declared.deeds.OrderPart.TheVariants.{ByCaller};
-ghost use Rattle.shards.specs.Deeds.{deed_by, deeds_by_both};
-ghost use Rattle.shards.specs.Lodged.{keyed};
-ghost use Rattle.shards.specs.OrderRule.{IsSeatFor, KnowsShard, deeds_in};
+ghost use Rattle.shards.specs.GuardedView.{keyed};
+ghost use Rattle.shards.specs.OrderRule.{IsSeatFor, account_deeds};
 ghost use Rattle.shards.specs.Seats.{IsLockOf, IsVisitor, view_of};
 ghost use Rattle.shards.specs.Passes.{KnowsItsOwn, view_at, own_at, seen_at, IsElsewhereSame, is_inside_of};
 ghost use Rattle.shards.specs.HeldCells.{holds_own};
-ghost use Rattle.shards.specs.Asked.{MayAsk, MayAskInside, IsAnswered, IsTurnedAway, EnteredAndAnswered, IsStopped};
 
-use crate::asks::Ask;
 use crate::naming::Naming;
-use crate::order_rule::{Order, OrderSeat};
+use crate::order_rule::OrderSeat;
 use crate::rule::{Lock, LockSeat};
 use crate::shard_pass::ShardPass;
-use crate::stopped::Stopped;
-use semantics::{Call, Caller, CellRef, JournalFull};
+use semantics::{Call, Caller, CellRef};
 use std::marker::{Model, PhantomData};
 use std::sync::Wait;
 
@@ -40,13 +35,13 @@ pub struct Pass<B: Naming> {
 
 impl<B: Naming> Model for Pass<B> {
     ghost use Rattle.shards.specs.declared.deeds.OrderPart.TheVariants.{ByCaller};
-    ghost use Rattle.shards.specs.Lodged.{keys};
-    ghost use Rattle.shards.specs.OrderRule.{IsSeatFor, deeds_in};
+    ghost use Rattle.shards.specs.GuardedView.{keys};
+    ghost use Rattle.shards.specs.OrderRule.{IsSeatFor, account_deeds};
     ghost use Rattle.shards.specs.Passes.{PassView, pass_view, IsPass};
 
     ghost Value = { PassView };
 
-    ghost view = { λ pass. pass_view pass.who pass.parts.items (deeds_in pass.seat.me.0) };
+    ghost view = { λ pass. pass_view pass.who pass.parts.items (account_deeds pass.seat.me.0) };
 
     ghost invariant = { λ pass. IsPass B.table (keys B.plan B.order) B.count pass.who pass.parts.items
         × IsSeatFor B.order (ByCaller pass.who) pass.seat };
@@ -81,60 +76,12 @@ impl<B: Naming> Pass<B> {
         self.parts[cell.shard as usize].holds(self.who, cell.id)
     }
 
-    /// Makes the caller's call of the shard of this number.
-    pub(crate) fn ask<C: Ask>(
-        &mut self,
-        rt: &impl Wait,
-        lock: &Lock,
-        order: &Order,
-        number: u32,
-        ask: C,
-    ) -> Result<C::Answer, JournalFull>
-        requires number { ((B.plan number).number ≡ number) × (number < B.count) }
-        requires lock { IsLockOf (B.table number) (keyed (B.plan number) B.order) lock.now }
-        requires met { MayAsk (B.plan number) number self.old (C.asks ask number) }
-        requires order { KnowsShard (keyed (B.plan number) B.order) order.now }
-        ensures elsewhere { IsElsewhereSame number self.old self.new }
-        ensures own { KnowsItsOwn number self.new }
-        ensures served { IfOk result
-            (λ answer. IsAnswered (B.plan number) number self.old self.new (C.asks ask number) (C.replies number answer)) }
-        ensures refused { OnErr result (IsTurnedAway (B.plan number) number self.old self.new (C.asks ask number)) }
-        ensures names_the_shard { IfErr result (λ fault. fault.shard ≡ number) }
-        ensures did { self.new.deeds ≡ deed_by self.old.who (C.asks ask number) (C.replies number) result ∷ self.old.deeds }
-    {
-        self.parts[number as usize].call(rt, lock, order, &mut self.seat, self.who, ask)
-    }
-
-    /// Enters the shard of this number, and makes the caller's call there.
-    pub(crate) fn enter_then<C: Ask>(
-        &mut self,
-        rt: &impl Wait,
-        lock: &Lock,
-        order: &Order,
-        number: u32,
-        ask: C,
-    ) -> Result<C::Answer, Stopped>
-        requires number { ((B.plan number).number ≡ number) × (number < B.count) }
-        requires lock { IsLockOf (B.table number) (keyed (B.plan number) B.order) lock.now }
-        requires may_enter { MayAsk (B.plan number) number self.old (Enter number) }
-        requires met { MayAskInside (B.plan number) number self.old (C.asks ask number) }
-        requires order { KnowsShard (keyed (B.plan number) B.order) order.now }
-        ensures elsewhere { IsElsewhereSame number self.old self.new }
-        ensures own { KnowsItsOwn number self.new }
-        ensures served { IfOk result
-            (λ answer. EnteredAndAnswered (B.plan number) number self.old self.new (C.asks ask number) (C.replies number answer)) }
-        ensures refused { IfErr result (IsStopped (B.plan number) number self.old self.new (C.asks ask number)) }
-        ensures did { self.new.deeds ≡ deeds_by_both number self.old.who (C.asks ask number) (C.replies number) result ++ self.old.deeds }
-    {
-        self.parts[number as usize].enter_then(rt, lock, order, &mut self.seat, self.who, ask)
-    }
-
     /// Whether the caller may make the call on the shard of this number now.
     pub(crate) fn may_call(&mut self, rt: &impl Wait, lock: &Lock, number: u32, call: &Call) -> bool
         requires number { number < B.count }
         requires lock { IsLockOf (B.table number) (keyed (B.plan number) B.order) lock.now }
         ensures elsewhere { IsElsewhereSame number self.old self.new }
-        ensures looked { HasLooked (B.plan number) (view_at self.old number) (view_at self.new number) }
+        ensures looked { ViewHasLooked (B.plan number) (view_at self.old number) (view_at self.new number) }
         ensures may { result ≡ true → Meets (B.plan number) (own_at self.new number) self.new.who call.now }
         ensures exact { KeepsRows (B.plan number).reserve → result ≡ meets (B.plan number) (own_at self.new number) self.new.who call.now }
         ensures no_rows { ¬ KeepsRows (B.plan number).reserve → result ≡ false }
@@ -144,26 +91,26 @@ impl<B: Naming> Pass<B> {
     }
 
     /// Sees the history of the shard of this number, which the visitor has.
-    pub(crate) fn see(&mut self, lock: &Lock, number: u32, guest: &mut LockSeat)
+    pub(crate) fn see(&mut self, lock: &Lock, number: u32, visitor_seat: &mut LockSeat)
         requires number { number < B.count }
         requires lock { IsLockOf (B.table number) (keyed (B.plan number) B.order) lock.now }
-        requires visitor { IsVisitor (B.table number) (keyed (B.plan number) B.order) (view_of guest.old.me).seen guest.old }
-        requires legal { IsLegalHistory (B.plan number) (view_of guest.old.me).seen }
-        ensures visitor { (guest.new.table_id ≡ guest.old.table_id) × (guest.new.me ≡ guest.old.me) }
+        requires visitor { IsVisitor (B.table number) (keyed (B.plan number) B.order) (view_of visitor_seat.old.me).seen visitor_seat.old }
+        requires legal { IsLegalHistory (B.plan number) (view_of visitor_seat.old.me).seen }
+        ensures visitor { (visitor_seat.new.table_id ≡ visitor_seat.old.table_id) × (visitor_seat.new.me ≡ visitor_seat.old.me) }
         ensures elsewhere { IsElsewhereSame number self.old self.new }
-        ensures looked { HasLooked (B.plan number) (view_at self.old number) (view_at self.new number) }
-        ensures sight { seen_at self.new number ≡ (view_of guest.old.me).seen }
-        ensures own { own_at self.old number ≡ own_entries self.old.who (view_of guest.old.me).seen }
-        ensures begins { BeginsWith (view_of guest.old.me).seen (seen_at self.old number) }
+        ensures looked { ViewHasLooked (B.plan number) (view_at self.old number) (view_at self.new number) }
+        ensures sight { seen_at self.new number ≡ (view_of visitor_seat.old.me).seen }
+        ensures own { own_at self.old number ≡ own_entries self.old.who (view_of visitor_seat.old.me).seen }
+        ensures begins { BeginsWith (view_of visitor_seat.old.me).seen (seen_at self.old number) }
         ensures did { self.new.deeds ≡ self.old.deeds }
     {
-        self.parts[number as usize].see(lock, guest)
+        self.parts[number as usize].see(lock, visitor_seat)
     }
 
     /// Its seat at the order.
     pub(crate) fn into_seat(self) -> OrderSeat
         ensures seat { IsSeatFor B.order (ByCaller self.who) result }
-        ensures deeds { deeds_in result.me.0 ≡ self.deeds }
+        ensures deeds { account_deeds result.me.0 ≡ self.deeds }
     {
         let Pass { seat, .. } = self;
         seat

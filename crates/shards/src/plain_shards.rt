@@ -44,8 +44,8 @@ impl PlainShards {
         PlainShards::open_with(alloc, image, options, Recording::Rows)
     }
 
-    /// The same, with journals whose rows are kept or not. Without rows the room of a journal does not depend on the options, which are
-    /// refused all the same.
+    /// Opens the shards with journals whose rows are kept or not. Without rows the room of a journal does not depend on the options, which
+    /// are refused all the same.
     pub fn open_with(
         alloc: Global,
         image: &Image,

@@ -1,7 +1,7 @@
 //! The word that is the length of a shard's journal and the shard's lock, and the rule that ties it to what the seats know.
 
+use crate::guarded_shard::GuardedShard;
 use crate::lock_key::LockKey;
-use crate::lodger::Lodger;
 use atomic_table::{Join, Play, Seat, Split, Table, TableRule};
 use semantics::{Caller, Entry};
 use std::alloc::Global;
@@ -30,18 +30,18 @@ pub struct Known {
 /// The word is four times the history's length, and the phase of the lock.
 pub struct LockRule;
 
-impl TableRule<Lodger, Known, LockKey> for LockRule {
-    ghost use Rattle.shards.specs.LockRule.{IsKept, dealer_of};
+impl TableRule<GuardedShard, Known, LockKey> for LockRule {
+    ghost use Rattle.shards.specs.LockRule.{IsLockRuleKept, dealer_of};
 
-    ghost holds = { λ key s. IsKept key s };
+    ghost holds = { λ key s. IsLockRuleKept key s };
 
     ghost first = { λ key. dealer_of key 0 };
 }
 
 /// A seat for one more caller.
-pub struct Deals;
+pub struct DealsSeat;
 
-impl Split<Known> for Deals {
+impl Split<Known> for DealsSeat {
     ghost use Rattle.shards.specs.LockRule.{one_more, newcomer};
 
     ghost left = { one_more };
@@ -50,62 +50,62 @@ impl Split<Known> for Deals {
 }
 
 /// A step that makes a visitor's seat.
-pub struct Comes;
+pub struct MakesVisitor;
 
-impl Play<Lodger, Known> for Comes {
-    ghost use Rattle.shards.specs.LockRule.{Comes};
+impl Play<GuardedShard, Known> for MakesVisitor {
+    ghost use Rattle.shards.specs.LockRule.{MakesVisitor};
 
-    ghost then = { Comes };
+    ghost then = { MakesVisitor };
 }
 
 /// A step that takes the lock and the shard, where the word is as expected.
-pub struct Takes;
+pub struct TakesShard;
 
-impl Play<Lodger, Known> for Takes {
-    ghost use Rattle.shards.specs.LockRule.{Takes};
+impl Play<GuardedShard, Known> for TakesShard {
+    ghost use Rattle.shards.specs.LockRule.{TakesShard};
 
-    ghost then = { Takes };
+    ghost then = { TakesShard };
 }
 
 /// A step that notes that others may sleep.
-pub struct Marks;
+pub struct MarksSleepers;
 
-impl Play<Lodger, Known> for Marks {
-    ghost use Rattle.shards.specs.LockRule.{Marks};
+impl Play<GuardedShard, Known> for MarksSleepers {
+    ghost use Rattle.shards.specs.LockRule.{MarksSleepers};
 
-    ghost then = { Marks };
+    ghost then = { MarksSleepers };
 }
 
 /// A step that gives the shard back, with the entries that were made.
-pub struct Gives;
+pub struct GivesShardBack;
 
-impl Play<Lodger, Known> for Gives {
-    ghost use Rattle.shards.specs.LockRule.{Gives};
+impl Play<GuardedShard, Known> for GivesShardBack {
+    ghost use Rattle.shards.specs.LockRule.{GivesShardBack};
 
-    ghost then = { Gives };
+    ghost then = { GivesShardBack };
 }
 
 /// A step that puts the shard back for good.
-pub struct Ends;
+pub struct ClosesShard;
 
-impl Play<Lodger, Known> for Ends {
-    ghost use Rattle.shards.specs.LockRule.{Ends};
+impl Play<GuardedShard, Known> for ClosesShard {
+    ghost use Rattle.shards.specs.LockRule.{ClosesShard};
 
-    ghost then = { Ends };
+    ghost then = { ClosesShard };
 }
 
 /// A visitor's seat and a caller's, together and apart again.
-pub struct Both;
+pub struct VisitorWithCaller;
 
-impl Join<Known> for Both {
-    ghost use Rattle.shards.specs.LockRule.{joined, nobody};
+impl Join<Known> for VisitorWithCaller {
+    ghost use Rattle.shards.specs.LockRule.{visitor_with_caller, nobody};
 
-    ghost both = { joined };
+    ghost both = { visitor_with_caller };
 
     ghost spent = { nobody };
 }
 
-impl Split<Known> for Both {
+impl Split<Known> for VisitorWithCaller {
     ghost use Rattle.shards.specs.LockRule.{visitor_part, pass_part};
 
     ghost left = { visitor_part };
@@ -114,16 +114,16 @@ impl Split<Known> for Both {
 }
 
 /// A step that looks, while both are together.
-pub struct Sees;
+pub struct SeesHistory;
 
-impl Play<Lodger, Known> for Sees {
-    ghost use Rattle.shards.specs.LockRule.{Sees};
+impl Play<GuardedShard, Known> for SeesHistory {
+    ghost use Rattle.shards.specs.LockRule.{SeesHistory};
 
-    ghost then = { Sees };
+    ghost then = { SeesHistory };
 }
 
 /// The word of a shard, with the shard and its seat at the order in its slot.
-pub type Lock = Table<Lodger, Known, LockKey, LockRule, Global>;
+pub type Lock = Table<GuardedShard, Known, LockKey, LockRule, Global>;
 
 /// A seat at a shard's word.
-pub type LockSeat = Seat<Lodger, Known>;
+pub type LockSeat = Seat<GuardedShard, Known>;

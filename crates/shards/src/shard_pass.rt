@@ -7,20 +7,19 @@ ghost use Rattle.semantics.specs.History.{Meets, meets, IsLegalHistory, entry_of
 ghost use Rattle.semantics.specs.Reclamation.{held_change};
 ghost use Rattle.semantics.specs.declared.call.Call.TheVariants.{Enter};
 ghost use Rattle.journal.specs.Entries.{enter_entry};
-ghost use Rattle.shards.specs.CallerView.{nothing_seen, BeginsWith, HasLooked, IsServed, IsRefused};
-ghost use Rattle.shards.specs.declared.deeds.OrderPart.TheVariants.{ByCaller};
+ghost use Rattle.shards.specs.CallerView.{nothing_seen, BeginsWith, ViewHasLooked, ViewIsServed, ViewIsRefused};
 ghost use Rattle.shards.specs.Deeds.{deed_by, deeds_by_both};
-ghost use Rattle.shards.specs.OrderRule.{IsSeatFor, KnowsShard, deeds_in};
+ghost use Rattle.shards.specs.OrderRule.{account_deeds};
 ghost use Rattle.shards.specs.LockRule.{pass_of};
 ghost use Rattle.shards.specs.Seats.{IsLockOf, IsVisitor, view_of};
 ghost use Rattle.shards.specs.HeldCells.{HasRoomFor, held_when, holds_own, most_held, room_of};
 ghost use Rattle.shards.specs.Passes.{is_inside_of, flag_after};
-ghost use Rattle.shards.specs.ShardPasses.{IsSameShard, shard_pass_view};
+ghost use Rattle.shards.specs.ShardPasses.{IsCallerAt, IsSameShard, shard_pass_view};
 ghost use Rattle.shards.specs.Asked.{AreServed, IsStoppedAt};
 
 use crate::asks::{Ask, Enters};
 use crate::held::HeldCells;
-use crate::lock::{add, give, meets_now, take, visitor};
+use crate::lock::{give, take, visitor};
 use crate::order_rule::{Order, OrderSeat};
 use crate::rule::{Lock, LockSeat};
 use crate::showing::show;
@@ -101,22 +100,17 @@ impl ShardPass {
         who: Caller,
         ask: C,
     ) -> Result<C::Answer, JournalFull>
-        requires lock { IsLockOf self.old.table self.old.key lock.now }
-        requires who { self.old.who ≡ who }
-        requires alone { self.old.has_it ≡ false }
+        requires ready { IsCallerAt false self.old who lock.now order.now mine.old }
         requires met { Meets self.old.key.plan self.old.view.own who (C.asks ask self.old.key.plan.number) }
-        requires order { KnowsShard self.old.key order.now }
-        requires mine { IsSeatFor self.old.key.order (ByCaller who) mine.old }
         ensures same { IsSameShard self.old self.new }
-        ensures alone { self.new.has_it ≡ false }
+        ensures ready { IsCallerAt false self.new who lock.now order.now mine.new }
         ensures own { self.new.view.own ≡ own_entries who self.new.view.seen }
-        ensures served { IfOk result (λ answer. IsServed self.old.key.plan self.old.view self.new.view
+        ensures served { IfOk result (λ answer. ViewIsServed self.old.key.plan self.old.view self.new.view
             (entry_of who (C.asks ask self.old.key.plan.number) (C.replies self.old.key.plan.number answer))) }
-        ensures refused { OnErr result (IsRefused self.old.key.plan self.old.view self.new.view (C.asks ask self.old.key.plan.number)) }
+        ensures refused { OnErr result (ViewIsRefused self.old.key.plan self.old.view self.new.view (C.asks ask self.old.key.plan.number)) }
         ensures names_the_shard { IfErr result (λ fault. fault.shard ≡ self.old.key.plan.number) }
-        ensures mine { IsSeatFor self.old.key.order (ByCaller who) mine.new }
-        ensures did { deeds_in mine.new.me.0 ≡
-            deed_by who (C.asks ask self.old.key.plan.number) (C.replies self.old.key.plan.number) result ∷ deeds_in mine.old.me.0 }
+        ensures did { account_deeds mine.new.me.0 ≡
+            deed_by who (C.asks ask self.old.key.plan.number) (C.replies self.old.key.plan.number) result ∷ account_deeds mine.old.me.0 }
     {
         self.take(rt, lock);
         let answer = self.ask(lock, order, mine, who, ask);
@@ -134,28 +128,32 @@ impl ShardPass {
         who: Caller,
         ask: C,
     ) -> Result<C::Answer, Stopped>
-        requires lock { IsLockOf self.old.table self.old.key lock.now }
-        requires who { self.old.who ≡ who }
-        requires alone { self.old.has_it ≡ false }
+        requires ready { IsCallerAt false self.old who lock.now order.now mine.old }
         requires may_enter { Meets self.old.key.plan self.old.view.own who (Enter self.old.key.plan.number) }
         requires met { Meets self.old.key.plan (enter_entry self.old.key.plan.number who ∷ self.old.view.own) who
             (C.asks ask self.old.key.plan.number) }
-        requires order { KnowsShard self.old.key order.now }
-        requires mine { IsSeatFor self.old.key.order (ByCaller who) mine.old }
         ensures same { IsSameShard self.old self.new }
-        ensures alone { self.new.has_it ≡ false }
+        ensures ready { IsCallerAt false self.new who lock.now order.now mine.new }
         ensures own { self.new.view.own ≡ own_entries who self.new.view.seen }
         ensures served { IfOk result
             (λ answer. AreServed self.old.key.plan self.old.view self.new.view (enter_entry self.old.key.plan.number who)
             (entry_of who (C.asks ask self.old.key.plan.number) (C.replies self.old.key.plan.number answer))) }
         ensures refused { IfErr result (IsStoppedAt self.old.key.plan self.old.key.plan.number self.old.view self.new.view who
             (C.asks ask self.old.key.plan.number)) }
-        ensures mine { IsSeatFor self.old.key.order (ByCaller who) mine.new }
-        ensures did { deeds_in mine.new.me.0 ≡ deeds_by_both self.old.key.plan.number who (C.asks ask self.old.key.plan.number)
-            (C.replies self.old.key.plan.number) result ++ deeds_in mine.old.me.0 }
+        ensures did { account_deeds mine.new.me.0 ≡ deeds_by_both self.old.key.plan.number who (C.asks ask self.old.key.plan.number)
+            (C.replies self.old.key.plan.number) result ++ account_deeds mine.old.me.0 }
     {
         self.take(rt, lock);
-        let answer = self.ask_inside(lock, order, mine, who, ask);
+        let answer = match self.ask(lock, order, mine, who, Enters) {
+            Ok(()) => match self.ask(lock, order, mine, who, ask) {
+                Ok(answer) => Ok(answer),
+                Err(full) => Err(Stopped::AtCall { full }),
+            },
+            Err(full) => {
+                let _ = ask;
+                Err(Stopped::AtEnter { full })
+            }
+        };
         self.give(lock);
         answer
     }
@@ -167,7 +165,7 @@ impl ShardPass {
         requires alone { self.old.has_it ≡ false }
         ensures same { IsSameShard self.old self.new }
         ensures alone { self.new.has_it ≡ false }
-        ensures looked { HasLooked self.old.key.plan self.old.view self.new.view }
+        ensures looked { ViewHasLooked self.old.key.plan self.old.view self.new.view }
         ensures may { result ≡ true → Meets self.old.key.plan self.new.view.own who call.now }
         ensures exact { KeepsRows self.old.key.plan.reserve → result ≡ meets self.old.key.plan self.new.view.own who call.now }
         ensures no_rows { ¬ KeepsRows self.old.key.plan.reserve → result ≡ false }
@@ -179,21 +177,21 @@ impl ShardPass {
     }
 
     /// Sees the history of the shard that the visitor has.
-    pub(crate) fn see(&mut self, lock: &Lock, guest: &mut LockSeat)
+    pub(crate) fn see(&mut self, lock: &Lock, visitor_seat: &mut LockSeat)
         requires lock { IsLockOf self.old.table self.old.key lock.now }
         requires alone { self.old.has_it ≡ false }
-        requires visitor { IsVisitor self.old.table self.old.key (view_of guest.old.me).seen guest.old }
-        requires legal { IsLegalHistory self.old.key.plan (view_of guest.old.me).seen }
-        ensures visitor { (guest.new.table_id ≡ guest.old.table_id) × (guest.new.me ≡ guest.old.me) }
+        requires visitor { IsVisitor self.old.table self.old.key (view_of visitor_seat.old.me).seen visitor_seat.old }
+        requires legal { IsLegalHistory self.old.key.plan (view_of visitor_seat.old.me).seen }
+        ensures visitor { (visitor_seat.new.table_id ≡ visitor_seat.old.table_id) × (visitor_seat.new.me ≡ visitor_seat.old.me) }
         ensures same { IsSameShard self.old self.new }
         ensures alone { self.new.has_it ≡ false }
-        ensures looked { HasLooked self.old.key.plan self.old.view self.new.view }
-        ensures sight { self.new.view.seen ≡ (view_of guest.old.me).seen }
-        ensures own { self.old.view.own ≡ own_entries self.old.who (view_of guest.old.me).seen }
-        ensures begins { BeginsWith (view_of guest.old.me).seen self.old.view.seen }
+        ensures looked { ViewHasLooked self.old.key.plan self.old.view self.new.view }
+        ensures sight { self.new.view.seen ≡ (view_of visitor_seat.old.me).seen }
+        ensures own { self.old.view.own ≡ own_entries self.old.who (view_of visitor_seat.old.me).seen }
+        ensures begins { BeginsWith (view_of visitor_seat.old.me).seen self.old.view.seen }
     {
         let seat = mem::replace(&mut self.seat, visitor(lock));
-        self.seat = show(lock, guest, seat);
+        self.seat = show(lock, visitor_seat, seat);
     }
 
     /// Takes the shard.
@@ -202,7 +200,7 @@ impl ShardPass {
         requires alone { self.old.has_it ≡ false }
         ensures same { IsSameShard self.old self.new }
         ensures taken { self.new.has_it ≡ true }
-        ensures looked { HasLooked self.old.key.plan self.old.view self.new.view }
+        ensures looked { ViewHasLooked self.old.key.plan self.old.view self.new.view }
     {
         take(rt, lock, &mut self.seat);
     }
@@ -228,69 +226,27 @@ impl ShardPass {
         who: Caller,
         ask: C,
     ) -> Result<C::Answer, JournalFull>
-        requires lock { IsLockOf self.old.table self.old.key lock.now }
-        requires who { self.old.who ≡ who }
-        requires taken { self.old.has_it ≡ true }
+        requires ready { IsCallerAt true self.old who lock.now order.now mine.old }
         requires met { Meets self.old.key.plan self.old.view.own who (C.asks ask self.old.key.plan.number) }
-        requires order { KnowsShard self.old.key order.now }
-        requires mine { IsSeatFor self.old.key.order (ByCaller who) mine.old }
         ensures same { IsSameShard self.old self.new }
-        ensures taken { self.new.has_it ≡ true }
-        ensures served { IfOk result (λ answer. IsServed self.old.key.plan self.old.view self.new.view
+        ensures ready { IsCallerAt true self.new who lock.now order.now mine.new }
+        ensures served { IfOk result (λ answer. ViewIsServed self.old.key.plan self.old.view self.new.view
             (entry_of who (C.asks ask self.old.key.plan.number) (C.replies self.old.key.plan.number answer))) }
         ensures next { IfOk result (λ answer. self.new.view.seen ≡ entry_of who (C.asks ask self.old.key.plan.number)
             (C.replies self.old.key.plan.number answer) ∷ self.old.view.seen) }
-        ensures refused { OnErr result (IsRefused self.old.key.plan self.old.view self.new.view (C.asks ask self.old.key.plan.number)) }
+        ensures refused { OnErr result (ViewIsRefused self.old.key.plan self.old.view self.new.view (C.asks ask self.old.key.plan.number)) }
         ensures unchanged { OnErr result (self.new ≡ self.old) }
         ensures names_the_shard { IfErr result (λ fault. fault.shard ≡ self.old.key.plan.number) }
-        ensures mine { IsSeatFor self.old.key.order (ByCaller who) mine.new }
-        ensures did { deeds_in mine.new.me.0 ≡
-            deed_by who (C.asks ask self.old.key.plan.number) (C.replies self.old.key.plan.number) result ∷ deeds_in mine.old.me.0 }
+        ensures did { account_deeds mine.new.me.0 ≡
+            deed_by who (C.asks ask self.old.key.plan.number) (C.replies self.old.key.plan.number) result ∷ account_deeds mine.old.me.0 }
     {
-        let answer = add(lock, &mut self.seat, order, mine, who, ask);
+        let answer = self
+            .seat
+            .slot_mut(&lock.shared, 0)
+            .add(order, mine, who, ask);
         change(&mut self.inside, ask.section(), &answer);
         keep(&mut self.held, &ask, &answer);
         answer
-    }
-
-    /// Enters the shard that it has, and makes a call there.
-    fn ask_inside<C: Ask>(
-        &mut self,
-        lock: &Lock,
-        order: &Order,
-        mine: &mut OrderSeat,
-        who: Caller,
-        ask: C,
-    ) -> Result<C::Answer, Stopped>
-        requires lock { IsLockOf self.old.table self.old.key lock.now }
-        requires who { self.old.who ≡ who }
-        requires taken { self.old.has_it ≡ true }
-        requires may_enter { Meets self.old.key.plan self.old.view.own who (Enter self.old.key.plan.number) }
-        requires met { Meets self.old.key.plan (enter_entry self.old.key.plan.number who ∷ self.old.view.own) who
-            (C.asks ask self.old.key.plan.number) }
-        requires order { KnowsShard self.old.key order.now }
-        requires mine { IsSeatFor self.old.key.order (ByCaller who) mine.old }
-        ensures same { IsSameShard self.old self.new }
-        ensures taken { self.new.has_it ≡ true }
-        ensures served { IfOk result
-            (λ answer. AreServed self.old.key.plan self.old.view self.new.view (enter_entry self.old.key.plan.number who)
-            (entry_of who (C.asks ask self.old.key.plan.number) (C.replies self.old.key.plan.number answer))) }
-        ensures refused { IfErr result (IsStoppedAt self.old.key.plan self.old.key.plan.number self.old.view self.new.view who
-            (C.asks ask self.old.key.plan.number)) }
-        ensures mine { IsSeatFor self.old.key.order (ByCaller who) mine.new }
-        ensures did { deeds_in mine.new.me.0 ≡ deeds_by_both self.old.key.plan.number who (C.asks ask self.old.key.plan.number)
-            (C.replies self.old.key.plan.number) result ++ deeds_in mine.old.me.0 }
-    {
-        match self.ask(lock, order, mine, who, Enters) {
-            Ok(()) => match self.ask(lock, order, mine, who, ask) {
-                Ok(answer) => Ok(answer),
-                Err(full) => Err(Stopped::AtCall { full }),
-            },
-            Err(full) => {
-                let _ = ask;
-                Err(Stopped::AtEnter { full })
-            }
-        }
     }
 
     /// Whether the caller may make the call on the shard that it has.
@@ -303,7 +259,7 @@ impl ShardPass {
         ensures exact { KeepsRows self.old.key.plan.reserve → result ≡ meets self.old.key.plan self.old.view.own who call.now }
         ensures no_rows { ¬ KeepsRows self.old.key.plan.reserve → result ≡ false }
     {
-        meets_now(lock, &mut self.seat, who, call)
+        self.seat.slot_mut(&lock.shared, 0).meets(who, call)
     }
 }
 

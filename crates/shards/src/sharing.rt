@@ -3,9 +3,9 @@
 //! # One word a shard
 //!
 //! A shard is in the slot of an atomic table with one word that is used. The word is four times the number of the journal's entries, plus
-//! the *phase* of the lock: 0 free, 1 taken, 2 taken while others may sleep, 3 closed for good. A caller that takes the lock takes the shard out
-//! of its slot: from then on it is plain memory, which only that caller reads and writes. A caller that gives the shard back puts the new
-//! length into the word in the same step.
+//! the *phase* of the lock: 0 free, 1 taken, 2 taken while others may sleep, 3 closed for good. A caller that takes the lock takes the
+//! shard out of its slot: from then on it is plain memory, which only that caller reads and writes. A caller that gives the shard back puts
+//! the new length into the word in the same step.
 //!
 //! A call is three steps (`lock`):
 //!
@@ -29,12 +29,13 @@
 //! calls other callers append entries, so a pass knows a beginning and not all of it. The rule of the word (`rule`, `specs/LockRule`) says
 //! what each step may change, and each step is proved to keep it (`proofs/Moves`):
 //!
-//! - `Deals`: a seat for a caller that has none. Each caller gets one, once (`dealer`), so that its own entries are all in one place.
-//! - `Takes`: the lock was free, so the shard was in its slot, and its journal was the whole history. The seat has the shard now, and
-//! learns that its own   entries are all of its caller's in that history, and that what it saw is a beginning of it.
-//! - `Marks`: the phase alone changes.
-//! - `Gives`: the journal has grown by entries of this caller alone, since nobody else had the shard. They are the end of the history now,
-//! and the seat   has seen all of it. The other callers' own entries are the same as before, and what they saw is still a beginning.
+//! - `DealsSeat`: a seat for a caller that has none. Each caller gets one, once (`dealer`), so that its own entries are all in one place.
+//! - `TakesShard`: the lock was free, so the shard was in its slot, and its journal was the whole history. The seat has the shard now, and
+//!   learns that its own entries are all of its caller's in that history, and that what it saw is a beginning of it.
+//! - `MarksSleepers`: the phase alone changes.
+//! - `GivesShardBack`: the journal has grown by entries of this caller alone, since nobody else had the shard. They are the end of the
+//!   history now, and the seat has seen all of it. The other callers' own entries are the same as before, and what they saw is still a
+//!   beginning.
 //!
 //! That own entries are *all* of the caller's is what lets a caller know by itself, without a lock, whether it is inside and what it holds.
 //!
@@ -45,31 +46,31 @@
 //! `specs/OrderRule`): that of a shard lies beside the shard in its slot, that of a caller is in its pass. So who has taken a shard has
 //! both. It puts them together, makes one step, and parts them again (`order`):
 //!
-//! - `Adds`: a deed is added to the order, and to each account of the seat. Nobody else has these accounts, so shard by shard the entries
-//! of the order are   the journal, and caller by caller the deeds are what it did over all shards, each in the order in which they
-//! happened.
+//! - `AddsDeed`: a deed is added to the order, and to each account of the seat. Nobody else has these accounts, so shard by shard the
+//!   entries of the order are the journal, and caller by caller the deeds are what it did over all shards, each in the order in which they
+//!   happened.
 //!
 //! # Visitors
 //!
-//! `hold`, `meet` and `close` make no call. They take the shard by a *visitor's* seat, which anyone gets (`Comes`), and which waits like
-//! every other. A visitor that has the shard can show a caller its history (`showing`): the two seats become one (`Both`), a load shows
-//! that the caller's own entries are all of its entries in that history (`Sees`), and they part again. `close` shows each shard to each
-//! pass that was handed in, puts the shard back for good (`Ends`, phase 3), and takes the table apart: the shard is in its slot then, with
-//! the history that the passes were shown.
+//! `hold`, `meet` and `close` make no call. They take the shard by a *visitor's* seat, which anyone gets (`MakesVisitor`), and which waits
+//! like every other. A visitor that has the shard can show a caller its history (`showing`): the two seats become one
+//! (`VisitorWithCaller`), a load shows that the caller's own entries are all of its entries in that history (`SeesHistory`), and they part
+//! again. `close` shows each shard to each pass that was handed in, puts the shard back for good (`ClosesShard`, phase 3), and takes the
+//! table apart: the shard is in its slot then, with the history that the passes were shown.
 
 ghost use Rattle.std.specs.Prelude.{◌≡◌, ◌<◌, ◌∷◌, ◌++◌, true, false, IfOk, IfErr, OnErr};
 ghost use Rattle.semantics.specs.declared.call.Call.TheVariants.{Enter};
 ghost use Rattle.semantics.specs.History.{Meets, meets, shard_of_call};
 ghost use Rattle.semantics.specs.ShardPlan.{AreOptions, KeepsRows};
 ghost use Rattle.journals.specs.JournalsView.{AreImageMaps};
-ghost use Rattle.shards.specs.CallerView.{HasLooked};
+ghost use Rattle.shards.specs.CallerView.{ViewHasLooked};
 ghost use Rattle.shards.specs.Deeds.{deed_by, deeds_by_both};
-ghost use Rattle.shards.specs.Lodged.{keyed};
+ghost use Rattle.shards.specs.GuardedView.{keyed};
 ghost use Rattle.shards.specs.OrderRule.{KnowsShard};
 ghost use Rattle.shards.specs.Seats.{IsLockOf};
 ghost use Rattle.shards.specs.Passes.{KnowsItsOwn, view_at, own_at, seen_at, IsElsewhereSame};
 ghost use Rattle.shards.specs.SharedMaps.{ArePlans};
-ghost use Rattle.shards.specs.Asked.{MayAsk, MayAskInside, IsAnswered, IsTurnedAway, EnteredAndAnswered, IsStopped};
+ghost use Rattle.shards.specs.Asked.{PassMayAsk, PassMayAskInside, PassIsServed, PassIsRefused, PassEntersAndIsServed, PassIsStopped};
 
 use crate::asks::{Ask, Calls};
 use crate::journal_room::JournalRoom;
@@ -156,16 +157,23 @@ impl<B: Naming> Shards<B> {
         ask: C,
     ) -> Result<C::Answer, JournalFull>
         requires shard { shard < B.count }
-        requires met { MayAsk (B.plan shard) shard pass.old (C.asks ask shard) }
+        requires met { PassMayAsk (B.plan shard) shard pass.old (C.asks ask shard) }
         ensures elsewhere { IsElsewhereSame shard pass.old pass.new }
         ensures own { KnowsItsOwn shard pass.new }
         ensures served { IfOk result
-            (λ answer. IsAnswered (B.plan shard) shard pass.old pass.new (C.asks ask shard) (C.replies shard answer)) }
-        ensures refused { OnErr result (IsTurnedAway (B.plan shard) shard pass.old pass.new (C.asks ask shard)) }
+            (λ answer. PassIsServed (B.plan shard) shard pass.old pass.new (C.asks ask shard) (C.replies shard answer)) }
+        ensures refused { OnErr result (PassIsRefused (B.plan shard) shard pass.old pass.new (C.asks ask shard)) }
         ensures names_the_shard { IfErr result (λ fault. fault.shard ≡ shard) }
         ensures did { pass.new.deeds ≡ deed_by pass.old.who (C.asks ask shard) (C.replies shard) result ∷ pass.old.deeds }
     {
-        pass.ask(rt, self.lock(shard), self.order_at(shard), shard, ask)
+        pass.parts[shard as usize].call(
+            rt,
+            self.lock(shard),
+            self.order_at(shard),
+            &mut pass.seat,
+            pass.who,
+            ask,
+        )
     }
 
     /// Enters the shard, and makes a call there at once: two steps and two entries, next to each other, under one hold of the lock. Takes
@@ -181,16 +189,23 @@ impl<B: Naming> Shards<B> {
         ask: C,
     ) -> Result<C::Answer, Stopped>
         requires shard { shard < B.count }
-        requires may_enter { MayAsk (B.plan shard) shard pass.old (Enter shard) }
-        requires met { MayAskInside (B.plan shard) shard pass.old (C.asks ask shard) }
+        requires may_enter { PassMayAsk (B.plan shard) shard pass.old (Enter shard) }
+        requires met { PassMayAskInside (B.plan shard) shard pass.old (C.asks ask shard) }
         ensures elsewhere { IsElsewhereSame shard pass.old pass.new }
         ensures own { KnowsItsOwn shard pass.new }
         ensures served { IfOk result
-            (λ answer. EnteredAndAnswered (B.plan shard) shard pass.old pass.new (C.asks ask shard) (C.replies shard answer)) }
-        ensures refused { IfErr result (IsStopped (B.plan shard) shard pass.old pass.new (C.asks ask shard)) }
+            (λ answer. PassEntersAndIsServed (B.plan shard) shard pass.old pass.new (C.asks ask shard) (C.replies shard answer)) }
+        ensures refused { IfErr result (PassIsStopped (B.plan shard) shard pass.old pass.new (C.asks ask shard)) }
         ensures did { pass.new.deeds ≡ deeds_by_both shard pass.old.who (C.asks ask shard) (C.replies shard) result ++ pass.old.deeds }
     {
-        pass.enter_then(rt, self.lock(shard), self.order_at(shard), shard, ask)
+        pass.parts[shard as usize].enter_then(
+            rt,
+            self.lock(shard),
+            self.order_at(shard),
+            &mut pass.seat,
+            pass.who,
+            ask,
+        )
     }
 
     /// Makes a call on the shard that it names, as `ask` does.
@@ -201,13 +216,13 @@ impl<B: Naming> Shards<B> {
         call: &Call,
     ) -> Result<Reply, JournalFull>
         requires shard { shard_of_call call.now < B.count }
-        requires met { MayAsk (B.plan (shard_of_call call.now)) (shard_of_call call.now) pass.old call.now }
+        requires met { PassMayAsk (B.plan (shard_of_call call.now)) (shard_of_call call.now) pass.old call.now }
         ensures elsewhere { IsElsewhereSame (shard_of_call call.now) pass.old pass.new }
         ensures own { KnowsItsOwn (shard_of_call call.now) pass.new }
         ensures served { IfOk result
-            (λ reply. IsAnswered (B.plan (shard_of_call call.now)) (shard_of_call call.now) pass.old pass.new call.now reply) }
+            (λ reply. PassIsServed (B.plan (shard_of_call call.now)) (shard_of_call call.now) pass.old pass.new call.now reply) }
         ensures refused { OnErr result
-            (IsTurnedAway (B.plan (shard_of_call call.now)) (shard_of_call call.now) pass.old pass.new call.now) }
+            (PassIsRefused (B.plan (shard_of_call call.now)) (shard_of_call call.now) pass.old pass.new call.now) }
         ensures names_the_shard { IfErr result (λ fault. fault.shard ≡ shard_of_call call.now) }
         ensures did { pass.new.deeds ≡ deed_by pass.old.who call.now (λ reply. reply) result ∷ pass.old.deeds }
     {
@@ -220,7 +235,7 @@ impl<B: Naming> Shards<B> {
     pub fn may_call(&self, rt: &impl Wait, pass: &mut Pass<B>, call: &Call) -> bool
         requires shard { shard_of_call call.now < B.count }
         ensures elsewhere { IsElsewhereSame (shard_of_call call.now) pass.old pass.new }
-        ensures looked { HasLooked (B.plan (shard_of_call call.now)) (view_at pass.old (shard_of_call call.now))
+        ensures looked { ViewHasLooked (B.plan (shard_of_call call.now)) (view_at pass.old (shard_of_call call.now))
             (view_at pass.new (shard_of_call call.now)) }
         ensures may { result ≡ true →
             Meets (B.plan (shard_of_call call.now)) (own_at pass.new (shard_of_call call.now)) pass.new.who call.now }
@@ -240,9 +255,9 @@ impl<B: Naming> Shards<B> {
         ensures { F.post f result }
     {
         let lock = self.lock(shard);
-        let guest = visit(rt, lock);
+        let visitor_seat = visit(rt, lock);
         let result = f();
-        leave(lock, guest);
+        leave(lock, visitor_seat);
         result
     }
 
@@ -252,17 +267,17 @@ impl<B: Naming> Shards<B> {
         requires shard { shard < B.count }
         ensures elsewhere_one { IsElsewhereSame shard one.old one.new }
         ensures elsewhere_other { IsElsewhereSame shard other.old other.new }
-        ensures looked_one { HasLooked (B.plan shard) (view_at one.old shard) (view_at one.new shard) }
-        ensures looked_other { HasLooked (B.plan shard) (view_at other.old shard) (view_at other.new shard) }
+        ensures looked_one { ViewHasLooked (B.plan shard) (view_at one.old shard) (view_at one.new shard) }
+        ensures looked_other { ViewHasLooked (B.plan shard) (view_at other.old shard) (view_at other.new shard) }
         ensures same_sight { seen_at one.new shard ≡ seen_at other.new shard }
         ensures did_one { one.new.deeds ≡ one.old.deeds }
         ensures did_other { other.new.deeds ≡ other.old.deeds }
     {
         let lock = self.lock(shard);
-        let mut guest = visit(rt, lock);
-        one.see(lock, shard, &mut guest);
-        other.see(lock, shard, &mut guest);
-        leave(lock, guest);
+        let mut visitor_seat = visit(rt, lock);
+        one.see(lock, shard, &mut visitor_seat);
+        other.see(lock, shard, &mut visitor_seat);
+        leave(lock, visitor_seat);
     }
 
     /// The word of the shard of this number, with the shard.

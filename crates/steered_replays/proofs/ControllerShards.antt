@@ -17,8 +17,8 @@ use Rattle.control.specs.declared.update.Update.{Update as Change}
 use Rattle.control.specs.declared.update.Update.TheVariants.{Vip, Ring, Backend, Tunnel}
 use Rattle.control.specs.Controlling.{ControllerState}
 use Rattle.control.specs.MapUpdates.{UpdateBytes, map_update}
-use Rattle.replay.specs.Commands.{AnsweredUpdate, CommandDone, AreDone, IsDoneBy, IsNothing, all_done, made_in, with_updates, with_update, update_entry}
-use Rattle.replay.specs.SharedUpdates.{shard_of}
+use Rattle.actors.specs.Commands.{AnsweredUpdate, CommandDone, AreDone, IsDoneBy, IsNothing, all_done, made_in, with_updates, with_update, update_entry}
+use Rattle.actors.specs.SharedUpdates.{shard_of}
 use Rattle.steered_replays.proofs.ResultCounts.{all_both}
 
 -- ---- which updates are made

@@ -13,8 +13,8 @@ use Rattle.conntrack.specs.SteeringMaps.{steering_maps}
 use Rattle.steer.specs.ShippedProgram.{shipped_image}
 use Rattle.steer.specs.SteeringLaws.{of_size, shipped_program}
 use Rattle.control.specs.declared.command.Command.{Command}
-use Rattle.replay.specs.declared.outcome.Outcome.{Outcome}
-use Rattle.replay.specs.Accounted.{IsAccounted}
+use Rattle.actors.specs.declared.outcome.Outcome.{Outcome}
+use Rattle.actors.specs.Accounted.{IsAccounted}
 
 -- the image is the shipped one for a table of this size
 pub record IsShipped (verified : Verified) (size : ℕ) : Type 0 where
@@ -25,7 +25,7 @@ pub shipped_of : (verified : Verified) (size : ℕ) →
     record { version = verified.version; maps = verified.maps; code = verified.code } ≡ shipped_image size → IsShipped verified size
 shipped_of verified size is = record { maps = ap (λ (image : Contents). image.maps) is; code = ap (λ (image : Contents). image.code) is }
 
-program_is : (verified : Verified) (size shards : ℕ) → IsShipped verified size → program_of verified shards ≡ shipped_program (of_size shards size)
+pub program_is : (verified : Verified) (size shards : ℕ) → IsShipped verified size → program_of verified shards ≡ shipped_program (of_size shards size)
 program_is verified size shards shipped =
     ap (λ (code : List Insn). (λ (program : Program). program) (record { code = code; maps = verified.maps; shards = shards })) shipped.code
     ∙ ap (λ (maps : List MapDef). (λ (program : Program). program) (record { code = (shipped_image size).code; maps = maps; shards = shards })) shipped.maps

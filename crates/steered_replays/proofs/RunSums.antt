@@ -10,15 +10,15 @@ use Rattle.semantics.specs.declared.verdict.Verdict.TheVariants as verdicts
 use Rattle.semantics.specs.Semantics.{verdict_number}
 use Rattle.wire.specs.FrameView.{FrameView}
 use Rattle.wire.specs.declared.records.Sent.{Sent}
-use Rattle.replay.specs.declared.account.Counts.{Counts}
-use Rattle.replay.specs.declared.runner.Ran.{Ran}
-use Rattle.replay.specs.declared.runner.RunEnd.{RunEnd}
-use Rattle.replay.specs.declared.runner.RunEnd.TheVariants.{Stopped, Exited}
-use Rattle.replay.specs.declared.runner.FrameFate.TheVariants.{Aborted, Dropped, Passed, Sent as IsSent}
-use Rattle.replay.specs.Accounts.{no_counts, counted, counts_of, fate_of, runs_at, end_at}
-use Rattle.replay.specs.RunJobs.{records_of}
-use Rattle.replay.specs.RunsOverShards.{IsTold}
-use Rattle.replay.specs.Shares.{frame_at, is_short, is_spread_by_flow, is_handed, worker_of_frame, share}
+use Rattle.actors.specs.declared.account.Counts.{Counts}
+use Rattle.actors.specs.declared.runner.Ran.{Ran}
+use Rattle.actors.specs.declared.runner.RunEnd.{RunEnd}
+use Rattle.actors.specs.declared.runner.RunEnd.TheVariants.{Stopped, Exited}
+use Rattle.actors.specs.declared.runner.FrameFate.TheVariants.{Aborted, Dropped, Passed, Sent as IsSent}
+use Rattle.actors.specs.Accounts.{no_counts, counted, counts_of, fate_of, runs_at, end_at}
+use Rattle.actors.specs.RunJobs.{records_of}
+use Rattle.actors.specs.RunsOverShards.{IsTold}
+use Rattle.actors.specs.Shares.{frame_at, is_short, is_spread_by_flow, is_handed, worker_of_frame, share}
 use Rattle.steered_replays.proofs.CallerSums.{sum_below, same_sums, more_for, one_more}
 
 -- ---- ends, by number: the verdict's, and 4 for a run that was stopped

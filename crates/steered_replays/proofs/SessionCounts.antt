@@ -10,8 +10,8 @@ use Rattle.map_port.specs.Exchanges.{Exchange}
 use Rattle.conntrack.specs.Steering.{SteeringSizes}
 use Rattle.shards.specs.Passes.{PassView, own_at}
 use Rattle.shard_port.specs.Asking.{enter_by, leave_by}
-use Rattle.shard_port.specs.PassSessions.{HasSessions, AreWithin, session_at}
-use Rattle.shard_port.specs.Sessions.{entry_of, is_at, entries_at, session}
+use Rattle.shard_port.specs.PassSessions.{HasSessions, AreCallsWithin, session_at}
+use Rattle.shard_port.specs.Sessions.{exchange_entry, is_asked_of, exchange_entries, session}
 use Rattle.steered_replays.specs.Counting.{IsCounting, AreCounting, raised, raised_by}
 use Rattle.steered_replays.proofs.ResultCounts.{all_both, all_parts, raised_on, IsFound, IsCountingIn}
 
@@ -48,13 +48,13 @@ raised_session cell worker number (first ∷ later) =
     let both : raised cell (later ++ leave_by worker number ∷ []) ≡ raised cell later + (0 + 0) = raised_both cell later (leave_by worker number ∷ []) in
     omega (arith, both)
 
-raised_entries : (cell worker number : ℕ) (exchanges : List Exchange) → raised cell (entries_at worker number exchanges) ≡ raised_on number cell exchanges
+raised_entries : (cell worker number : ℕ) (exchanges : List Exchange) → raised cell (exchange_entries worker number exchanges) ≡ raised_on number cell exchanges
 raised_entries cell worker number [] = refl
 raised_entries cell worker number (exchange ∷ later) =
     by (shard_of_call exchange.call == number) ∙ ap (λ n. (if shard_of_call exchange.call == number then raised_by cell exchange.call else 0) + n) (raised_entries cell worker number later)
   where
-    by : (test : Bool) → raised cell (map (entry_of worker) (if test then exchange ∷ filter (is_at number) later else filter (is_at number) later))
-        ≡ (if test then raised_by cell exchange.call else 0) + raised cell (entries_at worker number later)
+    by : (test : Bool) → raised cell (map (exchange_entry worker) (if test then exchange ∷ filter (is_asked_of number) later else filter (is_asked_of number) later))
+        ≡ (if test then raised_by cell exchange.call else 0) + raised cell (exchange_entries worker number later)
     by true = refl
     by false = omega arith
 
@@ -64,7 +64,7 @@ pub session_raises : (count worker : ℕ) (exchanges : List Exchange) (before af
 session_raises count worker exchanges before after sessions number cell within =
     ap (raised cell) (sessions.written number within) ∙ raised_both cell (reverse (session_at worker number exchanges)) (own_at before number)
     ∙ ap (λ n. n + raised cell (own_at before number))
-    (raised_reverse cell (session_at worker number exchanges) ∙ raised_session cell worker number (entries_at worker number exchanges)
+    (raised_reverse cell (session_at worker number exchanges) ∙ raised_session cell worker number (exchange_entries worker number exchanges)
     ∙ raised_entries cell worker number exchanges)
 
 -- ---- what holds of entries, and of exchanges
@@ -81,27 +81,27 @@ in_session P worker number [] all = tt
 in_session P worker number (first ∷ later) all = (all.1.0, (all_parts P later (leave_by worker number ∷ []) all.1.1).0)
 
 rest_at : (P : Entry → Type 0) (worker : ℕ) (exchange : Exchange) (rest : List Exchange) (test : Bool) →
-    AllByRecursion P (map (entry_of worker) (if test then exchange ∷ rest else rest)) → AllByRecursion P (map (entry_of worker) rest)
+    AllByRecursion P (map (exchange_entry worker) (if test then exchange ∷ rest else rest)) → AllByRecursion P (map (exchange_entry worker) rest)
 rest_at P worker exchange rest true all = all.1
 rest_at P worker exchange rest false all = all
 
 first_at : (P : Entry → Type 0) (worker : ℕ) (exchange : Exchange) (rest : List Exchange) (test : Bool) → test ≡ true →
-    AllByRecursion P (map (entry_of worker) (if test then exchange ∷ rest else rest)) → P (entry_of worker exchange)
+    AllByRecursion P (map (exchange_entry worker) (if test then exchange ∷ rest else rest)) → P (exchange_entry worker exchange)
 first_at P worker exchange rest true is all = all.0
 first_at P worker exchange rest false is all = absurd cc
 
 same_test : (a : ℕ) → (a == a) ≡ true
 same_test a = grind (arith, nat_tests)
 
-each_exchange : (P : Entry → Type 0) (count worker : ℕ) (exchanges : List Exchange) → AreWithin count exchanges →
-    ((number : ℕ) → number < count → AllByRecursion P (entries_at worker number exchanges)) →
-    AllByRecursion (λ (exchange : Exchange). P (entry_of worker exchange)) exchanges
+each_exchange : (P : Entry → Type 0) (count worker : ℕ) (exchanges : List Exchange) → AreCallsWithin count exchanges →
+    ((number : ℕ) → number < count → AllByRecursion P (exchange_entries worker number exchanges)) →
+    AllByRecursion (λ (exchange : Exchange). P (exchange_entry worker exchange)) exchanges
 each_exchange P count worker [] within all = tt
 each_exchange P count worker (exchange ∷ later) within all =
     let number : ℕ = shard_of_call exchange.call in (
-      first_at P worker exchange (filter (is_at number) later) (is_at number exchange) (same_test number) (all number within.0),
+      first_at P worker exchange (filter (is_asked_of number) later) (is_asked_of number exchange) (same_test number) (all number within.0),
       each_exchange P count worker later within.1
-          (λ n below. rest_at P worker exchange (filter (is_at n) later) (is_at n exchange) (all n below)),
+          (λ n below. rest_at P worker exchange (filter (is_asked_of n) later) (is_asked_of n exchange) (all n below)),
     )
 
 -- what holds of the worker's own entries after a run holds of those before it
@@ -112,10 +112,10 @@ earlier_own P count worker exchanges before after sessions number within all =
     (subst (λ (own : List Entry). AllByRecursion P own) (sessions.written number within) all)).1
 
 own_exchanges : (P : Entry → Type 0) (count worker : ℕ) (exchanges : List Exchange) (before after : PassView) → HasSessions count worker exchanges before after →
-    ((number : ℕ) → number < count → AllByRecursion P (own_at after number)) → AllByRecursion (λ (exchange : Exchange). P (entry_of worker exchange)) exchanges
+    ((number : ℕ) → number < count → AllByRecursion P (own_at after number)) → AllByRecursion (λ (exchange : Exchange). P (exchange_entry worker exchange)) exchanges
 own_exchanges P count worker exchanges before after sessions all =
     each_exchange P count worker exchanges sessions.within
-    (λ number within. in_session P worker number (entries_at worker number exchanges) (all_reversed P (session_at worker number exchanges)
+    (λ number within. in_session P worker number (exchange_entries worker number exchanges) (all_reversed P (session_at worker number exchanges)
     (all_parts P (reverse (session_at worker number exchanges)) (own_at before number)
     (subst (λ (own : List Entry). AllByRecursion P own) (sessions.written number within) (all number within))).0))
 
@@ -131,17 +131,17 @@ found_exchanges setting count worker exchanges before after sessions all = own_e
 -- ---- shards of counts
 
 if_at : (setting : SteeringSizes) (worker number : ℕ) → 5 * setting.shards ≤ number → (exchange : Exchange) (rest : List Exchange) (test : Bool) →
-    is_at number exchange ≡ test → IsCountingIn setting exchange → AreCounting (map (entry_of worker) rest) →
-    AreCounting (map (entry_of worker) (if test then exchange ∷ rest else rest))
+    is_asked_of number exchange ≡ test → IsCountingIn setting exchange → AreCounting (map (exchange_entry worker) rest) →
+    AreCounting (map (exchange_entry worker) (if test then exchange ∷ rest else rest))
 if_at setting worker number past exchange rest true is here all =
     let same : shard_of_call exchange.call ≡ number = grind (arith, nat_tests) in (here (omega (arith, past, same)), all)
 if_at setting worker number past exchange rest false is here all = all
 
 counting_entries : (setting : SteeringSizes) (worker number : ℕ) → 5 * setting.shards ≤ number → (exchanges : List Exchange) →
-    AllByRecursion (IsCountingIn setting) exchanges → AreCounting (entries_at worker number exchanges)
+    AllByRecursion (IsCountingIn setting) exchanges → AreCounting (exchange_entries worker number exchanges)
 counting_entries setting worker number past [] all = tt
 counting_entries setting worker number past (exchange ∷ later) all =
-    if_at setting worker number past exchange (filter (is_at number) later) (is_at number exchange) refl all.0
+    if_at setting worker number past exchange (filter (is_asked_of number) later) (is_asked_of number exchange) refl all.0
     (counting_entries setting worker number past later all.1)
 
 -- a run keeps a shard of counts what it is
@@ -153,4 +153,4 @@ stays_counting setting count worker exchanges before after sessions counting num
     subst AreCounting (sym (sessions.written number within))
     (all_both P (reverse (session_at worker number exchanges)) (own_at before number)
     (all_reverse P (session_at worker number exchanges)
-    (all_session P worker number (entries_at worker number exchanges) (inl tt) (inl tt) (counting_entries setting worker number past exchanges counting))) all)
+    (all_session P worker number (exchange_entries worker number exchanges) (inl tt) (inl tt) (counting_entries setting worker number past exchanges counting))) all)

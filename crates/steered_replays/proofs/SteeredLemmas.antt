@@ -26,16 +26,17 @@ use Rattle.shards.specs.Passes.{PassView}
 use Rattle.runs.specs.FrameRuns.{AreFormed}
 use Rattle.machine.specs.declared.exit.Stop.{Stop}
 use Rattle.machine.specs.declared.exit.Stop.TheVariants.{JournalFull}
-use Rattle.replay.specs.declared.runner.Ran.{Ran}
-use Rattle.replay.specs.declared.runner.RunEnd.{RunEnd}
-use Rattle.replay.specs.declared.runner.RunEnd.TheVariants.{Stopped, Exited}
-use Rattle.replay.specs.Accounted.{IsWorkOf}
-use Rattle.replay.specs.Accounts.{runs_at, end_at, fate_of}
-use Rattle.replay.specs.RunJobs.{records_of}
-use Rattle.replay.specs.RunsInOrder.{IsRunAt, IsChainOfRuns}
-use Rattle.replay.specs.RunsOverShards.{IsRunIn, IsExit, StopsFor}
-use Rattle.replay.specs.Shares.{frames_of, frame_at, is_short, is_spread_by_flow, worker_of_frame, is_handed, share}
-use Rattle.steered_replays.specs.SteeredRuns.{IsSteeredFate, IsSteeredExit, IsSteeredStop, IsSteeredRun, IsOfCapture}
+use Rattle.actors.specs.declared.runner.Ran.{Ran}
+use Rattle.actors.specs.declared.runner.RunEnd.{RunEnd}
+use Rattle.actors.specs.declared.runner.RunEnd.TheVariants.{Stopped, Exited}
+use Rattle.actors.specs.Accounted.{IsWorkOf}
+use Rattle.actors.specs.Accounts.{runs_at, end_at, fate_of}
+use Rattle.actors.specs.RunJobs.{records_of}
+use Rattle.actors.specs.RunsInOrder.{IsRunAt, IsChainOfRuns}
+use Rattle.actors.specs.RunsOverShards.{IsRunIn, IsExit, StopsFor}
+use Rattle.actors.specs.Shares.{frames_of, frame_at, is_short, is_spread_by_flow, worker_of_frame, is_handed, share}
+use Rattle.steered_replays.specs.SteeredRuns.{IsSteeredFate, IsSteeredExit, IsSteeredStop, IsSteeredRun}
+use Rattle.actors.specs.Captured.{IsCaptured}
 use Rattle.steered_replays.specs.SteeredRuns.{RunsAreSteered, RefusedRunsAreSteered, ReplaysAreSteered}
 use Rattle.steered_replays.proofs.ResultCounts.{all_both}
 
@@ -80,11 +81,11 @@ refused_runs_are_steered steers size shards is frame input told now plan count w
 abbrev IsInputAt : List Sent → ℕ → Type 0
 IsInputAt records number = (captured : Sent) → slice_get records number ≡ Some captured → IsInputFrame captured.bytes.items
 
-record_of : (records : List Sent) (number : ℕ) (captured : Sent) → slice_get records number ≡ Some captured → AllByRecursion IsOfCapture records →
-    IsOfCapture captured × (frame_at (frames_of records) number ≡ captured.bytes.items)
+record_of : (records : List Sent) (number : ℕ) (captured : Sent) → slice_get records number ≡ Some captured → AllByRecursion IsCaptured records →
+    IsCaptured captured × (frame_at (frames_of records) number ≡ captured.bytes.items)
 record_of [] number captured known all = absurd cc
 record_of (first ∷ later) zero captured known all =
-    let same : first ≡ captured = cc known in (subst IsOfCapture same all.0, ap (λ (one : Sent). one.bytes.items) same)
+    let same : first ≡ captured = cc known in (subst IsCaptured same all.0, ap (λ (one : Sent). one.bytes.items) same)
 record_of (first ∷ later) (suc number) captured known all = record_of later number captured known all.1
 
 long_of : (short own : Bool) → (not short && own) ≡ true → short ≡ false
@@ -94,7 +95,7 @@ long_of false own held = refl
 fourteen : (bytes : List ℕ) → is_short bytes ≡ false → 14 ≤ length bytes
 fourteen bytes long = grind (arith, nat_tests)
 
-input_at : (records : List Sent) → AllByRecursion IsOfCapture records → (workers worker number : ℕ) → is_handed (frames_of records) workers worker number ≡ true →
+input_at : (records : List Sent) → AllByRecursion IsCaptured records → (workers worker number : ℕ) → is_handed (frames_of records) workers worker number ≡ true →
     IsInputAt records number
 input_at records all workers worker number handed captured known =
     let one = record_of records number captured known all in
@@ -107,7 +108,7 @@ with_last : (records : List Sent) (shared : List ℕ) (number : ℕ) → AllByRe
 with_last records shared number before true last = all_both (IsInputAt records) shared (number ∷ []) before (last refl, tt)
 with_last records shared number before false last = before
 
-inputs_in : (records : List Sent) → AllByRecursion IsOfCapture records → (workers worker count : ℕ) →
+inputs_in : (records : List Sent) → AllByRecursion IsCaptured records → (workers worker count : ℕ) →
     AllByRecursion (IsInputAt records) (share (frames_of records) workers worker count)
 inputs_in records all workers worker zero = tt
 inputs_in records all workers worker (suc count) =
@@ -274,7 +275,7 @@ module _ (plan : ℕ → ShardPlan) (count : ℕ) (setting : SteeringSizes) (wor
       (ap (λ (l : List ℕ). slice_get l (length (share (frames_of records) workers worker number))) (in_order worker few)
       ∙ share_at (frames_of records) workers worker number (length records) handed below))
 
-  fate_steered : (number : ℕ) (captured : Sent) → slice_get records number ≡ Some captured → AllByRecursion IsOfCapture records →
+  fate_steered : (number : ℕ) (captured : Sent) → slice_get records number ≡ Some captured → AllByRecursion IsCaptured records →
       IsSteeredFate plan count setting (worker_of_frame captured.bytes.items workers) captured (fate_of (frames_of records) workers runs number)
   fate_steered number captured known all =
       let same : frame_at (frames_of records) number ≡ captured.bytes.items = (record_of records number captured known all).1 in
@@ -283,7 +284,6 @@ module _ (plan : ℕ → ShardPlan) (count : ℕ) (setting : SteeringSizes) (wor
 
 pub replays_are_steered : ShippedSteers → ExitedRunsAreResults → ReplaysAreSteered
 replays_are_steered steers results size is script options records outcome fit captured accounted = record {
-  accounted = accounted;
   work = works;
   fates = λ number one known.
       fate_steered accounted.plan accounted.count (of_size options.shards size) options.workers fit.some_worker records accounted.runs

@@ -19,7 +19,7 @@ use Rattle.semantics.specs.LittleEndian.{number_of_bytes, bytes_of_number}
 use Rattle.semantics.specs.SequentialShard.{shard_after, number_in_cell, reply_of}
 use Rattle.map_port.specs.Exchanges.{Exchange, calls_in, replies_in}
 use Rattle.block_runs.specs.Plan.{Plan, Asks, Ends, Ending, Ended, Waiting, RunOutcome, either, plan_outcome, plan_after}
-use Rattle.shard_port.specs.Sessions.{entry_of}
+use Rattle.shard_port.specs.Sessions.{exchange_entry}
 use Rattle.conntrack.specs.declared.choosing.Assigned.{Assigned}
 use Rattle.conntrack.specs.declared.choosing.Choice.TheVariants.{Tx}
 use Rattle.conntrack.specs.declared.choosing.Records.{Records}
@@ -208,13 +208,13 @@ module _ (sticks : FlowsStick) (setting : SteeringSizes) (frame : FrameView) (tu
   noted_cell = record { shard = run.flows.number; id = run.noted.cell }
 
   abbrev at_load : List Entry
-  at_load = run.noted.between ++ entry_of worker run.flow_lookup ∷ run.noted.earlier
+  at_load = run.noted.between ++ exchange_entry worker run.flow_lookup ∷ run.noted.earlier
 
-  legal_load : IsLegalHistory run.flows (entry_of worker run.flow_load ∷ at_load)
-  legal_load = legal_before run.flows run.noted.later (entry_of worker run.flow_load ∷ at_load) (subst (IsLegalHistory run.flows) run.noted.history_is run.noted.legal)
+  legal_load : IsLegalHistory run.flows (exchange_entry worker run.flow_load ∷ at_load)
+  legal_load = legal_before run.flows run.noted.later (exchange_entry worker run.flow_load ∷ at_load) (subst (IsLegalHistory run.flows) run.noted.history_is run.noted.legal)
 
-  legal_lookup : IsLegalHistory run.flows (entry_of worker run.flow_lookup ∷ run.noted.earlier)
-  legal_lookup = legal_before run.flows run.noted.between (entry_of worker run.flow_lookup ∷ run.noted.earlier) legal_load.1
+  legal_lookup : IsLegalHistory run.flows (exchange_entry worker run.flow_lookup ∷ run.noted.earlier)
+  legal_lookup = legal_before run.flows run.noted.between (exchange_entry worker run.flow_lookup ∷ run.noted.earlier) legal_load.1
 
   lookup_reply_is : run.flow_lookup.reply ≡ Cell noted_cell
   lookup_reply_is =
@@ -232,8 +232,8 @@ module _ (sticks : FlowsStick) (setting : SteeringSizes) (frame : FrameView) (tu
 
   noted_at_load : IsNoted run.flows key number run.noted.cell at_load
   noted_at_load =
-      noted_on run.flows key number run.noted.cell run.noted.between (entry_of worker run.flow_lookup ∷ run.noted.earlier)
-      (noted_on run.flows key number run.noted.cell (entry_of worker run.flow_lookup ∷ []) run.noted.earlier run.noted.noted
+      noted_on run.flows key number run.noted.cell run.noted.between (exchange_entry worker run.flow_lookup ∷ run.noted.earlier)
+      (noted_on run.flows key number run.noted.cell (exchange_entry worker run.flow_lookup ∷ []) run.noted.earlier run.noted.noted
       (lookup_leaves run.flows key key run.noted.cell (shard_of setting Flows key) run.noted.earlier run.flow_lookup.call lookup_call, tt))
       run.noted.untouched
 
@@ -264,13 +264,13 @@ module _ (sticks : FlowsStick) (setting : SteeringSizes) (frame : FrameView) (tu
       run.backend_lookup (run.backend_load ∷ last) (Ended verdict left) from_backend
 
   abbrev at_record : List Entry
-  at_record = run.up.between ++ entry_of worker run.backend_lookup ∷ run.up.earlier
+  at_record = run.up.between ++ exchange_entry worker run.backend_lookup ∷ run.up.earlier
 
-  legal_record : IsLegalHistory run.backends (entry_of worker run.backend_load ∷ at_record)
-  legal_record = legal_before run.backends run.up.later (entry_of worker run.backend_load ∷ at_record) (subst (IsLegalHistory run.backends) run.up.history_is run.up.legal)
+  legal_record : IsLegalHistory run.backends (exchange_entry worker run.backend_load ∷ at_record)
+  legal_record = legal_before run.backends run.up.later (exchange_entry worker run.backend_load ∷ at_record) (subst (IsLegalHistory run.backends) run.up.history_is run.up.legal)
 
-  legal_backend : IsLegalHistory run.backends (entry_of worker run.backend_lookup ∷ run.up.earlier)
-  legal_backend = legal_before run.backends run.up.between (entry_of worker run.backend_lookup ∷ run.up.earlier) legal_record.1
+  legal_backend : IsLegalHistory run.backends (exchange_entry worker run.backend_lookup ∷ run.up.earlier)
+  legal_backend = legal_before run.backends run.up.between (exchange_entry worker run.backend_lookup ∷ run.up.earlier) legal_record.1
 
   abbrev backend_cell : CellRef
   backend_cell = record { shard = run.backends.number; id = number / run.backends.parts }

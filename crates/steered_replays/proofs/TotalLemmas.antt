@@ -27,25 +27,26 @@ use Rattle.journals.specs.JournalsView.{entries_at}
 use Rattle.conntrack.specs.SteeringMaps.{steering_maps, defined}
 use Rattle.conntrack.specs.Steering.{SteeringSizes}
 use Rattle.conntrack.specs.Results.{count_key}
-use Rattle.steer.specs.SteeringLaws.{of_size}
+use Rattle.steer.specs.SteeringLaws.{of_size, shipped_program}
 use Rattle.shards.specs.CallerView.{CallerView}
 use Rattle.shards.specs.Passes.{PassView, own_at}
 use Rattle.control.specs.declared.command.Command.{Command}
-use Rattle.replay.specs.declared.account.Counts.{Counts}
-use Rattle.replay.specs.declared.outcome.Outcome.{Outcome}
-use Rattle.replay.specs.declared.runner.Ran.{Ran}
-use Rattle.replay.specs.declared.runner.RunEnd.{RunEnd}
-use Rattle.replay.specs.declared.runner.RunEnd.TheVariants.{Stopped, Exited}
-use Rattle.replay.specs.Accounts.{runs_at}
-use Rattle.replay.specs.Parts.{rounds_of}
-use Rattle.replay.specs.RunJobs.{records_of}
+use Rattle.actors.specs.declared.account.Counts.{Counts}
+use Rattle.actors.specs.declared.outcome.Outcome.{Outcome}
+use Rattle.actors.specs.declared.runner.Ran.{Ran}
+use Rattle.actors.specs.declared.runner.RunEnd.{RunEnd}
+use Rattle.actors.specs.declared.runner.RunEnd.TheVariants.{Stopped, Exited}
+use Rattle.actors.specs.Accounts.{runs_at}
+use Rattle.actors.specs.Parts.{round_count}
+use Rattle.actors.specs.RunJobs.{records_of}
 use Rattle.control.specs.Controlling.{opened_controller}
-use Rattle.replay.specs.Commands.{all_set, made_in, with_updates}
+use Rattle.actors.specs.Commands.{all_set, made_in, with_updates}
 use Rattle.map_updates.specs.declared.update.MapUpdate.{MapUpdate}
-use Rattle.replay.specs.Rounds.{IsReclaimedBy}
-use Rattle.replay.specs.RunsInOrder.{IsRunAt, IsChainOfRuns}
-use Rattle.replay.specs.Shares.{frames_of, share}
+use Rattle.actors.specs.Rounds.{IsReclaimedBy}
+use Rattle.actors.specs.RunsInOrder.{IsRunAt, IsChainOfRuns}
+use Rattle.actors.specs.Shares.{frames_of, share}
 use Rattle.steered_replays.specs.Counting.{AreCounting, raised, CountsAreExact, LookupsOfArraysFind}
+use Rattle.actors.specs.Accounted.{IsAccounted}
 use Rattle.steered_replays.specs.SteeredRuns.{IsSteeredExit, IsSteeredRun, IsSteeredReplay}
 use Rattle.steered_replays.specs.Totals.{HasCount, AreTotals, shard_of_count}
 use Rattle.steered_replays.proofs.CallerSums.{sum_below, same_sums, none_in_sum, own_sum, raised_by_all, all_of_callers, all_own}
@@ -232,7 +233,9 @@ rounds_none : (kind : MapKind) → kind ≡ Array → (plan : ShardPlan) (number
 rounds_none kind array plan number rounds own seen made = subst (λ (k : MapKind). IsReclaimedBy k plan number rounds own seen) array made
 
 module _ (exact : CountsAreExact) (finds : LookupsOfArraysFind) (size : ℕ) (script : List Command) (options : Options) (records : List Sent) (outcome : Outcome)
-    (fit : AreOptions (steering_maps size) options) (replayed : IsSteeredReplay size script options records outcome) (none_set : outcome.updates.items ≡ [])
+    (fit : AreOptions (steering_maps size) options)
+    (accounted : IsAccounted (shipped_program (of_size options.shards size)) script options records outcome)
+    (replayed : IsSteeredReplay size (shipped_program (of_size options.shards size)) script options records outcome accounted) (none_set : outcome.updates.items ≡ [])
     (none : outcome.counts.stopped ≡ 0) where
   abbrev setting : SteeringSizes
   setting = of_size options.shards size
@@ -241,7 +244,7 @@ module _ (exact : CountsAreExact) (finds : LookupsOfArraysFind) (size : ℕ) (sc
   history number = reverse (entries_at outcome.journals number)
 
   abbrev runs : List (List Ran)
-  runs = replayed.accounted.runs
+  runs = accounted.runs
 
   some : 0 < options.shards
   some = some_shard options.shards fit.power_of_two
@@ -252,19 +255,19 @@ module _ (exact : CountsAreExact) (finds : LookupsOfArraysFind) (size : ℕ) (sc
 
   counts_are : (verdict : Verdict) → count_of verdict outcome.counts ≡ sum_below options.workers (λ worker. ends_in (verdict_number verdict) (runs_at runs worker))
   counts_are verdict =
-      ap (count_of verdict) replayed.accounted.counts
+      ap (count_of verdict) accounted.counts
       ∙ verdict_sum (frames_of records) options.workers fit.some_worker runs (length records) in_order verdict
 
   none_stopped : (worker : ℕ) → worker < options.workers → AllByRecursion HasEnded (runs_at runs worker)
   none_stopped worker below =
       all_ended (runs_at runs worker) (none_in_sum options.workers (λ worker. ends_in 4 (runs_at runs worker))
       (sym (stopped_sum (frames_of records) options.workers fit.some_worker runs (length records) in_order)
-      ∙ sym (ap (λ (counts : Counts). counts.stopped) replayed.accounted.counts) ∙ none) worker below)
+      ∙ sym (ap (λ (counts : Counts). counts.stopped) accounted.counts) ∙ none) worker below)
 
-  found : (number : ℕ) → number < replayed.accounted.count → AllByRecursion (IsFoundIn setting) (history number)
+  found : (number : ℕ) → number < accounted.count → AllByRecursion (IsFoundIn setting) (history number)
   found number within =
-      all_found size options fit.power_of_two number (replayed.accounted.plan number) (replayed.accounted.plans.each number within) finds (history number)
-      (replayed.accounted.legal number within)
+      all_found size options fit.power_of_two number (accounted.plan number) (accounted.plans.each number within) finds (history number)
+      (accounted.legal number within)
 
   module _ (verdict : Verdict) where
     abbrev number : ℕ
@@ -276,18 +279,18 @@ module _ (exact : CountsAreExact) (finds : LookupsOfArraysFind) (size : ℕ) (sc
     past : 5 * options.shards ≤ number
     past = (let is : number ≡ 5 * options.shards + verdict_number verdict % options.shards = count_shard_is setting verdict in omega (arith, is))
 
-    within : number < replayed.accounted.count
+    within : number < accounted.count
     within =
         let is : number ≡ 5 * options.shards + verdict_number verdict % options.shards = count_shard_is setting verdict in
         let part : verdict_number verdict % options.shards < options.shards = mod-lt (verdict_number verdict) some in
-        let all : replayed.accounted.count ≡ 6 * options.shards = replayed.accounted.plans.count_is in
+        let all : accounted.count ≡ 6 * options.shards = accounted.plans.count_is in
         omega (arith, is, part, all)
 
     abbrev plan : ShardPlan
-    plan = replayed.accounted.plan number
+    plan = accounted.plan number
 
     is_plan : IsCountPlan options number plan
-    is_plan = count_plan size options fit.power_of_two verdict plan (replayed.accounted.plans.each number within)
+    is_plan = count_plan size options fit.power_of_two verdict plan (accounted.plans.each number within)
 
     array : plan.definition.kind ≡ Array
     array = ap (λ (d : MapDef). d.kind) is_plan.definition_is
@@ -295,7 +298,7 @@ module _ (exact : CountsAreExact) (finds : LookupsOfArraysFind) (size : ℕ) (sc
     nothing_yet : (worker : ℕ) (below : worker < options.workers) → own_at (replayed.work worker below).handled.before number ≡ []
     nothing_yet worker below = ap (λ (view : CallerView). view.own) ((replayed.work worker below).handled.is_new.nothing number)
 
-    worker_found : (worker : ℕ) (below : worker < options.workers) (other : ℕ) → other < replayed.accounted.count →
+    worker_found : (worker : ℕ) (below : worker < options.workers) (other : ℕ) → other < accounted.count →
         AllByRecursion (IsFoundIn setting) (own_at (replayed.work worker below).after other)
     worker_found worker below other inside =
         subst (λ (own : List Entry). AllByRecursion (IsFoundIn setting) own) (sym ((replayed.work worker below).own other inside))
@@ -306,7 +309,7 @@ module _ (exact : CountsAreExact) (finds : LookupsOfArraysFind) (size : ℕ) (sc
     worker_raises worker below =
         let work = replayed.work worker below in
         let all : raised cell (own_at work.after number) ≡ ends_in (verdict_number verdict) (runs_at runs worker) + raised cell (own_at work.handled.before number) =
-        chain_raises replayed.accounted.plan replayed.accounted.count setting some worker records work.handled.before (runs_at runs worker) work.after work.handled.chain
+        chain_raises accounted.plan accounted.count setting some worker records work.handled.before (runs_at runs worker) work.after work.handled.chain
         (none_stopped worker below) (worker_found worker below) verdict within in
         let nothing : raised cell (own_at work.handled.before number) ≡ 0 = ap (raised cell) (nothing_yet worker below) in
         ap (raised cell) (sym (work.own number within)) ∙ omega (arith, all, nothing)
@@ -315,23 +318,23 @@ module _ (exact : CountsAreExact) (finds : LookupsOfArraysFind) (size : ℕ) (sc
     worker_counting worker below =
         let work = replayed.work worker below in
         subst AreCounting (work.own number within)
-        (chain_counting replayed.accounted.plan replayed.accounted.count setting some worker records work.handled.before (runs_at runs worker) work.after work.handled.chain
+        (chain_counting accounted.plan accounted.count setting some worker records work.handled.before (runs_at runs worker) work.after work.handled.chain
         (none_stopped worker below) number within past (subst AreCounting (sym (nothing_yet worker below)) tt))
 
     controller_none : own_entries Controller (history number) ≡ []
     controller_none =
-        let commands = replayed.accounted.commands in
+        let commands = accounted.commands in
         let none_first = ap (λ (updates : List MapUpdate). with_updates (steering_maps size) options number (all_set updates ++ made_in commands.done) []) none_set in
         commands.own number within ∙ none_first ∙ none_from_commands size options some number past (opened_controller commands.size) commands.done commands.state commands.are_done
 
     reclaimer_none : own_entries Reclaimer (history number) ≡ []
     reclaimer_none =
-        rounds_none plan.definition.kind array plan number (rounds_of (length records)) (own_entries Reclaimer (history number)) (history number)
-        (replayed.accounted.rounds.each number within)
+        rounds_none plan.definition.kind array plan number (round_count (length records)) (own_entries Reclaimer (history number)) (history number)
+        (accounted.rounds.each number within)
 
     all_counting : AreCounting (history number)
     all_counting =
-        all_of_callers _ plan (history number) (replayed.accounted.legal number within)
+        all_of_callers _ plan (history number) (accounted.legal number within)
         (record {
           of_workers = λ worker below. worker_counting worker (subst (λ (n : ℕ). worker < n) is_plan.workers_are below);
           of_controller = subst AreCounting (sym controller_none) tt;
@@ -341,7 +344,7 @@ module _ (exact : CountsAreExact) (finds : LookupsOfArraysFind) (size : ℕ) (sc
     raised_is : raised cell (history number) ≡ count_of verdict outcome.counts
     raised_is =
         let callers : raised cell (history number) ≡ own_sum plan.workers cell (history number) =
-        raised_by_all plan (history number) cell (replayed.accounted.legal number within) in
+        raised_by_all plan (history number) cell (accounted.legal number within) in
         let controls : raised cell (own_entries Controller (history number)) ≡ 0 = ap (raised cell) controller_none in
         let reclaims : raised cell (own_entries Reclaimer (history number)) ≡ 0 = ap (raised cell) reclaimer_none in
         let works : sum_below plan.workers (λ worker. raised cell (own_entries (Worker worker) (history number)))
@@ -363,7 +366,7 @@ module _ (exact : CountsAreExact) (finds : LookupsOfArraysFind) (size : ℕ) (sc
 
     holds : number_in_cell (shard_after plan (history number)) cell 0 8 ≡ count_of verdict outcome.counts
     holds =
-        exact plan (history number) cell array (ap (λ (d : MapDef). d.value_size) is_plan.definition_is) inside reserved (replayed.accounted.legal number within)
+        exact plan (history number) cell array (ap (λ (d : MapDef). d.value_size) is_plan.definition_is) inside reserved (accounted.legal number within)
         all_counting
         ∙ raised_is
 
@@ -382,14 +385,14 @@ module _ (exact : CountsAreExact) (finds : LookupsOfArraysFind) (size : ℕ) (sc
     -- by the journals' own maps and options
     has_count : HasCount outcome.journals verdict (count_of verdict outcome.counts)
     has_count =
-        let same : outcome.journals.options ≡ options = replayed.accounted.options_are in
+        let same : outcome.journals.options ≡ options = accounted.options_are in
         let there : shard_of_count outcome.journals.options.shards verdict ≡ number = ap (λ (o : Options). shard_of_count o.shards verdict) same in
         record {
           plan = plan;
           planned = ap (λ (n : ℕ). plan_at outcome.journals.maps outcome.journals.options n) there
-              ∙ ap (λ (maps : List MapDef). plan_at maps outcome.journals.options number) replayed.accounted.maps
+              ∙ ap (λ (maps : List MapDef). plan_at maps outcome.journals.options number) accounted.maps
               ∙ ap (λ (o : Options). plan_at (steering_maps size) o number) same
-              ∙ replayed.accounted.plans.each number within;
+              ∙ accounted.plans.each number within;
           cell = cell;
           found = ap (λ (n : ℕ). cell_of_key plan (shard_after plan (history n)) (count_key verdict)) there ∙ key_found;
           holds = ap (λ (n : ℕ). number_in_cell (shard_after plan (history n)) cell 0 8) there ∙ holds;

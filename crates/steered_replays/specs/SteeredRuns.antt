@@ -1,7 +1,7 @@
 -- Runs of the shipped program as a replay makes them. On the replies that are among its worker's entries a run makes the calls of the
 -- steering rule's plan (conntrack's Steering) and ends with the plan's verdict and frame, which are a result of the rule (conntrack's
 -- Results); a run that a full journal stopped made a beginning of these calls.
-use Rattle.std.specs.Prelude.{◌≡◌, ℕ, ◌≤◌, ◌<◌, true, List, [], ◌∷◌, ◌++◌, length, Option, Some, None, All, slice_get}
+use Rattle.std.specs.Prelude.{◌≡◌, ℕ, ◌<◌, true, List, [], ◌∷◌, ◌++◌, length, Option, Some, None, slice_get}
 use Rattle.std.specs.List.{AllByRecursion}
 use Rattle.wire.specs.FrameView.{FrameView}
 use Rattle.wire.specs.declared.records.Sent.{Sent}
@@ -12,6 +12,7 @@ use Rattle.semantics.specs.declared.verdict.Verdict.{Verdict}
 use Rattle.semantics.specs.MachineState.{initial_state}
 use Rattle.semantics.specs.ShardPlan.{AreOptions}
 use Rattle.semantics.specs.System.{IsInputFrame, input_frame}
+use Rattle.semantics.specs.Program.{Program}
 use Rattle.maglev.specs.RingSize.{IsRingSize}
 use Rattle.map_port.specs.Exchanges.{Exchange, calls_in, replies_in}
 use Rattle.block_runs.specs.Plan.{Ended, Waiting, plan_outcome}
@@ -23,14 +24,15 @@ use Rattle.shards.specs.Passes.{PassView}
 use Rattle.shard_port.specs.PassSessions.{HasSessions, HasRefusedSessions}
 use Rattle.runs.specs.FrameRuns.{HasRun, WasRefused}
 use Rattle.control.specs.declared.command.Command.{Command}
-use Rattle.replay.specs.declared.outcome.Outcome.{Outcome}
-use Rattle.replay.specs.declared.runner.RunEnd.{RunEnd}
-use Rattle.replay.specs.declared.runner.RunEnd.TheVariants.{Stopped}
-use Rattle.replay.specs.Accounted.{IsAccounted, IsWorkOf}
-use Rattle.replay.specs.Accounts.{runs_at, fate_of}
-use Rattle.replay.specs.RunsInOrder.{IsRunAt}
-use Rattle.replay.specs.RunsOverShards.{IsTold}
-use Rattle.replay.specs.Shares.{frames_of, is_short, worker_of_frame, share}
+use Rattle.actors.specs.declared.outcome.Outcome.{Outcome}
+use Rattle.actors.specs.declared.runner.RunEnd.{RunEnd}
+use Rattle.actors.specs.declared.runner.RunEnd.TheVariants.{Stopped}
+use Rattle.actors.specs.Accounted.{IsAccounted, IsWorkOf}
+use Rattle.actors.specs.Accounts.{runs_at, fate_of}
+use Rattle.actors.specs.RunsInOrder.{IsRunAt}
+use Rattle.actors.specs.RunsOverShards.{IsTold}
+use Rattle.actors.specs.Shares.{frames_of, is_short, worker_of_frame, share}
+use Rattle.actors.specs.Captured.{IsCaptured}
 
 -- ---- runs
 
@@ -71,21 +73,16 @@ IsSteeredRun plan count setting worker captured before end after = IsSteeredExit
 
 -- ---- replays
 
--- a record as a capture has it
-pub record IsOfCapture (captured : Sent) : Type 0 where
-  pub short : length captured.bytes.items ≤ 2048
-  pub bytes : All (λ byte. byte < 256) captured.bytes.items
-
 -- what became of a record: it is short, and was not run; or it is the end of a run by the rule
 abbrev pub IsSteeredFate : (ℕ → ShardPlan) → ℕ → SteeringSizes → ℕ → Sent → Option RunEnd → Type 0
 IsSteeredFate plan count setting worker captured None = is_short captured.bytes.items ≡ true
 IsSteeredFate plan count setting worker captured (Some end) =
     (before : PassView) × (after : PassView) × IsSteeredRun plan count setting worker captured before end after
 
--- Each worker made its runs by the rule, one after the other, and its entries in the journals are those of these runs. What became of a
--- record, by which it is counted and its frame sent or not, is the end of such a run.
-pub record IsSteeredReplay (size : ℕ) (script : List Command) (options : Options) (records : List Sent) (outcome : Outcome) : Type 0 where
-  pub accounted : IsAccounted (shipped_program (of_size options.shards size)) script options records outcome
+-- Of the runs that are accounted for: each worker made them by the rule, one after the other, and its entries in the journals are those of
+-- these runs. What became of a record, by which it is counted and its frame sent or not, is the end of such a run.
+pub record IsSteeredReplay (size : ℕ) (program : Program) (script : List Command) (options : Options) (records : List Sent) (outcome : Outcome)
+    (accounted : IsAccounted program script options records outcome) : Type 0 where
   pub work :
       (worker : ℕ) → worker < options.workers →
       IsWorkOf (IsRunAt (IsSteeredRun accounted.plan accounted.count (of_size options.shards size) worker) records)
@@ -120,6 +117,6 @@ RefusedRunsAreSteered =
 abbrev pub ReplaysAreSteered : Type 0
 ReplaysAreSteered =
     (size : ℕ) → IsRingSize size → (script : List Command) (options : Options) (records : List Sent) (outcome : Outcome) →
-    AreOptions (steering_maps size) options → AllByRecursion IsOfCapture records →
-    IsAccounted (shipped_program (of_size options.shards size)) script options records outcome →
-    IsSteeredReplay size script options records outcome
+    AreOptions (steering_maps size) options → AllByRecursion IsCaptured records →
+    (accounted : IsAccounted (shipped_program (of_size options.shards size)) script options records outcome) →
+    IsSteeredReplay size (shipped_program (of_size options.shards size)) script options records outcome accounted

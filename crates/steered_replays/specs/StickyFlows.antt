@@ -23,7 +23,7 @@ use Rattle.semantics.specs.LittleEndian.{bytes_of_number}
 use Rattle.semantics.specs.SequentialShard.{shard_after, cell_of_key, number_in_cell, update_answer, is_full_of_keys, reply_of}
 use Rattle.map_port.specs.Exchanges.{Exchange, replies_in}
 use Rattle.block_runs.specs.Plan.{plan_after}
-use Rattle.shard_port.specs.Sessions.{entry_of}
+use Rattle.shard_port.specs.Sessions.{exchange_entry}
 use Rattle.ipip.specs.Encapsulation.{encapsulated_frame}
 use Rattle.conntrack.specs.declared.choosing.Choice.TheVariants.{Tx}
 use Rattle.conntrack.specs.declared.records.BackendRecord.{BackendRecord}
@@ -127,10 +127,10 @@ pub record StandsNoted (plan : ShardPlan) (history : List Entry) (worker : ℕ) 
     pub later : List Entry
     pub between : List Entry
     pub earlier : List Entry
-    pub history_is : history ≡ later ++ entry_of worker load ∷ (between ++ entry_of worker lookup ∷ earlier)
+    pub history_is : history ≡ later ++ exchange_entry worker load ∷ (between ++ exchange_entry worker lookup ∷ earlier)
     pub cell : ℕ
     pub noted : IsNoted plan key number cell earlier
-    pub untouched : AllLeaveNote plan key cell between (entry_of worker lookup ∷ earlier)
+    pub untouched : AllLeaveNote plan key cell between (exchange_entry worker lookup ∷ earlier)
 
 -- The legal history of a shard of backends has these two exchanges of the worker, and when the second is made the record of this number
 -- says that the backend is up.
@@ -142,12 +142,12 @@ pub record StandsUp (plan : ShardPlan) (history : List Entry) (worker number : �
     pub later : List Entry
     pub between : List Entry
     pub earlier : List Entry
-    pub history_is : history ≡ later ++ entry_of worker load ∷ (between ++ entry_of worker lookup ∷ earlier)
+    pub history_is : history ≡ later ++ exchange_entry worker load ∷ (between ++ exchange_entry worker lookup ∷ earlier)
     pub is_index : number < plan.definition.max_entries
     pub record_is :
         backend
         ≡ backend_of (bytes_of_number 8
-        (number_in_cell (shard_after plan (between ++ entry_of worker lookup ∷ earlier)) (number / plan.parts) 0 8))
+        (number_in_cell (shard_after plan (between ++ exchange_entry worker lookup ∷ earlier)) (number / plan.parts) 0 8))
     pub is_up : backend.is_up ≡ true
 
 -- A run of a flow that is noted: it gets past the guards, and its next four exchanges, its Lookup of the flow and the Load of the

@@ -13,7 +13,7 @@ use Rattle.semantics.specs.LittleEndian.{number_of_bytes, bytes_of_number}
 use Rattle.semantics.specs.System.{input_frame}
 use Rattle.semantics.specs.SystemRows.{by_worker, by_controller}
 use Rattle.map_port.specs.Exchanges.{Exchange}
-use Rattle.shard_port.specs.Sessions.{entry_of}
+use Rattle.shard_port.specs.Sessions.{exchange_entry}
 use Rattle.conntrack.specs.declared.records.BackendRecord.{BackendRecord}
 use Rattle.conntrack.specs.declared.records.TunnelRecord.{TunnelRecord}
 use Rattle.conntrack.specs.declared.steering_maps.SteeringMap.{SteeringMap}
@@ -111,14 +111,14 @@ abbrev pub row_flows_before : List Entry
 row_flows_before = row_since ++ noting Controller 1 row_key 2 0 ∷ []
 
 abbrev pub row_flows : List Entry
-row_flows = entry_of 0 row_flow_load ∷ entry_of 0 row_flow_lookup ∷ row_flows_before
+row_flows = exchange_entry 0 row_flow_load ∷ exchange_entry 0 row_flow_lookup ∷ row_flows_before
 
 abbrev pub row_backends_before : List Entry
 row_backends_before =
     by_worker (Enter 3) Entered ∷ by_controller (Update 3 (bytes_of_number 4 2) row_record 0) (Answer (pos 0)) ∷ []
 
 abbrev pub row_backends : List Entry
-row_backends = entry_of 0 row_backend_load ∷ entry_of 0 row_backend_lookup ∷ row_backends_before
+row_backends = exchange_entry 0 row_backend_load ∷ exchange_entry 0 row_backend_lookup ∷ row_backends_before
 
 -- the run ends by the rule, and is one of a flow that is noted
 pub record StickyRow : Type 0 where

@@ -16,9 +16,9 @@ use Rattle.conntrack.specs.SteeringMaps.{map_place, map_kind, steering_maps}
 use Rattle.conntrack.specs.Results.{count_key}
 use Rattle.steer.specs.SteeringLaws.{of_size, shipped_program}
 use Rattle.control.specs.declared.command.Command.{Command}
-use Rattle.replay.specs.declared.outcome.Outcome.{Outcome}
-use Rattle.replay.specs.Accounted.{IsAccounted}
-use Rattle.steered_replays.specs.SteeredRuns.{IsOfCapture}
+use Rattle.actors.specs.declared.outcome.Outcome.{Outcome}
+use Rattle.actors.specs.Accounted.{IsAccounted}
+use Rattle.actors.specs.Captured.{IsCaptured}
 
 -- the number of the shard that has the verdict's count
 abbrev pub shard_of_count : ℕ → Verdict → ℕ
@@ -47,6 +47,6 @@ pub record AreTotals (outcome : Outcome) : Type 0 where
 abbrev pub TotalsAreExact : Type 0
 TotalsAreExact =
     (size : ℕ) → IsRingSize size → (script : List Command) (options : Options) (records : List Sent) (outcome : Outcome) →
-    AreOptions (steering_maps size) options → AllByRecursion IsOfCapture records →
+    AreOptions (steering_maps size) options → AllByRecursion IsCaptured records →
     IsAccounted (shipped_program (of_size options.shards size)) script options records outcome →
     outcome.updates.items ≡ [] → outcome.counts.stopped ≡ 0 → AreTotals outcome

@@ -8,12 +8,13 @@ ghost use Rattle.semantics.specs.ShardPlan.{AreOptions};
 ghost use Rattle.semantics.specs.declared.options.Options.{Options};
 ghost use Rattle.wire.specs.declared.records.Sent.{Sent};
 ghost use Rattle.control.specs.declared.command.Command.{Command};
-ghost use Rattle.replay.specs.Accounted.{IsAccounted};
-ghost use Rattle.replay.specs.declared.outcome.Outcome.{Outcome};
+ghost use Rattle.actors.specs.Accounted.{IsAccounted};
+ghost use Rattle.actors.specs.declared.outcome.Outcome.{Outcome};
 ghost use Rattle.steer.specs.ShippedProgram.{shipped_image};
 ghost use Rattle.steered_replays.specs.Counting.{CountsAreExact, LookupsOfArraysFind};
 ghost use Rattle.steered_replays.specs.SteeredRuns.{RunsAreSteered, RefusedRunsAreSteered, ReplaysAreSteered};
-ghost use Rattle.steered_replays.specs.SteeredRuns.{IsOfCapture, IsSteeredReplay};
+ghost use Rattle.steered_replays.specs.SteeredRuns.{IsSteeredReplay};
+ghost use Rattle.actors.specs.Captured.{IsCaptured};
 ghost use Rattle.steered_replays.specs.StickyFlows.{NotesAreFound, NotedFlowsStick};
 ghost use Rattle.steered_replays.specs.StickyRow.{StickyRow};
 ghost use Rattle.steered_replays.specs.Totals.{AreTotals, TotalsAreExact};
@@ -61,11 +62,11 @@ pub fn shipped_replays_are_steered(verified: &Verified, size: u32)
     requires size { IsRingSize size }
     requires image { record { version = verified.now.version; maps = verified.now.maps; code = verified.now.code } ≡ shipped_image size }
     ensures steered { (script : List Command) (options : Options) (records : List Sent) (outcome : Outcome) →
-        AreOptions verified.now.maps options → AllByRecursion IsOfCapture records →
-        IsAccounted (program_of verified.now options.shards) script options records outcome →
-        IsSteeredReplay size script options records outcome }
+        AreOptions verified.now.maps options → AllByRecursion IsCaptured records →
+        (accounted : IsAccounted (program_of verified.now options.shards) script options records outcome) →
+        IsSteeredReplay size (program_of verified.now options.shards) script options records outcome accounted }
     ensures totals { (script : List Command) (options : Options) (records : List Sent) (outcome : Outcome) →
-        AreOptions verified.now.maps options → AllByRecursion IsOfCapture records →
+        AreOptions verified.now.maps options → AllByRecursion IsCaptured records →
         IsAccounted (program_of verified.now options.shards) script options records outcome →
         outcome.updates.items ≡ [] → outcome.counts.stopped ≡ 0 → AreTotals outcome }
 {

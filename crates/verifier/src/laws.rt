@@ -23,7 +23,7 @@ pub fn each_instruction_has_state()
     ensures { EachInstructionHasState }
 {}
 
-/// A program that some entry states let through is safe, whoever holds them: so a `Verified` represents a safe image.
+/// A program that some entry states let through is safe: so a `Verified` represents a safe image.
 pub fn accepted_is_safe()
     ensures { AcceptedIsSafe }
 {}

@@ -1,5 +1,5 @@
 -- A replay that was made or given up, from the clauses of the one that makes it.
-use Rattle.std.proofs.Common.{◌≡◌, ◌∙◌, ◌↔◌, Bool, true, false, List, Result, Ok, Err, ap, refl, subst, sym}
+use Rattle.std.proofs.Common.{◌≡◌, ◌∙◌, ◌↔◌, Bool, true, false, ℕ, List, Option, Some, None, Result, Ok, Err, ap, refl, subst, sym}
 use Rattle.std.specs.Prelude.{IfOk, IfErr, IsErrOf}
 use Rattle.ebpf_decode.specs.declared.map.MapDef.{MapDef}
 use Rattle.semantics.specs.Program.{Program}
@@ -9,15 +9,16 @@ use Rattle.semantics.specs.declared.options.Recording.{Recording}
 use Rattle.map_updates.specs.declared.update.MapUpdate.{MapUpdate}
 use Rattle.wire.specs.declared.records.Sent.{Sent}
 use Rattle.control.specs.declared.command.Command.{Command}
-use Rattle.replay.specs.Accounted.{IsAccounted}
-use Rattle.replay.specs.ExactReplays.{IsInTurn}
-use Rattle.replay.specs.Parts.{AreBadOptions}
-use Rattle.replay.specs.UpdateFaults.{OfUpdate, IsWhyByPass, IsWhyInTurn}
-use Rattle.replay.specs.declared.fault.ReplayFault.{ReplayFault}
-use Rattle.replay.specs.declared.fault.ReplayFault.TheVariants.{BadOptions, NoThread}
-use Rattle.replay.specs.declared.outcome.Outcome.{Outcome}
+use Rattle.actors.specs.Accounted.{IsAccounted}
+use Rattle.replay.specs.TurnOrder.{IsExact}
+use Rattle.actors.specs.Parts.{AreBadOptions}
+use Rattle.actors.specs.UpdateFaults.{OfUpdate, IsWhyByPass}
+use Rattle.replay.specs.TurnFaults.{IsWhyInTurn}
+use Rattle.actors.specs.declared.fault.ReplayFault.{ReplayFault}
+use Rattle.actors.specs.declared.fault.ReplayFault.TheVariants.{BadOptions, NoThread}
+use Rattle.actors.specs.declared.outcome.Outcome.{Outcome}
 use Rattle.xlb_commands.specs.Refused.{IsGivenUp}
-use Rattle.xlb_commands.specs.Replays.{IsMade}
+use Rattle.xlb_commands.specs.Replays.{FollowsRule, IsByRule, IsMade}
 
 abbrev pub Made : Type 0
 Made = Result Outcome ReplayFault
@@ -34,13 +35,20 @@ failed why = Err why
 same_fault : (why other : ReplayFault) → failed why ≡ failed other → why ≡ other
 same_fault why other e = cc
 
+-- one on threads, and an exact one
 pub made : (exact : Bool) (program : Program) (updates : List MapUpdate) (script : List Command) (options : Options) (records : List Sent)
-    (result : Made) → IfOk result (IsAccounted program script options records)
-    → (exact ≡ true → IfOk result (IsInTurn program script options records)) → IfOk result (λ outcome. outcome.updates.items ≡ updates)
+    (result : Made) → exact ≡ false → IfOk result (IsAccounted program script options records) → IfOk result (λ outcome. outcome.updates.items ≡ updates)
     → IfOk result (IsMade exact program updates script options records)
-made exact program updates script options records (Ok outcome) accounted in_turn are =
-    record { updates_are = are; accounted = accounted; in_turn = in_turn }
-made exact program updates script options records (Err why) accounted in_turn are = tt
+made exact program updates script options records (Ok outcome) on_threads accounted are =
+    record { updates_are = are; accounted = accounted; in_turn = λ is. absurd (not_both exact is on_threads) }
+made exact program updates script options records (Err why) on_threads accounted are = tt
+
+pub made_exact : (exact : Bool) (program : Program) (updates : List MapUpdate) (script : List Command) (options : Options) (records : List Sent)
+    (result : Made) → IfOk result (IsExact program script options records) → IfOk result (λ outcome. outcome.updates.items ≡ updates)
+    → IfOk result (IsMade exact program updates script options records)
+made_exact exact program updates script options records (Ok outcome) in_turn are =
+    record { updates_are = are; accounted = in_turn.accounted; in_turn = λ is. in_turn.in_order }
+made_exact exact program updates script options records (Err why) in_turn are = tt
 
 pub given_up : (exact : Bool) (maps : List MapDef) (updates : List MapUpdate) (script : List Command) (options : Options) (recording : Recording)
     (result : Made) → (IsErrOf result BadOptions ↔ AreBadOptions maps options script) → (exact ≡ true → ¬ IsErrOf result NoThread)
@@ -94,3 +102,11 @@ no_failure made why e = cc
 pub had_good : {X : Type 0} (maps : List MapDef) (script : List Command) (options : Options) (result : Result X ReplayFault) (made : X)
     → result ≡ made_of X made → (IsErrOf result BadOptions ↔ AreBadOptions maps options script) → ¬ AreBadOptions maps options script
 had_good {X} maps script options result made is bad = λ are_bad. no_failure made BadOptions (sym is ∙ bad.1 are_bad)
+
+-- of an image that is named nothing is said
+pub rule_of : (name : Option (List ℕ)) (ring : ℕ) (program : Program) (script : List Command) (options : Options) (records : List Sent)
+    (outcome : Outcome) (accounted : IsAccounted program script options records outcome)
+    → (name ≡ None → IsByRule ring program script options records outcome accounted)
+    → FollowsRule name ring program script options records outcome accounted
+rule_of (Some name) ring program script options records outcome accounted rule = tt
+rule_of None ring program script options records outcome accounted rule = rule refl

@@ -3,10 +3,10 @@ use Rattle.std.proofs.Common.{◌≡◌, ◌∙◌, ◌++◌, ◌∷◌, ◌↔�
 use Rattle.std.specs.List.{AllByRecursion}
 use Rattle.folders.specs.PieceReading.{ReaderView, IsReadTo, IsReadWhole}
 use Rattle.control.specs.declared.command.Command.{Command}
-use Rattle.guarantees.specs.ReaderReplays.{IsCaptured}
+use Rattle.actors.specs.Captured.{IsCaptured}
 use Rattle.replay.specs.Pieces.{IsUnderway}
 use Rattle.replay.specs.declared.in_pieces.PieceReplay.{PieceReplay}
-use Rattle.replay.specs.declared.outcome.RecordEnd.{RecordEnd}
+use Rattle.actors.specs.declared.outcome.RecordEnd.{RecordEnd}
 use Rattle.semantics.specs.Program.{Program}
 use Rattle.semantics.specs.declared.options.Options.{Options}
 use Rattle.wire.specs.CaptureFormat.{record_bytes, records_bytes}

@@ -9,10 +9,11 @@ use Rattle.semantics.specs.ShardPlan.{AreOptions}
 use Rattle.control.specs.declared.command.Command.{Command}
 use Rattle.wire.specs.declared.records.Sent.{Sent}
 use Rattle.wire.specs.CaptureFormat.{header_bytes, record_bytes, records_bytes, capture_bytes}
-use Rattle.replay.specs.Accounts.{SentFrame, sent_frames}
-use Rattle.replay.specs.Accounted.{IsAccounted}
-use Rattle.replay.specs.declared.outcome.Outcome.{Outcome}
-use Rattle.guarantees.specs.ReaderReplays.{IsCaptured, SendsAsAtOpening}
+use Rattle.actors.specs.Accounts.{SentFrame, sent_frames}
+use Rattle.actors.specs.Accounted.{IsAccounted}
+use Rattle.actors.specs.declared.outcome.Outcome.{Outcome}
+use Rattle.guarantees.specs.ReaderReplays.{SendsAsAtOpening}
+use Rattle.actors.specs.Captured.{IsCaptured}
 use Rattle.xlb_commands.specs.Replays.{frame_records, reader_file}
 use Rattle.xlb_commands.proofs.Outcomes.{options_fit}
 

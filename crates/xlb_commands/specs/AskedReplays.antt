@@ -3,9 +3,9 @@ use Rattle.std.specs.Prelude.{false, true, List}
 use Rattle.wire.specs.declared.records.Sent.{Sent}
 use Rattle.semantics.specs.ShardPlan.{recorded}
 use Rattle.machine.specs.Running.{program_of}
-use Rattle.replay.specs.Parts.{AreBadOptions}
-use Rattle.replay.specs.declared.fault.ReplayFault.{ReplayFault}
-use Rattle.replay.specs.declared.outcome.Outcome.{Outcome}
+use Rattle.actors.specs.Parts.{AreBadOptions}
+use Rattle.actors.specs.declared.fault.ReplayFault.{ReplayFault}
+use Rattle.actors.specs.declared.outcome.Outcome.{Outcome}
 use Rattle.command_line.specs.Reading.{text_of}
 use Rattle.xlb_commands.specs.declared.fault.Fault.{Fault}
 use Rattle.xlb_commands.specs.declared.replays.Asked.{Asked}

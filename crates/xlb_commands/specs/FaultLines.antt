@@ -15,7 +15,7 @@ use Rattle.journals.specs.FaultNumber.{file_fault_fields, file_fault_number}
 use Rattle.audit.specs.FaultNumber.{audit_fault_fields, audit_fault_number}
 use Rattle.conntrack.specs.FaultNumber.{steer_fault_number}
 use Rattle.control.specs.FaultNumber.{control_fault_fields, control_fault_number}
-use Rattle.replay.specs.FaultNumber.{replay_fault_fields, replay_fault_number}
+use Rattle.actors.specs.FaultNumber.{replay_fault_fields, replay_fault_number}
 use Rattle.map_updates.specs.Misfits.{misfit_text}
 use Rattle.map_updates.specs.declared.misfit.Misfit.{Misfit}
 use Rattle.xlb_commands.specs.declared.fault.Fault.{Fault}

@@ -12,12 +12,12 @@ use Rattle.wire.specs.CaptureFormat.{records_bytes}
 use Rattle.wire.specs.declared.records.Sent.{Sent}
 use Rattle.folders.specs.PieceReading.{ReaderView}
 use Rattle.control.specs.declared.command.Command.{Command}
-use Rattle.guarantees.specs.ReaderReplays.{IsCaptured}
+use Rattle.actors.specs.Captured.{IsCaptured}
 use Rattle.journals.specs.JournalText.{journals_text}
 use Rattle.replay.specs.Pieces.{IsUnderway}
 use Rattle.replay.specs.declared.in_pieces.PieceReplay.{PieceReplay}
-use Rattle.replay.specs.declared.outcome.Outcome.{Outcome}
-use Rattle.replay.specs.declared.outcome.RecordEnd.{RecordEnd}
+use Rattle.actors.specs.declared.outcome.Outcome.{Outcome}
+use Rattle.actors.specs.declared.outcome.RecordEnd.{RecordEnd}
 use Rattle.command_line.specs.Reading.{text_of}
 use Rattle.command_line.specs.declared.commands.ReplayFiles.{ReplayFiles}
 use Rattle.xlb_commands.specs.declared.report.Report.{Report}
@@ -65,8 +65,10 @@ pub record IsMadeOf (files : ReplayFiles) (program : Contents) (states : List (O
   pub whole : Outcome
   pub sent_are : whole.sent.items ≡ sent
   pub made : IsMade true (program_of_replay program options) updates script (recorded recording options) records whole
-  pub headline : KeepsHeadline program script (recorded recording options) records whole
-  pub by_rule : updates ≡ [] → FollowsRule (text_of files.image) ring script (recorded recording options) records whole
+  pub headline : KeepsHeadline program script (recorded recording options) records whole made.accounted
+  pub by_rule :
+      updates ≡ [] →
+      FollowsRule (text_of files.image) ring (program_of_replay program options) script (recorded recording options) records whole made.accounted
   pub readers : updates ≡ [] → SendsAlike program states script (recorded recording options) records whole
   pub journals_are : (file : List ℕ) → text_of files.journals ≡ Some file → journals ≡ journals_text whole.journals
   pub text : string_bytes report.text ≡ counts_text whole.counts ++ refusals_text whole.refused.items

@@ -54,11 +54,12 @@ use Rattle.control.specs.declared.command.Command.{Command}
 use Rattle.control.specs.declared.fault.ControlFault.{ControlFault}
 use Rattle.control.specs.declared.fault.ControlFault.TheVariants as scripts
 use Rattle.control.specs.ScriptReading.{Explains as ExplainsScript}
-use Rattle.replay.specs.declared.fault.ReplayFault.{ReplayFault}
-use Rattle.replay.specs.declared.fault.ReplayFault.TheVariants as replays
-use Rattle.replay.specs.UpdateFaults.{OfUpdate, IsWhyByPass, IsWhyInTurn}
-use Rattle.replay.specs.declared.outcome.Outcome.{Outcome}
-use Rattle.replay.specs.Parts.{AreBadOptions}
+use Rattle.actors.specs.declared.fault.ReplayFault.{ReplayFault}
+use Rattle.actors.specs.declared.fault.ReplayFault.TheVariants as replays
+use Rattle.actors.specs.UpdateFaults.{OfUpdate, IsWhyByPass}
+use Rattle.replay.specs.TurnFaults.{IsWhyInTurn}
+use Rattle.actors.specs.declared.outcome.Outcome.{Outcome}
+use Rattle.actors.specs.Parts.{AreBadOptions}
 use Rattle.command_line.specs.declared.commands.RunFiles.{RunFiles}
 use Rattle.command_line.specs.declared.commands.ReplayFiles.{ReplayFiles}
 use Rattle.command_line.specs.Reading.{text_of}

@@ -2,6 +2,7 @@
 use Rattle.std.specs.Prelude.{◌≡◌, ◌≢◌, ◌↔◌, ◌+◌, ◌++◌, ◌∷◌, ℕ, Bool, true, false, List, [], Option, Some, None}
 use Rattle.std.specs.Prelude.{codes, decimal, length, string_bytes}
 use Rattle.std.specs.List.{flat_map}
+use mathlib.Core.Path.{subst}
 use Rattle.ebpf_decode.specs.ImageContents.{Contents}
 use Rattle.semantics.specs.Safety.{IsSafeImage}
 use Rattle.semantics.specs.declared.options.Options.{Options}
@@ -24,14 +25,15 @@ use Rattle.control.specs.ScriptText.{IsScriptText}
 use Rattle.map_updates.specs.declared.update.MapUpdate.{MapUpdate}
 use Rattle.journals.specs.JournalsView.{JournalsView}
 use Rattle.journals.specs.JournalText.{journals_text}
-use Rattle.replay.specs.declared.account.Counts.{Counts}
-use Rattle.replay.specs.Accounts.{SentFrame, frames_in}
-use Rattle.replay.specs.declared.outcome.Applied.{Applied}
-use Rattle.replay.specs.declared.outcome.Outcome.{Outcome}
-use Rattle.replay.specs.Accounted.{IsAccounted}
-use Rattle.guarantees.specs.OneReplay.{IsOneReplay}
+use Rattle.actors.specs.declared.account.Counts.{Counts}
+use Rattle.actors.specs.Accounts.{SentFrame, frames_in}
+use Rattle.actors.specs.declared.outcome.Applied.{Applied}
+use Rattle.actors.specs.declared.outcome.Outcome.{Outcome}
+use Rattle.actors.specs.Accounted.{IsAccounted}
+use Rattle.machine.specs.Running.{program_of}
+use Rattle.guarantees.specs.HeadlineOf.{HeadlineOf}
 use Rattle.guarantees.specs.ReaderReplays.{all_sent_at_opening}
-use Rattle.replay.specs.ExactReplays.{IsInTurn}
+use Rattle.replay.specs.TurnOrder.{IsInTurnOrder}
 use Rattle.steered_replays.specs.SteeredRuns.{IsSteeredReplay}
 use Rattle.steered_replays.specs.Totals.{AreTotals}
 use Rattle.traffic.specs.LongRecords.{IsShortened}
@@ -141,14 +143,16 @@ abbrev pub program_of_replay : Contents → Options → Program
 program_of_replay image options = record { code = image.code; maps = image.maps; shards = options.shards }
 
 -- each run followed the steering rule; and where none was stopped, the counts in the maps are those of the report
-pub record IsByRule (ring : ℕ) (script : List Command) (options : Options) (records : List Sent) (outcome : Outcome) : Type 0 where
-  pub runs : IsSteeredReplay ring script options records outcome
+pub record IsByRule (ring : ℕ) (program : Program) (script : List Command) (options : Options) (records : List Sent) (outcome : Outcome)
+    (accounted : IsAccounted program script options records outcome) : Type 0 where
+  pub runs : IsSteeredReplay ring program script options records outcome accounted
   pub totals : outcome.counts.stopped ≡ 0 → AreTotals outcome
 
 -- this holds of the shipped program, which runs where no image is named; of another image nothing is said
-abbrev pub FollowsRule : Option (List ℕ) → ℕ → List Command → Options → List Sent → Outcome → Type 0
-FollowsRule (Some name) ring script options records outcome = Unit {0}
-FollowsRule None ring script options records outcome = IsByRule ring script options records outcome
+abbrev pub FollowsRule : Option (List ℕ) → ℕ → (program : Program) (script : List Command) (options : Options) (records : List Sent)
+    (outcome : Outcome) → IsAccounted program script options records outcome → Type 0
+FollowsRule (Some name) ring program script options records outcome accounted = Unit {0}
+FollowsRule None ring program script options records outcome accounted = IsByRule ring program script options records outcome accounted
 
 -- the record of a frame in a capture file: its moment, its length twice, its bytes
 abbrev pub frame_record : SentFrame → List ℕ
@@ -172,19 +176,23 @@ SendsAlike image states script options records outcome = IsReader image.code sta
     capture_bytes outcome.sent.items ≡ reader_file (program_of_replay image options) records
 
 -- the replay made these updates before the commands of the script, and accounts for every record, every command and every entry of the
--- journals; an exact one was made in turn, with the updates before the first frame
+-- journals; an exact one was made in turn, with the updates before the first frame, and its one order of all deeds is that of the turns
 pub record IsMade (exact : Bool) (program : Program) (updates : List MapUpdate) (script : List Command) (options : Options)
     (records : List Sent) (outcome : Outcome) : Type 0 where
   pub updates_are : outcome.updates.items ≡ updates
   pub accounted : IsAccounted program script options records outcome
-  pub in_turn : exact ≡ true → IsInTurn program script options records outcome
+  pub in_turn : exact ≡ true → IsInTurnOrder program script options records outcome accounted
 
--- one list of events of the system around what the verifier made of the image, which keeps the headline
+-- the headline, around what the verifier made of the image, by the runs, commands and rounds that are accounted for
 pub record KeepsHeadline (image : Contents) (script : List Command) (options : Options) (records : List Sent)
-    (outcome : Outcome) : Type 0 where
+    (outcome : Outcome) (made : IsAccounted (program_of_replay image options) script options records outcome) : Type 0 where
   pub verified : Verified
   pub image_is : image_of verified ≡ image
-  pub kept : IsOneReplay verified script options records outcome
+  pub accounted : IsAccounted (program_of verified options.shards) script options records outcome
+  pub kept : HeadlineOf verified script options records outcome accounted
+  -- what is accounted for is what was made
+  pub same :
+      subst (λ (one : Contents). IsAccounted (program_of_replay one options) script options records outcome) image_is accounted ≡ made
 
 -- Of a program that may run and a script: the capture is read from its file; the replay was made, with these updates; it is one list of
 -- events, which keeps the headline; without updates the shipped program follows the steering rule, and one that only reads sends the same for every number of workers;
@@ -197,8 +205,11 @@ pub record IsReplayedWith (before after : FileBytes) (files : ReplayFiles) (prog
   pub capture : IsCaptureOf before skip_long files.capture.now records
   pub outcome : Outcome
   pub made : IsMade exact (program_of_replay program options) updates script (recorded recording options) records outcome
-  pub headline : KeepsHeadline program script (recorded recording options) records outcome
-  pub by_rule : updates ≡ [] → FollowsRule (text_of files.image) ring script (recorded recording options) records outcome
+  pub headline : KeepsHeadline program script (recorded recording options) records outcome made.accounted
+  pub by_rule :
+      updates ≡ [] →
+      FollowsRule (text_of files.image) ring (program_of_replay program options) script (recorded recording options) records outcome
+      made.accounted
   pub readers : updates ≡ [] → SendsAlike program states script (recorded recording options) records outcome
   pub refused_are : outcome.refused.items ≡ refused
   -- the journals are written after the sent frames, and the report after both; two of them have one name in no command that is done

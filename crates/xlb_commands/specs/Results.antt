@@ -36,7 +36,7 @@ use Rattle.xlb_commands.specs.declared.one_run.RunAnswer.TheVariants.{Printed, M
 use Rattle.xlb_commands.specs.declared.serving.CommandAnswer.{CommandAnswer}
 use Rattle.xlb_commands.specs.declared.serving.CommandAnswer.TheVariants as answers
 use Rattle.xlb_commands.specs.Files.{FileBytes, AreKept, AreOthersKept, AreAllButKept, AreAllKeptBut, IsImageFile, IsJudged}
-use Rattle.replay.specs.declared.outcome.Applied.{Applied}
+use Rattle.actors.specs.declared.outcome.Applied.{Applied}
 use Rattle.xlb_commands.specs.declared.replays.ReplayAnswer.{ReplayAnswer}
 use Rattle.xlb_commands.specs.declared.replays.ReplayAnswer.TheVariants as replayed
 use Rattle.xlb_commands.specs.Replays.{AreWritten, IsProgramOf, IsReplayed, IsReplayedWhole, IsReplayedInPart, recording_of}

@@ -10,7 +10,7 @@ ghost use Rattle.std.specs.Prelude.{ℕ, [], true, false};
 ghost use Rattle.std.specs.Prelude.{List, Some, None, IfErr, IfOk, IfSome, IfNone, OnOk, length};
 ghost use Rattle.std.specs.List.{AllByRecursion};
 ghost use Rattle.semantics.specs.Program.{Program};
-ghost use Rattle.semantics.specs.ShardPlan.{AreOptions, KeepsRows, recorded};
+ghost use Rattle.semantics.specs.ShardPlan.{KeepsRows, recorded};
 ghost use Rattle.semantics.specs.declared.options.Options.{Options as Settings};
 ghost use Rattle.semantics.specs.declared.options.Recording.TheVariants.{Rows};
 ghost use Rattle.machine.specs.Running.{program_of};
@@ -19,16 +19,13 @@ ghost use Rattle.steer.specs.ShippedProgram.{shipped_image};
 ghost use Rattle.wire.specs.CaptureFormat.{header_bytes, records_bytes};
 ghost use Rattle.wire.specs.declared.records.Sent.{Sent as Record};
 ghost use Rattle.folders.specs.PieceReading.{IsReadTo, ReadsOn, ReadsToEnd};
-ghost use Rattle.control.specs.declared.command.Command.{Command};
-ghost use Rattle.guarantees.specs.ReaderReplays.{IsCaptured};
+ghost use Rattle.guarantees.specs.HeadlineOf.{HeadlineOf};
+ghost use Rattle.actors.specs.Captured.{IsCaptured};
 ghost use Rattle.map_updates.specs.Misfits.{AreFitting};
-ghost use Rattle.replay.specs.Accounted.{IsAccounted};
-ghost use Rattle.replay.specs.Parts.{AreBadOptions};
-ghost use Rattle.replay.specs.Pieces.{GoesOn, IsUnderway, IsReplayed as IsReplayedInPieces};
-ghost use Rattle.replay.specs.declared.outcome.Outcome.{Outcome as Made};
-ghost use Rattle.replay.specs.declared.outcome.RecordEnd.{RecordEnd as End};
-ghost use Rattle.steered_replays.specs.SteeredRuns.{IsOfCapture, IsSteeredReplay};
-ghost use Rattle.steered_replays.specs.Totals.{AreTotals};
+ghost use Rattle.actors.specs.Parts.{AreBadOptions};
+ghost use Rattle.replay.specs.Pieces.{GoesOn, IsUnderway, IsReplayedInPieces};
+ghost use Rattle.actors.specs.declared.outcome.Outcome.{Outcome as Made};
+ghost use Rattle.actors.specs.declared.outcome.RecordEnd.{RecordEnd as End};
 ghost use Rattle.journals.specs.JournalsView.{JournalsView};
 ghost use Rattle.command_line.specs.Reading.{text_of};
 ghost use Rattle.xlb_commands.specs.Files.{AreAllButKept, AreKept, AreOthersKept};
@@ -41,16 +38,14 @@ use crate::fault::{Fault, Refusal};
 use crate::files::{journal_bytes, unserved, write_journals_to};
 use crate::notes::{Altered, Notes, first_stopped};
 use crate::progress::{Progress, Rounds};
-use crate::replays::{Asked, bytes_of_frames, given_up, readers_send_alike};
+use crate::replays::{Asked, bytes_of_frames, given_up, readers_send_alike, steered_where_shipped};
 use crate::report::{Report, replayed};
+use actors::all_are_captured;
 use command_line::ReplayFiles;
 use folders::{CaptureReader, Folder, FolderFault};
-use guarantees::replays::all_are_captured;
-use guarantees::{commands_fit, replays_are_one_list};
 use replay::{Outcome, PieceReplay, RecordEnd, ReplayFault};
 use shard_port::Gate;
 use std::alloc::Global;
-use steered_replays::laws::shipped_replays_are_steered;
 use wire::{CAPTURE_HEADER_LEN, Capture, CaptureFault, MemorySink, Sent};
 
 /// The most records of a piece.
@@ -442,35 +437,21 @@ fn go_through<D: Folder, G: Gate>(
     }
 }
 
-/// What holds of every replay of the shipped program, where no image is named.
-fn steered_where_shipped(asked: Asked<'_>)
-    requires size { text_of asked.files.now.image ≡ None → IsRingSize asked.ring }
-    requires shipped { text_of asked.files.now.image ≡ None → image_of asked.verified.now ≡ shipped_image asked.ring }
-    ensures steered { text_of asked.entry.files.now.image ≡ None → (script : List Command) (options : Settings) (records : List Record)
-        (outcome : Made) → AreOptions asked.entry.verified.now.maps options → AllByRecursion IsOfCapture records →
-        IsAccounted (program_of asked.entry.verified.now options.shards) script options records outcome →
-        IsSteeredReplay asked.entry.ring script options records outcome }
-    ensures totals { text_of asked.entry.files.now.image ≡ None → (script : List Command) (options : Settings) (records : List Record)
-        (outcome : Made) → AreOptions asked.entry.verified.now.maps options → AllByRecursion IsOfCapture records →
-        IsAccounted (program_of asked.entry.verified.now options.shards) script options records outcome →
-        outcome.updates.items ≡ [] → outcome.counts.stopped ≡ 0 → AreTotals outcome }
-{
-    match asked.files.image {
-        Some(_) => {}
-        None => shipped_replays_are_steered(asked.verified, asked.ring),
-    }
-}
-
 /// The outcome of a replay behind its last record; it has no sent frames and no ends.
 fn ended(alloc: Global, asked: Asked<'_>, replay: PieceReplay) -> Result<Outcome, Refusal>
     requires { GoesOn asked.script.now replay }
     ensures replayed { IfOk result (λ rest. (program : Program) (options : Settings) (records sent : List Record) (ends : List End) →
         IsUnderway program asked.entry.script.now options asked.entry.updates.now records sent ends replay →
         IsReplayedInPieces program asked.entry.script.now options records sent ends rest) }
+    ensures one_list { IfOk result (λ rest. (options : Settings) (records sent : List Record) (ends : List End) →
+        AllByRecursion IsCaptured records →
+        IsUnderway (program_of asked.entry.verified.now options.shards) asked.entry.script.now options asked.entry.updates.now records sent
+        ends replay → (replayed : IsReplayedInPieces (program_of asked.entry.verified.now options.shards) asked.entry.script.now options records
+        sent ends rest) → HeadlineOf asked.entry.verified.now asked.entry.script.now options records replayed.whole replayed.accounted) }
     ensures updates { IfOk result (λ rest. rest.updates.items ≡ asked.entry.updates.now) }
     ensures refused { IfErr result (λ refusal. refusal.fault ≡ Fault.Replay ReplayFault.Memory) }
 {
-    match replay.finish(alloc, asked.updates, asked.script) {
+    match replay.finish(alloc, asked.verified, asked.updates, asked.script) {
         Ok(rest) => Ok(rest),
         Err(_) => Err(given_up(alloc, asked.options, asked.verified, ReplayFault::Memory)),
     }
@@ -507,8 +488,6 @@ fn left_in_pieces(
         asked.entry.script.now (recorded asked.entry.recording asked.entry.options) records outcome)
         × LacksRoom (text_of asked.entry.files.now.journals) refusal.fault) }
 {
-    replays_are_one_list(asked.verified);
-    commands_fit(asked.script);
     readers_send_alike(asked.verified);
     steered_where_shipped(asked);
     let frames = going.replay.taken();

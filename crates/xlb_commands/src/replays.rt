@@ -3,11 +3,18 @@
 ghost use Rattle.std.specs.Prelude.{◌≡◌, ◌≢◌, ◌↔◌, ◌+◌, ◌++◌, ◌-◌, ◌<◌, ◌^◌, ℕ, [], true, false};
 ghost use Rattle.std.specs.Prelude.{List, Some, None, IfErr, IfNone, IfOk, IfSome, IsErrOf, IsTrue, OnOk, length, string_bytes};
 ghost use Rattle.semantics.specs.Safety.{IsSafeImage};
-ghost use Rattle.semantics.specs.ShardPlan.{KeepsRows, recorded};
+ghost use Rattle.std.specs.List.{AllByRecursion};
+ghost use Rattle.semantics.specs.ShardPlan.{AreOptions, KeepsRows, recorded};
+ghost use Rattle.semantics.specs.declared.options.Options.{Options as Settings};
+ghost use Rattle.wire.specs.declared.records.Sent.{Sent as Record};
+ghost use Rattle.actors.specs.declared.outcome.Outcome.{Outcome as Made};
+ghost use Rattle.actors.specs.Captured.{IsCaptured};
 ghost use Rattle.semantics.specs.declared.options.Recording.TheVariants.{Rows};
 ghost use Rattle.verifier.specs.Dataflow.{Accepts};
 ghost use Rattle.verifier.specs.Readers.{IsReader};
-ghost use Rattle.guarantees.specs.OneReplay.{IsOneReplay};
+ghost use Rattle.actors.specs.Accounted.{IsAccounted};
+ghost use Rattle.guarantees.specs.HeadlineOf.{HeadlineOf};
+ghost use Rattle.machine.specs.Running.{program_of as program_with};
 ghost use Rattle.guarantees.specs.ReaderReplays.{SendsAsAtOpening};
 ghost use Rattle.maglev.specs.RingSize.{IsRingSize};
 ghost use Rattle.steer.specs.ShippedProgram.{shipped_image};
@@ -17,8 +24,8 @@ ghost use Rattle.control.specs.ScriptReading.{Explains};
 ghost use Rattle.control.specs.declared.command.Command.{Command};
 ghost use Rattle.control.specs.declared.fault.ControlFault.{ControlFault};
 ghost use Rattle.control.specs.declared.fault.ControlFault.TheVariants as scripts;
-ghost use Rattle.replay.specs.declared.fault.ReplayFault.TheVariants.{BadOptions};
-ghost use Rattle.replay.specs.Accounts.{frames_in};
+ghost use Rattle.actors.specs.declared.fault.ReplayFault.TheVariants.{BadOptions};
+ghost use Rattle.actors.specs.Accounts.{frames_in};
 ghost use Rattle.map_updates.specs.Misfits.{AreFitting};
 ghost use Rattle.xlb_commands.specs.Results.{IsReplayAnswer};
 ghost use Rattle.steered_replays.specs.SteeredRuns.{IsSteeredReplay};
@@ -32,7 +39,7 @@ ghost use Rattle.xlb_commands.specs.Refused.{IsScriptRefusal};
 ghost use Rattle.xlb_commands.specs.Refused.{IsNoCapture, IsNoCaptureIn, IsCaptureRefusal, IsReplayRefusal};
 ghost use Rattle.xlb_commands.specs.Replays.{image_of};
 ghost use Rattle.xlb_commands.specs.Replays.{IsProgramOf, IsScriptOf, IsScriptFile, IsCaptureIn, IsCaptureOf, HasBytes};
-ghost use Rattle.xlb_commands.specs.Replays.{FollowsRule, IsByRule, SendsAlike, recording_of, counts_text, refusals_text, AreWritten};
+ghost use Rattle.xlb_commands.specs.Replays.{FollowsRule, SendsAlike, recording_of, counts_text, refusals_text, AreWritten};
 ghost use Rattle.xlb_commands.specs.RecordReports.{form_of, report_text};
 
 use crate::commands::judged_of;
@@ -46,12 +53,12 @@ use crate::record_report::report_for;
 use crate::report::{Report, replayed};
 use crate::shipping::shipped_program;
 use crate::{hints, records};
+use actors::all_are_captured;
 use command_line::ReplayFiles;
 use control::{Script, parse_script};
 use folders::Folder;
 use guarantees::readers::readers_send_as_at_opening;
-use guarantees::replays::all_are_captured;
-use guarantees::{commands_fit, replays_are_one_list};
+use guarantees::{commands_fit, headline};
 use journals::Journals;
 use map_updates::{MapUpdate, Misfit, first_misfit};
 use replay::{Outcome, ReplayFault, replay, replay_in_turn};
@@ -60,8 +67,7 @@ use shard_port::Gate;
 use std::alloc::{AllocError, Global};
 use std::sync::Wait;
 use std::thread::Threads;
-use steered_replays::exact::exact_shipped_replay;
-use steered_replays::replays::shipped_replay;
+use steered_replays::laws::shipped_replays_are_steered;
 use traffic::without_long_records;
 use verifier::Verified;
 use wire::{Capture, MOST_GIVEN, MemorySink, MemorySource, Sent, read_capture, write_capture};
@@ -296,92 +302,6 @@ fn replay_at<R: Threads + Wait + Sync, G: Gate + Sync>(
     }
 }
 
-/// The same of the shipped program, without updates.
-fn shipped_replay_at<R: Threads + Wait + Sync, G: Gate + Sync>(
-    rt: &R,
-    alloc: Global,
-    asked: Asked<'_>,
-    capture: &Capture,
-    gate: &G,
-) -> Result<Outcome, ReplayFault>
-    requires size { IsRingSize asked.ring }
-    requires image { image_of asked.verified.now ≡ shipped_image asked.ring }
-    requires none { asked.updates.now ≡ [] }
-    ensures made { IfOk result (IsOutcome asked.entry capture.now.records.items) }
-    ensures steered { IfOk result (IsSteeredReplay asked.entry.ring asked.entry.script.now
-        (recorded asked.entry.recording asked.entry.options) capture.now.records.items) }
-    ensures totals { IfOk result (λ outcome. outcome.counts.stopped ≡ 0 → AreTotals outcome) }
-    ensures given_up { IfErr result (IsWhyNone asked.entry) }
-    ensures served { OnOk result (KeepsRows asked.entry.options.journal) }
-    ensures bad_options { IsErrOf result BadOptions ↔ HasBadOptions asked.entry }
-{
-    let Asked {
-        verified,
-        ring,
-        script,
-        options,
-        recording,
-        ..
-    } = asked;
-    if asked.exact {
-        exact_shipped_replay(
-            alloc, verified, ring, capture, script, options, recording, gate,
-        )
-    } else {
-        shipped_replay(
-            rt, alloc, verified, ring, capture, script, options, recording, gate,
-        )
-    }
-}
-
-/// The same with updates before the first frame; nothing is said of the steering rule.
-fn shipped_outcome<R: Threads + Wait + Sync, G: Gate + Sync>(
-    rt: &R,
-    alloc: Global,
-    asked: Asked<'_>,
-    capture: &Capture,
-    gate: &G,
-) -> Result<Outcome, ReplayFault>
-    requires size { IsRingSize asked.ring }
-    requires image { image_of asked.verified.now ≡ shipped_image asked.ring }
-    requires fit { AreFitting asked.verified.now.maps asked.updates.now }
-    ensures made { IfOk result (IsOutcome asked.entry capture.now.records.items) }
-    ensures steered { asked.entry.updates.now ≡ [] → IfOk result (IsByRule asked.entry.ring asked.entry.script.now
-        (recorded asked.entry.recording asked.entry.options) capture.now.records.items) }
-    ensures given_up { IfErr result (IsWhyNone asked.entry) }
-    ensures served { OnOk result (KeepsRows asked.entry.options.journal) }
-    ensures bad_options { IsErrOf result BadOptions ↔ HasBadOptions asked.entry }
-{
-    if asked.updates.is_empty() {
-        return shipped_replay_at(rt, alloc, asked, capture, gate);
-    }
-    replay_at(rt, alloc, asked, capture, gate)
-}
-
-/// Runs the frames of a capture: by the shipped program, whose runs follow the steering rule, or by that of an image.
-fn outcome_of<R: Threads + Wait + Sync, G: Gate + Sync>(
-    rt: &R,
-    alloc: Global,
-    asked: Asked<'_>,
-    capture: &Capture,
-    gate: &G,
-) -> Result<Outcome, ReplayFault>
-    requires size { text_of asked.files.now.image ≡ None → IsRingSize asked.ring }
-    requires shipped { text_of asked.files.now.image ≡ None → image_of asked.verified.now ≡ shipped_image asked.ring }
-    requires fit { AreFitting asked.verified.now.maps asked.updates.now }
-    ensures made { IfOk result (IsOutcome asked.entry capture.now.records.items) }
-    ensures steered { asked.entry.updates.now ≡ [] → IfOk result (FollowsRule (text_of asked.entry.files.now.image) asked.entry.ring
-        asked.entry.script.now (recorded asked.entry.recording asked.entry.options) capture.now.records.items) }
-    ensures given_up { IfErr result (IsWhyNone asked.entry) }
-    ensures served { OnOk result (KeepsRows asked.entry.options.journal) }
-    ensures bad_options { IsErrOf result BadOptions ↔ HasBadOptions asked.entry }
-{
-    match asked.files.image {
-        Some(_) => replay_at(rt, alloc, asked, capture, gate),
-        None => shipped_outcome(rt, alloc, asked, capture, gate),
-    }
-}
-
 /// What a replay of a program sends that only reads.
 pub(crate) fn readers_send_alike(verified: &Verified)
     ensures sends { IsReader verified.now.code verified.now.states → SendsAsAtOpening verified.now.maps verified.now.code }
@@ -393,7 +313,27 @@ pub(crate) fn readers_send_alike(verified: &Verified)
     }
 }
 
-/// `outcome_of`, as one list of events, which keeps the headline; and with what holds besides of a program that only reads.
+/// What holds of every replay of the shipped program, where no image is named.
+pub(crate) fn steered_where_shipped(asked: Asked<'_>)
+    requires size { text_of asked.files.now.image ≡ None → IsRingSize asked.ring }
+    requires shipped { text_of asked.files.now.image ≡ None → image_of asked.verified.now ≡ shipped_image asked.ring }
+    ensures steered { text_of asked.entry.files.now.image ≡ None → (script : List Command) (options : Settings) (records : List Record)
+        (outcome : Made) → AreOptions asked.entry.verified.now.maps options → AllByRecursion IsCaptured records →
+        (accounted : IsAccounted (program_with asked.entry.verified.now options.shards) script options records outcome) →
+        IsSteeredReplay asked.entry.ring (program_with asked.entry.verified.now options.shards) script options records outcome accounted }
+    ensures totals { text_of asked.entry.files.now.image ≡ None → (script : List Command) (options : Settings) (records : List Record)
+        (outcome : Made) → AreOptions asked.entry.verified.now.maps options → AllByRecursion IsCaptured records →
+        IsAccounted (program_with asked.entry.verified.now options.shards) script options records outcome →
+        outcome.updates.items ≡ [] → outcome.counts.stopped ≡ 0 → AreTotals outcome }
+{
+    match asked.files.image {
+        Some(_) => {}
+        None => shipped_replays_are_steered(asked.verified, asked.ring),
+    }
+}
+
+/// `replay_at`, with the headline, of the runs that are accounted for; with the steering rule where no image is named; and with what holds
+/// besides of a program that only reads.
 fn outcome_with<R: Threads + Wait + Sync, G: Gate + Sync>(
     rt: &R,
     alloc: Global,
@@ -405,22 +345,29 @@ fn outcome_with<R: Threads + Wait + Sync, G: Gate + Sync>(
     requires shipped { text_of asked.files.now.image ≡ None → image_of asked.verified.now ≡ shipped_image asked.ring }
     requires fit { AreFitting asked.verified.now.maps asked.updates.now }
     ensures made { IfOk result (IsOutcome asked.entry capture.now.records.items) }
-    ensures headline { IfOk result (IsOneReplay asked.entry.verified.now asked.entry.script.now
-        (recorded asked.entry.recording asked.entry.options) capture.now.records.items) }
+    ensures headline { IfOk result (λ outcome. (accounted : IsAccounted
+        (program_with asked.entry.verified.now asked.entry.options.shards) asked.entry.script.now
+        (recorded asked.entry.recording asked.entry.options) capture.now.records.items outcome) →
+        HeadlineOf asked.entry.verified.now asked.entry.script.now (recorded asked.entry.recording asked.entry.options)
+        capture.now.records.items outcome accounted) }
     ensures readers { asked.entry.updates.now ≡ [] → IfOk result (SendsAlike (image_of asked.entry.verified.now)
         asked.entry.verified.now.states asked.entry.script.now (recorded asked.entry.recording asked.entry.options)
         capture.now.records.items) }
-    ensures steered { asked.entry.updates.now ≡ [] → IfOk result (FollowsRule (text_of asked.entry.files.now.image) asked.entry.ring
-        asked.entry.script.now (recorded asked.entry.recording asked.entry.options) capture.now.records.items) }
+    ensures steered { asked.entry.updates.now ≡ [] → IfOk result (λ outcome. (accounted : IsAccounted
+        (program_with asked.entry.verified.now asked.entry.options.shards) asked.entry.script.now
+        (recorded asked.entry.recording asked.entry.options) capture.now.records.items outcome) →
+        FollowsRule (text_of asked.entry.files.now.image) asked.entry.ring (program_with asked.entry.verified.now asked.entry.options.shards)
+        asked.entry.script.now (recorded asked.entry.recording asked.entry.options) capture.now.records.items outcome accounted) }
     ensures given_up { IfErr result (IsWhyNone asked.entry) }
     ensures served { OnOk result (KeepsRows asked.entry.options.journal) }
     ensures bad_options { IsErrOf result BadOptions ↔ HasBadOptions asked.entry }
 {
-    replays_are_one_list(asked.verified);
+    headline(asked.verified);
     commands_fit(asked.script);
     readers_send_alike(asked.verified);
+    steered_where_shipped(asked);
     all_are_captured(capture);
-    let outcome = outcome_of(rt, alloc, asked, capture, gate)?;
+    let outcome = replay_at(rt, alloc, asked, capture, gate)?;
     let _ = outcome.journals.options();
     Ok(outcome)
 }

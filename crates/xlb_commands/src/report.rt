@@ -3,7 +3,7 @@
 ghost use Rattle.std.specs.Prelude.{◌≡◌, ◌↔◌, ◌≤◌, ◌++◌, [], false, IfOk, OnOk, Bool, IsTrue, string_bytes};
 ghost use Rattle.ebpf_decode.specs.InstructionEncoding.{total_slots};
 ghost use Rattle.verifier.specs.Readers.{IsReader};
-ghost use Rattle.replay.specs.Accounts.{frames_in};
+ghost use Rattle.actors.specs.Accounts.{frames_in};
 ghost use Rattle.xlb_commands.specs.Replays.{counts_text, frames_lines, refusal_line, refusal_of, refusals_text, verdicts_lines};
 ghost use Rattle.xlb_commands.specs.Results.{accepted_line, accepted_text, yes_or_no, verdict_name, run_lines, run_text};
 

@@ -7,9 +7,8 @@ use crate::asserting::{same_bytes_of, same_fact};
 use crate::replays::{capture, capture_file, one_record, segment};
 use control::parse_script;
 use ebpf_decode::Version;
-use guarantees::replays::reader_replay;
 use isa::Register::R0;
-use replay::Outcome;
+use replay::{Outcome, replay};
 use semantics::{Options, Recording};
 use shard_port::NoGate;
 use std::alloc::Global;
@@ -62,11 +61,12 @@ fn replayed<R: Threads + Abort + Wait + Sync>(
         shards: 1,
         journal: 4096,
     };
-    let outcome = reader_replay(
+    let outcome = replay(
         rt,
         alloc,
         verified,
         capture,
+        &[],
         &script,
         options,
         Recording::Rows,

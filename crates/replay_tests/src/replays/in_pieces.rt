@@ -179,7 +179,7 @@ fn in_pieces<R: Abort, G: Gate>(
         gate,
     )?;
     same_fact(rt, setting.name, "taken", &replay.taken(), &records.len());
-    let rest = replay.finish(alloc, &[], setting.script);
+    let rest = replay.finish(alloc, setting.verified, &[], setting.script);
     let rest = rest.expect(rt, "an outcome");
     Ok(Ended { given, rest })
 }

@@ -23,7 +23,7 @@ use Rattle.shard_core.specs.JournaledShard.{JournaledShard}
 use Rattle.map_port.specs.Served.{Maps, shard_of, IsReadable, IsStorable, IsAtomic, lookup_call, update_call, delete_call, atomic_call}
 use Rattle.semantics.proofs.shared.PlanLemmas.{some_shards, below_count}
 use Rattle.shard_port.specs.Asking.{is_in, enter_by, entered, may_ask_at}
-use Rattle.shard_port.specs.PortView.{holds_at, is_handed_out, IsShardOf, IsReady}
+use Rattle.shard_port.specs.PortView.{holds_at, is_handed_out, IsShardOf, IsPortReady}
 use Rattle.shard_port.specs.PortLaws.{same_worker, append_none, newest_first, stays_entered, held_is_inside, both_true}
 use Rattle.shard_port.proofs.shared.ReadyLemmas.{plan_number, is_worker_of}
 
@@ -68,7 +68,7 @@ pub record IsAtKey (maps : List MapDef) (options : Options) (worker : ℕ) (shar
     pub definition : slice_get maps map ≡ Some shard.plan.definition
 
 pub at_key : (maps : List MapDef) (options : Options) (worker : ℕ) (shards : List JournaledShard) (map : ℕ) (key : List ℕ) →
-    IsReady maps options worker shards → IsKeyOf maps map key → IsAtKey maps options worker shards map key
+    IsPortReady maps options worker shards → IsKeyOf maps map key → IsAtKey maps options worker shards map key
 at_key maps options worker shards map key ready of_map =
     let parts : ℕ = options.shards in
     let definition : MapDef = of_map.definition in
@@ -103,21 +103,21 @@ at_key maps options worker shards map key ready of_map =
     }
 
 pub may_lookup : (maps : List MapDef) (options : Options) (worker : ℕ) (shards : List JournaledShard) (map : ℕ) (key : List ℕ) →
-    IsReady maps options worker shards → IsKeyOf maps map key →
+    IsPortReady maps options worker shards → IsKeyOf maps map key →
     IsTrue (may_ask_at worker (slice_get shards (shard_of (served_by maps options) map key)) (lookup_call (served_by maps options) map key))
 may_lookup maps options worker shards map key ready of_map =
     let at = at_key maps options worker shards map key ready of_map in
     rw at.known (both_true _ _ at.is_worker (both_true _ _ at.numbered (both_true _ _ (both_true _ _ at.is_worker at.inside) at.own_key)))
 
 pub may_delete : (maps : List MapDef) (options : Options) (worker : ℕ) (shards : List JournaledShard) (map : ℕ) (key : List ℕ) →
-    IsReady maps options worker shards → IsKeyOf maps map key →
+    IsPortReady maps options worker shards → IsKeyOf maps map key →
     IsTrue (may_ask_at worker (slice_get shards (shard_of (served_by maps options) map key)) (delete_call (served_by maps options) map key))
 may_delete maps options worker shards map key ready of_map =
     let at = at_key maps options worker shards map key ready of_map in
     rw at.known (both_true _ _ at.is_worker (both_true _ _ at.numbered (both_true _ _ (both_true _ _ at.is_worker at.inside) at.own_key)))
 
 pub may_update : (maps : List MapDef) (options : Options) (worker : ℕ) (shards : List JournaledShard) (map : ℕ) (key value : List ℕ)
-    (flags : ℕ) → IsReady maps options worker shards → flags < 2 ^ 64 → IsPairOf maps map key value →
+    (flags : ℕ) → IsPortReady maps options worker shards → flags < 2 ^ 64 → IsPairOf maps map key value →
     IsTrue (may_ask_at worker (slice_get shards (shard_of (served_by maps options) map key))
     (update_call (served_by maps options) map key value flags))
 may_update maps options worker shards map key value flags ready few pair =
@@ -145,7 +145,7 @@ pub record IsAtCell (maps : List MapDef) (options : Options) (worker : ℕ) (sha
     pub definition : slice_get maps map ≡ Some shard.plan.definition
 
 pub at_cell : (maps : List MapDef) (options : Options) (worker : ℕ) (shards : List JournaledShard) (map : ℕ) (cell : CellRef) →
-    IsReady maps options worker shards → IsTrue (is_handed_out (record {
+    IsPortReady maps options worker shards → IsTrue (is_handed_out (record {
       served = served_by maps options;
       worker = worker;
       shards =
@@ -190,7 +190,7 @@ pub record IsAtPlace (maps : List MapDef) (options : Options) (worker : ℕ) (sh
   pub in_cell : is_in_cell shard.plan offset size ≡ true
 
 pub at_place : (maps : List MapDef) (options : Options) (worker : ℕ) (shards : List JournaledShard) (cell : CellRef) (offset size : ℕ) →
-    IsReady maps options worker shards → IsReadable (served_by maps options)
+    IsPortReady maps options worker shards → IsReadable (served_by maps options)
     (is_handed_out (record { served = served_by maps options; worker = worker; shards = shards })) cell offset size →
     IsAtPlace maps options worker shards cell offset size
 at_place maps options worker shards cell offset size ready readable =
@@ -241,7 +241,7 @@ known_op Exchange = refl
 known_op CompareExchange = refl
 
 pub may_load : (maps : List MapDef) (options : Options) (worker : ℕ) (shards : List JournaledShard) (cell : CellRef) (offset size : ℕ) →
-    IsReady maps options worker shards → IsReadable (served_by maps options)
+    IsPortReady maps options worker shards → IsReadable (served_by maps options)
     (is_handed_out (record { served = served_by maps options; worker = worker; shards = shards })) cell offset size →
     IsTrue (may_ask_at worker (slice_get shards cell.shard) (Load cell offset size))
 may_load maps options worker shards cell offset size ready readable =
@@ -250,7 +250,7 @@ may_load maps options worker shards cell offset size ready readable =
     (both_true _ _ (both_true _ _ (both_true _ _ at.is_worker at.held) at.is_size) at.in_cell)))
 
 pub may_store : (maps : List MapDef) (options : Options) (worker : ℕ) (shards : List JournaledShard) (cell : CellRef)
-    (offset size value : ℕ) → IsReady maps options worker shards →
+    (offset size value : ℕ) → IsPortReady maps options worker shards →
     IsStorable (served_by maps options) (is_handed_out (record { served = served_by maps options; worker = worker; shards = shards })) cell
     offset size value → IsTrue (may_ask_at worker (slice_get shards cell.shard) (Store cell offset size value))
 may_store maps options worker shards cell offset size value ready storable =
@@ -260,7 +260,7 @@ may_store maps options worker shards cell offset size value ready storable =
     (fits_test value size storable.fits))))
 
 pub may_change : (maps : List MapDef) (options : Options) (worker : ℕ) (shards : List JournaledShard) (cell : CellRef) (offset size : ℕ)
-    (op : AtomicOp) (value expected : ℕ) → IsReady maps options worker shards →
+    (op : AtomicOp) (value expected : ℕ) → IsPortReady maps options worker shards →
     IsAtomic (served_by maps options) (is_handed_out (record { served = served_by maps options; worker = worker; shards = shards })) cell
     offset size op value expected → IsTrue (may_ask_at worker (slice_get shards cell.shard)
     (atomic_call cell offset size op value expected))

@@ -20,25 +20,25 @@ use Rattle.shards.specs.declared.deeds.Deed.{Deed}
 use Rattle.shards.specs.declared.deeds.Deed.TheVariants.{Wrote, MetFull}
 use Rattle.shards.specs.declared.stopped.Stopped.{Stopped}
 use Rattle.shards.specs.declared.stopped.Stopped.TheVariants.{AtEnter, AtCall}
-use Rattle.shards.specs.CallerView.{CallerView, IsServed, IsRefused}
+use Rattle.shards.specs.CallerView.{CallerView, ViewIsServed, ViewIsRefused}
 use Rattle.shards.specs.Deeds.{deed_by, deeds_by_both}
 use Rattle.shards.specs.Passes.{PassView, is_inside_of, view_at, own_at}
 use Rattle.shards.specs.SharedMaps.{ArePlans}
-use Rattle.shards.specs.Asked.{AreServed, IsServedThenRefused, IsAnswered, IsTurnedAway, EnteredAndAnswered, IsStopped}
+use Rattle.shards.specs.Asked.{AreServed, IsServedThenRefused, PassIsServed, PassIsRefused, PassEntersAndIsServed, PassIsStopped}
 use Rattle.shard_port.specs.Asking.{enter_by, leave_by, asked_entry}
 use Rattle.shard_port.specs.PortLaws.{both_true}
-use Rattle.shard_port.specs.PassPorts.{is_worker_below, worker_of, entering, entered_deeds, left_deeds, inside_own, IsAskedAt, CannotCallAt, IsAskedBy, IsTurnedAwayBy, IsLeft}
+use Rattle.shard_port.specs.PassPorts.{is_worker_below, worker_number, entering, entered_deeds, left_deeds, inside_own, IsAskedAt, CannotCallAt, IsAskedBy, IsTurnedAwayBy, ViewHasLeft}
 use Rattle.shard_port.proofs.shared.ReadyLemmas.{plan_number}
 
 -- ---- who calls
 
-pub is_worker : (most : ℕ) (who : Caller) → IsTrue (is_worker_below most who) → who ≡ Worker (worker_of who)
+pub is_worker : (most : ℕ) (who : Caller) → IsTrue (is_worker_below most who) → who ≡ Worker (worker_number who)
 is_worker most (Worker number) below = refl
 is_worker most Controller below = cc
 is_worker most Reclaimer below = cc
 
 pub inside_same : (most : ℕ) (who : Caller) (own : List Entry) → IsTrue (is_worker_below most who) →
-    is_inside_of who own ≡ is_inside (worker_of who) own
+    is_inside_of who own ≡ is_inside (worker_number who) own
 inside_same most (Worker number) own below = refl
 inside_same most Controller own below = cc
 inside_same most Reclaimer own below = cc
@@ -56,8 +56,8 @@ one_entering worker number own outside = ap (λ (test : Bool). if test then [] e
 
 asked_inside : (most : ℕ) (plan : ShardPlan) (number : ℕ) (who : Caller) (before after : CallerView) (call : Call) (reply : Reply) →
     IsTrue (is_worker_below most who) → is_inside_of who before.own ≡ true →
-    IsServed plan before after (record { who = who; call = call; reply = reply }) →
-    IsAskedAt plan number (worker_of who) before after call reply
+    ViewIsServed plan before after (record { who = who; call = call; reply = reply }) →
+    IsAskedAt plan number (worker_number who) before after call reply
 asked_inside most plan number (Worker worker) before after call reply below inside served =
     let none : entering worker number before.own ≡ [] = none_entering worker number before.own inside in
     record {
@@ -73,7 +73,7 @@ asked_inside most plan number Reclaimer before after call reply below inside ser
 asked_outside : (most : ℕ) (plan : ShardPlan) (number : ℕ) (who : Caller) (before after : CallerView) (call : Call) (reply : Reply) →
     IsTrue (is_worker_below most who) → is_inside_of who before.own ≡ false →
     AreServed plan before after (entries.enter_entry number who) (record { who = who; call = call; reply = reply }) →
-    IsAskedAt plan number (worker_of who) before after call reply
+    IsAskedAt plan number (worker_number who) before after call reply
 asked_outside most plan number (Worker worker) before after call reply below outside served =
     let one : entering worker number before.own ≡ enter_by worker number ∷ [] = one_entering worker number before.own outside in
     record {
@@ -100,7 +100,7 @@ wrote_by who call reply = Wrote (record { who = who; call = call; reply = reply 
 
 did_inside : (most number : ℕ) (who : Caller) (own : List Entry) (call : Call) (reply : Reply) (before after : List Deed) →
     IsTrue (is_worker_below most who) → is_inside_of who own ≡ true → after ≡ wrote_by who call reply ∷ before →
-    after ≡ Wrote (asked_entry (worker_of who) call reply) ∷ entered_deeds (worker_of who) number own ++ before
+    after ≡ Wrote (asked_entry (worker_number who) call reply) ∷ entered_deeds (worker_number who) number own ++ before
 did_inside most number (Worker worker) own call reply before after below inside did =
     did ∙ ap (λ (first : List Deed). Wrote (asked_entry worker call reply) ∷ first ++ before) (sym (none_entered worker number own inside))
 did_inside most number Controller own call reply before after below inside did = cc
@@ -109,7 +109,7 @@ did_inside most number Reclaimer own call reply before after below inside did = 
 did_outside : (most number : ℕ) (who : Caller) (own : List Entry) (call : Call) (reply : Reply) (before after : List Deed) →
     IsTrue (is_worker_below most who) → is_inside_of who own ≡ false →
     after ≡ wrote_by who call reply ∷ Wrote (entries.enter_entry number who) ∷ before →
-    after ≡ Wrote (asked_entry (worker_of who) call reply) ∷ entered_deeds (worker_of who) number own ++ before
+    after ≡ Wrote (asked_entry (worker_number who) call reply) ∷ entered_deeds (worker_number who) number own ++ before
 did_outside most number (Worker worker) own call reply before after below outside did =
     did ∙ ap (λ (first : List Deed). Wrote (asked_entry worker call reply) ∷ first ++ before) (sym (one_entered worker number own outside))
 did_outside most number Controller own call reply before after below outside did = cc
@@ -117,7 +117,7 @@ did_outside most number Reclaimer own call reply before after below outside did 
 
 met_inside_then : (most number : ℕ) (who : Caller) (own : List Entry) (call : Call) (before after : List Deed) →
     IsTrue (is_worker_below most who) → is_inside_of who own ≡ true → after ≡ MetFull who call ∷ before →
-    after ≡ MetFull who call ∷ entered_deeds (worker_of who) number own ++ before
+    after ≡ MetFull who call ∷ entered_deeds (worker_number who) number own ++ before
 met_inside_then most number (Worker worker) own call before after below inside did =
     did ∙ ap (λ (first : List Deed). MetFull (Worker worker) call ∷ first ++ before) (sym (none_entered worker number own inside))
 met_inside_then most number Controller own call before after below inside did = cc
@@ -126,7 +126,7 @@ met_inside_then most number Reclaimer own call before after below inside did = c
 met_outside_then : (most number : ℕ) (who : Caller) (own : List Entry) (call : Call) (before after : List Deed) →
     IsTrue (is_worker_below most who) → is_inside_of who own ≡ false →
     after ≡ MetFull who call ∷ Wrote (entries.enter_entry number who) ∷ before →
-    after ≡ MetFull who call ∷ entered_deeds (worker_of who) number own ++ before
+    after ≡ MetFull who call ∷ entered_deeds (worker_number who) number own ++ before
 met_outside_then most number (Worker worker) own call before after below outside did =
     did ∙ ap (λ (first : List Deed). MetFull (Worker worker) call ∷ first ++ before) (sym (one_entered worker number own outside))
 met_outside_then most number Controller own call before after below outside did = cc
@@ -135,8 +135,8 @@ met_outside_then most number Reclaimer own call before after below outside did =
 -- ---- refused
 
 refused_inside : (most : ℕ) (plan : ShardPlan) (number : ℕ) (who : Caller) (before after : CallerView) (call : Call) →
-    IsTrue (is_worker_below most who) → is_inside_of who before.own ≡ true → IsRefused plan before after call →
-    CannotCallAt plan number (worker_of who) before after call
+    IsTrue (is_worker_below most who) → is_inside_of who before.own ≡ true → ViewIsRefused plan before after call →
+    CannotCallAt plan number (worker_number who) before after call
 refused_inside most plan number (Worker worker) before after call below inside refused =
     let none : entering worker number before.own ≡ [] = none_entering worker number before.own inside in
     record {
@@ -153,7 +153,7 @@ refused_inside most plan number Reclaimer before after call below inside refused
 refused_at_call : (most : ℕ) (plan : ShardPlan) (number : ℕ) (who : Caller) (before after : CallerView) (call : Call) →
     IsTrue (is_worker_below most who) → is_inside_of who before.own ≡ false →
     IsServedThenRefused plan before after (entries.enter_entry number who) call →
-    CannotCallAt plan number (worker_of who) before after call
+    CannotCallAt plan number (worker_number who) before after call
 refused_at_call most plan number (Worker worker) before after call below outside stopped =
     let one : entering worker number before.own ≡ enter_by worker number ∷ [] = one_entering worker number before.own outside in
     record {
@@ -172,7 +172,7 @@ refused_at_call most plan number Reclaimer before after call below outside stopp
 module _ {A : Type 0} (most : ℕ) (plan : ShardPlan) (number : ℕ) (before after : PassView) (call : Call) (replies : A → Reply)
     (below : IsTrue (is_worker_below most before.who)) where
   pub asked_once_inside : (result : Result A JournalFull) → is_inside_of before.who (own_at before number) ≡ true →
-      IfOk result (λ answer. IsAnswered plan number before after call (replies answer)) →
+      IfOk result (λ answer. PassIsServed plan number before after call (replies answer)) →
       after.deeds ≡ deed_by before.who call replies result ∷ before.deeds →
       IfOk result (λ answer. IsAskedBy plan number before after call (replies answer))
   asked_once_inside (Ok answer) inside served did = record {
@@ -182,7 +182,7 @@ module _ {A : Type 0} (most : ℕ) (plan : ShardPlan) (number : ℕ) (before aft
   asked_once_inside (Err full) inside served did = served
 
   pub turned_away_inside : (result : Result A JournalFull) → is_inside_of before.who (own_at before number) ≡ true →
-      OnErr result (IsTurnedAway plan number before after call) → after.deeds ≡ deed_by before.who call replies result ∷ before.deeds →
+      OnErr result (PassIsRefused plan number before after call) → after.deeds ≡ deed_by before.who call replies result ∷ before.deeds →
       OnErr result (IsTurnedAwayBy plan number before after call)
   turned_away_inside (Ok answer) inside refused did = refused
   turned_away_inside (Err full) inside refused did = inr (record {
@@ -191,7 +191,7 @@ module _ {A : Type 0} (most : ℕ) (plan : ShardPlan) (number : ℕ) (before aft
   })
 
   pub asked_from_outside : (result : Result A Stopped) (answer : A) → result ≡ Ok answer → is_inside_of before.who (own_at before number) ≡ false →
-      IfOk result (λ answer. EnteredAndAnswered plan number before after call (replies answer)) →
+      IfOk result (λ answer. PassEntersAndIsServed plan number before after call (replies answer)) →
       after.deeds ≡ deeds_by_both number before.who call replies result ++ before.deeds →
       IsAskedBy plan number before after call (replies answer)
   asked_from_outside (Ok found) answer is outside served did =
@@ -203,7 +203,7 @@ module _ {A : Type 0} (most : ℕ) (plan : ShardPlan) (number : ℕ) (before aft
   asked_from_outside (Err stopped) answer is outside served did = absurd cc
 
   pub turned_away_outside : (result : Result A Stopped) (stopped : Stopped) → result ≡ Err stopped →
-      is_inside_of before.who (own_at before number) ≡ false → IfErr result (IsStopped plan number before after call) →
+      is_inside_of before.who (own_at before number) ≡ false → IfErr result (PassIsStopped plan number before after call) →
       after.deeds ≡ deeds_by_both number before.who call replies result ++ before.deeds → IsTurnedAwayBy plan number before after call
   turned_away_outside (Ok answer) stopped is outside refused did = absurd cc
   turned_away_outside (Err (AtEnter full)) stopped is outside refused did = inl (record {
@@ -218,7 +218,7 @@ module _ {A : Type 0} (most : ℕ) (plan : ShardPlan) (number : ℕ) (before aft
 -- ---- what the shard asks of its caller
 
 pub met_inside : (most : ℕ) (plan : ShardPlan) (number : ℕ) (who : Caller) (own : List Entry) (call : Call) →
-    IsTrue (is_worker_below most who) → is_inside_of who own ≡ true → Meets plan (inside_own (worker_of who) number own) who call →
+    IsTrue (is_worker_below most who) → is_inside_of who own ≡ true → Meets plan (inside_own (worker_number who) number own) who call →
     Meets plan own who call
 met_inside most plan number (Worker worker) own call below inside met =
     subst (λ (first : List Entry). Meets plan (first ++ own) (Worker worker) call) (none_entering worker number own inside) met
@@ -226,7 +226,7 @@ met_inside most plan number Controller own call below inside met = cc
 met_inside most plan number Reclaimer own call below inside met = cc
 
 pub met_outside : (most : ℕ) (plan : ShardPlan) (number : ℕ) (who : Caller) (own : List Entry) (call : Call) →
-    IsTrue (is_worker_below most who) → is_inside_of who own ≡ false → Meets plan (inside_own (worker_of who) number own) who call →
+    IsTrue (is_worker_below most who) → is_inside_of who own ≡ false → Meets plan (inside_own (worker_number who) number own) who call →
     Meets plan (entries.enter_entry number who ∷ own) who call
 met_outside most plan number (Worker worker) own call below outside met =
     subst (λ (first : List Entry). Meets plan (first ++ own) (Worker worker) call) (one_entering worker number own outside) met
@@ -280,30 +280,30 @@ may_leave maps options count plan number Reclaimer own plans within below inside
 
 pub left_inside : (most : ℕ) (plan : ShardPlan) (number : ℕ) (who : Caller) (before after : CallerView) →
     IsTrue (is_worker_below most who) → is_inside_of who before.own ≡ true →
-    IsServed plan before after (record { who = who; call = Leave number; reply = Left }) →
-    IsLeft (is_inside (worker_of who) before.own) plan number (worker_of who) before after
+    ViewIsServed plan before after (record { who = who; call = Leave number; reply = Left }) →
+    ViewHasLeft (is_inside (worker_number who) before.own) plan number (worker_number who) before after
 left_inside most plan number (Worker worker) before after below inside served =
-    subst (λ (test : Bool). IsLeft test plan number worker before after) (sym inside) served
+    subst (λ (test : Bool). ViewHasLeft test plan number worker before after) (sym inside) served
 left_inside most plan number Controller before after below inside served = cc
 left_inside most plan number Reclaimer before after below inside served = cc
 
 pub left_outside : (most : ℕ) (plan : ShardPlan) (number : ℕ) (who : Caller) (before : CallerView) → IsTrue (is_worker_below most who) →
     is_inside_of who before.own ≡ false →
-    IsLeft (is_inside (worker_of who) before.own) plan number (worker_of who) before before
+    ViewHasLeft (is_inside (worker_number who) before.own) plan number (worker_number who) before before
 left_outside most plan number who before below outside =
-    subst (λ (test : Bool). IsLeft test plan number (worker_of who) before before)
+    subst (λ (test : Bool). ViewHasLeft test plan number (worker_number who) before before)
     (sym (sym (inside_same most who before.own below) ∙ outside)) refl
 
 pub left_then : (most number : ℕ) (who : Caller) (own : List Entry) (before after : List Deed) → IsTrue (is_worker_below most who) →
     is_inside_of who own ≡ true → after ≡ Wrote (entries.leave_entry number who) ∷ before →
-    after ≡ left_deeds (worker_of who) number own ++ before
+    after ≡ left_deeds (worker_number who) number own ++ before
 left_then most number (Worker worker) own before after below inside did =
     did ∙ ap (λ (test : Bool). (if test then Wrote (leave_by worker number) ∷ [] else []) ++ before) (sym inside)
 left_then most number Controller own before after below inside did = cc
 left_then most number Reclaimer own before after below inside did = cc
 
 pub stayed_then : (most number : ℕ) (who : Caller) (own : List Entry) (deeds : List Deed) → IsTrue (is_worker_below most who) →
-    is_inside_of who own ≡ false → deeds ≡ left_deeds (worker_of who) number own ++ deeds
+    is_inside_of who own ≡ false → deeds ≡ left_deeds (worker_number who) number own ++ deeds
 stayed_then most number (Worker worker) own deeds below outside =
     ap (λ (test : Bool). (if test then Wrote (leave_by worker number) ∷ [] else []) ++ deeds) (sym outside)
 stayed_then most number Controller own deeds below outside = cc

@@ -16,8 +16,8 @@ use Rattle.semantics.specs.SequentialShard.{shard_after}
 use Rattle.semantics.specs.History.{shard_of_call, IsLegalJournal}
 use Rattle.shard_core.specs.JournaledShard.{JournaledShard, with_entry}
 use Rattle.semantics.specs.declared.full.JournalFull.{JournalFull}
-use Rattle.shard_port.specs.Asking.{is_in, enter_by, leave_by, entered, left, asked_entry, all_left, IsWorkerOf, IsAnswered, CannotEnter, CannotCall, IsTurnedAway, IsAnsweredAmong, IsTurnedAwayAmong}
-use Rattle.shard_port.specs.PortView.{HasByteCells, SetsBytes, IsShardOf, AreShardsOf, IsReady}
+use Rattle.shard_port.specs.Asking.{is_in, enter_by, leave_by, entered, left, asked_entry, all_left, IsWorkerOf, EntersAndCalls, CannotEnter, CannotCall, CannotEnterOrCall, IsAnsweredAmong, IsTurnedAwayAmong}
+use Rattle.shard_port.specs.PortView.{HasByteCells, SetsBytes, IsShardOf, AreShardsOf, IsPortReady}
 use Rattle.shard_port.specs.PortLaws.{newest_first, append_none}
 use Rattle.semantics.proofs.shared.CellBytes.{cells_after_call}
 
@@ -64,22 +64,22 @@ bytes_entered worker shard held = by_test (is_in worker shard)
     by_test false = bytes_with_entry shard (enter_by worker shard.plan.number) tt held
 
 bytes_answered : (worker : ℕ) (before : JournaledShard) (call : Call) (reply : Reply) (after : JournaledShard) → SetsBytes call →
-    IsAnswered worker before call reply after → HasByteCells before → HasByteCells after
+    EntersAndCalls worker before call reply after → HasByteCells before → HasByteCells after
 bytes_answered worker before call reply after sets answered held =
     subst HasByteCells (sym answered.written) (bytes_with_entry (entered worker before) (asked_entry worker call reply) sets
     (bytes_entered worker before held))
 
-bytes_turned_away : (worker : ℕ) (before : JournaledShard) (call : Call) (after : JournaledShard) → IsTurnedAway worker before call after →
+bytes_turned_away : (worker : ℕ) (before : JournaledShard) (call : Call) (after : JournaledShard) → CannotEnterOrCall worker before call after →
     HasByteCells before → HasByteCells after
 bytes_turned_away worker before call after away held =
     ⊎_elim (λ (out : CannotEnter worker before after). subst HasByteCells (sym out.unchanged) held)
     (λ (out : CannotCall worker before call after). subst HasByteCells (sym out.entered_only) (bytes_entered worker before held)) away
 
 plan_answered : (worker : ℕ) (before : JournaledShard) (call : Call) (reply : Reply) (after : JournaledShard) →
-    IsAnswered worker before call reply after → after.plan ≡ before.plan
+    EntersAndCalls worker before call reply after → after.plan ≡ before.plan
 plan_answered worker before call reply after answered = ap (λ (shard : JournaledShard). shard.plan) answered.written
 
-plan_turned_away : (worker : ℕ) (before : JournaledShard) (call : Call) (after : JournaledShard) → IsTurnedAway worker before call after →
+plan_turned_away : (worker : ℕ) (before : JournaledShard) (call : Call) (after : JournaledShard) → CannotEnterOrCall worker before call after →
     after.plan ≡ before.plan
 plan_turned_away worker before call after away =
     ⊎_elim (λ (out : CannotEnter worker before after). ap (λ (shard : JournaledShard). shard.plan) out.unchanged)
@@ -126,8 +126,8 @@ shards_turned_away maps options worker before call after among are =
     (bytes_turned_away worker among.shard call among.new among.turned_away (are.each (shard_of_call call) among.shard among.known).bytes))
 
 pub ready_with : (maps : List MapDef) (options : Options) (worker : ℕ) (before after : List JournaledShard) →
-    (AreShardsOf maps options before → AreShardsOf maps options after) → IsReady maps options worker before →
-    IsReady maps options worker after
+    (AreShardsOf maps options before → AreShardsOf maps options after) → IsPortReady maps options worker before →
+    IsPortReady maps options worker after
 ready_with maps options worker before after kept ready = record {
   few = ready.few;
   sizes = ready.sizes;
@@ -202,13 +202,13 @@ worker_of_each worker [] each = tt
 worker_of_each worker (first ∷ rest) each = (each zero first refl, worker_of_each worker rest (λ number. each (suc number)))
 
 pub ready_workers : (maps : List MapDef) (options : Options) (worker : ℕ) (shards : List JournaledShard) →
-    IsReady maps options worker shards → AllByRecursion (IsWorkerOf worker) shards
+    IsPortReady maps options worker shards → AllByRecursion (IsWorkerOf worker) shards
 ready_workers maps options worker shards ready =
     worker_of_each worker shards (λ number shard known. is_worker_of maps options worker number shard ready.is_worker
     (ready.are_shards.each number shard known))
 
 pub shards_left : (maps : List MapDef) (options : Options) (worker : ℕ) (shards : List JournaledShard) →
-    IsReady maps options worker shards → AreShardsOf maps options (all_left worker shards)
+    IsPortReady maps options worker shards → AreShardsOf maps options (all_left worker shards)
 shards_left maps options worker shards ready = record {
   count = count_left worker shards ∙ ready.are_shards.count;
   each = λ number shard known.

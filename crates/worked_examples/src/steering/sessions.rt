@@ -2,7 +2,7 @@
 
 ghost use Rattle.std.specs.Prelude.{◌≡◌, ◌<◌, ℕ, IsTrue};
 ghost use Rattle.shards.specs.NewShards.{IsNamed};
-ghost use Rattle.shard_port.specs.PassPorts.{is_worker_below, worker_of};
+ghost use Rattle.shard_port.specs.PassPorts.{is_worker_below, worker_number};
 ghost use Rattle.shard_port.specs.PassSessions.{IsOutsideAt};
 ghost use Rattle.semantics.specs.declared.call.Caller.TheVariants.{Worker};
 
@@ -36,7 +36,7 @@ const MOMENT: Moment = Moment {
 /// The pass of worker 0, which is outside of all shards.
 fn worker_pass<B: Naming>(rt: &impl Abort, alloc: Global, dealer: &mut Dealer<B>) -> Pass<B>
     ensures who { result.who ≡ Worker 0 }
-    ensures outside { (number : ℕ) → number < B.count → IsOutsideAt (worker_of result.who) result number }
+    ensures outside { (number : ℕ) → number < B.count → IsOutsideAt (worker_number result.who) result number }
 {
     let pass = dealer.pass(alloc, Caller::Worker { number: 0 });
     pass.expect(rt, "a pass")
@@ -53,9 +53,9 @@ fn run_by<B: Naming, R: Abort + Wait>(
 ) -> (Result<Exit, Stop>, Frame)
     requires served { shards.now.maps ≡ verified.now.maps }
     requires worker { IsTrue (is_worker_below shards.now.options.workers pass.old.who) }
-    requires outside { (number : ℕ) → number < B.count → IsOutsideAt (worker_of pass.old.who) pass.old number }
+    requires outside { (number : ℕ) → number < B.count → IsOutsideAt (worker_number pass.old.who) pass.old number }
     ensures same_caller { pass.new.who ≡ pass.old.who }
-    ensures outside { (number : ℕ) → number < B.count → IsOutsideAt (worker_of pass.old.who) pass.new number }
+    ensures outside { (number : ℕ) → number < B.count → IsOutsideAt (worker_number pass.old.who) pass.new number }
 {
     let mut frame = Frame::of(alloc, bytes).expect(rt, "a frame");
     let mut replies = 0;
@@ -139,9 +139,9 @@ fn goes_to<B: Naming, R: Abort + Wait>(
 )
     requires served { shards.now.maps ≡ verified.now.maps }
     requires worker { IsTrue (is_worker_below shards.now.options.workers pass.old.who) }
-    requires outside { (number : ℕ) → number < B.count → IsOutsideAt (worker_of pass.old.who) pass.old number }
+    requires outside { (number : ℕ) → number < B.count → IsOutsideAt (worker_number pass.old.who) pass.old number }
     ensures same_caller { pass.new.who ≡ pass.old.who }
-    ensures outside { (number : ℕ) → number < B.count → IsOutsideAt (worker_of pass.old.who) pass.new number }
+    ensures outside { (number : ℕ) → number < B.count → IsOutsideAt (worker_number pass.old.who) pass.new number }
 {
     let (ended, frame) = run_by(rt, alloc, verified, shards, pass, &DATAGRAM);
     let verdict = ended.map(|exit| exit.verdict);

@@ -5,12 +5,12 @@ use Rattle.std.specs.declared.alloc.Global.{Global}
 use Rattle.map_updates.specs.declared.update.MapUpdate.{MapUpdate}
 use Rattle.machine.specs.Running.{program_of}
 use Rattle.shards.specs.SharedMaps.{ArePlans}
-use Rattle.replay.specs.Accounts.{lists_of, AreRunsOfShares, counts_of, sent_of, sent_frames, ends_of}
-use Rattle.replay.specs.Shares.{frames_of}
-use Rattle.replay.specs.Parts.{IsScriptAccounted, IsScriptRun, rounds_of}
-use Rattle.replay.specs.RunsOverShards.{pass_in}
-use Rattle.replay.specs.Accounted.{IsAccounted}
-use Rattle.replay.specs.declared.outcome.Outcome.{Outcome}
+use Rattle.actors.specs.Accounts.{lists_of, AreRunsOfShares, counts_of, sent_of, sent_frames, ends_of}
+use Rattle.actors.specs.Shares.{frames_of}
+use Rattle.actors.specs.Parts.{IsScriptAccounted, IsScriptRun, round_count}
+use Rattle.actors.specs.RunsOverShards.{pass_in}
+use Rattle.actors.specs.Accounted.{IsAccounted}
+use Rattle.actors.specs.declared.outcome.Outcome.{Outcome}
 use Rattle.shards.specs.Passes.{AreSettled}
 use Rattle.replay.proofs.Accounts.{IsOwnIn, shares, work, outcome_is}
 use Rattle.replay.proofs.PartLemmas.{all_of, script_stands, rounds_stand}
@@ -73,6 +73,6 @@ returns-clause-accounted g c =
           (subst (λ (updates : List MapUpdate). IsScriptRun g.B.Naming.plan c.args.shards.maps c.args.shards.options updates c.args.script.now c.args.size
           c.args.ended.controller.noted.items c.args.ended.controller.pass) (sym updates_are) c.requires.script)
           settled.next owned.next told.refused);
-      rounds = rounds_stand g.B.Naming.plan g.B.Naming.count (rounds_of (length records)) journals one.deeds c.args.ended.reclaimer c.requires.rounds.1
+      rounds = rounds_stand g.B.Naming.plan g.B.Naming.count (round_count (length records)) journals one.deeds c.args.ended.reclaimer c.requires.rounds.1
           settled.last owned.last c.requires.rounds.0;
     })

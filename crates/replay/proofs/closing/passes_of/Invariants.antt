@@ -1,6 +1,6 @@
 use Rattle.std.proofs.Common.{◌≡◌, ◌≤◌, ◌+◌, ◌++◌, length}
 use Rattle.std.specs.Prelude.{map, vec_capacity}
-use Rattle.replay.specs.RunsOverShards.{pass_in}
+use Rattle.actors.specs.RunsOverShards.{pass_in}
 use Rattle.replay.proofs.closing.passes_of.Given as goal
 
 pub record Taken (g : goal.Over) (l : goal.Live-workers g) : Type 0 where

@@ -1,7 +1,7 @@
 use Rattle.std.proofs.Common.{rules}
 use Rattle.std.specs.Prelude.{is_some}
 use Rattle.std.proofs.lemmas.Fn.{filter_same}
-use Rattle.replay.specs.declared.outcome.Applied.{Applied}
+use Rattle.actors.specs.declared.outcome.Applied.{Applied}
 use Rattle.replay.proofs.closing.refused.Goals as goal
 
 pub returns : goal.returns

@@ -1,5 +1,5 @@
 use Rattle.rx_queues.specs.Passes.{IsPutPassOf, jobs_put}
-use Rattle.replay.specs.Puts.{ArePutWithEnd}
+use Rattle.actors.specs.Puts.{ArePutWithEnd}
 use Rattle.replay.proofs.crew.abandon.Given as goal
 
 abbrev pub invariant-lanes : goal.invariant-lanes

@@ -1,7 +1,7 @@
 use Rattle.std.proofs.Common.{◌≡◌, ◌<◌, ◌+◌, ◌∷◌, ◌++◌, [], length, refl, ap, sym, subst, arith}
 use Rattle.std.specs.Prelude.{remove}
 use Rattle.atomic_table.proofs.Lists.{at_index}
-use Rattle.replay.specs.Accounts.{lists_of}
+use Rattle.actors.specs.Accounts.{lists_of}
 use Rattle.replay.specs.Crews.{IsPart}
 use Rattle.semantics.proofs.shared.EachLemmas.{within}
 use Rattle.replay.proofs.CrewParts.{ArePartedTo, one_parted}

@@ -1,7 +1,7 @@
 use Rattle.std.proofs.Common.{[], ap, ◌∙◌}
 use Rattle.std.specs.Prelude.{slice_index_or}
 use Rattle.rx_queues.specs.Passes.{jobs_put}
-use Rattle.replay.proofs.RunLemmas.{held_against, worked_there}
+use Rattle.replay.proofs.CrewRuns.{held_against, worked_there}
 use Rattle.replay.proofs.crew.settled.Goals as goal
 
 pub returns-clause-handled : goal.returns-clause-handled

@@ -1,6 +1,6 @@
 use Rattle.std.proofs.Common.{◌≡◌}
-use Rattle.replay.specs.Actors.{numbers_from}
-use Rattle.replay.specs.Parts.{numbers_of}
+use Rattle.actors.specs.Actors.{numbers_from}
+use Rattle.actors.specs.Parts.{numbers_of}
 use Rattle.replay.proofs.setting.apply_first.Given as goal
 
 pub record Begun (g : goal.Over) (l : goal.Live-commands g) : Type 0 where

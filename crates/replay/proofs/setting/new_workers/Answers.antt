@@ -1,7 +1,7 @@
 use Rattle.std.proofs.Common.{◌+◌, ◌∷◌, [], length, length-append, ap, sym, ◌∙◌, subst, arith}
 use Rattle.semantics.specs.Each.{Each}
-use Rattle.replay.specs.declared.worker.Working.{Working}
-use Rattle.replay.specs.RunsOverShards.{IsNewAt}
+use Rattle.actors.specs.declared.worker.Working.{Working}
+use Rattle.actors.specs.RunsOverShards.{IsNewAt}
 use Rattle.semantics.proofs.shared.EachLemmas.{each_push}
 use Rattle.replay.proofs.setting.new_workers.Goals as goal
 

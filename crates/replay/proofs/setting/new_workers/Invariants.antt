@@ -1,7 +1,7 @@
 use Rattle.std.proofs.Common.{◌≡◌, ◌≤◌, length}
 use Rattle.std.specs.Prelude.{vec_capacity}
 use Rattle.semantics.specs.Each.{Each}
-use Rattle.replay.specs.RunsOverShards.{IsNewAt}
+use Rattle.actors.specs.RunsOverShards.{IsNewAt}
 use Rattle.replay.proofs.setting.new_workers.Given as goal
 
 pub record Dealt (g : goal.Over) (l : goal.Live-workers g) : Type 0 where

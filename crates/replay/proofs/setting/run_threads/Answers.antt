@@ -3,13 +3,13 @@ use Rattle.machine.specs.Running.{program_of}
 use Rattle.control.specs.declared.command.Command.{Command}
 use Rattle.semantics.specs.Each.{Each}
 use Rattle.replay.specs.Crews.{IsHandled}
-use Rattle.replay.specs.Parts.{rounds_of}
-use Rattle.replay.specs.RunsOverShards.{IsNewAt, IsRunBy, pass_in}
+use Rattle.actors.specs.Parts.{round_count}
+use Rattle.actors.specs.RunsOverShards.{IsNewAt, IsRunBy, pass_in}
 use Rattle.rx_queues.specs.Passes.{jobs_put}
 use Rattle.replay.specs.Settings.{IsAbandoned}
-use Rattle.replay.specs.Shares.{frames_of}
-use Rattle.replay.specs.UpdateFaults.{IsOfNoUpdate}
-use Rattle.replay.specs.declared.fault.ReplayFault.TheVariants.{BadOptions}
+use Rattle.actors.specs.Shares.{frames_of}
+use Rattle.actors.specs.UpdateFaults.{IsOfNoUpdate}
+use Rattle.actors.specs.declared.fault.ReplayFault.TheVariants.{BadOptions}
 use Rattle.replay.specs.declared.threads.Abandoned.{Abandoned}
 use Rattle.replay.proofs.AbandonLemmas.{of_abandoned}
 use Rattle.replay.proofs.Accounts.{new_is_idle}
@@ -65,7 +65,7 @@ returns-in-Ok-clause-script g c =
 pub returns-in-Ok-clause-rounds : goal.returns-in-Ok-clause-rounds
 returns-in-Ok-clause-rounds g c =
     let rounds = c.in-Ok.ensures.done.rounds in
-    (rounds_made g.B.Naming.plan g.B.Naming.count (rounds_of (length c.args.setting.capture.now.records.items)) c.in-Ok.all.reclaimer rounds, rounds.who)
+    (rounds_made g.B.Naming.plan g.B.Naming.count (round_count (length c.args.setting.capture.now.records.items)) c.in-Ok.all.reclaimer rounds, rounds.who)
 
 why_abandoned : (frames : List (List ℕ)) (workers count : ℕ) (it : Abandoned) → IsAbandoned frames workers count it.fault (jobs_put it.put)
     → IsOfNoUpdate it.fault × (it.fault ≡ BadOptions → ⊥)

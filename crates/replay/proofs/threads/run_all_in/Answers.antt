@@ -2,13 +2,13 @@ use Rattle.std.proofs.Common.{rules, ◌≡◌, ◌+◌, ◌-◌, ◌/◌, ◌<�
 use Rattle.rx_queues.specs.declared.job.Job.{Job}
 use Rattle.rx_queues.specs.declared.job.Job.TheVariants.{Note, End}
 use Rattle.rx_queues.specs.Passes.{workers_of, jobs_put}
-use Rattle.replay.specs.Actors.{HasNoEnd, AreAllEnded, AreBothEnded, round_jobs, commands_from}
-use Rattle.replay.specs.Puts.{ArePutWithEnd, put_at}
-use Rattle.replay.specs.declared.fault.ReplayFault.{ReplayFault}
-use Rattle.replay.specs.declared.fault.ReplayFault.TheVariants.{NoThread}
-use Rattle.replay.proofs.HandLemmas.{commands_no_end, notes_no_end, notes_end}
+use Rattle.actors.specs.Actors.{HasNoEnd, AreAllEnded, AreBothEnded, round_jobs, commands_from}
+use Rattle.actors.specs.Puts.{ArePutWithEnd, put_at}
+use Rattle.actors.specs.declared.fault.ReplayFault.{ReplayFault}
+use Rattle.actors.specs.declared.fault.ReplayFault.TheVariants.{NoThread}
+use Rattle.actors.proofs.shared.HandLemmas.{commands_no_end, notes_no_end, notes_end}
 use Rattle.replay.proofs.EndLemmas.{ended_then, all_ended, nobody_ran}
-use Rattle.replay.proofs.PutLemmas.{all_queues}
+use Rattle.actors.proofs.shared.PutLemmas.{all_queues}
 use Rattle.replay.proofs.threads.run_all_in.Goals as goal
 
 pub close_both-requires-clause-controller : goal.close_both-requires-clause-controller

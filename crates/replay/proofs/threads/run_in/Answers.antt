@@ -1,6 +1,6 @@
 use Rattle.std.proofs.Common.{inl, refl, length}
 use Rattle.rx_queues.specs.Passes.{jobs_put}
-use Rattle.replay.specs.Shares.{frames_of}
+use Rattle.actors.specs.Shares.{frames_of}
 use Rattle.replay.proofs.AbandonLemmas.{abandoned_by}
 use Rattle.replay.proofs.threads.run_in.Goals as goal
 

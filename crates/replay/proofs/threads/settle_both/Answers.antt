@@ -2,10 +2,10 @@ use Rattle.std.proofs.Common.{◌+◌, ◌<◌, ◌∷◌, ◌++◌, [], length,
 use Rattle.std.specs.Prelude.{IfSome}
 use Rattle.rx_queues.specs.declared.job.Job.TheVariants.{Note, End}
 use Rattle.rx_queues.specs.Passes.{jobs_put, workers_of}
-use Rattle.replay.specs.Puts.{put_at}
-use Rattle.replay.proofs.HandLemmas.{note_no_end, asked_and_ended}
+use Rattle.actors.specs.Puts.{put_at}
+use Rattle.actors.proofs.shared.HandLemmas.{note_no_end, asked_and_ended}
 use Rattle.replay.proofs.EndLemmas.{closed_once, closed_others}
-use Rattle.replay.proofs.PutLemmas.{all_queues}
+use Rattle.actors.proofs.shared.PutLemmas.{all_queues}
 use Rattle.replay.proofs.threads.settle_both.Goals as goal
 
 pub settled_actor-of_reclaimer-requires-clause-ends : goal.settled_actor-of_reclaimer-requires-clause-ends

@@ -2,12 +2,12 @@ use Rattle.std.proofs.Common.{◌≡◌, ◌+◌, [], length, replicate, sym, ap
 use Rattle.rx_queues.specs.Passes.{jobs_put, workers_of}
 use Rattle.semantics.specs.Each.{Each}
 use Rattle.replay.specs.Crews.{IsHandled}
-use Rattle.replay.specs.Shares.{frames_of}
-use Rattle.replay.specs.Actors.{HasNoEnd, AreAllEnded}
-use Rattle.replay.specs.Puts.{put_at, AreAllPut, AreNonePut}
-use Rattle.replay.proofs.DispatchLemmas.{none_dispatched, all_commands}
+use Rattle.actors.specs.Shares.{frames_of}
+use Rattle.actors.specs.Actors.{HasNoEnd, AreAllEnded}
+use Rattle.actors.specs.Puts.{put_at, AreAllPut, AreNonePut}
+use Rattle.actors.proofs.shared.DispatchLemmas.{none_dispatched, all_commands}
 use Rattle.replay.proofs.EndLemmas.{workers_ended, workers_done, actors_go_on, none_ran_at_all, none_ended_once, actors_idle}
-use Rattle.replay.proofs.PutLemmas.{all_put}
+use Rattle.actors.proofs.shared.PutLemmas.{all_put}
 use Rattle.replay.proofs.threads.work_all.Goals as goal
 
 pub hand_all-requires-clause-nothing : goal.hand_all-requires-clause-nothing

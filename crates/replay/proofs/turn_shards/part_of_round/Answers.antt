@@ -1,6 +1,6 @@
 use Rattle.std.proofs.Common.{sym, ap, ◌∙◌}
 use Rattle.semantics.specs.declared.plan.ShardPlan.{ShardPlan}
-use Rattle.replay.specs.Rounds.{is_keyed}
+use Rattle.semantics.specs.Replay.{is_keyed}
 use Rattle.replay.proofs.TurnLemmas.{part_skipped}
 use Rattle.replay.proofs.turn_shards.part_of_round.Goals as goal
 

@@ -5,7 +5,7 @@ use Rattle.std.proofs.Math.Logic.{∥∥₁_elim}
 use Rattle.std.proofs.lemmas.Int.{to_z-of_z}
 use Rattle.ebpf_decode.specs.declared.map.MapDef.{MapDef}
 use Rattle.shard_port.specs.PortView.{AreShardsOf}
-use Rattle.runs.specs.Updates.{served_by, shard_of_update, may_update, IsMade}
+use Rattle.runs.specs.Updates.{served_by, shard_of_update, may_update, IsUpdateMade}
 use Rattle.runs.proofs.UpdateLemmas.{fits_at, may_make, ready_for, updated_more, still_serve, is_next}
 use Rattle.runs.proofs.updates.make_all.Goals as goal
 
@@ -74,8 +74,8 @@ updates-preserved c =
     c.shard_of-number.ensures ∙ ap (λ (ms : List MapDef). shard_of_update (served_by ms options) update) c.maps_of-maps.ensures.maps in
     let fits : FitsSigned w32 c.in-Ok.answer = search rules in
     let zero : c.in-Ok.answer ≡ pos 0 = sym (to_z-of_z w32 c.in-Ok.answer fits) ∙ ap (to_z w32) c.if-answer-ne0.false in
-    let made : IsMade c.updates.shards c.shard_of-number.result update (pos 0) c.make.new.shards =
-    subst (λ (answer : ℤ). IsMade c.updates.shards c.shard_of-number.result update answer c.make.new.shards) zero c.in-Ok.ensures.made in
+    let made : IsUpdateMade c.updates.shards c.shard_of-number.result update (pos 0) c.make.new.shards =
+    subst (λ (answer : ℤ). IsUpdateMade c.updates.shards c.shard_of-number.result update answer c.make.new.shards) zero c.in-Ok.ensures.made in
     let value_bytes : All (λ byte. byte < 256) update.value =
     subst (λ (xs : List ℕ). All (λ byte. byte < 256) xs) c.as_slice-in-updates.ensures.bytes c.bytes_have_8_bits-in-updates.ensures in
     record {

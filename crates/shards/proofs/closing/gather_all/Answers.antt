@@ -5,7 +5,7 @@ use Rattle.semantics.proofs.shared.EachLemmas.{each_first, each_rest, each_start
 use Rattle.shards.specs.declared.deeds.Account.{Account}
 use Rattle.shards.specs.declared.deeds.OrderPart.TheVariants.{ByCaller}
 use Rattle.shards.specs.ClosedOrders.{account_of}
-use Rattle.shards.specs.OrderRule.{HasAccount}
+use Rattle.shards.specs.OrderRule.{IsOneOfAccounts}
 use Rattle.shards.specs.Passes.{PassView, pass_at, no_pass}
 use Rattle.shards.proofs.OrderClosing.{gathered, callers_more}
 use Rattle.shards.proofs.closing.gather_all.Goals as goal
@@ -43,7 +43,7 @@ passes-preserved g c =
       table_is = c.gather.ensures.table ∙ c.requires.order.0;
       left = subst (λ xs. Each (IsLeft passes) (number + 1) xs) (sym c.remove.ensures.items) (each_rest (IsLeft passes) number c.passes.passes.items i.left);
       together = (let t = i.together in let shorter = c.remove.ensures.len in let a = c.passes.passes.ok.0 in let b = c.remove.new.self.ok.0 in omega (arith, t, shorter, a, b, some_left));
-      kept = λ one has. subst (λ (l : List Account). HasAccount one l) (sym is) (inr (i.kept one has));
+      kept = λ one has. subst (λ (l : List Account). IsOneOfAccounts one l) (sym is) (inr (i.kept one has));
       all = callers_more passes number pass c.passes.seat.me.0 c.gather.new.seat.me.0 first is i.all;
     }
 

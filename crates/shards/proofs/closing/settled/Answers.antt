@@ -5,8 +5,8 @@ use Rattle.semantics.specs.declared.call.Entry.{Entry}
 use Rattle.semantics.specs.declared.plan.ShardPlan.{ShardPlan}
 use Rattle.semantics.specs.History.{IsLegalHistory}
 use Rattle.shards.specs.declared.deeds.OrderPart.TheVariants.{OnShard}
-use Rattle.shards.specs.Lodged.{KeyedPlan, Lodged, keyed}
-use Rattle.shards.specs.OrderRule.{account, deeds_at, deeds_in}
+use Rattle.shards.specs.GuardedView.{KeyedPlan, GuardedView, keyed}
+use Rattle.shards.specs.OrderRule.{account, deeds_at, account_deeds}
 use Rattle.shards.proofs.OrderClosing.{gathered, seat_of_place}
 use Rattle.shards.specs.declared.rule.Known.{Known}
 use Rattle.shards.specs.Passes.{no_pass, pass_at, view_at}
@@ -30,15 +30,15 @@ passes-preserved g c =
     let untouched = i.left place (omega arith) in
     let elsewhere = c.see.ensures.elsewhere in
     let same = c.see.ensures.visitor in
-    let seen_is = ap (λ (m : Me Lodged Known). (view_of m).seen) same.1 in
+    let seen_is = ap (λ (m : Me GuardedView Known). (view_of m).seen) same.1 in
     record {
       end_is = i.end_is;
       count = set_count now place after ∙ i.count;
-      visitor = visitor_same _ _ c.passes.guest c.see.new.guest same.0 same.1 i.visitor;
+      visitor = visitor_same _ _ c.passes.visitor_seat c.see.new.visitor_seat same.0 same.1 i.visitor;
       legal = subst (IsLegalHistory (g.B.Naming.plan number)) (sym seen_is) i.legal;
       lock = i.lock;
       shown = subst (λ (h : List Entry). (k : _) → k < place + 1 → IsShown (pass_at old k).who (view_at (pass_at old k) number) h) (sym seen_is)
-          (shown_more old now number place (view_of c.passes.guest.me).seen before after below is untouched elsewhere (record { own = c.see.ensures.own; begins = c.see.ensures.begins }) i.shown);
+          (shown_more old now number place (view_of c.passes.visitor_seat.me).seen before after below is untouched elsewhere (record { own = c.see.ensures.own; begins = c.see.ensures.begins }) i.shown);
       left = left_less old now number place before after below is untouched elsewhere i.left;
       callers = callers_stay old now number place before after below is untouched elsewhere i.callers;
       deeds = deeds_stay old now number place before after below is untouched elsewhere c.see.ensures.did i.deeds;
@@ -48,14 +48,14 @@ passes-preserved g c =
 pub returns-clause-settled : goal.returns-clause-settled
 returns-clause-settled g c =
     let i = c.passes.invariant in
-    let written : reverse c.into_journal.result.entries ≡ (view_of c.passes.guest.me).seen =
+    let written : reverse c.into_journal.result.entries ≡ (view_of c.passes.visitor_seat.me).seen =
     ap (λ (j : List Entry). reverse j) (c.into_journal.ensures.entries ∙ c.into_parts-shard.ensures.shard.1) ∙ c.close.ensures.written in
     λ place below. settled_by _ _ _ _ written (i.shown place (let t = c.passes-test.false in let e = i.end_is in omega (arith, t, e, below)))
 
 pub returns-clause-legal : goal.returns-clause-legal
 returns-clause-legal g c =
     let i = c.passes.invariant in
-    let written : reverse c.into_journal.result.entries ≡ (view_of c.passes.guest.me).seen =
+    let written : reverse c.into_journal.result.entries ≡ (view_of c.passes.visitor_seat.me).seen =
     ap (λ (j : List Entry). reverse j) (c.into_journal.ensures.entries ∙ c.into_parts-shard.ensures.shard.1) ∙ c.close.ensures.written in
     subst (IsLegalHistory (g.B.Naming.plan c.args.number)) (sym written) i.legal
 
@@ -66,30 +66,30 @@ returns-clause-room g c =
 
 pub gather-requires-clause-other : goal.gather-requires-clause-other
 gather-requires-clause-other g c =
-    let lodger = c.close.result in
-    let keyed_is : lodger.key ≡ keyed (g.B.Naming.plan c.args.number) g.B.Naming.order = c.close.ensures.key ∙ c.passes.invariant.lock.3 in
+    let guarded = c.close.result in
+    let keyed_is : guarded.key ≡ keyed (g.B.Naming.plan c.args.number) g.B.Naming.order = c.close.ensures.key ∙ c.passes.invariant.lock.3 in
     let place = c.into_parts-shard.result.1 in
     let rests = c.into_parts-shard.ensures.place in
     let seat = c.into_seat.ensures in (
-      OnShard lodger.key.plan.number,
+      OnShard guarded.key.plan.number,
       (
         seat.0 ∙ rests.0 ∙ ap (λ (k : KeyedPlan). k.order) keyed_is ∙ sym c.requires.order.0,
-        (seat_of_place place c.into_seat.result.me (OnShard lodger.key.plan.number) rests.1 seat.2 seat.3).0,
+        (seat_of_place place c.into_seat.result.me (OnShard guarded.key.plan.number) rests.1 seat.2 seat.3).0,
       ),
     )
 
 pub returns-clause-taken : goal.returns-clause-taken
 returns-clause-taken g c =
-    let lodger = c.close.result in
-    let keyed_is : lodger.key ≡ keyed (g.B.Naming.plan c.args.number) g.B.Naming.order = c.close.ensures.key ∙ c.passes.invariant.lock.3 in
-    let same : lodger.key.plan.number ≡ c.args.number = ap (λ (k : KeyedPlan). k.plan.number) keyed_is ∙ c.requires.numbered in
+    let guarded = c.close.result in
+    let keyed_is : guarded.key ≡ keyed (g.B.Naming.plan c.args.number) g.B.Naming.order = c.close.ensures.key ∙ c.passes.invariant.lock.3 in
+    let same : guarded.key.plan.number ≡ c.args.number = ap (λ (k : KeyedPlan). k.plan.number) keyed_is ∙ c.requires.numbered in
     let place = c.into_parts-shard.result.1 in
     let rests = c.into_parts-shard.ensures.place in
     let seat = c.into_seat.ensures in
     let me = c.into_seat.result.me in
-    let is = seat_of_place place me (OnShard lodger.key.plan.number) rests.1 seat.2 seat.3 in record {
+    let is = seat_of_place place me (OnShard guarded.key.plan.number) rests.1 seat.2 seat.3 in record {
       deeds = deeds_at place;
       written = c.into_parts-shard.ensures.written ∙ ap (λ (l : List Entry). reverse l) (sym (c.into_journal.ensures.entries ∙ c.into_parts-shard.ensures.shard.1));
       more = gathered c.args.seat.now.me c.gather.new.seat.me me (OnShard c.args.number) (deeds_at place) c.gather.ensures.both
-          (is.0 ∙ ap (λ (n : ℕ). (account (OnShard n) (deeds_in me.0) ∷ [], [])) same) is.1;
+          (is.0 ∙ ap (λ (n : ℕ). (account (OnShard n) (account_deeds me.0) ∷ [], [])) same) is.1;
     }

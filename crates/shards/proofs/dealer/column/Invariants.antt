@@ -3,7 +3,7 @@ use Rattle.std.specs.Prelude.{vec_capacity}
 use Rattle.semantics.specs.Each.{Each}
 use Rattle.shards.specs.HeldCells.{HeldIds, held_at}
 use Rattle.shards.specs.NewShards.{row_at, IsPartOfSeat}
-use Rattle.shards.specs.Passes.{badge_at, part_at}
+use Rattle.shards.specs.Passes.{badge_at, shard_pass_at}
 use Rattle.shards.proofs.dealer.column.Given as goal
 
 pub record Taken (l : goal.Live-rows) : Type 0 where
@@ -14,7 +14,7 @@ pub record Taken (l : goal.Live-rows) : Type 0 where
   pub together : l.number + length l.held.items ≡ length l.fn.rows.items
   pub waiting : Each (λ (k : ℕ) (held : HeldIds). held ≡ held_at l.fn.held.items k) l.number l.held.items
   pub left : (k : ℕ) → l.number ≤ k → row_at l.rows.items k ≡ row_at l.fn.rows.items k
-  pub made : (k : ℕ) → k < l.number → IsPartOfSeat (badge_at (row_at l.fn.rows.items k) l.place) (part_at l.parts.items k)
+  pub made : (k : ℕ) → k < l.number → IsPartOfSeat (badge_at (row_at l.fn.rows.items k) l.place) (shard_pass_at l.parts.items k)
   pub others : (k other : ℕ) → other ≢ l.place → badge_at (row_at l.rows.items k) other ≡ badge_at (row_at l.fn.rows.items k) other
   pub lengths : (k : ℕ) → length (row_at l.rows.items k) ≡ length (row_at l.fn.rows.items k)
 

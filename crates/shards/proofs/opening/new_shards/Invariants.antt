@@ -6,13 +6,13 @@ use Rattle.atomic_table.specs.declared.badge.Badge.{Badge}
 use Rattle.shards.specs.declared.deeds.Account.{Account}
 use Rattle.shards.specs.declared.deeds.OrderPart.TheVariants.{OnShard}
 use Rattle.shards.specs.OrderRule.{IsFresh}
-use Rattle.shards.specs.NewShards.{shard_at, IsUnused, IsMadeOf}
+use Rattle.shards.specs.NewShards.{shard_at, IsUnusedShard, IsNewShardOf}
 use Rattle.shards.proofs.opening.new_shards.Given as goal
 
 pub record Made (l : goal.Live-shards) : Type 0 where
-  pub made : Each (IsMadeOf l.fn.shards.items l.order.shared.table_id l.callers) 0 l.all.items
+  pub made : Each (IsNewShardOf l.fn.shards.items l.order.shared.table_id l.callers) 0 l.all.items
   pub counted : length l.all.items ≡ l._number
-  pub left : Each (λ (number : ℕ) (shard : JournaledShard). (shard ≡ shard_at l.fn.shards.items number) × (IsUnused shard × (shard.plan.number ≡ number))) l._number l.shards.items
+  pub left : Each (λ (number : ℕ) (shard : JournaledShard). (shard ≡ shard_at l.fn.shards.items number) × (IsUnusedShard shard × (shard.plan.number ≡ number))) l._number l.shards.items
   pub seats : Each (λ (number : ℕ) (place : Badge (List Account)). IsFresh l.order.shared.table_id (OnShard number) place) l._number l.places.items
   pub as_many : l._number + length l.places.items ≡ length l.fn.shards.items
   pub together : l._number + length l.shards.items ≡ length l.fn.shards.items

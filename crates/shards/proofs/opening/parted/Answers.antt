@@ -4,12 +4,12 @@ use Rattle.atomic_table.specs.declared.badge.Badge.{Badge}
 use Rattle.semantics.specs.declared.plan.ShardPlan.{ShardPlan}
 use Rattle.shards.specs.declared.rule.Known.{Known}
 use Rattle.semantics.specs.Each.{Each}
-use Rattle.shards.specs.Lodged.{KeyedPlan, keyed, keys}
+use Rattle.shards.specs.GuardedView.{KeyedPlan, keyed, keys}
 use Rattle.shards.specs.LockRule.{lock_place}
 use Rattle.shards.specs.Seats.{IsLockOf}
 use Rattle.shards.specs.HeldCells.{most_held, IsRoomOf}
 use Rattle.shards.specs.SharedMaps.{AreLocks}
-use Rattle.shards.specs.NewShards.{NewShardView, no_shard, new_at, AreNewSeats, IsNamedAt, IsRowOf}
+use Rattle.shards.specs.NewShards.{NewShardView, no_shard, new_at, AreNewSeats, IsNamedAt, HasAllSeats}
 use Rattle.semantics.proofs.shared.EachLemmas.{each_push, each_first, each_rest, each_none, each_start, at_or}
 use Rattle.shards.proofs.opening.parted.Goals as goal
 
@@ -21,7 +21,7 @@ shards-init g c = record {
   locks_made = ap (λ xs. length xs) c.in_ok-locks.ensures.items;
   locks_are = subst (λ xs. AreLocks g.B.Naming.table (keys g.B.Naming.plan g.B.Naming.order) xs) (sym c.in_ok-locks.ensures.items) (each_none (λ number lock. IsLockOf (g.B.Naming.table number) (keys g.B.Naming.plan g.B.Naming.order number) lock) 0);
   rows_made = ap (λ xs. length xs) c.in_ok-rows.ensures.items;
-  rows_are = subst (λ xs. Each (IsRowOf g.B.Naming.table (keys g.B.Naming.plan g.B.Naming.order) c.args.shards.items) 0 xs) (sym c.in_ok-rows.ensures.items) (each_none (IsRowOf g.B.Naming.table (keys g.B.Naming.plan g.B.Naming.order) c.args.shards.items) 0);
+  rows_are = subst (λ xs. Each (HasAllSeats g.B.Naming.table (keys g.B.Naming.plan g.B.Naming.order) c.args.shards.items) 0 xs) (sym c.in_ok-rows.ensures.items) (each_none (HasAllSeats g.B.Naming.table (keys g.B.Naming.plan g.B.Naming.order) c.args.shards.items) 0);
   rooms_made = ap (λ xs. length xs) c.in_ok-rooms.ensures.items;
   rooms_are = subst (λ xs. Each (IsRoomOf g.B.Naming.plan) 0 xs) (sym c.in_ok-rooms.ensures.items) (each_none (IsRoomOf g.B.Naming.plan) 0);
   left = each_start (IsLeft g.B.Naming.table g.B.Naming.plan g.B.Naming.order c.args.shards.items) c.args.shards.items
@@ -58,8 +58,8 @@ shards-preserved g c =
             planned,
           ));
       rows_made = ap (λ xs. length xs) rows ∙ length-append c.shards.rows.items _ ∙ ap (λ n. n + 1) i.rows_made;
-      rows_are = subst (λ xs. Each (IsRowOf g.B.Naming.table (keys g.B.Naming.plan g.B.Naming.order) c.args.shards.items) 0 xs) (sym rows)
-          (each_push (IsRowOf g.B.Naming.table (keys g.B.Naming.plan g.B.Naming.order) c.args.shards.items) c.shards.rows.items number c.new.result i.rows_made i.rows_are
+      rows_are = subst (λ xs. Each (HasAllSeats g.B.Naming.table (keys g.B.Naming.plan g.B.Naming.order) c.args.shards.items) 0 xs) (sym rows)
+          (each_push (HasAllSeats g.B.Naming.table (keys g.B.Naming.plan g.B.Naming.order) c.args.shards.items) c.shards.rows.items number c.new.result i.rows_made i.rows_are
           (record {
             count = ap (λ (b : List (Badge Known)). length b) c.new.ensures ∙ ap (λ (v : NewShardView). v.places) (c.lock.view_is ∙ first.0);
             fresh = subst (λ (b : List (Badge Known)). AreNewSeats (g.B.Naming.table number) (keys g.B.Naming.plan g.B.Naming.order number) b) (sym c.new.ensures)

@@ -4,7 +4,7 @@ use Rattle.atomic_table.specs.declared.badge.Badge.{Badge}
 use Rattle.shards.specs.declared.deeds.Account.{Account}
 use Rattle.shards.specs.declared.deeds.OrderPart.TheVariants.{OnShard, ByCaller}
 use Rattle.shards.specs.Deeds.{shard_of_deed, caller_of_deed}
-use Rattle.shards.specs.OrderRule.{account, deeds_at, deeds_in, noted, all_others, first_alone}
+use Rattle.shards.specs.OrderRule.{account, deeds_at, account_deeds, noted, all_others, first_alone}
 use Rattle.shards.proofs.OrderMoves.{takes_one, deals_one, adds_one, the_two, two_parts, view_there, both_are, rests_so, sits_so}
 use Rattle.shards.proofs.order.note.Goals as goal
 
@@ -30,7 +30,7 @@ load-requires g c =
     let item = g.D.Item.item in
     let shard = OnShard (shard_of_deed item) in
     let there = deeds_at c.args.place.now in
-    let by = deeds_in c.args.mine.now.me.0 in
+    let by = account_deeds c.args.mine.now.me.0 in
     let w_is : c.into_seat-seat.result.me.0 ≡ account shard there ∷ [] =
     view_there c.args.place.now c.into_seat-seat.result.me.0 shard (ap (λ (b : Badge (List Account)). b.views) (sym was) ∙ i.2) r.place.1 in
     let joined : c.join_seat.new.seat.me ≡ (the_two item there by, []) =
@@ -45,7 +45,7 @@ split_seat-requires g c =
     let item = g.D.Item.item in
     let shard = OnShard (shard_of_deed item) in
     let there = deeds_at c.args.place.now in
-    let by = deeds_in c.args.mine.now.me.0 in
+    let by = account_deeds c.args.mine.now.me.0 in
     let w_is : c.into_seat-seat.result.me.0 ≡ account shard there ∷ [] =
     view_there c.args.place.now c.into_seat-seat.result.me.0 shard (ap (λ (b : Badge (List Account)). b.views) (sym was) ∙ i.2) r.place.1 in
     let joined : c.join_seat.new.seat.me ≡ (the_two item there by, []) =
@@ -66,7 +66,7 @@ returns-clause-place g c =
     let item = g.D.Item.item in
     let shard = OnShard (shard_of_deed item) in
     let there = deeds_at c.args.place.now in
-    let by = deeds_in c.args.mine.now.me.0 in
+    let by = account_deeds c.args.mine.now.me.0 in
     let w_is : c.into_seat-seat.result.me.0 ≡ account shard there ∷ [] =
     view_there c.args.place.now c.into_seat-seat.result.me.0 shard (ap (λ (b : Badge (List Account)). b.views) (sym was) ∙ i.2) r.place.1 in
     let joined : c.join_seat.new.seat.me ≡ (the_two item there by, []) =
@@ -85,7 +85,7 @@ returns-clause-noted g c =
     let item = g.D.Item.item in
     let shard = OnShard (shard_of_deed item) in
     let there = deeds_at c.args.place.now in
-    let by = deeds_in c.args.mine.now.me.0 in
+    let by = account_deeds c.args.mine.now.me.0 in
     let w_is : c.into_seat-seat.result.me.0 ≡ account shard there ∷ [] =
     view_there c.args.place.now c.into_seat-seat.result.me.0 shard (ap (λ (b : Badge (List Account)). b.views) (sym was) ∙ i.2) r.place.1 in
     let joined : c.join_seat.new.seat.me ≡ (the_two item there by, []) =
@@ -102,7 +102,7 @@ returns-clause-mine g c =
     let item = g.D.Item.item in
     let shard = OnShard (shard_of_deed item) in
     let there = deeds_at c.args.place.now in
-    let by = deeds_in c.args.mine.now.me.0 in
+    let by = account_deeds c.args.mine.now.me.0 in
     let w_is : c.into_seat-seat.result.me.0 ≡ account shard there ∷ [] =
     view_there c.args.place.now c.into_seat-seat.result.me.0 shard (ap (λ (b : Badge (List Account)). b.views) (sym was) ∙ i.2) r.place.1 in
     let joined : c.join_seat.new.seat.me ≡ (the_two item there by, []) =
@@ -121,7 +121,7 @@ returns-clause-did g c =
     let item = g.D.Item.item in
     let shard = OnShard (shard_of_deed item) in
     let there = deeds_at c.args.place.now in
-    let by = deeds_in c.args.mine.now.me.0 in
+    let by = account_deeds c.args.mine.now.me.0 in
     let w_is : c.into_seat-seat.result.me.0 ≡ account shard there ∷ [] =
     view_there c.args.place.now c.into_seat-seat.result.me.0 shard (ap (λ (b : Badge (List Account)). b.views) (sym was) ∙ i.2) r.place.1 in
     let joined : c.join_seat.new.seat.me ≡ (the_two item there by, []) =

@@ -1,7 +1,7 @@
 use Rattle.std.proofs.Common.{◌≡◌, ℕ, List, [], drop, length, sym, ap, ◌∙◌, subst, arith}
 use Rattle.atomic_table.specs.Table.{Me}
 use Rattle.shards.specs.declared.deeds.Account.{Account}
-use Rattle.shards.specs.OrderRule.{first_accounts, caller_accounts, AreApart, ArePlaces}
+use Rattle.shards.specs.OrderRule.{first_accounts, caller_accounts, HaveDistinctParts, ArePlaces}
 use Rattle.shards.proofs.OrderMoves.{order_begins}
 use Rattle.shards.proofs.OrderOpening.{first_apart, first_count, callers_apart, callers_count, behind_shards, shard_places, caller_places}
 use Rattle.shards.proofs.order.open_order.Goals as goal
@@ -19,7 +19,7 @@ dealt-requires-clause-count c =
 
 pub dealt-requires-clause-apart : goal.dealt-requires-clause-apart
 dealt-requires-clause-apart c =
-    subst AreApart (sym (ap (λ (m : Me ℕ (List Account)). m.0) c.in_ok-order.ensures.4)) (first_apart 0 (length c.args.plans.items) c.args.callers)
+    subst HaveDistinctParts (sym (ap (λ (m : Me ℕ (List Account)). m.0) c.in_ok-order.ensures.4)) (first_apart 0 (length c.args.plans.items) c.args.callers)
 
 pub dealt-requires-2-clause-count : goal.dealt-requires-2-clause-count
 dealt-requires-2-clause-count c =
@@ -37,7 +37,7 @@ dealt-requires-2-clause-apart c =
     let left : c.dealt.new.seat.me.0 ≡ caller_accounts 0 c.args.callers =
     ap (λ (m : Me ℕ (List Account)). m.0) c.in_ok-shards.ensures.left ∙ ap (λ (m : Me ℕ (List Account)). drop c.len-count.result m.0) c.in_ok-order.ensures.4
     ∙ ap (λ (k : ℕ). drop k (first_accounts 0 (length c.args.plans.items) c.args.callers)) e ∙ behind_shards 0 (length c.args.plans.items) c.args.callers in
-    subst AreApart (sym left) (callers_apart 0 c.args.callers)
+    subst HaveDistinctParts (sym left) (callers_apart 0 c.args.callers)
 
 pub returns-clause-shards : goal.returns-clause-shards
 returns-clause-shards c =

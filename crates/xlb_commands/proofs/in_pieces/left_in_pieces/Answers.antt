@@ -1,37 +1,24 @@
-use Rattle.std.proofs.Common.{◌≡◌, ◌∙◌, ◌++◌, ◌∷◌, ◌↔◌, inl, inr, Bool, false, ℕ, List, [], Option, Some, None, ap, refl, subst, sym}
-use Rattle.std.specs.List.{AllByRecursion}
+use Rattle.std.proofs.Common.{◌≡◌, ◌∙◌, ◌++◌, ◌↔◌, inl, inr, Bool, false, ℕ, List, [], ap, refl, subst, sym}
+use mathlib.Core.Path.{subst_refl}
+use Rattle.ebpf_decode.specs.ImageContents.{Contents}
+use Rattle.actors.specs.Accounted.{IsAccounted}
 use Rattle.std.proofs.lemmas.Result.{err_from_is_err_and}
-use Rattle.guarantees.specs.ReaderReplays.{IsCaptured}
 use Rattle.journals.specs.JournalsView.{JournalsView}
 use Rattle.journals.specs.JournalText.{journals_text}
 use Rattle.machine.specs.Running.{program_of}
-use Rattle.replay.specs.declared.outcome.Applied.{Applied}
-use Rattle.replay.specs.declared.outcome.Outcome.{Outcome}
-use Rattle.replay.specs.declared.account.Counts.{Counts}
-use Rattle.replay.specs.Accounts.{frames_in}
+use Rattle.actors.specs.declared.outcome.Applied.{Applied}
+use Rattle.actors.specs.declared.outcome.Outcome.{Outcome}
+use Rattle.actors.specs.declared.account.Counts.{Counts}
+use Rattle.actors.specs.Accounts.{frames_in}
 use Rattle.semantics.specs.ShardPlan.{KeepsRows, recorded, room_for}
 use Rattle.semantics.specs.declared.options.Recording.{Recording}
 use Rattle.semantics.specs.declared.options.Options.{Options}
-use Rattle.steered_replays.specs.SteeredRuns.{IsOfCapture}
-use Rattle.control.specs.declared.command.Command.{Command}
-use Rattle.wire.specs.declared.records.Sent.{Sent}
 use Rattle.command_line.specs.Reading.{text_of}
-use Rattle.xlb_commands.specs.Replays.{FollowsRule, IsByRule, counts_text, refusals_text}
+use Rattle.xlb_commands.specs.Replays.{counts_text, image_of, program_of_replay, refusals_text}
 use Rattle.xlb_commands.specs.Refused.{no_report_room}
-use Rattle.xlb_commands.proofs.Outcomes.{journals_fit}
+use Rattle.xlb_commands.proofs.Outcomes.{journals_fit, rule_of}
 use Rattle.xlb_commands.proofs.ReaderFiles.{reader_file_is}
 use Rattle.xlb_commands.proofs.in_pieces.left_in_pieces.Goals as goal
-
--- a record that a capture has is short, and of bytes
-of_capture : (records : List Sent) → AllByRecursion IsCaptured records → AllByRecursion IsOfCapture records
-of_capture [] all = tt
-of_capture (first ∷ later) all = (record { short = all.0.short; bytes = all.0.bytes }, of_capture later all.1)
-
--- of an image that is named nothing is said
-rule_of : (name : Option (List ℕ)) (ring : ℕ) (script : List Command) (options : Options) (records : List Sent) (outcome : Outcome)
-    → (name ≡ None → IsByRule ring script options records outcome) → FollowsRule name ring script options records outcome
-rule_of (Some name) ring script options records outcome rule = tt
-rule_of None ring script options records outcome rule = rule refl
 
 text_is : (text : List ℕ) (rest whole : Outcome) (refused : List Applied) → whole.counts ≡ rest.counts → whole.refused.items ≡ refused
     → text ≡ counts_text rest.counts ++ refusals_text refused → text ≡ counts_text whole.counts ++ refusals_text whole.refused.items
@@ -80,7 +67,7 @@ returns-in_err-journals-clause-refused c =
             record {
               updates_are = replayed.is_whole.updates ∙ c.in_ok-outcome.ensures.updates;
               accounted = replayed.accounted;
-              in_turn = λ exact. replayed.in_turn;
+              in_turn = λ exact. replayed.in_order;
             },
           )),
       c.in_err-journals.ensures.refused,
@@ -100,7 +87,7 @@ returns-in_err-report-clause-refused c =
             record {
               updates_are = replayed.is_whole.updates ∙ c.in_ok-outcome.ensures.updates;
               accounted = replayed.accounted;
-              in_turn = λ exact. replayed.in_turn;
+              in_turn = λ exact. replayed.in_order;
             },
           )),
       no_report_room p.2,
@@ -119,18 +106,21 @@ returns-clause-left c = λ records sent ends under captured.
     record {
       whole = whole;
       sent_are = is.sent_are;
-      made = record { updates_are = updated; accounted = account; in_turn = λ exact. replayed.in_turn };
+      made = record { updates_are = updated; accounted = account; in_turn = λ exact. replayed.in_order };
       headline = record {
         verified = asked.verified.now;
         image_is = refl;
-        kept = c.replays_are_one_list.ensures asked.script.now options records whole under.options_fit captured c.commands_fit.ensures account;
+        accounted = account;
+        kept = c.in_ok-outcome.ensures.one_list options records sent ends captured under replayed;
+        same = subst_refl (λ (one : Contents). IsAccounted (program_of_replay one options) asked.script.now options records whole)
+            {x = image_of asked.verified.now} account;
       };
-      by_rule = λ none. rule_of (text_of asked.files.now.image) asked.ring asked.script.now options records whole
+      by_rule = λ none. rule_of (text_of asked.files.now.image) asked.ring program asked.script.now options records whole account
           (λ shipped. record {
             runs = c.steered_where_shipped.ensures.steered shipped asked.script.now options records whole under.options_fit
-                (of_capture records captured) account;
+                captured account;
             totals = λ unstopped. c.steered_where_shipped.ensures.totals shipped asked.script.now options records whole under.options_fit
-                (of_capture records captured) account (updated ∙ none) unstopped;
+                captured account (updated ∙ none) unstopped;
           });
       readers = λ none reads no_commands unstopped. reader_file_is asked.verified.now.maps asked.verified.now.code asked.script.now options records whole
           (c.readers_send_alike.ensures.sends reads)

@@ -8,7 +8,7 @@ use Rattle.runs.specs.declared.fault.RunFault.{RunFault}
 use Rattle.runs.specs.declared.fault.RunFault.TheVariants.{Open, Refused, Full}
 use Rattle.wire.specs.FrameView.{FrameView}
 use Rattle.control.specs.declared.fault.ControlFault.TheVariants as scripts
-use Rattle.runs.specs.SingleRuns.{IsWhyNone}
+use Rattle.runs.specs.SingleRuns.{IsWhyNoRun}
 use Rattle.xlb_commands.specs.declared.fault.Fault.{Fault}
 use Rattle.xlb_commands.specs.declared.fault.Fault.TheVariants as faults
 use Rattle.xlb_commands.specs.Refused.{IsRunFault, not_served, no_map_memory, update_refused, update_full}
@@ -51,20 +51,20 @@ unopened maps updates worker Memory fault known below is = no_map_memory (served
 -- an update was refused
 refused_so : {A : Type 0} (maps : List MapDef) (updates : List MapUpdate) (worker place : ℕ) (answer reported : ℤ) (why : RunFault) (fault : Fault) → why ≡ Refused place answer → reported ≡ answer
     → (result_of A why ≡ result_of A (Open BadOptions) ↔ (IsFalse (are_served_options maps run_options) ⊎ (8 ≤ worker)))
-    → IsWhyNone maps run_options updates why → fault ≡ faults.Script (scripts.Refused reported) → IsRunFault maps updates fault
+    → IsWhyNoRun maps run_options updates why → fault ≡ faults.Script (scripts.Refused reported) → IsRunFault maps updates fault
 refused_so {A} maps updates worker place answer reported why fault e same known none is =
     update_refused place answer
     (served _ _ (λ broken. no_refusal place answer (subst (λ (it : RunFault). result_of A it ≡ result_of A (Open BadOptions)) e (known.1 broken))))
-    (subst (IsWhyNone maps run_options updates) e none) (is ∙ ap (λ (it : ℤ). faults.Script (scripts.Refused it)) same)
+    (subst (IsWhyNoRun maps run_options updates) e none) (is ∙ ap (λ (it : ℤ). faults.Script (scripts.Refused it)) same)
 
 -- an update's journal was full
 full_so : {A : Type 0} (maps : List MapDef) (updates : List MapUpdate) (worker place : ℕ) (why : RunFault) (fault : Fault) → why ≡ Full place
     → (result_of A why ≡ result_of A (Open BadOptions) ↔ (IsFalse (are_served_options maps run_options) ⊎ (8 ≤ worker)))
-    → IsWhyNone maps run_options updates why → fault ≡ faults.Script scripts.JournalFull → IsRunFault maps updates fault
+    → IsWhyNoRun maps run_options updates why → fault ≡ faults.Script scripts.JournalFull → IsRunFault maps updates fault
 full_so {A} maps updates worker place why fault e known none is =
     update_full place
     (served _ _ (λ broken. not_full place (subst (λ (it : RunFault). result_of A it ≡ result_of A (Open BadOptions)) e (known.1 broken))))
-    (subst (IsWhyNone maps run_options updates) e none) is
+    (subst (IsWhyNoRun maps run_options updates) e none) is
 
 pub returns-in-Err-Refused-clause-refused : goal.returns-in-Err-Refused-clause-refused
 returns-in-Err-Refused-clause-refused c =

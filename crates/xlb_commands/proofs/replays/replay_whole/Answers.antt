@@ -2,20 +2,23 @@ use Rattle.std.proofs.Common.{◌≡◌, ◌∙◌, ◌+◌, ℕ, zero, suc, Boo
 use Rattle.std.proofs.lemmas.Result.{err_from_is_err_and}
 use Rattle.semantics.specs.declared.options.Options.{Options}
 use Rattle.semantics.specs.declared.options.Recording.{Recording}
-use Rattle.semantics.specs.ShardPlan.{KeepsRows, room_for}
+use mathlib.Core.Path.{subst_refl}
+use Rattle.ebpf_decode.specs.ImageContents.{Contents}
+use Rattle.semantics.specs.ShardPlan.{KeepsRows, room_for, recorded}
+use Rattle.actors.specs.Accounted.{IsAccounted}
 use Rattle.wire.specs.declared.records.Sent.{Sent}
 use Rattle.control.specs.declared.command.Command.{Command}
-use Rattle.replay.specs.Accounts.{ends_of}
-use Rattle.replay.specs.Shares.{frames_of}
-use Rattle.replay.specs.declared.outcome.Outcome.{Outcome}
-use Rattle.replay.specs.declared.runner.Ran.{Ran}
+use Rattle.actors.specs.Accounts.{ends_of}
+use Rattle.actors.specs.Shares.{frames_of}
+use Rattle.actors.specs.declared.outcome.Outcome.{Outcome}
+use Rattle.actors.specs.declared.runner.Ran.{Ran}
 use Rattle.journals.specs.JournalsView.{JournalsView}
 use Rattle.command_line.specs.Reading.{text_of}
 use Rattle.command_line.specs.declared.commands.ReplayFiles.{ReplayFiles}
 use Rattle.xlb_commands.specs.declared.fault.Fault.{Fault}
 use Rattle.xlb_commands.specs.Files.{FileBytes}
 use Rattle.xlb_commands.specs.RecordReports.{IsReportFile, form_of, report_text}
-use Rattle.xlb_commands.specs.Replays.{HasBytes}
+use Rattle.xlb_commands.specs.Replays.{HasBytes, image_of, program_of_replay}
 use Rattle.xlb_commands.specs.Refused.{AreUnfiled, no_replay_capture, given_up, not_reported, not_written_down}
 use Rattle.xlb_commands.proofs.Earlier.{all_but_kept, unfiled_before}
 use Rattle.xlb_commands.proofs.Refusals.{failed_since}
@@ -64,8 +67,16 @@ returns-clause-done g c = (
     capture = c.in_ok-capture.ensures.capture;
     outcome = c.in-Ok.outcome;
     made = c.in-Ok.ensures.made;
-    headline = record { verified = c.args.asked.verified.now; image_is = refl; kept = c.in-Ok.ensures.headline };
-    by_rule = c.in-Ok.ensures.steered;
+    headline = record {
+      verified = c.args.asked.verified.now;
+      image_is = refl;
+      accounted = c.in-Ok.ensures.made.accounted;
+      kept = c.in-Ok.ensures.headline c.in-Ok.ensures.made.accounted;
+      same = subst_refl (λ (one : Contents). IsAccounted (program_of_replay one (recorded c.args.asked.recording c.args.asked.options)) c.args.asked.script.now
+          (recorded c.args.asked.recording c.args.asked.options) c.in_ok-capture.capture.records.items c.in-Ok.outcome)
+          {x = image_of c.args.asked.verified.now} c.in-Ok.ensures.made.accounted;
+    };
+    by_rule = λ none. c.in-Ok.ensures.steered none c.in-Ok.ensures.made.accounted;
     readers = c.in-Ok.ensures.readers;
     refused_are = refl;
     sent = λ other third.

@@ -3,9 +3,9 @@ use Rattle.std.proofs.lemmas.List.{append-nil}
 use Rattle.map_updates.specs.declared.update.MapUpdate.{MapUpdate}
 use Rattle.control.specs.declared.command.Command.{Command}
 use Rattle.wire.specs.declared.records.Sent.{Sent}
-use Rattle.replay.specs.declared.account.Counts.{Counts}
-use Rattle.replay.specs.declared.outcome.RecordEnd.{RecordEnd}
-use Rattle.replay.specs.Accounts.{frames_in}
+use Rattle.actors.specs.declared.account.Counts.{Counts}
+use Rattle.actors.specs.declared.outcome.RecordEnd.{RecordEnd}
+use Rattle.actors.specs.Accounts.{frames_in}
 use Rattle.replay.specs.ExactReplays.{IsInTurn, HasBegun, starts_in, first_state}
 use Rattle.replay.specs.InTurn.{AreTurns}
 use Rattle.replay.specs.TurnStates.{state_in, with_earlier}
@@ -76,9 +76,14 @@ returns-clause-replayed c = λ program options records sent ends under.
       journals = given.journals;
       legal = given.legal;
     } in
+    let exact = c.turns_are_accounted.ensures program script options records whole under.options_fit in_turn in
     record {
       whole = whole;
       is_whole = whole_is rest sent ends few_sent few_ends;
-      in_turn = in_turn;
-      accounted = c.turns_are_accounted.ensures program script options records whole under.options_fit in_turn;
+      accounted = exact.accounted;
+      in_order = exact.in_order;
     }
+
+pub returns-clause-one_list : goal.returns-clause-one_list
+returns-clause-one_list c = λ options records sent ends captured under replayed.
+    c.headline.ensures c.args.script.now options records replayed.whole under.options_fit captured c.commands_fit.ensures replayed.accounted

@@ -3,7 +3,7 @@ use Rattle.wire.specs.declared.records.Sent.{Sent}
 use Rattle.semantics.specs.declared.options.Options.{Options}
 use Rattle.machine.specs.Running.{program_of}
 use Rattle.control.specs.declared.command.Command.{Command}
-use Rattle.replay.specs.declared.outcome.RecordEnd.{RecordEnd}
+use Rattle.actors.specs.declared.outcome.RecordEnd.{RecordEnd}
 use Rattle.replay.specs.ExactReplays.{starts_in, first_state}
 use Rattle.replay.specs.InTurn.{TurnState, AreTurns}
 use Rattle.replay.specs.Pieces.{HasPiece}

@@ -1,5 +1,5 @@
 use Rattle.std.proofs.Common.{◌∷◌, ◌++◌, [], List, refl, ap, ◌∙◌}
-use Rattle.replay.specs.declared.outcome.Applied.{Applied}
+use Rattle.actors.specs.declared.outcome.Applied.{Applied}
 use Rattle.replay.proofs.single_thread.Turns.command.Goals as goal
 
 pub returns-clause-turn : goal.returns-clause-turn

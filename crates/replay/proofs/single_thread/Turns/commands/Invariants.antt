@@ -1,7 +1,7 @@
 use Rattle.std.proofs.Common.{◌≡◌, ℕ, List, ◌≤◌}
 use Rattle.wire.specs.declared.records.Sent.{Sent}
 use Rattle.semantics.specs.Program.{Program}
-use Rattle.replay.specs.Accounts.{frames_in}
+use Rattle.actors.specs.Accounts.{frames_in}
 use Rattle.replay.specs.InTurn.{IsSameSetting, AreTurns}
 use Rattle.replay.specs.TurnStates.{state_in, HasSameEnds}
 use Rattle.replay.specs.Turns.{commands_between}

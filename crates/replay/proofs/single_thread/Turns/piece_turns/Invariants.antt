@@ -1,8 +1,8 @@
 use Rattle.std.proofs.Common.{◌≡◌, ◌+◌, ◌≤◌, List, length}
 use Rattle.machine.specs.Running.{program_of}
 use Rattle.wire.specs.declared.records.Sent.{Sent}
-use Rattle.replay.specs.declared.outcome.RecordEnd.{RecordEnd}
-use Rattle.replay.specs.Accounts.{frames_in}
+use Rattle.actors.specs.declared.outcome.RecordEnd.{RecordEnd}
+use Rattle.actors.specs.Accounts.{frames_in}
 use Rattle.replay.specs.InTurn.{TurnState, IsSameSetting, AreTurns}
 use Rattle.replay.specs.Pieces.{HasPiece}
 use Rattle.replay.specs.TurnStates.{state_in, with_earlier}

@@ -1,8 +1,8 @@
 use Rattle.std.proofs.Common.{◌<◌, ◌++◌, ◌∷◌, [], length, refl, ◌∙◌, ap}
 use Rattle.semantics.proofs.shared.EachLemmas.{got_there}
-use Rattle.replay.specs.declared.outcome.RecordEnd.{RecordEnd}
-use Rattle.replay.specs.Accounts.{record_end}
-use Rattle.replay.specs.Shares.{worker_of_frame}
+use Rattle.actors.specs.declared.outcome.RecordEnd.{RecordEnd}
+use Rattle.actors.specs.Accounts.{record_end}
+use Rattle.actors.specs.Shares.{worker_of_frame}
 use Rattle.replay.proofs.single_thread.Turns.record.Goals as goal
 
 pub returns-clause-turn : goal.returns-clause-turn

@@ -7,7 +7,7 @@ use Rattle.isa.specs.InstructionCodes.{atomic_code}
 use Rattle.semantics.proofs.shared.PlanLemmas.{some_shards}
 use Rattle.semantics.specs.Cells.{word_in}
 use Rattle.shard_port.specs.Asking.{IsAnsweredAmong}
-use Rattle.shard_port.specs.PortView.{IsReady, cell_of_handle}
+use Rattle.shard_port.specs.PortView.{IsPortReady, cell_of_handle}
 use Rattle.shard_port.proofs.shared.MayAskLemmas.{may_change}
 use Rattle.shard_port.proofs.GivenLemmas.{given_by, change_told, change_below}
 use Rattle.shard_port.proofs.plain.PlainPortMapPort.atomic.Goals as goal
@@ -15,7 +15,7 @@ use Rattle.shard_port.proofs.plain.PlainPortMapPort.atomic.Goals as goal
 pub ask-requires-clause-may : goal.ask-requires-clause-may
 ask-requires-clause-may c = rw (c.cell_of_handle.ensures, c.from.ensures, c.code.ensures)
     (∥∥₁_elim c.args.self.now.ready (Coded-set coded_bool _ _)
-    (λ (ready : IsReady c.args.self.now.image.now.maps c.args.self.now.options c.args.self.now.worker c.args.self.now.shards.now).
+    (λ (ready : IsPortReady c.args.self.now.image.now.maps c.args.self.now.options c.args.self.now.worker c.args.self.now.shards.now).
     may_change c.args.self.now.image.now.maps c.args.self.now.options c.args.self.now.worker c.args.self.now.shards.now
     (cell_of_handle c.args.handle) c.args.offset c.args.size c.args.op c.args.value c.args.expected ready c.requires))
 
@@ -26,7 +26,7 @@ returns-in-Ok-clause-gives c =
     c.in-Ok.reply c.ask.new.self.shards.now = rw (c.cell_of_handle.ensures, c.from.ensures, c.code.ensures) at
     c.in-Ok.ensures.answered in
     let below : word_in c.in-Ok.reply < 256 ^ c.args.size =
-    ∥∥₁_elim c.args.self.now.ready le_prop (λ (ready : IsReady c.args.self.now.image.now.maps c.args.self.now.options
+    ∥∥₁_elim c.args.self.now.ready le_prop (λ (ready : IsPortReady c.args.self.now.image.now.maps c.args.self.now.options
     c.args.self.now.worker c.args.self.now.shards.now). change_below c.args.self.now.image.now.maps c.args.self.now.options
     c.args.self.now.worker c.args.self.now.shards.now (cell_of_handle c.args.handle) c.args.offset c.args.size (atomic_code c.args.op)
     c.args.value c.args.expected c.in-Ok.reply c.ask.new.self.shards.now ready among) in
@@ -41,7 +41,7 @@ returns-in-Ok-clause-gives c =
           (Atomic (cell_of_handle c.args.handle) c.args.offset c.args.size (atomic_code c.args.op) c.args.value c.args.expected)
           c.in-Ok.reply (Word (word_in c.in-Ok.reply))
           (ap (λ image. image.now.maps) c.ask.ensures.same_image) c.ask.ensures.same_options c.ask.ensures.same_worker
-          (∥∥₁_elim c.args.self.now.ready le_prop (λ (ready : IsReady c.args.self.now.image.now.maps c.args.self.now.options
+          (∥∥₁_elim c.args.self.now.ready le_prop (λ (ready : IsPortReady c.args.self.now.image.now.maps c.args.self.now.options
           c.args.self.now.worker c.args.self.now.shards.now). some_shards _ c.args.self.now.options ready.are_options)) tt tt (below)
           (change_told c.args.self.now.worker c.args.self.now.shards.now (cell_of_handle c.args.handle) c.args.offset c.args.size
           (atomic_code c.args.op) c.args.value c.args.expected c.in-Ok.reply c.ask.new.self.shards.now among) among;

@@ -7,7 +7,7 @@ use Rattle.semantics.specs.declared.call.Reply.TheVariants.{Answer}
 use Rattle.map_port.specs.Served.{delete_call, shard_of}
 use Rattle.semantics.proofs.shared.PlanLemmas.{some_shards}
 use Rattle.shard_port.specs.Asking.{IsAnsweredAmong}
-use Rattle.shard_port.specs.PortView.{IsReady}
+use Rattle.shard_port.specs.PortView.{IsPortReady}
 use Rattle.shard_port.specs.PlainPorts.{maps_of}
 use Rattle.shard_port.proofs.shared.MayAskLemmas.{may_delete}
 use Rattle.shard_port.proofs.GivenLemmas.{given_by, delete_told}
@@ -15,7 +15,7 @@ use Rattle.shard_port.proofs.plain.PlainPortMapPort.delete.Goals as goal
 
 pub ask-requires-clause-may : goal.ask-requires-clause-may
 ask-requires-clause-may c = rw c.shard_of.ensures (∥∥₁_elim c.args.self.now.ready (Coded-set coded_bool _ _)
-    (λ (ready : IsReady c.args.self.now.image.now.maps c.args.self.now.options c.args.self.now.worker c.args.self.now.shards.now).
+    (λ (ready : IsPortReady c.args.self.now.image.now.maps c.args.self.now.options c.args.self.now.worker c.args.self.now.shards.now).
     may_delete c.args.self.now.image.now.maps c.args.self.now.options c.args.self.now.worker c.args.self.now.shards.now c.args.map
     c.args.key.now ready c.requires))
 
@@ -36,7 +36,7 @@ returns-in-Ok-clause-gives c =
       given = given_by c.args.self.now.image.now.maps _ c.args.self.now.options _ c.args.self.now.worker _ c.args.self.now.shards.now _
           (delete_call (maps_of c.args.self.now) c.args.map c.args.key.now) c.in-Ok.reply (Answer (to_z w32 (of_z w32 c.answer.result)))
           (ap (λ image. image.now.maps) c.ask.ensures.same_image) c.ask.ensures.same_options c.ask.ensures.same_worker
-          (∥∥₁_elim c.args.self.now.ready le_prop (λ (ready : IsReady c.args.self.now.image.now.maps c.args.self.now.options
+          (∥∥₁_elim c.args.self.now.ready le_prop (λ (ready : IsPortReady c.args.self.now.image.now.maps c.args.self.now.options
           c.args.self.now.worker c.args.self.now.shards.now). some_shards _ c.args.self.now.options ready.are_options)) tt tt
           (subst (FitsSigned w32) (sym same) fits)
           (delete_told c.args.self.now.worker c.args.self.now.shards.now (shard_of (maps_of c.args.self.now) c.args.map c.args.key.now)

@@ -6,7 +6,7 @@ use Rattle.map_port.specs.Served.{lookup_call, reply_of_handle, shard_of, progra
 use Rattle.semantics.specs.RunTrace.{IsReplyTo}
 use Rattle.semantics.proofs.shared.PlanLemmas.{some_shards}
 use Rattle.shard_port.specs.Asking.{IsAnsweredAmong}
-use Rattle.shard_port.specs.PortView.{IsReady, cell_of_handle, handle_of, has_small_cell}
+use Rattle.shard_port.specs.PortView.{IsPortReady, cell_of_handle, handle_of, has_small_cell}
 use Rattle.shard_port.specs.PlainPorts.{maps_of}
 use Rattle.shard_port.proofs.shared.MayAskLemmas.{may_lookup}
 use Rattle.shard_port.proofs.GivenLemmas.{given_by, small_lookup, found_told, lookup_formed}
@@ -14,7 +14,7 @@ use Rattle.shard_port.proofs.plain.PlainPortMapPort.lookup.Goals as goal
 
 pub ask-requires-clause-may : goal.ask-requires-clause-may
 ask-requires-clause-may c = rw c.shard_of.ensures (∥∥₁_elim c.args.self.now.ready (Coded-set coded_bool _ _)
-    (λ (ready : IsReady c.args.self.now.image.now.maps c.args.self.now.options c.args.self.now.worker c.args.self.now.shards.now).
+    (λ (ready : IsPortReady c.args.self.now.image.now.maps c.args.self.now.options c.args.self.now.worker c.args.self.now.shards.now).
     may_lookup c.args.self.now.image.now.maps c.args.self.now.options c.args.self.now.worker c.args.self.now.shards.now c.args.map
     c.args.key.now ready c.requires))
 
@@ -24,7 +24,7 @@ handle_of-requires c =
     (lookup_call (maps_of c.args.self.now) c.args.map c.args.key.now) c.in-Ok.reply c.ask.new.self.shards.now =
     rw c.shard_of.ensures at c.in-Ok.ensures.answered in
     ∥∥₁_elim c.args.self.now.ready (Coded-set coded_bool _ _)
-    (λ (ready : IsReady c.args.self.now.image.now.maps c.args.self.now.options c.args.self.now.worker c.args.self.now.shards.now).
+    (λ (ready : IsPortReady c.args.self.now.image.now.maps c.args.self.now.options c.args.self.now.worker c.args.self.now.shards.now).
     small_lookup c.args.self.now.image.now.maps c.args.self.now.options c.args.self.now.worker c.args.self.now.shards.now
     (shard_of (maps_of c.args.self.now) c.args.map c.args.key.now) c.args.key.now c.in-Ok.reply c.ask.new.self.shards.now ready among)
 
@@ -35,7 +35,7 @@ returns-in-Ok-clause-gives c =
     rw c.shard_of.ensures at c.in-Ok.ensures.answered in
     let small : IsTrue (has_small_cell c.in-Ok.reply) =
     ∥∥₁_elim c.args.self.now.ready (Coded-set coded_bool _ _)
-    (λ (ready : IsReady c.args.self.now.image.now.maps c.args.self.now.options c.args.self.now.worker c.args.self.now.shards.now).
+    (λ (ready : IsPortReady c.args.self.now.image.now.maps c.args.self.now.options c.args.self.now.worker c.args.self.now.shards.now).
     small_lookup c.args.self.now.image.now.maps c.args.self.now.options c.args.self.now.worker c.args.self.now.shards.now
     (shard_of (maps_of c.args.self.now) c.args.map c.args.key.now) c.args.key.now c.in-Ok.reply c.ask.new.self.shards.now ready
     among) in
@@ -53,7 +53,7 @@ returns-in-Ok-clause-gives c =
           (lookup_call (maps_of c.args.self.now) c.args.map c.args.key.now) c.in-Ok.reply
           (reply_of_handle cell_of_handle (handle_of c.in-Ok.reply))
           (ap (λ image. image.now.maps) c.ask.ensures.same_image) c.ask.ensures.same_options c.ask.ensures.same_worker
-          (∥∥₁_elim c.args.self.now.ready le_prop (λ (ready : IsReady c.args.self.now.image.now.maps c.args.self.now.options
+          (∥∥₁_elim c.args.self.now.ready le_prop (λ (ready : IsPortReady c.args.self.now.image.now.maps c.args.self.now.options
           c.args.self.now.worker c.args.self.now.shards.now). some_shards _ c.args.self.now.options ready.are_options)) tt tt
           (subst (IsReplyTo (program_over (maps_of c.args.self.now)) (lookup_call (maps_of c.args.self.now) c.args.map c.args.key.now))
           told (lookup_formed c.args.self.now.image.now.maps c.args.self.now.options c.args.self.now.worker c.args.self.now.shards.now

@@ -5,14 +5,14 @@ use Rattle.semantics.specs.declared.call.Call.TheVariants.{Store}
 use Rattle.semantics.specs.declared.call.Reply.TheVariants.{Done}
 use Rattle.semantics.proofs.shared.PlanLemmas.{some_shards}
 use Rattle.shard_port.specs.Asking.{IsAnsweredAmong}
-use Rattle.shard_port.specs.PortView.{IsReady, cell_of_handle}
+use Rattle.shard_port.specs.PortView.{IsPortReady, cell_of_handle}
 use Rattle.shard_port.proofs.shared.MayAskLemmas.{may_store}
 use Rattle.shard_port.proofs.GivenLemmas.{given_by, store_told}
 use Rattle.shard_port.proofs.plain.PlainPortMapPort.store.Goals as goal
 
 pub ask-requires-clause-may : goal.ask-requires-clause-may
 ask-requires-clause-may c = rw c.cell_of_handle.ensures (∥∥₁_elim c.args.self.now.ready (Coded-set coded_bool _ _)
-    (λ (ready : IsReady c.args.self.now.image.now.maps c.args.self.now.options c.args.self.now.worker c.args.self.now.shards.now). may_store
+    (λ (ready : IsPortReady c.args.self.now.image.now.maps c.args.self.now.options c.args.self.now.worker c.args.self.now.shards.now). may_store
     c.args.self.now.image.now.maps c.args.self.now.options c.args.self.now.worker c.args.self.now.shards.now (cell_of_handle c.args.handle)
     c.args.offset c.args.size c.args.value ready c.requires))
 
@@ -31,7 +31,7 @@ returns-in-Ok-clause-gives c =
       given = given_by c.args.self.now.image.now.maps _ c.args.self.now.options _ c.args.self.now.worker _ c.args.self.now.shards.now _
           (Store (cell_of_handle c.args.handle) c.args.offset c.args.size c.args.value) c.in-Ok.field-0 (Done)
           (ap (λ image. image.now.maps) c.ask.ensures.same_image) c.ask.ensures.same_options c.ask.ensures.same_worker
-          (∥∥₁_elim c.args.self.now.ready le_prop (λ (ready : IsReady c.args.self.now.image.now.maps c.args.self.now.options
+          (∥∥₁_elim c.args.self.now.ready le_prop (λ (ready : IsPortReady c.args.self.now.image.now.maps c.args.self.now.options
           c.args.self.now.worker c.args.self.now.shards.now). some_shards _ c.args.self.now.options ready.are_options)) tt tt (tt)
           (store_told c.args.self.now.worker c.args.self.now.shards.now (cell_of_handle c.args.handle) c.args.offset c.args.size
           c.args.value c.in-Ok.field-0 c.ask.new.self.shards.now among) among;

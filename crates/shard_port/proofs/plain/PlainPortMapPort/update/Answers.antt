@@ -1,5 +1,5 @@
 use Rattle.std.proofs.Common.{◌≡◌, ◌<◌, ap, sym, ◌∙◌, subst, rules, to_z, of_z, w32}
-use Rattle.std.proofs.Math.Facts.{Fits-of_lt, Fits-lt-pow}
+use Rattle.std.proofs.Math.Facts.{Fits-lt-pow}
 use Rattle.std.specs.Prelude.{FitsSigned}
 use Rattle.std.proofs.lemmas.Int.{to_z-of_z}
 use Rattle.std.specs.Coded.{Coded-set, coded_bool, le_prop}
@@ -9,7 +9,7 @@ use Rattle.semantics.specs.declared.call.Reply.TheVariants.{Answer}
 use Rattle.map_port.specs.Served.{update_call, shard_of}
 use Rattle.semantics.proofs.shared.PlanLemmas.{some_shards}
 use Rattle.shard_port.specs.Asking.{IsAnsweredAmong}
-use Rattle.shard_port.specs.PortView.{IsReady}
+use Rattle.shard_port.specs.PortView.{IsPortReady}
 use Rattle.shard_port.specs.PlainPorts.{maps_of}
 use Rattle.shard_port.proofs.shared.MayAskLemmas.{may_update}
 use Rattle.shard_port.proofs.GivenLemmas.{given_by, update_told}
@@ -17,7 +17,7 @@ use Rattle.shard_port.proofs.plain.PlainPortMapPort.update.Goals as goal
 
 pub ask-requires-clause-may : goal.ask-requires-clause-may
 ask-requires-clause-may c = rw c.shard_of.ensures (∥∥₁_elim c.args.self.now.ready (Coded-set coded_bool _ _)
-    (λ (ready : IsReady c.args.self.now.image.now.maps c.args.self.now.options c.args.self.now.worker c.args.self.now.shards.now).
+    (λ (ready : IsPortReady c.args.self.now.image.now.maps c.args.self.now.options c.args.self.now.worker c.args.self.now.shards.now).
     may_update c.args.self.now.image.now.maps c.args.self.now.options c.args.self.now.worker c.args.self.now.shards.now c.args.map
     c.args.key.now c.args.value.now c.args.flags ready (Fits-lt-pow c.ranges.flags) c.requires))
 
@@ -42,7 +42,7 @@ returns-in-Ok-clause-gives c =
           (update_call (maps_of c.args.self.now) c.args.map c.args.key.now c.args.value.now c.args.flags) c.in-Ok.reply
           (Answer (to_z w32 (of_z w32 c.answer.result)))
           (ap (λ image. image.now.maps) c.ask.ensures.same_image) c.ask.ensures.same_options c.ask.ensures.same_worker
-          (∥∥₁_elim c.args.self.now.ready le_prop (λ (ready : IsReady c.args.self.now.image.now.maps c.args.self.now.options
+          (∥∥₁_elim c.args.self.now.ready le_prop (λ (ready : IsPortReady c.args.self.now.image.now.maps c.args.self.now.options
           c.args.self.now.worker c.args.self.now.shards.now). some_shards _ c.args.self.now.options ready.are_options)) tt
           (recursion_from_All (λ byte. byte < 256) c.args.value.now c.requires.value_bytes) (subst (FitsSigned w32) (sym same) fits)
           (update_told c.args.self.now.worker c.args.self.now.shards.now (shard_of (maps_of c.args.self.now) c.args.map c.args.key.now)

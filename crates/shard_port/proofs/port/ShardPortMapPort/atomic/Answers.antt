@@ -1,7 +1,6 @@
-use Rattle.std.proofs.Common.{◌≡◌, ◌<◌, refl, sym, ap, ◌∙◌, rules}
-use Rattle.shards.specs.Passes.{PassView}
+use Rattle.std.proofs.Common.{refl, ap}
 use Rattle.shard_port.proofs.shared.MayAskLemmas.{load_of_atomic}
-use Rattle.shard_port.proofs.PassMethods.{Stands, cell_within, met_change, change_given, cell_refused}
+use Rattle.shard_port.proofs.PassMethods.{cell_within, met_change, change_given, cell_refused}
 use Rattle.shard_port.proofs.port.ShardPortMapPort.atomic.Goals as goal
 use Rattle.semantics.specs.declared.call.Call.TheVariants.{Atomic}
 use Rattle.isa.specs.InstructionCodes.{atomic_code}

@@ -1,6 +1,5 @@
-use Rattle.std.proofs.Common.{◌≡◌, ◌<◌, refl, sym, ap, ◌∙◌, rules}
-use Rattle.shards.specs.Passes.{PassView}
-use Rattle.shard_port.proofs.PassMethods.{Stands, met_delete, delete_given, delete_refused}
+use Rattle.std.proofs.Common.{ap, rules}
+use Rattle.shard_port.proofs.PassMethods.{met_delete, delete_given, delete_refused}
 use Rattle.shard_port.proofs.port.ShardPortMapPort.delete.Goals as goal
 use Rattle.std.specs.Prelude.{FitsSigned}
 use Rattle.std.proofs.Common.{w32, to_z, of_z}

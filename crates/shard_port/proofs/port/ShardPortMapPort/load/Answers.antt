@@ -1,6 +1,5 @@
-use Rattle.std.proofs.Common.{◌≡◌, ◌<◌, refl, sym, ap, ◌∙◌, rules}
-use Rattle.shards.specs.Passes.{PassView}
-use Rattle.shard_port.proofs.PassMethods.{Stands, cell_within, met_load, load_given, cell_refused}
+use Rattle.std.proofs.Common.{refl, ap}
+use Rattle.shard_port.proofs.PassMethods.{cell_within, met_load, load_given, cell_refused}
 use Rattle.shard_port.proofs.port.ShardPortMapPort.load.Goals as goal
 use Rattle.semantics.specs.declared.call.Call.TheVariants.{Load}
 

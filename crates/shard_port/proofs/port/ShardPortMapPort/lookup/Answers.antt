@@ -1,6 +1,5 @@
-use Rattle.std.proofs.Common.{◌≡◌, ◌<◌, refl, sym, ap, ◌∙◌, rules}
-use Rattle.shards.specs.Passes.{PassView}
-use Rattle.shard_port.proofs.PassMethods.{Stands, met_lookup, small_found, lookup_given, lookup_refused}
+use Rattle.std.proofs.Common.{ap}
+use Rattle.shard_port.proofs.PassMethods.{met_lookup, small_found, lookup_given, lookup_refused}
 use Rattle.shard_port.proofs.port.ShardPortMapPort.lookup.Goals as goal
 
 pub ask-requires-clause-met : goal.ask-requires-clause-met

@@ -1,6 +1,5 @@
-use Rattle.std.proofs.Common.{◌≡◌, ◌<◌, refl, sym, ap, ◌∙◌, rules}
-use Rattle.shards.specs.Passes.{PassView}
-use Rattle.shard_port.proofs.PassMethods.{Stands, met_update, update_given, update_refused}
+use Rattle.std.proofs.Common.{ap, rules}
+use Rattle.shard_port.proofs.PassMethods.{met_update, update_given, update_refused}
 use Rattle.shard_port.proofs.port.ShardPortMapPort.update.Goals as goal
 use Rattle.std.proofs.Math.Facts.{Fits-lt-pow}
 use Rattle.std.specs.Prelude.{FitsSigned}

@@ -1,6 +1,6 @@
 use Rattle.std.proofs.Common.{sym, ap, ◌∙◌}
 use Rattle.atomic_table.specs.Table.{Me}
-use Rattle.shards.specs.Lodged.{Lodged, KeyedPlan}
+use Rattle.shards.specs.GuardedView.{GuardedView, KeyedPlan}
 use Rattle.shards.specs.declared.rule.Known.{Known}
 use Rattle.shards.specs.ShardPasses.{ShardPassView, IsShardPass}
 use Rattle.shards.proofs.ShardPassLemmas.{part_given}
@@ -23,9 +23,9 @@ returns-clause-same c =
     let given_is = c.give.ensures.given in
     record {
       table = c.give.ensures.seat.table_is ∙ c.requires.lock.0;
-      key = ap (λ (m : Me Lodged Known). m.0.key) given_is ∙ given_key c.self.inside.seat.me ∙ ap (λ (v : ShardPassView). v.key) is;
-      plan = ap (λ (k : KeyedPlan). k.plan) (ap (λ (m : Me Lodged Known). m.0.key) given_is ∙ given_key c.self.inside.seat.me ∙ ap (λ (v : ShardPassView). v.key) is);
-      who = ap (λ (m : Me Lodged Known). m.0.who) given_is ∙ given_who c.self.inside.seat.me ∙ ap (λ (v : ShardPassView). v.who) is;
+      key = ap (λ (m : Me GuardedView Known). m.0.key) given_is ∙ given_key c.self.inside.seat.me ∙ ap (λ (v : ShardPassView). v.key) is;
+      plan = ap (λ (k : KeyedPlan). k.plan) (ap (λ (m : Me GuardedView Known). m.0.key) given_is ∙ given_key c.self.inside.seat.me ∙ ap (λ (v : ShardPassView). v.key) is);
+      who = ap (λ (m : Me GuardedView Known). m.0.who) given_is ∙ given_who c.self.inside.seat.me ∙ ap (λ (v : ShardPassView). v.who) is;
     }
 
 pub returns-clause-own : goal.returns-clause-own

@@ -1,7 +1,7 @@
 use Rattle.std.proofs.Common.{◌≡◌, false, sym, ap, ◌∙◌, subst}
-use Rattle.shards.specs.CallerView.{HasLooked}
+use Rattle.shards.specs.CallerView.{ViewHasLooked}
 use Rattle.shards.specs.Seats.{has_shard, view_of}
-use Rattle.shards.specs.Lodged.{KeyedPlan}
+use Rattle.shards.specs.GuardedView.{KeyedPlan}
 use Rattle.shards.specs.ShardPasses.{ShardPassView}
 use Rattle.shards.proofs.ShardPassLemmas.{part_taken, looked_taken, taken_key, taken_who}
 use Rattle.shards.proofs.Holding.{taken_has}
@@ -33,5 +33,5 @@ pub returns-clause-looked : goal.returns-clause-looked
 returns-clause-looked g c =
     let is = c.self.view_is in
     let alone : has_shard c.self.inside.seat.me ≡ false = ap (λ (v : ShardPassView). v.has_it) is ∙ c.requires.alone in
-    subst (λ (v : ShardPassView). HasLooked v.key.plan v.view (view_of c.take.new.seat.me)) is
+    subst (λ (v : ShardPassView). ViewHasLooked v.key.plan v.view (view_of c.take.new.seat.me)) is
     (looked_taken c.self.inside.seat c.take.new.seat c.self.inside.inside c.self.inside.held c.self.invariant alone c.take.ensures.taken c.take.ensures.legal)

@@ -10,13 +10,13 @@ use Rattle.journals.specs.JournalsView.{JournalsView, entries_at}
 use Rattle.shards.specs.CallerView.{IsSettled}
 use Rattle.shards.specs.Passes.{pass_at, view_at}
 use Rattle.semantics.specs.Each.{Each}
-use Rattle.shards.specs.Lodged.{keyed}
+use Rattle.shards.specs.GuardedView.{keyed}
 use Rattle.shards.specs.Seats.{IsLockOf}
 use Rattle.semantics.proofs.shared.EachLemmas.{each_first, each_rest}
 use Rattle.shards.proofs.Settling.{legal_more, settled_more, untouched_less}
 use Rattle.shards.specs.declared.deeds.Account.{Account}
 use Rattle.shards.specs.declared.deeds.OrderPart.TheVariants.{ByCaller}
-use Rattle.shards.specs.OrderRule.{account, HasAccount}
+use Rattle.shards.specs.OrderRule.{account, IsOneOfAccounts}
 use Rattle.shards.proofs.OrderShards.{numbered, reserved}
 use Rattle.shards.proofs.OrderClosing.{HasShard, gathered_more, one_order}
 use Rattle.shards.proofs.sharing.Shards.close.Goals as goal
@@ -91,5 +91,5 @@ returns-clause-did g c =
     (λ number below. let was = i.gathered number (let t = i.together in let e = c.shards-test.false in let n = i.count_is in omega (arith, t, e, n, below)) in
     subst (λ (js : JournalsView). HasShard number (entries_at js number) c.gather_all.new.seat.me.0) (sym c.written.ensures)
     (record { deeds = was.deeds; written = was.written; has = end.kept _ was.has }))
-    (λ place below. subst (λ (one : Account). HasAccount one c.gather_all.new.seat.me.0) (λ k. account (ByCaller (i.callers place k)) (i.deeds place k))
+    (λ place below. subst (λ (one : Account). IsOneOfAccounts one c.gather_all.new.seat.me.0) (λ k. account (ByCaller (i.callers place k)) (i.deeds place k))
     (end.all place (let e = i.passes in omega (arith, e, below))))

@@ -10,7 +10,7 @@ use Rattle.shards.specs.OrderRule.{IsOrderOf}
 use Rattle.shards.specs.SharedMaps.{ArePlans}
 use Rattle.shards.proofs.OrderClosing.{HasShard}
 use Rattle.shards.specs.Passes.{pass_at, view_at}
-use Rattle.shards.specs.Lodged.{keyed}
+use Rattle.shards.specs.GuardedView.{keyed}
 use Rattle.shards.specs.Seats.{IsLockOf}
 use Rattle.shards.proofs.sharing.Shards.close.Given as goal
 

@@ -1,5 +1,5 @@
 use Rattle.std.proofs.Common.{◌<◌, length, arith}
-use Rattle.shards.specs.Lodged.{keyed}
+use Rattle.shards.specs.GuardedView.{keyed}
 use Rattle.shards.specs.Seats.{IsLockOf}
 use Rattle.semantics.proofs.shared.EachLemmas.{each_at}
 use Rattle.shards.proofs.sharing.Shards.lock.Goals as goal

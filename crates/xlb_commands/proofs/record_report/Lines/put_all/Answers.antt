@@ -3,7 +3,7 @@ use Rattle.std.specs.Prelude.{slice_get}
 use Rattle.wire.specs.declared.records.Sent.{Sent}
 use Rattle.traffic.specs.Counting.{one_if}
 use Rattle.traffic.specs.declared.record_line.ReportForm.{ReportForm}
-use Rattle.replay.specs.declared.outcome.RecordEnd.{RecordEnd}
+use Rattle.actors.specs.declared.outcome.RecordEnd.{RecordEnd}
 use Rattle.xlb_commands.specs.RecordReports.{backends_in, end_of, is_sent, is_tx, line_of, line_text, lines_until, sent_before, verdict_in}
 use Rattle.xlb_commands.proofs.record_report.Lines.put_all.Goals.{then-is_tx, else-is_tx}
 use Rattle.xlb_commands.proofs.record_report.Lines.put_all.Goals as goal

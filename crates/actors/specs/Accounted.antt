@@ -1,0 +1,69 @@
+-- What a replay accounts for: each record, and each entry of the journals.
+use Rattle.std.specs.Prelude.{◌≡◌, ◌<◌, ℕ, List, length, reverse}
+use Rattle.wire.specs.declared.records.Sent.{Sent}
+use Rattle.semantics.specs.declared.call.Caller.TheVariants.{Worker}
+use Rattle.semantics.specs.declared.options.Options.{Options}
+use Rattle.semantics.specs.declared.plan.ShardPlan.{ShardPlan}
+use Rattle.semantics.specs.CallerLaws.{own_entries}
+use Rattle.semantics.specs.History.{IsLegalJournal}
+use Rattle.semantics.specs.Program.{Program}
+use Rattle.journals.specs.JournalsView.{JournalsView, entries_at}
+use Rattle.shards.specs.declared.deeds.Deed.{Deed}
+use Rattle.shards.specs.declared.deeds.OrderPart.TheVariants.{ByCaller}
+use Rattle.shards.specs.Deeds.{deeds_of, made_on, AreMet, AreDeedsWithin}
+use Rattle.shards.specs.Passes.{PassView, own_at}
+use Rattle.shards.specs.SharedMaps.{ArePlans}
+use Rattle.actors.specs.declared.runner.Ran.{Ran}
+use Rattle.actors.specs.Accounts.{runs_at, counts_of, frames_in, sent_of, sent_frames, ends_of}
+use Rattle.actors.specs.RunsInOrder.{IsRunAt, HasHandled}
+use Rattle.actors.specs.Shares.{frames_of, share}
+use Rattle.control.specs.declared.command.Command.{Command}
+use Rattle.actors.specs.declared.outcome.Outcome.{Outcome}
+use Rattle.actors.specs.Parts.{IsScriptAccounted, AreRoundsAccounted, round_count}
+use Rattle.actors.specs.RunsOverShards.{IsNewPass, IsRunIn}
+
+-- a worker ran its records, in order, from a pass that had seen nothing; in each journal its entries are those of its runs, one after the
+-- other; and so are its deeds in the one order of all
+pub record IsWorkOf (IsRun : PassView → Ran → PassView → Type 0) (records : List ℕ) (worker : ℕ) (runs : List Ran) (count : ℕ)
+    (journals : JournalsView) (order : List Deed) : Type 0 where
+  pub after : PassView
+  pub handled : HasHandled (IsNewPass worker) IsRun records runs after
+  pub own : (number : ℕ) → number < count → own_at after number ≡ own_entries (Worker worker) (reverse (entries_at journals number))
+  pub did : after.deeds ≡ deeds_of (ByCaller (Worker worker)) order
+
+-- one order of all deeds on N shards, newest first: shard by shard it is the journal, and each look at a full journal met one
+pub record IsOrderOfJournals (plan : ℕ → ShardPlan) (count : ℕ) (journals : JournalsView) (order : List Deed) : Type 0 where
+  pub within : AreDeedsWithin count order
+  pub journals_are : (number : ℕ) → number < count → entries_at journals number ≡ reverse (made_on number order)
+  pub met : AreMet plan order
+
+pub record IsAccounted (program : Program) (script : List Command) (options : Options) (records : List Sent)
+    (outcome : Outcome) : Type 0 where
+  pub maps : outcome.journals.maps ≡ program.maps
+  pub options_are : outcome.journals.options ≡ options
+  -- the shards, and their journals
+  pub count : ℕ
+  pub count_is : length outcome.journals.shards ≡ count
+  pub plan : ℕ → ShardPlan
+  pub plans : ArePlans program.maps options count plan
+  pub legal : (number : ℕ) → number < count → IsLegalJournal (plan number) (entries_at outcome.journals number)
+  -- what all callers did on all shards, in one order
+  pub order : List Deed
+  pub ordered : IsOrderOfJournals plan count outcome.journals order
+  -- the runs of each worker
+  pub runs : List (List Ran)
+  pub workers : length runs ≡ options.workers
+  pub work :
+      (worker : ℕ) → worker < options.workers → IsWorkOf (IsRunAt (IsRunIn plan count program worker outcome.journals) records)
+      (share (frames_of records) options.workers worker (length records)) worker (runs_at runs worker) count outcome.journals order
+  -- what is counted of them, each record once
+  pub counts : outcome.counts ≡ counts_of (frames_of records) options.workers runs (length records)
+  pub each_once : frames_in outcome.counts ≡ length records
+  -- what is sent, in the capture's order
+  pub sent : sent_frames outcome.sent.items ≡ sent_of (frames_of records) options.workers runs (length records)
+  -- what became of each record, in the capture's order
+  pub ends : outcome.ends.items ≡ ends_of (frames_of records) options.workers runs (length records)
+  -- the updates before the first record, the commands of the script, and those that were refused
+  pub commands : IsScriptAccounted plan program.maps options count outcome.updates.items script outcome.journals order outcome.refused.items
+  -- the reclaimer's rounds
+  pub rounds : AreRoundsAccounted plan count (round_count (length records)) outcome.journals order

@@ -1,0 +1,126 @@
+-- What the controller and the reclaimer of a replay hand back.
+use Rattle.std.specs.Prelude.{◌≡◌, ◌⊎◌, IsFalse, ◌<◌, ◌≤◌, ◌+◌, ◌/◌, ◌++◌, ℕ, List, [], length, map, reverse, IfSome, is_some}
+use Rattle.std.specs.List.{AllByRecursion, filter}
+use Rattle.ebpf_decode.specs.declared.map.MapDef.{MapDef}
+use Rattle.semantics.specs.declared.call.Caller.TheVariants.{Controller, Reclaimer}
+use Rattle.semantics.specs.declared.options.Options.{Options}
+use Rattle.semantics.specs.declared.plan.ShardPlan.{ShardPlan}
+use Rattle.semantics.specs.CallerLaws.{own_entries}
+use Rattle.semantics.specs.ShardPlan.{are_served_options}
+use Rattle.semantics.specs.History.{IsJournalFull}
+use Rattle.journals.specs.JournalsView.{JournalsView, entries_at}
+use Rattle.shards.specs.declared.deeds.Deed.{Deed}
+use Rattle.shards.specs.declared.deeds.OrderPart.TheVariants.{ByCaller}
+use Rattle.shards.specs.Deeds.{deeds_of}
+use Rattle.shards.specs.Passes.{PassView}
+use Rattle.rx_queues.specs.declared.job.Job.{Job}
+use Rattle.maglev.specs.RingSize.{IsRingSize}
+use Rattle.map_updates.specs.declared.update.MapUpdate.{MapUpdate}
+use Rattle.conntrack.specs.SteeringMaps.{steering_maps}
+use Rattle.control.specs.declared.command.Command.{Command}
+use Rattle.control.specs.Controlling.{ControllerState, opened_controller}
+use Rattle.control.specs.MapUpdates.{UpdateBytes}
+use Rattle.actors.specs.declared.outcome.Applied.{Applied}
+use Rattle.actors.specs.SharedUpdates.{shard_of, update_call}
+use Rattle.actors.specs.Commands.{CommanderView, CommandDone, AreNotedOf, AreDone, IsScriptAccount, ServesScript}
+use Rattle.actors.specs.Commands.{all_set, made_in, with_updates, made_deeds, commands_deeds}
+use Rattle.actors.specs.ActorJobs.{AreCommandsTaken, AreRoundsMade, IsActorAccounted as IsControllersAccount}
+use Rattle.actors.specs.Rounds.{IsReclaimedBy, AreRoundsDone}
+use Rattle.actors.specs.Actors.{numbers_from}
+
+-- ---- what the threads hand back for their jobs
+
+-- the controller applied the commands of its jobs, each once and in order, and its pass has their entries
+pub record HasCommanded (plan : ℕ → ShardPlan) (start : CommanderView) (jobs : List Job) (noted : List Applied)
+    (pass : PassView) : Type 0 where
+  pub taken : AreCommandsTaken start.noted noted jobs
+  pub account : IsControllersAccount plan start noted pass
+  pub who : pass.who ≡ Controller
+
+-- the reclaimer made a round for each note
+pub record HasReclaimed (plan : ℕ → ShardPlan) (count : ℕ) (jobs : List Job) (pass : PassView) : Type 0 where
+  pub rounds : AreRoundsMade plan count jobs pass
+  pub who : pass.who ≡ Reclaimer
+
+-- ---- the script
+
+-- there are commands, and the maps are those of steering for no lookup table
+pub record HasNoTable (maps : List MapDef) (script : List Command) : Type 0 where
+  pub some : ¬ (script ≡ [])
+  pub none : (size : ℕ) → IsRingSize size → ¬ (maps ≡ steering_maps size)
+
+-- no shards of these maps are opened with the options, or there are commands and no lookup table for them
+abbrev pub AreBadOptions : List MapDef → Options → List Command → Type 0
+AreBadOptions maps options script = IsFalse (are_served_options maps options) ⊎ HasNoTable maps script
+
+-- which of the script's commands were applied, in order
+abbrev pub numbers_of : List Applied → List ℕ
+numbers_of noted = map (λ (one : Applied). one.command) noted
+
+-- a controller of these shards and this script that has made these updates and then applied its first N commands
+pub record IsStarted (maps : List MapDef) (options : Options) (updates : List MapUpdate) (script : List Command) (size : ℕ)
+    (start : CommanderView) (first : ℕ) : Type 0 where
+  pub updates_are : start.updates ≡ updates
+  pub script_is : start.script ≡ script
+  pub maps_are : start.port.maps ≡ maps
+  pub options_are : start.port.options ≡ options
+  pub size_is : start.controller.size ≡ size
+  pub applied : numbers_of start.noted ≡ numbers_from 0 first
+  pub within : first ≤ length script
+
+-- each command of the script was applied once, in its order, and the pass has the first updates and behind them theirs
+pub record IsScriptRun (plan : ℕ → ShardPlan) (maps : List MapDef) (options : Options) (updates : List MapUpdate) (script : List Command)
+    (size : ℕ) (noted : List Applied) (pass : PassView) : Type 0 where
+  pub each_once : numbers_of noted ≡ numbers_from 0 (length script)
+  pub state : ControllerState
+  pub account : IsScriptAccount plan maps options updates script size noted state pass
+  pub who : pass.who ≡ Controller
+
+-- ---- compared with the journals
+
+-- the commands that were refused
+abbrev pub refused_of : List Applied → List Applied
+refused_of noted = filter (λ (one : Applied). is_some one.fault) noted
+
+-- the update's shard is one of N, and its journal is full for the update at its end
+pub record IsFullInJournal (plan : ℕ → ShardPlan) (maps : List MapDef) (options : Options) (count : ℕ) (journals : JournalsView)
+    (update : UpdateBytes) : Type 0 where
+  pub within : shard_of maps options update < count
+  pub full :
+      IsJournalFull (plan (shard_of maps options update)) (reverse (entries_at journals (shard_of maps options update)))
+      (update_call (shard_of maps options update) update)
+
+-- Each command of the script was applied once, in the script's order, and did what it says in the state that the one before it left, for a
+-- lookup table of a size that is served, the one that the maps have (without commands any served size does); the controller's entries in
+-- each journal are the first updates to that shard, each answered 0, and behind them those of the commands, in order; where one met a full
+-- journal, that journal is full for it at its end. In the one order of all deeds those of the controller are the first updates, then the
+-- updates of all commands, in order over all shards, each with its answer, and behind those of a command that a full journal stopped the
+-- look at that journal.
+pub record IsScriptAccounted (plan : ℕ → ShardPlan) (maps : List MapDef) (options : Options) (count : ℕ) (updates : List MapUpdate)
+    (script : List Command) (journals : JournalsView) (order : List Deed) (refused : List Applied) : Type 0 where
+  pub size : ℕ
+  pub size_is_served : IsRingSize size
+  pub serves : ServesScript maps size script
+  pub noted : List Applied
+  pub each_once : numbers_of noted ≡ numbers_from 0 (length script)
+  pub done : List CommandDone
+  pub are_noted : AreNotedOf script noted done
+  pub state : ControllerState
+  pub are_done : AreDone (opened_controller size) done state
+  pub own : (number : ℕ) → number < count →
+      own_entries Controller (reverse (entries_at journals number)) ≡ with_updates maps options number (all_set updates ++ made_in done) []
+  pub full : AllByRecursion (λ (one : CommandDone). IfSome one.stopped (IsFullInJournal plan maps options count journals)) done
+  pub did : deeds_of (ByCaller Controller) order ≡ reverse (made_deeds maps options (all_set updates) ++ commands_deeds maps options done)
+  pub refused_are : refused ≡ refused_of noted
+
+-- the rounds of a replay: one after every 64 records, and one after the last
+abbrev pub round_count : ℕ → ℕ
+round_count records = records / 64 + 1
+
+-- The reclaimer's entries in each journal are those of N rounds, fewer only where the journal is full for another at its end. In the one
+-- order of all deeds those of the reclaimer are these rounds, one behind the other, each with one Reclaim of each hash and LRU shard, the
+-- lowest number first.
+pub record AreRoundsAccounted (plan : ℕ → ShardPlan) (count rounds : ℕ) (journals : JournalsView) (order : List Deed) : Type 0 where
+  pub each : (number : ℕ) → number < count → IsReclaimedBy (plan number).definition.kind (plan number) number rounds
+      (own_entries Reclaimer (reverse (entries_at journals number))) (reverse (entries_at journals number))
+  pub did : AreRoundsDone plan count rounds (reverse (deeds_of (ByCaller Reclaimer) order))

@@ -1,8 +1,0 @@
-use Rattle.std.proofs.Common.{◌≡◌, ◌<◌, ℕ}
-use Rattle.std.specs.Prelude.{Some, slice_get}
-use Rattle.wire.specs.declared.records.Sent.{Sent}
-use Rattle.guarantees.specs.ReaderReplays.{IsCaptured}
-use Rattle.guarantees.proofs.replays.all_are_captured.Given as goal
-
-abbrev pub invariant-records : goal.invariant-records
-invariant-records l = (place : ℕ) (one : Sent) → place < l.number → slice_get l.capture.records.items place ≡ Some one → IsCaptured one

@@ -1,3 +1,0 @@
--- Lemmas that other crates cite.
-pub mod AccountLemmas
-pub mod FullStays
