@@ -4,9 +4,9 @@ use crate::last_table::put_shares;
 use crate::record_report::{is_tx, verdict_in};
 use crate::replays::Asked;
 use command_line::DEFAULT_RING;
-use control::{ControlFault, Script};
+use control::{Action, ControlFault, Script};
 use journals::Journals;
-use replay::{Applied, Outcome, RecordEnd};
+use replay::{Applied, Counts, Outcome, RecordEnd};
 use std::alloc::{AllocError, Global};
 use text_lines::cut;
 use traffic::{LineVerdict, Refused, moved_places, services};
@@ -81,7 +81,9 @@ impl Notes<'_> {
         let mut text = String::new(alloc);
         put_refused(alloc, &mut text, script, &outcome.refused)?;
         self.put_moments(&mut text, script)?;
+        put_late(alloc, &mut text, script, records_in(outcome.counts))?;
         self.put_ring(alloc, &mut text)?;
+        self.put_uneven(alloc, &mut text, script)?;
         self.put_long(alloc, &mut text)?;
         self.put_cut(alloc, &mut text)?;
         if outcome.counts.stopped > 0 {
@@ -132,6 +134,26 @@ impl Notes<'_> {
         text.push_str(line.as_str())
     }
 
+    /// A lookup table with few slots for each backend: then some have many more than others.
+    fn put_uneven(
+        &self,
+        alloc: Global,
+        text: &mut String,
+        script: &Script,
+    ) -> Result<(), AllocError> {
+        let ring = self.ring;
+        let most = most_up(script);
+        let low = ring.checked_div(most).unwrap_or(FEW_SLOTS);
+        if self.image.is_some() || low >= FEW_SLOTS || ring.checked_rem(most) == Some(0) {
+            return Ok(());
+        }
+        let high = low.saturating_add(1);
+        let line = format!(in alloc;
+            "with {most} backends up, each has {low} or {high} of the lookup table's {ring} slots: a larger --ring N, at most 65537, is more even\n"
+        )?;
+        text.push_str(line.as_str())
+    }
+
     /// Records that were skipped.
     fn put_long(&self, alloc: Global, text: &mut String) -> Result<(), AllocError> {
         let long = self.altered.long;
@@ -153,6 +175,81 @@ impl Notes<'_> {
         )?;
         text.push_str(line.as_str())
     }
+}
+
+/// With fewer slots for a backend than this, the shares of two that are up differ by more than a twentieth.
+const FEW_SLOTS: u32 = 20;
+
+/// How many backends are up behind an action, if it is carried out, of so many before it.
+fn up_behind(is_up: &mut [bool; 256], action: Action, now: u32) -> u32 {
+    let (backend, up) = match action {
+        Action::Up { backend, .. } => (backend, true),
+        Action::Down { backend } => (backend, false),
+        _ => return now,
+    };
+    let Some(was) = is_up.get_mut(backend as usize) else {
+        return now;
+    };
+    let before = *was;
+    *was = up;
+    match (before, up) {
+        (false, true) => now.saturating_add(1),
+        (true, false) => now.saturating_sub(1),
+        _ => now,
+    }
+}
+
+/// The most backends that a script has up when a frame is run, if each of its commands is carried out.
+fn most_up(script: &Script) -> u32 {
+    let commands = script.commands();
+    let mut is_up = [false; 256];
+    let mut now: u32 = 0;
+    let mut most: u32 = 0;
+    'commands: for number in 0..commands.len() {
+        now = up_behind(&mut is_up, commands[number].action, now);
+        match commands.get(number.saturating_add(1)) {
+            Some(next) if next.frame == commands[number].frame => {}
+            _ => most = most.max(now),
+        }
+    }
+    most
+}
+
+/// How many records there were.
+fn records_in(counts: Counts) -> u64 {
+    let ended = counts
+        .aborted
+        .saturating_add(counts.drop)
+        .saturating_add(counts.pass)
+        .saturating_add(counts.tx);
+    ended
+        .saturating_add(counts.short)
+        .saturating_add(counts.stopped)
+}
+
+/// The commands that come behind the last record: numbers in a script never fall, so they are its last ones.
+fn put_late(
+    alloc: Global,
+    text: &mut String,
+    script: &Script,
+    records: u64,
+) -> Result<(), AllocError> {
+    let commands = script.commands();
+    let first = commands.iter().position(|command| command.frame > 0
+        && u64::from(command.frame) >= records);
+    let Some(place) = first else {
+        return Ok(());
+    };
+    let line = place.saturating_add(1);
+    let more = commands.len().saturating_sub(line);
+    let others = match more {
+        0 => format!(in alloc; "comes")?,
+        _ => format!(in alloc; "and {more} more come")?,
+    };
+    let others = others.as_str();
+    text.push_str(&format!(in alloc;
+        "line {line} of the script {others} behind the last record: no frame is run after that\n"
+    )?)
 }
 
 /// The most commands that have lines of their own.

@@ -295,6 +295,10 @@ const ALL_1030: &str = "frames 1030\nshort 0\nstopped 0\naborted 0\ndrop 0\npass
 const FOURTH_REFUSED: &str =
     "frames 1030\nshort 0\nstopped 0\naborted 0\ndrop 0\npass 0\ntx 1030\ncommand 4 refused 91\n";
 
+/// What is said of commands that act when all frames were run.
+const LATE: &str =
+    "  line 4 of the script and 1 more come behind the last record: no frame is run after that\n";
+
 const UNKNOWN: &str =
     "  line 4 of the script, 1024 down 7: no such backend is up, or there is no such number: numbers are below 256 and below the ring's size\n";
 
@@ -303,9 +307,9 @@ const STEERED: [Steered; 6] = [
     ("before the last record of the first piece",    "1023 down 0\n1023 up 1 192.0.2.2\n", 1030, 1023, 0, ALL_1030, ""),
     ("between two pieces",                           "1024 down 0\n1024 up 1 192.0.2.2\n", 1030, 1024, 0, ALL_1030, ""),
     ("behind the first record of the second piece",  "1025 down 0\n1025 up 1 192.0.2.2\n", 1030, 1025, 0, ALL_1030, ""),
-    ("behind the last record",                       "1030 down 0\n1030 up 1 192.0.2.2\n", 1030, 1030, 0, ALL_1030, ""),
+    ("behind the last record",                       "1030 down 0\n1030 up 1 192.0.2.2\n", 1030, 1030, 0, ALL_1030, LATE),
     ("behind the last record of a whole piece",      "1024 down 0\n1024 up 1 192.0.2.2\n", 1024, 1024, 0,
-        "frames 1024\nshort 0\nstopped 0\naborted 0\ndrop 0\npass 0\ntx 1024\n", ""),
+        "frames 1024\nshort 0\nstopped 0\naborted 0\ndrop 0\npass 0\ntx 1024\n", LATE),
     ("refused between two pieces", "1024 down 7\n1025 down 0\n1025 up 1 192.0.2.2\n", 1030, 1025, 1, FOURTH_REFUSED, UNKNOWN),
 ];
 

@@ -154,8 +154,13 @@ pub(super) const CUT_TWO: &str =
 const RING_8: &str =
     "  --ring 8 has no effect: it is the size of the shipped program's lookup table\n";
 
-const NOT_EXACT: &str =
-    "  commands with a number above 0 may take effect up to some 64 frames for each worker too early, or later: --exact makes their moments exact\n";
+/// Commands that may act too early, and behind the last record.
+const LATE_NOT_EXACT: &str =
+    "  commands with a number above 0 may take effect up to some 64 frames for each worker too early, or later: --exact makes their moments exact\n  \
+     line 2 of the script comes behind the last record: no frame is run after that\n";
+
+const LATE: &str =
+    "  line 2 of the script comes behind the last record: no frame is run after that\n";
 
 const FIVE: &str = "frames 5\nshort 0\nstopped 1\naborted 0\ndrop 0\npass 4\ntx 0\n";
 
@@ -190,7 +195,7 @@ const NO_MAPS: &str = "fault 51 BadOptions
 ";
 
 #[rattlefmt::skip]
-const ROWS: [Row; 16] = [
+const ROWS: [Row; 18] = [
     ("none is",                  SENDS, "", HEAD, "--image image", 0, NO_FRAME, "", HEAD),
     ("eight workers",            SENDS, "", ZEROS_14, "--image image --workers 8 --shards 8", 0, ONE_TX, "", ZEROS_14),
     ("the ring is not read",     SENDS, "", ZEROS_14, "--image image --ring 8", 0, ONE_TX, RING_8, ZEROS_14),
@@ -210,6 +215,10 @@ const ROWS: [Row; 16] = [
         "  line 3 of the script, 0 down 0: a journal is full: --journal N, at most 1048576, --shards N, at most 8, and --no-journals make more room\n  \
          line 4 of the script, 0 up 2 10.0.0.3: a journal is full: --journal N, at most 1048576, --shards N, at most 8, \
          and --no-journals make more room\n", HEAD),
+    ("commands behind the last record", "", "0 up 0 10.0.0.1\n1 down 0\n9 up 0 10.0.0.1\n", HEAD, "--script script --exact", 0, NO_FRAME,
+        "  line 2 of the script and 1 more come behind the last record: no frame is run after that\n", HEAD),
+    ("few slots for each backend", "", "0 up 0 10.0.0.1\n0 up 1 10.0.0.2\n", HEAD, "--script script --ring 7", 0, NO_FRAME,
+        "  with 2 backends up, each has 3 or 4 of the lookup table's 7 slots: a larger --ring N, at most 65537, is more even\n", HEAD),
     ("an image before a script", UNSET, "0 up\n", "", "--image image", 1, "",
         "fault 35 UnsetRegister slot 0 register 0\n  xlb check --explain IMAGE says why\n", ""),
     ("a ring before a script",   "", "0 up\n", "", "--script script --ring 8", 1, "",
@@ -239,10 +248,11 @@ const STEERED: [Row; 7] = [
         "  1 frame of TCP or UDP with a time to live of 0\n  1 frame for 203.0.113.1 port 80 udp\n  1 frame dropped, with a time to live of 0\n  \
          251 of 251 slots of the lookup table for backend 0, 192.0.2.1, at the end\n", HEAD),
     ("a summary of two shares in two shards", "", TWO_BACKENDS, HEAD, "--script script --ring 7 --shards 2 --summary", 0, NO_FRAME,
-        "  4 of 7 slots of the lookup table for backend 2, 192.0.2.3, at the end\n  \
+        "  with 2 backends up, each has 3 or 4 of the lookup table's 7 slots: a larger --ring N, at most 65537, is more even\n  \
+         4 of 7 slots of the lookup table for backend 2, 192.0.2.3, at the end\n  \
          3 of 7 slots of the lookup table for backend 6, 192.0.2.4, at the end\n", HEAD),
-    ("commands behind the first frame", "", "0 up 0 192.0.2.1\n1 down 0\n", HEAD, "--script script", 0, NO_FRAME, NOT_EXACT, HEAD),
-    ("the same at exact moments", "", "0 up 0 192.0.2.1\n1 down 0\n", HEAD, "--script script --exact", 0, NO_FRAME, "", HEAD),
+    ("commands behind the first frame", "", "0 up 0 192.0.2.1\n1 down 0\n", HEAD, "--script script", 0, NO_FRAME, LATE_NOT_EXACT, HEAD),
+    ("the same at exact moments", "", "0 up 0 192.0.2.1\n1 down 0\n", HEAD, "--script script --exact", 0, NO_FRAME, LATE, HEAD),
 ];
 
 /// The files of a replay: a script, the bytes of a capture's digits, and the image of a text where there is one.
