@@ -157,8 +157,40 @@ entered_command : (stop : Option (Text × List Text)) → IsNoHelp stop → (nam
     → entered (built program) stop ≡ Some (name, rows) → IsCommand name
 entered_command None fine name rows found = absurd cc
 entered_command (Some stop) fine name rows found =
-    found_among IsCommand (built program).subs stop.0 stop.1
-    ((λ _. refl), ((λ _. refl), ((λ _. refl), ((λ _. refl), ((λ _. refl), ((λ _. refl), ((λ _. refl), ((λ _. refl), ((λ _. refl), (helps_alone stop.0 fine, tt)))))))))) name rows found
+    found_among IsCommand (built program).subs stop.0 stop.1 (
+      (λ _. refl),
+      (
+        (λ _. refl),
+        (
+          (λ _. refl),
+          (
+            (λ _. refl),
+            (
+              (λ _. refl),
+              (
+                (λ _. refl),
+                (
+                  (λ _. refl),
+                  (
+                    (λ _. refl),
+                    (
+                      (λ _. refl),
+                      (
+                        (λ _. refl),
+                        (
+                          (λ _. refl),
+                          (helps_alone stop.0 fine, tt),
+                        ),
+                      ),
+                    ),
+                  ),
+                ),
+              ),
+            ),
+          ),
+        ),
+      ),
+    ) name rows found
 
 -- the command that the words name, where the parser finds no fault in them
 pub names_command : (words : List Text) (name : Text) (rows : List Row) → fault_of program words ≡ [] → subcommand_of program words ≡ Some (name, rows)

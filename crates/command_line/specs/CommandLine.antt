@@ -110,9 +110,25 @@ replay_noted =
     (with_rule (with_rule replay_opened (number_rule (codes "ring") 4294967295 (codes "251"))) (switch_rule (codes "exact")))
     (switch_rule (codes "summary"))
 
--- and whether records that are too long for a frame are skipped, and whether no rows of journals are kept
+-- and how the records of the capture are read
+abbrev pub replay_read : App
+replay_read =
+    with_rule
+    (with_rule (with_rule replay_noted (switch_rule (codes "skip-long"))) (switch_rule (codes "pad-cut")))
+    (switch_rule (codes "allow-cut"))
+
+-- and whether no rows of journals are kept, nothing may be left out, and no file is written over
 abbrev pub replay_command : App
-replay_command = with_rule (with_rule replay_noted (switch_rule (codes "skip-long"))) (switch_rule (codes "no-journals"))
+replay_command =
+    with_rule
+    (with_rule (with_rule replay_read (switch_rule (codes "no-journals"))) (switch_rule (codes "strict")))
+    (switch_rule (codes "no-clobber"))
+
+abbrev pub script_command : App
+script_command = with_rule (with_rule (new_app (codes "script")) (file_rule (codes "CAPTURE"))) (file_rule (codes "TIMED"))
+
+abbrev pub compare_command : App
+compare_command = with_rule (with_rule (new_app (codes "compare")) (file_rule (codes "FIRST"))) (file_rule (codes "SECOND"))
 
 -- the name, with `--version`; a command has to be given, and `help` describes the commands
 abbrev pub program_name : App
@@ -127,10 +143,14 @@ program =
     (with_subcommand
     (with_subcommand
     (with_subcommand
+    (with_subcommand
+    (with_subcommand
     (with_subcommand (with_subcommand (with_subcommand program_name check_command.top) run_command.top) disasm_command.top)
     asm_command.top)
     audit_command.top)
     explain_command.top)
     replay_command.top)
     shipped_command.top)
-    table_command.top
+    table_command.top)
+    script_command.top)
+    compare_command.top

@@ -10,10 +10,12 @@ use Rattle.clap.specs.Values.{kind_of}
 use Rattle.clap.specs.declared.error.kind.ErrorKind.{ErrorKind}
 use Rattle.clap.specs.declared.error.kind.ErrorKind.TheVariants.{ArgumentConflict, OutOfMemory, ValueValidation}
 use Rattle.semantics.specs.declared.options.Options.{Options}
+use Rattle.command_line.specs.declared.commands.Reading.{Reading}
 use Rattle.command_line.specs.declared.commands.ReplayFiles.{ReplayFiles}
 use Rattle.command_line.specs.declared.commands.RunFiles.{RunFiles}
 use Rattle.command_line.specs.declared.commands.Settings.{Settings}
 use Rattle.command_line.specs.declared.commands.Settings.TheVariants.{Check, Run, Disasm, Audit, Explain, Asm, Shipped, Replay, Table}
+use Rattle.command_line.specs.declared.commands.Settings.TheVariants.{Script, Compare}
 use Rattle.command_line.specs.declared.words.WordsFault.{WordsFault}
 use Rattle.command_line.specs.declared.words.WordsFault.TheVariants.{Parser, UnknownFault, Both, TwoImages, UpdatesAlone, JournalsOfNone}
 use Rattle.command_line.specs.declared.words.WordsFault.TheVariants.{Update}
@@ -60,6 +62,8 @@ IsCommand name = IsTrue
     || bytes_eq name (codes "replay")
     || bytes_eq name (codes "shipped")
     || bytes_eq name (codes "table")
+    || bytes_eq name (codes "script")
+    || bytes_eq name (codes "compare")
     || bytes_eq name (codes "asm"))
 
 -- both of two options are given
@@ -150,6 +154,12 @@ AreReplayOptions rows options = IsNumberOf 32 (codes "workers") rows options.wor
     × IsNumberOf 32 (codes "shards") rows options.shards
     × IsNumberOf 32 (codes "journal") rows options.journal
 
+-- and how the capture is read
+abbrev pub IsReadingOf : List Row → Reading → Type 0
+IsReadingOf rows reading = IsSwitchOf (codes "skip-long") rows reading.skip_long
+    × IsSwitchOf (codes "pad-cut") rows reading.pad_cut
+    × IsSwitchOf (codes "allow-cut") rows reading.allow_cut
+
 -- a replay is asked for one program, and for updates only where that is an image
 abbrev pub IsOfOneProgram : List Row → Type 0
 IsOfOneProgram rows = IsFalse (are_both_given (codes "image") (codes "script") rows)
@@ -197,17 +207,25 @@ IsReadFrom name rows (Shipped out ring) = is_named name (codes "shipped")
 IsReadFrom name rows (Table script ring) = is_named name (codes "table")
     × (script.now ≡ word_of (codes "SCRIPT") rows)
     × IsNumberOf 32 (codes "ring") rows ring
-IsReadFrom name rows (Replay files options ring exact summary skip_long no_journals updates) = is_named name (codes "replay")
-    × AreReplayFiles rows files
-    × AreReplayOptions rows options
-    × IsNumberOf 32 (codes "ring") rows ring
-    × IsSwitchOf (codes "exact") rows exact
-    × IsSwitchOf (codes "summary") rows summary
-    × IsSwitchOf (codes "skip-long") rows skip_long
-    × IsSwitchOf (codes "no-journals") rows no_journals
+IsReadFrom name rows (Script capture timed) = is_named name (codes "script")
+    × (capture.now ≡ word_of (codes "CAPTURE") rows)
+    × (timed.now ≡ word_of (codes "TIMED") rows)
+IsReadFrom name rows (Compare first second) = is_named name (codes "compare")
+    × (first.now ≡ word_of (codes "FIRST") rows)
+    × (second.now ≡ word_of (codes "SECOND") rows)
+IsReadFrom name rows (Replay asked) = is_named name (codes "replay")
+    × AreReplayFiles rows asked.files
+    × AreReplayOptions rows asked.options
+    × IsNumberOf 32 (codes "ring") rows asked.ring
+    × IsSwitchOf (codes "exact") rows asked.exact
+    × IsSwitchOf (codes "summary") rows asked.summary
+    × IsReadingOf rows asked.reading
+    × IsSwitchOf (codes "no-journals") rows asked.no_journals
+    × IsSwitchOf (codes "strict") rows asked.strict
+    × IsSwitchOf (codes "no-clobber") rows asked.no_clobber
     × IsOfOneProgram rows
-    × IsFalse (no_journals && has_journals rows)
-    × AreUpdates (words_of (codes "update") rows) updates.items
+    × IsFalse (asked.no_journals && has_journals rows)
+    × AreUpdates (words_of (codes "update") rows) asked.updates.items
 
 -- what was asked for: a command, what a word means that is no fault, a replay of both an image and a script or of two images, one with
 -- updates and without an image, one with a file for journals that keep no rows, or a malformed update

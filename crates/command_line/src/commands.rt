@@ -54,23 +54,52 @@ pub enum Settings<'a> {
         /// How many slots it has.
         ring: u32,
     },
-    /// Runs the frames of a capture by some workers over shared maps, and writes those that are sent.
-    Replay {
-        files: ReplayFiles<'a>,
-        options: Options,
-        /// How many slots the lookup table of the shipped program has.
-        ring: u32,
-        /// Whether a command takes effect exactly between the frames before and after it.
-        exact: bool,
-        /// Whether lines on the error stream say what the traffic was.
-        summary: bool,
-        /// Whether records of more than 2048 bytes are skipped, in place of refusing the capture.
-        skip_long: bool,
-        /// Whether no rows of journals are kept, which then have room for 134,217,728 calls each; then no file is named for them.
-        no_journals: bool,
-        /// What is set in the image's maps before the first frame.
-        updates: Vec<MapUpdate>,
+    /// Prints the script that a timed script means for a capture.
+    Script {
+        capture: &'a str,
+        timed: &'a str,
     },
+    /// Compares the reports of two replays.
+    Compare {
+        first: &'a str,
+        second: &'a str,
+    },
+    /// Runs the frames of a capture by some workers over shared maps, and writes those that are sent.
+    Replay(ReplaySettings<'a>),
+}
+
+/// What is asked of a replay.
+#[derive(Debug, Drop)]
+pub struct ReplaySettings<'a> {
+    pub files: ReplayFiles<'a>,
+    pub options: Options,
+    /// How many slots the lookup table of the shipped program has.
+    pub ring: u32,
+    /// Whether a command takes effect exactly between the frames before and after it.
+    pub exact: bool,
+    /// Whether lines on the error stream say what the traffic was.
+    pub summary: bool,
+    pub reading: Reading,
+    /// Whether no rows of journals are kept, which then have room for 134,217,728 calls each; then no file is named for them.
+    pub no_journals: bool,
+    /// Whether a replay that leaves something out is done in part: a run that was stopped, a record that was skipped or cut, a command
+    /// behind the last record.
+    pub strict: bool,
+    /// Whether a file that is to be written must not be there.
+    pub no_clobber: bool,
+    /// What is set in the image's maps before the first frame.
+    pub updates: Vec<MapUpdate>,
+}
+
+/// How the records of a capture's file are read.
+#[derive(Clone, Copy, Debug, PartialEq, Eq)]
+pub struct Reading {
+    /// Whether records of more than 2048 bytes are skipped, in place of refusing the capture.
+    pub skip_long: bool,
+    /// Whether a record that keeps fewer bytes than its frame had is filled up with zeros.
+    pub pad_cut: bool,
+    /// Whether a capture that ends within a record is read up to there, in place of refusing it.
+    pub allow_cut: bool,
 }
 
 /// The files of a run.

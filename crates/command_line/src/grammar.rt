@@ -60,6 +60,27 @@ pub const SUMMARY: &str = "summary";
 /// Whether a replay skips the records of a capture that are too long for a frame.
 pub const SKIP_LONG: &str = "skip-long";
 
+/// Whether a replay fills up records that were cut when they were captured.
+pub const PAD_CUT: &str = "pad-cut";
+
+/// Whether a replay reads a capture that ends within a record.
+pub const ALLOW_CUT: &str = "allow-cut";
+
+/// Whether a replay that leaves something out is done in part.
+pub const STRICT: &str = "strict";
+
+/// Whether a replay writes over no file.
+pub const NO_CLOBBER: &str = "no-clobber";
+
+/// The file of a timed script.
+pub const TIMED: &str = "TIMED";
+
+/// The first of two reports.
+pub const FIRST: &str = "FIRST";
+
+/// The second of two reports.
+pub const SECOND: &str = "SECOND";
+
 /// The switch with which no rows of journals are kept.
 pub const NO_JOURNALS: &str = "no-journals";
 
@@ -224,14 +245,41 @@ table each backend has at the end, and the first ten records that went to
 another address. A frame that was cut within its packet when it
 was captured is passed, as malformed (tcpdump -s 0 keeps frames whole).
 With --report one line for each record of the capture is written to the file:
-  number,moment,worker,verdict,steps,case,backend,address
+  number,moment,worker,verdict,steps,case,backend,address,
+  source,source_port,destination,destination_port,protocol
 as CSV, or as a JSON object if the file's name ends in .json or .jsonl, in upper
 or lower case. The case is that of the steering rule; backend and address are
-where the frame was sent.
+where the frame was sent; the last five are its flow.
 A capture with a record of more than 2048 bytes is refused; with --skip-long
 such records are skipped, and a line on the standard error gives their number.
+With --pad-cut a record that was cut when it was captured has zeros up to the
+length of its frame; with --allow-cut the end of a capture may be missing.
+With --strict the status is 1 where a run was stopped, a record was skipped, cut
+or filled up, or a command comes behind the last record. With --no-clobber a
+file that is to be written and is there already is a mistake, with status 2.
 With --no-journals no rows of journals are kept: a frame costs less time and no
 memory for rows, and each shard may have 134217728 calls, whatever --journal is."
+}
+
+fn after_script<'a>() -> &'a str {
+    "\
+Prints the script, for replay --script. TIMED has the lines of a script, but the
+first word of each is a moment in place of the number of a record:
+  2026-11-28T10:03:00Z   a date and a time of day, with an offset or Z
+  1764324180.25          seconds since 1970, with up to six digits
+  +180s                  from the moment of the first record
+It becomes the number of records before the first one that is not earlier. Blank
+lines, and what follows a #, are no part of it. A moment behind the last record
+is named on the standard error."
+}
+
+fn after_compare<'a>() -> &'a str {
+    "\
+FIRST and SECOND were written by replay --report, of one capture. Prints how many
+records they have, how many of these differ in verdict, case, backend or address,
+from what to what and how often, and the first ten of them. The status is 0 where
+none differs, 1 where one does, and 2 where the files cannot be compared: one is
+no CSV, or they are not of the same records."
 }
 
 /// A file, or another word, that has to be given.
@@ -559,8 +607,9 @@ fn replay_noted<'a>(alloc: Global) -> Result<Command<'a>, AllocError>
         .arg(summary)
 }
 
-fn replay<'a>(alloc: Global) -> Result<Command<'a>, AllocError>
-    ensures app { IfOk result (λ command. app_of command ≡ line.replay_command) }
+/// The same with how the capture's records are read.
+fn replay_read<'a>(alloc: Global) -> Result<Command<'a>, AllocError>
+    ensures app { IfOk result (λ command. app_of command ≡ line.replay_read) }
     ensures local { IfOk result (λ command. (out-Command command).has_globals ≡ false) }
 {
     let skip_long = switch(
@@ -568,12 +617,77 @@ fn replay<'a>(alloc: Global) -> Result<Command<'a>, AllocError>
         SKIP_LONG,
         "Skips records of more than 2048 bytes in place of refusing the capture",
     );
+    let pad_cut = switch(
+        alloc,
+        PAD_CUT,
+        "Fills records that were cut up with zeros, to the length of their frames",
+    );
+    let allow_cut = switch(
+        alloc,
+        ALLOW_CUT,
+        "Reads a capture that ends within a record up to there",
+    );
+    replay_noted(alloc)?
+        .arg(skip_long)?
+        .arg(pad_cut)?
+        .arg(allow_cut)
+}
+
+fn replay<'a>(alloc: Global) -> Result<Command<'a>, AllocError>
+    ensures app { IfOk result (λ command. app_of command ≡ line.replay_command) }
+    ensures local { IfOk result (λ command. (out-Command command).has_globals ≡ false) }
+{
     let no_journals = switch(
         alloc,
         NO_JOURNALS,
         "Keeps no rows of journals, so that each shard may have 134217728 calls",
     );
-    replay_noted(alloc)?.arg(skip_long)?.arg(no_journals)
+    let strict = switch(
+        alloc,
+        STRICT,
+        "Ends with status 1 where a run was stopped, or a record or a command left out",
+    );
+    let no_clobber = switch(
+        alloc,
+        NO_CLOBBER,
+        "Refuses to write a file that is there already",
+    );
+    replay_read(alloc)?
+        .arg(no_journals)?
+        .arg(strict)?
+        .arg(no_clobber)
+}
+
+fn script<'a>(alloc: Global) -> Result<Command<'a>, AllocError>
+    ensures app { IfOk result (λ command. app_of command ≡ line.script_command) }
+    ensures local { IfOk result (λ command. (out-Command command).has_globals ≡ false) }
+{
+    let capture = file(alloc, CAPTURE, "The capture's file, in the pcap format");
+    let timed = file(alloc, TIMED, "The file of the timed script");
+    command(
+        alloc,
+        "script",
+        "Prints the script that a timed script means for a capture",
+        after_script(),
+    )
+    .arg(capture)?
+    .arg(timed)
+}
+
+fn compare<'a>(alloc: Global) -> Result<Command<'a>, AllocError>
+    ensures app { IfOk result (λ command. app_of command ≡ line.compare_command) }
+    ensures local { IfOk result (λ command. (out-Command command).has_globals ≡ false) }
+{
+    let first = file(alloc, FIRST, "The file of a report");
+    let second = file(alloc, SECOND, "The file of the report to compare it with");
+    command(
+        alloc,
+        "compare",
+        "Compares the reports of two replays of a capture",
+        after_compare(),
+    )
+    .arg(first)?
+    .arg(second)
 }
 
 /// The program's commands.
@@ -595,5 +709,7 @@ pub fn program<'a>(alloc: Global) -> Result<Command<'a>, AllocError>
         .subcommand(explain(alloc)?)?
         .subcommand(replay(alloc)?)?
         .subcommand(shipped(alloc)?)?
-        .subcommand(table(alloc)?)
+        .subcommand(table(alloc)?)?
+        .subcommand(script(alloc)?)?
+        .subcommand(compare(alloc)?)
 }

@@ -5,5 +5,5 @@ mod commands;
 mod grammar;
 mod words;
 
-pub use commands::{DEFAULT_RING, ReplayFiles, RunFiles, Settings};
+pub use commands::{DEFAULT_RING, Reading, ReplayFiles, ReplaySettings, RunFiles, Settings};
 pub use words::{WordsFault, settings};

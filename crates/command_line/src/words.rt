@@ -12,16 +12,17 @@ ghost use Rattle.clap.specs.Words.{Row, Text, fault_of, found_of, rows_of, subco
 ghost use Rattle.command_line.specs.CommandLine.{program};
 ghost use Rattle.command_line.specs.Reading.{IsReadFrom, IsAsked, IsBadUpdate, IsCommand, IsSwitchOf, AreRunFiles, AreUpdates};
 ghost use Rattle.command_line.specs.Reading.{IsFirstName, IsName, Says, SaysNone, Writes};
-ghost use Rattle.command_line.specs.Reading.{AreReplayFiles, AreReplayOptions, AsksInVain, IsNumberOf, IsOfOneProgram, are_both_given};
-ghost use Rattle.command_line.specs.Reading.{are_updates_alone, either, has_journals, has_updates, kind_in, text_of, word_at};
+ghost use Rattle.command_line.specs.Reading.{AreReplayFiles, AreReplayOptions, AsksInVain, IsNumberOf, IsOfOneProgram, IsReadingOf};
+ghost use Rattle.command_line.specs.Reading.{are_both_given, are_updates_alone, either, has_journals, has_updates, kind_in, text_of, word_at};
 ghost use Rattle.command_line.specs.Reading.{word_of, words_of};
 ghost use Rattle.clap.specs.declared.error.kind.ErrorKind.TheVariants.{DisplayHelp, DisplayVersion, OutOfMemory};
 
-use crate::commands::{DEFAULT_RING, ReplayFiles, RunFiles, Settings};
+use crate::commands::{DEFAULT_RING, Reading, ReplayFiles, ReplaySettings, RunFiles, Settings};
 use crate::grammar::{
-    CAPTURE, EXACT, EXPLAIN, FAULT, FRAME, IMAGE, JOURNAL, JOURNALS, JOURNALS_OUT, NO_JOURNALS,
-    NOW, OUT, PROGRAM, REPLAY_IMAGE, REPORT, RING, SCRIPT, SENT, SHARDS, SKIP_LONG, SOURCE,
-    SUMMARY, TABLE_SCRIPT, TEXT, UPDATE, WORKER, WORKERS, program,
+    ALLOW_CUT, CAPTURE, EXACT, EXPLAIN, FAULT, FIRST, FRAME, IMAGE, JOURNAL, JOURNALS,
+    JOURNALS_OUT, NO_CLOBBER, NO_JOURNALS, NOW, OUT, PAD_CUT, PROGRAM, REPLAY_IMAGE, REPORT, RING,
+    SCRIPT, SECOND, SENT, SHARDS, SKIP_LONG, SOURCE, STRICT, SUMMARY, TABLE_SCRIPT, TEXT, TIMED,
+    UPDATE, WORKER, WORKERS, program,
 };
 use clap::{ArgMatches, Error};
 use faults::Explanation;
@@ -185,6 +186,12 @@ fn asked_of<'a>(alloc: Global, name: &str, found: &ArgMatches<'a>) -> AskedWords
     if name == "table" {
         return AskedWords::Command(table_of(found));
     }
+    if name == "script" {
+        return AskedWords::Command(script_of(found));
+    }
+    if name == "compare" {
+        return AskedWords::Command(compare_of(found));
+    }
     AskedWords::Command(command_of(name, found))
 }
 
@@ -284,15 +291,28 @@ fn replay_with<'a>(
     requires updates { AreUpdates (words_of (codes "update") (rows_of (found_of found.now))) updates.items }
     ensures { IsReadFrom (codes "replay") (rows_of (found_of found.now)) result }
 {
-    Settings::Replay {
+    Settings::Replay(ReplaySettings {
         files: replay_files_of(found),
         options: options_of(found),
         ring: number_of(found, RING, DEFAULT_RING),
         exact: switch(found, EXACT),
         summary: switch(found, SUMMARY),
-        skip_long: switch(found, SKIP_LONG),
+        reading: reading_of(found),
         no_journals,
+        strict: switch(found, STRICT),
+        no_clobber: switch(found, NO_CLOBBER),
         updates,
+    })
+}
+
+/// How the records of the capture are read.
+fn reading_of(found: &ArgMatches<'_>) -> Reading
+    ensures { IsReadingOf (rows_of (found_of found.now)) result }
+{
+    Reading {
+        skip_long: switch(found, SKIP_LONG),
+        pad_cut: switch(found, PAD_CUT),
+        allow_cut: switch(found, ALLOW_CUT),
     }
 }
 
@@ -357,6 +377,26 @@ fn table_of<'a>(found: &ArgMatches<'a>) -> Settings<'a>
     }
 }
 
+/// The settings of the command that prints the script of a timed one.
+fn script_of<'a>(found: &ArgMatches<'a>) -> Settings<'a>
+    ensures { IsReadFrom (codes "script") (rows_of (found_of found.now)) result }
+{
+    Settings::Script {
+        capture: word(found, CAPTURE),
+        timed: word(found, TIMED),
+    }
+}
+
+/// The settings of the command that compares two reports.
+fn compare_of<'a>(found: &ArgMatches<'a>) -> Settings<'a>
+    ensures { IsReadFrom (codes "compare") (rows_of (found_of found.now)) result }
+{
+    Settings::Compare {
+        first: word(found, FIRST),
+        second: word(found, SECOND),
+    }
+}
+
 /// The files of a replay.
 fn replay_files_of<'a>(found: &ArgMatches<'a>) -> ReplayFiles<'a>
     ensures { AreReplayFiles (rows_of (found_of found.now)) result }
@@ -404,7 +444,7 @@ fn switch(found: &ArgMatches<'_>, id: &str) -> bool
     found.get_flag(id)
 }
 
-/// The command of a name, except `run`, `explain`, `replay`, `shipped` and `table`, with its words.
+/// The command of a name, except those that have a function of their own, with its words.
 fn command_of<'a>(name: &str, found: &ArgMatches<'a>) -> Settings<'a>
     requires command { IsCommand name.now }
     requires run { IsFalse (bytes_eq name.now (codes "run")) }
@@ -412,6 +452,8 @@ fn command_of<'a>(name: &str, found: &ArgMatches<'a>) -> Settings<'a>
     requires replay { IsFalse (bytes_eq name.now (codes "replay")) }
     requires shipped { IsFalse (bytes_eq name.now (codes "shipped")) }
     requires table { IsFalse (bytes_eq name.now (codes "table")) }
+    requires script { IsFalse (bytes_eq name.now (codes "script")) }
+    requires compare { IsFalse (bytes_eq name.now (codes "compare")) }
     ensures { IsReadFrom name.now (rows_of (found_of found.now)) result }
 {
     if name == "check" {

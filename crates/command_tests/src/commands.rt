@@ -9,6 +9,8 @@ mod audits;
 mod changed_captures;
 mod checked_sources;
 mod clashes;
+mod comparisons;
+mod cut_captures;
 mod devices;
 mod explained;
 mod failing_devices;
@@ -25,6 +27,7 @@ mod run_journals;
 mod shipped;
 mod sources;
 mod tables;
+mod timed;
 mod updates;
 mod weak_devices;
 

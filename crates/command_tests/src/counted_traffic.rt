@@ -1,6 +1,7 @@
 //! Kinds of frames, the summary of a capture of them and of what was sent, and lookup tables.
 
 mod long_records;
+mod readings;
 
 use crate::asserting::{holds_of, same_text};
 use control::parse_script;
@@ -179,32 +180,50 @@ const SHORT_LINE: RecordLine = RecordLine {
     address: None,
 };
 
-/// The form, the line and its text.
-type Line = (ReportForm, RecordLine, &'static str);
+/// A datagram of UDP from 198.51.100.7, port 40000, to 203.0.113.1, port 80.
+#[rattlefmt::skip]
+const REPORTED: &[u8] = &[
+    2, 0, 0, 0, 0, 1, 2, 0, 0, 0, 0, 2, 8, 0, 0x45, 0, 0, 28, 0, 1, 0, 0, 64, 17, 0x14, 0x94, 198, 51, 100, 7, 203, 0, 113, 1,
+    0x9c, 0x40, 0, 80, 0, 8, 0, 0,
+];
 
-const LINES: [Line; 4] = [
+/// The form, the line, its frame and its text.
+type Line = (ReportForm, RecordLine, &'static [u8], &'static str);
+
+static LINES: [Line; 4] = [
     (
         ReportForm::Csv,
         SENT_LINE,
-        "4,5.000012,2,TX,131,sent,7,192.0.2.1\n",
+        REPORTED,
+        "4,5.000012,2,TX,131,sent,7,192.0.2.1,198.51.100.7,40000,203.0.113.1,80,udp\n",
     ),
-    (ReportForm::Csv, SHORT_LINE, "1,0.999999,,SHORT,,,,\n"),
+    (
+        ReportForm::Csv,
+        SHORT_LINE,
+        &[],
+        "1,0.999999,,SHORT,,,,,,,,,\n",
+    ),
     (
         ReportForm::Json,
         SENT_LINE,
-        "{\"number\":4,\"moment\":\"5.000012\",\"worker\":2,\"verdict\":\"TX\",\"steps\":131,\"case\":\"sent\",\"backend\":7,\"address\":\"192.0.2.1\"}\n",
+        REPORTED,
+        "{\"number\":4,\"moment\":\"5.000012\",\"worker\":2,\"verdict\":\"TX\",\"steps\":131,\"case\":\"sent\",\"backend\":7,\
+        \"address\":\"192.0.2.1\",\"source\":\"198.51.100.7\",\"source_port\":40000,\"destination\":\"203.0.113.1\",\
+        \"destination_port\":80,\"protocol\":\"udp\"}\n",
     ),
     (
         ReportForm::Json,
         SHORT_LINE,
-        "{\"number\":1,\"moment\":\"0.999999\",\"worker\":null,\"verdict\":\"SHORT\",\"steps\":null,\"case\":null,\"backend\":null,\"address\":null}\n",
+        &[],
+        "{\"number\":1,\"moment\":\"0.999999\",\"worker\":null,\"verdict\":\"SHORT\",\"steps\":null,\"case\":null,\"backend\":null,\
+        \"address\":null,\"source\":null,\"source_port\":null,\"destination\":null,\"destination_port\":null,\"protocol\":null}\n",
     ),
 ];
 
 /// Compares the text of a line.
 fn compare_line(rt: &impl Abort, alloc: Global, line: &Line) {
-    let text = line.0.line(alloc, &line.1).expect(rt, "a line");
-    same_text(rt, "a line", text.as_str(), line.2);
+    let text = line.0.line(alloc, &line.1, line.2).expect(rt, "a line");
+    same_text(rt, "a line", text.as_str(), line.3);
 }
 
 #[test]

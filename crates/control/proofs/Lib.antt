@@ -3,4 +3,5 @@ pub mod Words
 pub mod Scripts
 pub mod Serving
 pub mod Backends
+pub mod Renumbered
 pub mod Updates

@@ -293,7 +293,7 @@ impl Controller {
     }
 
     /// The law of the ring: it is a function of the backends that are up alone. Two controllers of one size with the same backends up have
-    /// one table, so that both choose alike for a flow without a note.
+    /// one table.
     pub fn same_ring(&self, other: &Controller)
         ensures { self.now.size ≡ other.now.size → self.now.up ≡ other.now.up → self.now.owners ≡ other.now.owners }
     {

@@ -1,7 +1,8 @@
 //! What the types of a command's numbers say of them. The functions do nothing: each brings the fact that it is named after.
 
 ghost use Rattle.std.specs.Prelude.{◌<◌, ◌^◌};
-ghost use Rattle.control.specs.ScriptText.{AreBytes, ActionFits, CommandFits, IsScriptText, script_text};
+ghost use Rattle.std.specs.List.{AllByRecursion};
+ghost use Rattle.control.specs.ScriptText.{AreBytes, ActionFits, CommandFits, IsScriptText, NeverFalls, script_text};
 
 use crate::command::{Action, Command, Script};
 use wire::{Ipv4Address, MacAddress};
@@ -63,4 +64,18 @@ pub(crate) fn script_is_of_its_text(script: &Script)
     ensures { IsScriptText (script_text script.now) script.now }
 {
     let _commands = script.commands.len();
+}
+
+/// The frames of the script's commands never fall.
+pub fn commands_never_fall(script: &Script)
+    ensures { NeverFalls 0 script.now }
+{
+    script_is_of_its_text(script);
+}
+
+/// Each number of the script's commands fits its field.
+pub fn commands_fit(script: &Script)
+    ensures { AllByRecursion CommandFits script.now }
+{
+    script_is_of_its_text(script);
 }

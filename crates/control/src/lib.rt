@@ -9,6 +9,7 @@ mod fault;
 mod parsing;
 mod printing;
 mod reading;
+mod renumbering;
 mod ring_changes;
 mod sending;
 mod update;
@@ -17,6 +18,7 @@ mod update_port;
 
 pub use command::{Action, Command, Script};
 pub use controller::Controller;
+pub use facts::{commands_fit, commands_never_fall};
 pub use fault::ControlFault;
 pub use parsing::{parse_script, round_trip};
 pub use printing::transport_text;

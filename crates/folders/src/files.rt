@@ -350,6 +350,8 @@ impl<R: Files<File = File> + Alloc, I: Read, O: Write> Folder for FileFolder<'_,
 
     ghost are_one = { λ _ _ _. Unit {0} };
 
+    ghost has = { λ _ _ _. Unit {0} };
+
     ghost is_left = { λ _ _. Unit {0} };
 
     ghost most_left = { λ folder. 2 ^ 40 - folder.given };
@@ -436,6 +438,13 @@ impl<R: Files<File = File> + Alloc, I: Read, O: Write> Folder for FileFolder<'_,
 
     fn is_same(&self, name: &str, other: &str) -> bool {
         name == other || is_one_file(self.rt, name, other)
+    }
+
+    fn has(&self, name: &str) -> bool {
+        match fs::metadata(self.rt, name) {
+            Ok(found) => name != STANDARD_OUTPUT && found.is_file(),
+            Err(_) => false,
+        }
     }
 
     fn failures(&self) -> u64 {

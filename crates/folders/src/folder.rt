@@ -1,7 +1,7 @@
 //! Files by their names, whole and in pieces.
 
 ghost use Rattle.std.specs.Prelude.{◌≡◌, ◌≢◌, ℕ, ◌+◌, ◌-◌, ◌^◌, ◌<◌, ◌≤◌, ◌==◌, ◌++◌, [], List, length, take};
-ghost use Rattle.std.specs.Prelude.{IfOk, IfErr, OnOk, OnErr, ◌↔◌, IsErrOf, IsTrue};
+ghost use Rattle.std.specs.Prelude.{Bool, IfOk, IfErr, OnOk, OnErr, ◌↔◌, IsErrOf, IsTrue};
 ghost use Rattle.folders.specs.Fronts.{HasFront, IsFrontOf};
 ghost use Rattle.folders.specs.Pieces.{IsOpened, IsPiece};
 
@@ -64,6 +64,9 @@ pub trait Folder {
 
     /// Two names are those of one file; any two may be where the type does not say it.
     ghost are_one: { Self → List ℕ → List ℕ → Type 0 };
+
+    /// Whether a file of a name is there; either may be where the type does not say.
+    ghost has: { Self → List ℕ → Bool → Type 0 };
 
     /// These bytes are left of the file that is read in pieces; any may be where the type does not say.
     ghost is_left: { Self → List ℕ → Type 0 };
@@ -183,6 +186,10 @@ pub trait Folder {
     fn is_same(&self, name: &str, other: &str) -> bool
         ensures one { IsTrue result → are_one self.now name.now other.now }
         ensures itself { name.now ≡ other.now → IsTrue result };
+
+    /// Whether an ordinary file of this name is there now, which a file that is made under this name would replace.
+    fn has(&self, name: &str) -> bool
+        ensures { has self.now name.now result };
 
     /// How many calls of this folder failed so far.
     fn failures(&self) -> u64

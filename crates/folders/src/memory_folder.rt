@@ -1,6 +1,6 @@
 //! Files in memory, whose bytes contracts know.
 
-ghost use Rattle.std.specs.Prelude.{◌≡◌, ◌-◌, ◌≤◌, ℕ, List, Some, None, IsSomeAnd, option_map, take, drop, length, string_bytes};
+ghost use Rattle.std.specs.Prelude.{◌≡◌, ◌-◌, ◌≤◌, ℕ, List, Some, None, IsSomeAnd, is_some, option_map, take, drop, length, string_bytes};
 ghost use Rattle.std.specs.BTreeMap.{get_by_text};
 
 use crate::folder::{Folder, FolderFault, Front};
@@ -48,6 +48,8 @@ impl Folder for MemoryFolder {
     ghost holds = { λ folder name bytes. option_map (λ v. v.items) (get_by_text folder.files name) ≡ Some bytes };
 
     ghost are_one = { λ _ name other. name ≡ other };
+
+    ghost has = { λ folder name answer. answer ≡ is_some (get_by_text folder.files name) };
 
     ghost is_left = { λ folder bytes. bytes ≡ drop folder.given folder.opened.items };
 
@@ -165,6 +167,10 @@ impl Folder for MemoryFolder {
 
     fn is_same(&self, name: &str, other: &str) -> bool {
         name == other
+    }
+
+    fn has(&self, name: &str) -> bool {
+        self.files.get(name).is_some()
     }
 
     fn failures(&self) -> u64 {

@@ -62,7 +62,7 @@ met_behind : (plan : ℕ → ShardPlan) (newer older : List Deed) (deed : Deed) 
 met_behind plan [] older deed met = met.0
 met_behind plan (first ∷ newer) older deed met = met_behind plan newer older deed met.1
 
-turned : (earlier later : List Deed) (deed : Deed) → reverse (earlier ++ deed ∷ later) ≡ reverse later ++ deed ∷ reverse earlier
+pub turned : (earlier later : List Deed) (deed : Deed) → reverse (earlier ++ deed ∷ later) ≡ reverse later ++ deed ∷ reverse earlier
 turned earlier later deed =
     reverse-append earlier (deed ∷ later) ∙ ap (λ (list : List Deed). list ++ reverse earlier) (reverse-cons deed later)
     ∙ append_assoc (reverse later) (deed ∷ []) (reverse earlier)

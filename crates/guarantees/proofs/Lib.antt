@@ -40,3 +40,5 @@ pub mod SizedUpdates
 pub mod DeedAnswers
 pub mod OneReplay
 pub mod MergeCalls
+pub mod RunsAlone
+pub mod AskedAlone

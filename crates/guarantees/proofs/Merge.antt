@@ -412,27 +412,33 @@ at_place setting plan count journal moves deeds earlier later entry system rest 
     ap (history_of system) (numbered setting shard (plan shard) known) ∙ stands.histories shard within in
     record { known = known; step = subst (λ (list : List Entry). IsLegalStep (plan shard) list entry) (sym history) step }
 
+-- where the order stands behind what one that is no worker wrote
+behind_entry : (setting : Setting) (count : ℕ) (deeds earlier later : List Deed) (entry : Entry) (system : SystemState) (rest : ℕ → List Move)
+    (ends : ℕ → List Ending) → Stands setting count deeds earlier (Wrote entry ∷ later) system rest ends →
+    ((worker : ℕ) → is_deed_by worker (Wrote entry) ≡ false) →
+    Stands setting count deeds (earlier ++ Wrote entry ∷ []) later (with_entry system (shard_of_call entry.call) entry) rest ends
+behind_entry setting count deeds earlier later entry system rest ends stands not_theirs = record {
+  split = stands.split ∙ sym (append_assoc earlier (Wrote entry ∷ []) later);
+  within = stands.within.1;
+  eight = stands.eight;
+  shards = asked_shards system (Writes entry) ∙ stands.shards;
+  histories = after_entry count earlier system (with_entry system (shard_of_call entry.call) entry) entry stands.shards stands.within.0 stands.histories refl;
+  walks = stands.walks;
+  own = λ worker below. stands.own worker below
+      ∙ ap (λ (test : Bool). cond test (Wrote entry ∷ filter (is_deed_by worker) later) (filter (is_deed_by worker) later)) (not_theirs worker);
+  none = stands.none;
+}
+
 by_nobody : (setting : Setting) (plan : ℕ → ShardPlan) (count : ℕ) (deeds earlier later : List Deed) (entry : Entry) (event : SystemEvent)
     (system : SystemState) (rest : ℕ → List Move) (ends : ℕ → List Ending) → Stands setting count deeds earlier (Wrote entry ∷ later) system rest ends →
     CanHappen setting system event → after_event setting system event ≡ with_entry system (shard_of_call entry.call) entry →
     IsHeardSo setting plan system event (Wrote entry ∷ later) later → ((worker : ℕ) → is_deed_by worker (Wrote entry) ≡ false) →
     MergesFrom setting plan count deeds (earlier ++ Wrote entry ∷ []) later → Merged setting plan count deeds (Wrote entry ∷ later) system rest ends
 by_nobody setting plan count deeds earlier later entry event system rest ends stands can leads is not_theirs onward =
-    let after : SystemState = with_entry system (shard_of_call entry.call) entry in
     go_by setting plan count deeds (Wrote entry ∷ later) later system rest ends event (entry ∷ []) can (ap (λ (here : SystemState). here.histories) leads) refl is
     (subst (λ (here : SystemState). Merged setting plan count deeds later here rest ends) (sym leads)
-    (onward after rest ends
-    (record {
-      split = stands.split ∙ sym (append_assoc earlier (Wrote entry ∷ []) later);
-      within = stands.within.1;
-      eight = stands.eight;
-      shards = asked_shards system (Writes entry) ∙ stands.shards;
-      histories = after_entry count earlier system after entry stands.shards stands.within.0 stands.histories refl;
-      walks = stands.walks;
-      own = λ worker below. stands.own worker below
-          ∙ ap (λ (test : Bool). cond test (Wrote entry ∷ filter (is_deed_by worker) later) (filter (is_deed_by worker) later)) (not_theirs worker);
-      none = stands.none;
-    })))
+    (onward (with_entry system (shard_of_call entry.call) entry) rest ends
+    (behind_entry setting count deeds earlier later entry system rest ends stands not_theirs)))
 
 -- ---- every deed
 
@@ -440,6 +446,37 @@ written_by : (who one : Caller) (plan : ℕ → ShardPlan) (entry : Entry) (test
     is_heard plan who (Wrote entry) ≡ test
 written_by who one plan entry true is by = ap (λ (other : Caller). is_caller who other && true) is ∙ ap (λ (own : Bool). own && true) by
 written_by who one plan entry false is by = ap (λ (other : Caller). is_caller who other && true) is ∙ ap (λ (own : Bool). own && true) by
+
+-- what the controller wrote is its event
+record IsControlled (setting : Setting) (plan : ℕ → ShardPlan) (system : SystemState) (entry : Entry) (later : List Deed) : Type 0 where
+  can : CanHappen setting system (Controls entry.call)
+  leads : after_event setting system (Controls entry.call) ≡ with_entry system (shard_of_call entry.call) entry
+  heard : IsHeardSo setting plan system (Controls entry.call) (Wrote entry ∷ later) later
+  not_theirs : (worker : ℕ) → is_deed_by worker (Wrote entry) ≡ false
+
+controls_so : (setting : Setting) (plan : ℕ → ShardPlan) (count : ℕ) (journal : ℕ → List Entry) (moves : ℕ → List Move) (deeds earlier later : List Deed)
+    (entry : Entry) (system : SystemState) (rest : ℕ → List Move) (ends : ℕ → List Ending) → IsOrderOfMoves setting plan count journal moves deeds →
+    Stands setting count deeds earlier (Wrote entry ∷ later) system rest ends → entry.who ≡ Controller → IsControlled setting plan system entry later
+controls_so setting plan count journal moves deeds earlier later entry system rest ends order stands is =
+    let place = at_place setting plan count journal moves deeds earlier later entry system rest ends order stands in
+    let own = heard_more plan Controller (Wrote entry) later (written_by Controller Controller plan entry true is refl) in
+    record {
+      can = (
+        controller_changes_keys (plan (shard_of_call entry.call)) (history_of system (plan (shard_of_call entry.call)).number) entry.call
+            (subst (λ (one : Caller). IsTrue (meets (plan (shard_of_call entry.call)) (history_of system (plan (shard_of_call entry.call)).number) one entry.call))
+            is place.step.step.met),
+        may_call setting (plan (shard_of_call entry.call)) system entry Controller is place,
+      );
+      leads = served setting (plan (shard_of_call entry.call)) system entry Controller is place;
+      heard = record {
+        nobody = λ worker. refl;
+        calls = ap (map call_of_deed) (sym own);
+        answers = ap (λ (one : Option Reply). one ∷ map answer_of_deed (heard plan Controller later))
+            (answer_served setting (plan (shard_of_call entry.call)) system entry Controller is place) ∙ ap (map answer_of_deed) (sym own);
+        rounds = ap (map shard_of_deed) (sym (heard_less plan Reclaimer (Wrote entry) later (written_by Reclaimer Controller plan entry false is refl)));
+      };
+      not_theirs = λ worker. ap (is_worker worker) is;
+    }
 
 wrote : (setting : Setting) (plan : ℕ → ShardPlan) (count : ℕ) (journal : ℕ → List Entry) (moves : ℕ → List Move) (deeds earlier later : List Deed)
     (entry : Entry) (system : SystemState) (rest : ℕ → List Move) (ends : ℕ → List Ending) → IsOrderOfMoves setting plan count journal moves deeds →
@@ -460,23 +497,8 @@ wrote setting plan count journal moves deeds earlier later entry system rest end
     (λ after same. after_entry count earlier system after entry stands.shards stands.within.0 stands.histories same)
     onward
 wrote setting plan count journal moves deeds earlier later entry system rest ends order stands onward Controller is =
-    let place = at_place setting plan count journal moves deeds earlier later entry system rest ends order stands in
-    let own = heard_more plan Controller (Wrote entry) later (written_by Controller Controller plan entry true is refl) in
-    by_nobody setting plan count deeds earlier later entry (Controls entry.call) system rest ends stands (
-      controller_changes_keys (plan (shard_of_call entry.call)) (history_of system (plan (shard_of_call entry.call)).number) entry.call
-          (subst (λ (one : Caller). IsTrue (meets (plan (shard_of_call entry.call)) (history_of system (plan (shard_of_call entry.call)).number) one entry.call))
-          is place.step.step.met),
-      may_call setting (plan (shard_of_call entry.call)) system entry Controller is place,
-    )
-    (served setting (plan (shard_of_call entry.call)) system entry Controller is place)
-    (record {
-      nobody = λ worker. refl;
-      calls = ap (map call_of_deed) (sym own);
-      answers = ap (λ (one : Option Reply). one ∷ map answer_of_deed (heard plan Controller later))
-          (answer_served setting (plan (shard_of_call entry.call)) system entry Controller is place) ∙ ap (map answer_of_deed) (sym own);
-      rounds = ap (map shard_of_deed) (sym (heard_less plan Reclaimer (Wrote entry) later (written_by Reclaimer Controller plan entry false is refl)));
-    })
-    (λ worker. ap (is_worker worker) is) onward
+    let so = controls_so setting plan count journal moves deeds earlier later entry system rest ends order stands is in
+    by_nobody setting plan count deeds earlier later entry (Controls entry.call) system rest ends stands so.can so.leads so.heard so.not_theirs onward
 wrote setting plan count journal moves deeds earlier later entry system rest ends order stands onward Reclaimer is =
     let place = at_place setting plan count journal moves deeds earlier later entry system rest ends order stands in
     let shard : ℕ = shard_of_call entry.call in
@@ -628,6 +650,41 @@ merge setting plan count journal moves deeds order (MetFull who call ∷ later) 
     met_full setting plan count journal moves deeds earlier later who call system rest ends order stands
     (merge setting plan count journal moves deeds order later (earlier ++ MetFull who call ∷ []))
 
+-- ---- what the controller wrote before all others is first among the events
+
+abbrev pub IsFirstOf : List Entry → List SystemEvent → Type 0
+IsFirstOf set events = (later : List SystemEvent) × (events ≡ map (λ (entry : Entry). Controls entry.call) set ++ later)
+
+record MergedBehind (setting : Setting) (plan : ℕ → ShardPlan) (count : ℕ) (deeds : List Deed) (set : List Entry) (later : List Deed)
+    (system : SystemState) (rest : ℕ → List Move) (ends : ℕ → List Ending) : Type 0 where
+  merged : Merged setting plan count deeds (map (λ (entry : Entry). Wrote entry) set ++ later) system rest ends
+  first : IsFirstOf set merged.events
+
+merge_behind : (setting : Setting) (plan : ℕ → ShardPlan) (count : ℕ) (journal : ℕ → List Entry) (moves : ℕ → List Move) (deeds : List Deed) →
+    IsOrderOfMoves setting plan count journal moves deeds → (later : List Deed) (set : List Entry) →
+    AllByRecursion (λ (entry : Entry). entry.who ≡ Controller) set → (earlier : List Deed) (system : SystemState) (rest : ℕ → List Move)
+    (ends : ℕ → List Ending) → Stands setting count deeds earlier (map (λ (entry : Entry). Wrote entry) set ++ later) system rest ends →
+    MergedBehind setting plan count deeds set later system rest ends
+unfolding go_by
+merge_behind setting plan count journal moves deeds order later [] all earlier system rest ends stands =
+    let merged : Merged setting plan count deeds later system rest ends =
+    merge setting plan count journal moves deeds order later earlier system rest ends stands in
+    record { merged = merged; first = (merged.events, refl) }
+merge_behind setting plan count journal moves deeds order later (entry ∷ set) all earlier system rest ends stands =
+    let more : List Deed = map (λ (one : Entry). Wrote one) set ++ later in
+    let so = controls_so setting plan count journal moves deeds earlier more entry system rest ends order stands all.0 in
+    let onward : MergedBehind setting plan count deeds set later (with_entry system (shard_of_call entry.call) entry) rest ends =
+    merge_behind setting plan count journal moves deeds order later set all.1 (earlier ++ Wrote entry ∷ [])
+    (with_entry system (shard_of_call entry.call) entry) rest ends
+    (behind_entry setting count deeds earlier more entry system rest ends stands so.not_theirs) in
+    let there : MergedBehind setting plan count deeds set later (after_event setting system (Controls entry.call)) rest ends =
+    subst (λ (here : SystemState). MergedBehind setting plan count deeds set later here rest ends) (sym so.leads) onward in
+    record {
+      merged = go_by setting plan count deeds (Wrote entry ∷ more) more system rest ends (Controls entry.call) (entry ∷ []) so.can
+          (ap (λ (here : SystemState). here.histories) so.leads) refl so.heard there.merged;
+      first = (there.first.0, ap (λ (list : List SystemEvent). Controls entry.call ∷ list) there.first.1);
+    }
+
 -- ---- from the opening on
 
 -- one list of events, with what comes of it
@@ -639,25 +696,29 @@ pub record IsListWithEnds (setting : Setting) (plan : ℕ → ShardPlan) (count 
   pub answers : answered setting (opening_system setting) list.events ≡ map answer_of_deed (heard plan Controller deeds)
   pub gone_over : reclaimed list.events ≡ map shard_of_deed (heard plan Reclaimer deeds)
 
-pub one_list_with_ends : (setting : Setting) (plan : ℕ → ShardPlan) (count : ℕ) (journal : ℕ → List Entry) (moves : ℕ → List Move)
+abbrev IsMergedWhole : Setting → (ℕ → ShardPlan) → ℕ → (ℕ → List Move) → (ℕ → List Ending) → List Deed → Type 0
+IsMergedWhole setting plan count moves ends deeds = Merged setting plan count deeds deeds (opening_system setting) moves ends
+
+opened_stands : (setting : Setting) (plan : ℕ → ShardPlan) (count : ℕ) (journal : ℕ → List Entry) (moves : ℕ → List Move)
     (ends : ℕ → List Ending) (deeds : List Deed) → IsOrderOfMoves setting plan count journal moves deeds →
     ((worker : ℕ) → Walk setting count worker Idle (moves worker) (ends worker)) →
-    IsListWithEnds setting plan count journal moves ends deeds
-one_list_with_ends setting plan count journal moves ends deeds order walks =
-    let opening : SystemState = opening_system setting in
-    let merged : Merged setting plan count deeds deeds opening moves ends =
-    merge setting plan count journal moves deeds order deeds [] opening moves ends
-    (record {
-      split = refl;
-      within = order.within;
-      eight = length-replicate 8 Idle;
-      shards = length-replicate (length setting.maps * setting.options.shards) [] ∙ sym order.count_is;
-      histories = λ number below. same_everywhere (length setting.maps * setting.options.shards) number [];
-      walks = λ worker. subst (λ (state : WorkerState). Walk setting count worker state (moves worker) (ends worker)) (sym (same_everywhere 8 worker Idle))
-          (walks worker);
-      own = order.own;
-      none = order.of_others;
-    }) in
+    Stands setting count deeds [] deeds (opening_system setting) moves ends
+opened_stands setting plan count journal moves ends deeds order walks = record {
+  split = refl;
+  within = order.within;
+  eight = length-replicate 8 Idle;
+  shards = length-replicate (length setting.maps * setting.options.shards) [] ∙ sym order.count_is;
+  histories = λ number below. same_everywhere (length setting.maps * setting.options.shards) number [];
+  walks = λ worker. subst (λ (state : WorkerState). Walk setting count worker state (moves worker) (ends worker)) (sym (same_everywhere 8 worker Idle))
+      (walks worker);
+  own = order.own;
+  none = order.of_others;
+}
+
+abbrev with_ends_of : (setting : Setting) (plan : ℕ → ShardPlan) (count : ℕ) (journal : ℕ → List Entry) (moves : ℕ → List Move)
+    (ends : ℕ → List Ending) (deeds : List Deed) → IsOrderOfMoves setting plan count journal moves deeds →
+    IsMergedWhole setting plan count moves ends deeds → IsListWithEnds setting plan count journal moves ends deeds
+with_ends_of setting plan count journal moves ends deeds order merged =
     let all = listed setting [] merged.events merged.last tt merged.happen in
     let same : reverse merged.events ++ [] ≡ reverse merged.events = append-nil (reverse merged.events) in
     let whole = subst (λ (list : List SystemEvent). IsListed setting list merged.last) same all in
@@ -676,6 +737,33 @@ one_list_with_ends setting plan count journal moves ends deeds order walks =
       answers = merged.answers;
       gone_over = merged.gone_over;
     }
+
+pub one_list_with_ends : (setting : Setting) (plan : ℕ → ShardPlan) (count : ℕ) (journal : ℕ → List Entry) (moves : ℕ → List Move)
+    (ends : ℕ → List Ending) (deeds : List Deed) → IsOrderOfMoves setting plan count journal moves deeds →
+    ((worker : ℕ) → Walk setting count worker Idle (moves worker) (ends worker)) →
+    IsListWithEnds setting plan count journal moves ends deeds
+one_list_with_ends setting plan count journal moves ends deeds order walks =
+    with_ends_of setting plan count journal moves ends deeds order
+    (merge setting plan count journal moves deeds order deeds [] (opening_system setting) moves ends
+    (opened_stands setting plan count journal moves ends deeds order walks))
+
+-- where the controller wrote these entries before all other deeds, their events are the first
+pub record IsListBehind (setting : Setting) (plan : ℕ → ShardPlan) (count : ℕ) (journal : ℕ → List Entry) (moves : ℕ → List Move)
+    (ends : ℕ → List Ending) (set : List Entry) (later : List Deed) : Type 0 where
+  pub whole : IsListWithEnds setting plan count journal moves ends (map (λ (entry : Entry). Wrote entry) set ++ later)
+  pub first : IsFirstOf set whole.list.events
+
+pub one_list_behind : (setting : Setting) (plan : ℕ → ShardPlan) (count : ℕ) (journal : ℕ → List Entry) (moves : ℕ → List Move)
+    (ends : ℕ → List Ending) (set : List Entry) (later : List Deed) → AllByRecursion (λ (entry : Entry). entry.who ≡ Controller) set →
+    IsOrderOfMoves setting plan count journal moves (map (λ (entry : Entry). Wrote entry) set ++ later) →
+    ((worker : ℕ) → Walk setting count worker Idle (moves worker) (ends worker)) →
+    IsListBehind setting plan count journal moves ends set later
+one_list_behind setting plan count journal moves ends set later all order walks =
+    let deeds : List Deed = map (λ (entry : Entry). Wrote entry) set ++ later in
+    let behind : MergedBehind setting plan count deeds set later (opening_system setting) moves ends =
+    merge_behind setting plan count journal moves deeds order later set all [] (opening_system setting) moves ends
+    (opened_stands setting plan count journal moves ends deeds order walks) in
+    record { whole = with_ends_of setting plan count journal moves ends deeds order behind.merged; first = behind.first }
 
 pub one_order_is_one_list : OneOrderIsOneList
 one_order_is_one_list setting plan count journal moves deeds order =

@@ -1,33 +1,28 @@
 -- One worker's own order is an order of all deeds.
-use Rattle.std.proofs.Common.{◌≡◌, ◌≢◌, ⊎_elim, ℕ, ◌<◌, ◌≤◌, ◌==◌, Bool, true, false, cond, List, [], ◌∷◌, ◌++◌, reverse, refl, sym, ◌∙◌, ap, subst, arith}
+use Rattle.std.proofs.Common.{◌≡◌, ◌≢◌, ⊎_elim, ℕ, ◌*◌, ◌<◌, ◌≤◌, ◌==◌, Bool, true, false, cond, List, [], ◌∷◌, ◌++◌, length, reverse, Some, refl, sym, ◌∙◌, ap, subst, arith}
 use Rattle.std.specs.Prelude.{filter, map, IsFalse}
 use Rattle.std.specs.List.{AllByRecursion}
 use Rattle.std.proofs.lemmas.Bool.{cases_eq, ne_eqb, eqb-true}
 use Rattle.std.proofs.lemmas.Bool.Decides.{nat_tests}
 use Rattle.std.proofs.lemmas.List.Elements.{filter-append}
-use Rattle.semantics.specs.MachineState.{MachineState, initial_state}
 use Rattle.semantics.specs.declared.call.Caller.{Caller}
 use Rattle.semantics.specs.declared.call.Caller.TheVariants.{Worker, Controller, Reclaimer}
 use Rattle.semantics.specs.declared.call.Entry.{Entry}
 use Rattle.semantics.specs.declared.plan.ShardPlan.{ShardPlan}
 use Rattle.semantics.specs.Reclamation.{is_worker}
 use Rattle.semantics.specs.History.{IsLegalJournal}
-use Rattle.semantics.specs.System.{Setting, WorkerState, Idle, Runs, run_over, input_frame}
+use Rattle.semantics.specs.ShardPlan.{plan_at, AreOptions}
+use Rattle.semantics.specs.System.{Setting, WorkerState, Idle, run_over}
 use Rattle.shards.specs.declared.deeds.Deed.{Deed}
 use Rattle.shards.specs.declared.deeds.Deed.TheVariants.{Wrote, MetFull}
-use Rattle.shards.specs.Deeds.{shard_of_deed, is_of_shard, entries_made, AreMet, AreDeedsWithin}
-use Rattle.shard_port.specs.PassDeeds.{rising}
-use Rattle.shard_port.specs.PassSessions.{session_at}
-use Rattle.guarantees.specs.Steps.{begins, does, InRun, running, AreStepsOfRun, beginning, leavings, entries_on}
+use Rattle.shards.specs.Deeds.{shard_of_deed, caller_of_deed, is_of_shard, entries_made, AreMet, AreDeedsWithin}
+use Rattle.guarantees.specs.Steps.{InRun, running, AreStepsOfRun, leavings}
 use Rattle.guarantees.specs.Steps.{AskedOfShard, Nothing, Writes, Refused, Move, IsStep, RunBegins, RunGoesOn, RunEnds, CallIsServed, ShardIsEntered, CallIsRefused, EnterIsRefused, ShardIsLeft, AreSteps, entries_in, deeds_asked, deeds_in}
-use Rattle.guarantees.specs.Merging.{is_refusal, NoneRefused, moves_of, IsOneList, OneWorkerIsOneList}
-use Rattle.guarantees.specs.Merging.{IsSetBefore, set_and_done, RunAloneIsOneList}
+use Rattle.guarantees.specs.Merging.{is_refusal, NoneRefused, moves_of, IsOrderOfMoves, IsOneList, IsSetBefore, set_and_done, OneWorkerIsOneList}
 use Rattle.guarantees.proofs.DeedLemmas.{is_deed_by}
 use Rattle.guarantees.proofs.EveryEntry.{all_both, all_reverse}
 use Rattle.guarantees.proofs.Merge.{one_order_is_one_list}
 use Rattle.guarantees.proofs.MergeEvents.{entries_are}
-use Rattle.guarantees.proofs.Leaving.{all_leave}
-use Rattle.guarantees.proofs.EventLemmas.{Reaches, Exited, reached, append_on, whole_session}
 
 -- ---- an idle worker that takes a step is one of the options
 
@@ -51,10 +46,10 @@ none_past setting count worker (move ∷ moves) after past steps =
 
 -- ---- what a step does is its worker's, on one of the shards
 
-abbrev IsOwnDeed : ℕ → ℕ → Deed → Type 0
+abbrev pub IsOwnDeed : ℕ → ℕ → Deed → Type 0
 IsOwnDeed count worker deed = (shard_of_deed deed < count) × (is_deed_by worker deed ≡ true)
 
-its_own : (worker : ℕ) → (worker == worker) ≡ true
+pub its_own : (worker : ℕ) → (worker == worker) ≡ true
 its_own worker = grind (arith, nat_tests)
 
 own_deeds : (setting : Setting) (count worker : ℕ) (before : WorkerState) (move : Move) (after : WorkerState) →
@@ -69,7 +64,7 @@ own_deeds setting count worker before move after (CallIsRefused state entered ca
 own_deeds setting count worker before move after (EnterIsRefused state entered call next is within outside) = ((within, its_own worker), tt)
 own_deeds setting count worker before move after (ShardIsLeft shard entered within inside) = ((within, its_own worker), tt)
 
-all_own : (setting : Setting) (count worker : ℕ) (moves : List Move) (before after : WorkerState) → AreSteps setting count worker before moves after →
+pub all_own : (setting : Setting) (count worker : ℕ) (moves : List Move) (before after : WorkerState) → AreSteps setting count worker before moves after →
     AllByRecursion (IsOwnDeed count worker) (deeds_in worker moves)
 all_own setting count worker [] before after steps = tt
 all_own setting count worker (move ∷ moves) before after steps =
@@ -88,24 +83,28 @@ all_stay count worker (deed ∷ deeds) own =
 
 -- ---- nothing of another's
 
-written_by : (worker other : ℕ) (asked : AskedOfShard) (later : List Deed) → IsFalse (is_refusal asked) → other ≢ worker →
-    AllByRecursion (λ (deed : Deed). is_deed_by worker deed ≡ true) (deeds_asked worker asked) →
-    ((entry : Entry) → is_deed_by worker (Wrote entry) ≡ true → is_deed_by other (Wrote entry) ≡ false) →
-    filter (is_deed_by other) later ≡ [] → filter (is_deed_by other) (deeds_asked worker asked ++ later) ≡ []
-written_by worker other Nothing later none apart own others rest = rest
-written_by worker other (Writes entry) later none apart own others rest =
-    ap (λ (test : Bool). cond test (Wrote entry ∷ filter (is_deed_by other) later) (filter (is_deed_by other) later)) (others entry own.0) ∙ rest
-written_by worker other (Refused call) later none apart own others rest = absurd cc
+not_another : (worker other : ℕ) → other ≢ worker → (who : Caller) → is_worker worker who ≡ true → is_worker other who ≡ false
+not_another worker other apart (Worker number) is = ne_eqb number other (λ same. apart (sym same ∙ eqb-true number worker is))
+not_another worker other apart Controller is = refl
+not_another worker other apart Reclaimer is = refl
+
+none_of : (count worker other : ℕ) (deeds : List Deed) → AllByRecursion (IsOwnDeed count worker) deeds → other ≢ worker →
+    filter (is_deed_by other) deeds ≡ []
+none_of count worker other [] own apart = refl
+none_of count worker other (deed ∷ deeds) own apart =
+    ap (λ (test : Bool). cond test (deed ∷ filter (is_deed_by other) deeds) (filter (is_deed_by other) deeds))
+    (not_another worker other apart (caller_of_deed deed) own.0.1)
+    ∙ none_of count worker other deeds own.1 apart
 
 -- ---- entries
 
-all_entries : (worker : ℕ) (moves : List Move) → entries_made (deeds_in worker moves) ≡ entries_in moves
+pub all_entries : (worker : ℕ) (moves : List Move) → entries_made (deeds_in worker moves) ≡ entries_in moves
 all_entries worker [] = refl
 all_entries worker (move ∷ moves) = entries_are worker move.asked (deeds_in worker moves) (entries_in moves) (all_entries worker moves)
 
 -- ---- no look at a full journal
 
-abbrev IsWritten : Deed → Type 0
+abbrev pub IsWritten : Deed → Type 0
 IsWritten (Wrote entry) = Unit {0}
 IsWritten (MetFull who call) = ⊥
 
@@ -114,52 +113,30 @@ asked_writes worker Nothing none = tt
 asked_writes worker (Writes entry) none = (tt, tt)
 asked_writes worker (Refused call) none = absurd cc
 
-all_written : (worker : ℕ) (moves : List Move) → NoneRefused moves → AllByRecursion IsWritten (deeds_in worker moves)
+pub all_written : (worker : ℕ) (moves : List Move) → NoneRefused moves → AllByRecursion IsWritten (deeds_in worker moves)
 all_written worker [] none = tt
 all_written worker (move ∷ moves) none =
     all_both IsWritten (deeds_asked worker move.asked) (deeds_in worker moves) (asked_writes worker move.asked none.0) (all_written worker moves none.1)
 
-none_looks : (plan : ℕ → ShardPlan) (deeds : List Deed) → AllByRecursion IsWritten deeds → AreMet plan deeds
+pub none_looks : (plan : ℕ → ShardPlan) (deeds : List Deed) → AllByRecursion IsWritten deeds → AreMet plan deeds
 none_looks plan [] all = tt
 none_looks plan (Wrote entry ∷ deeds) all = (tt, none_looks plan deeds all.1)
 none_looks plan (MetFull who call ∷ deeds) all = absurd all.0
 
--- ---- whose caller is the worker is not another's
-
-one_caller : (worker other : ℕ) → other ≢ worker → (entry : Entry) → is_deed_by worker (Wrote entry) ≡ true → is_deed_by other (Wrote entry) ≡ false
-one_caller worker other apart entry own = by_who entry.who own
-  where
-    by_who : (who : Caller) → is_worker worker who ≡ true → is_worker other who ≡ false
-    by_who (Worker number) is = ne_eqb number other (λ same. apart (sym same ∙ eqb-true number worker is))
-    by_who Controller is = refl
-    by_who Reclaimer is = refl
-
-none_of : (setting : Setting) (count worker other : ℕ) (moves : List Move) (before after : WorkerState) →
-    AreSteps setting count worker before moves after → NoneRefused moves → other ≢ worker → filter (is_deed_by other) (deeds_in worker moves) ≡ []
-none_of setting count worker other [] before after steps none apart = refl
-none_of setting count worker other (move ∷ moves) before after steps none apart =
-    written_by worker other move.asked (deeds_in worker moves) none.0 apart
-    (marks (deeds_asked worker move.asked) (own_deeds setting count worker before move steps.0 steps.1)) (one_caller worker other apart)
-    (none_of setting count worker other moves steps.0 after steps.2 none.1 apart)
-  where
-    marks : (deeds : List Deed) → AllByRecursion (IsOwnDeed count worker) deeds → AllByRecursion (λ (deed : Deed). is_deed_by worker deed ≡ true) deeds
-    marks [] own = tt
-    marks (deed ∷ deeds) own = (own.0.1, marks deeds own.1)
-
 -- ---- what the controller set before
 
-abbrev deeds_set : List Entry → List Deed
+abbrev pub deeds_set : List Entry → List Deed
 deeds_set set = map (λ (entry : Entry). Wrote entry) set
 
 set_within : (count : ℕ) (set : List Entry) → AllByRecursion (IsSetBefore count) set → AreDeedsWithin count (deeds_set set)
 set_within count [] all = tt
 set_within count (entry ∷ set) all = (all.0.within, set_within count set all.1)
 
-set_written : (set : List Entry) → AllByRecursion IsWritten (deeds_set set)
+pub set_written : (set : List Entry) → AllByRecursion IsWritten (deeds_set set)
 set_written [] = tt
 set_written (entry ∷ set) = (tt, set_written set)
 
-set_entries : (set : List Entry) (later : List Deed) → entries_made (deeds_set set ++ later) ≡ set ++ entries_made later
+pub set_entries : (set : List Entry) (later : List Deed) → entries_made (deeds_set set ++ later) ≡ set ++ entries_made later
 set_entries [] later = refl
 set_entries (entry ∷ set) later = ap (λ (list : List Entry). entry ∷ list) (set_entries set later)
 
@@ -173,15 +150,18 @@ of_no_worker count worker (entry ∷ set) later all =
 
 -- ---- the order
 
-pub one_worker_is_one_list : OneWorkerIsOneList
-one_worker_is_one_list setting plan count worker set moves options count_is plans before steps none legal =
+-- what the controller set, and then the worker's deeds, looks at full journals among them
+pub order_of_one : (setting : Setting) (plan : ℕ → ShardPlan) (count worker : ℕ) (set : List Entry) (moves : List Move) →
+    AreOptions setting.maps setting.options → count ≡ length setting.maps * setting.options.shards →
+    ((number : ℕ) → number < count → plan_at setting.maps setting.options number ≡ Some (plan number)) →
+    AllByRecursion (IsSetBefore count) set → AreSteps setting count worker Idle moves Idle →
+    AreMet plan (reverse (deeds_set set ++ deeds_in worker moves)) →
+    ((number : ℕ) → number < count → IsLegalJournal (plan number) (set_and_done set moves number)) →
+    IsOrderOfMoves setting plan count (set_and_done set moves) (moves_of worker moves) (deeds_set set ++ deeds_in worker moves)
+order_of_one setting plan count worker set moves options count_is plans before steps met legal =
     let own = all_own setting count worker moves Idle Idle steps in
     let deeds : List Deed = deeds_set set ++ deeds_in worker moves in
-    let all : entries_made deeds ≡ set ++ entries_in moves =
-    set_entries set (deeds_in worker moves) ∙ ap (λ (list : List Entry). set ++ list) (all_entries worker moves) in
-    subst (λ (entries : List Entry). IsOneList setting count (set_and_done set moves) (moves_of worker moves) entries) all
-    (one_order_is_one_list setting plan count (set_and_done set moves) (moves_of worker moves) deeds
-    (record {
+    record {
       options = options;
       count_is = count_is;
       plans = plans;
@@ -191,15 +171,13 @@ one_worker_is_one_list setting plan count worker set moves options count_is plan
           ap (filter (is_of_shard number)) (set_entries set (deeds_in worker moves) ∙ ap (λ (list : List Entry). set ++ list) (all_entries worker moves))
           ∙ filter-append (is_of_shard number) set (entries_in moves);
       legal = legal;
-      met = none_looks plan (reverse deeds)
-          (all_reverse IsWritten deeds (all_both IsWritten (deeds_set set) (deeds_in worker moves) (set_written set) (all_written worker moves none)));
+      met = met;
       own = λ other below. ⊎_elim
           (λ same. subst (λ (one : ℕ). deeds_in one (moves_of worker moves one) ≡ filter (is_deed_by one) deeds) (sym same)
           (ap (λ (test : Bool). deeds_in worker (cond test moves [])) (its_own worker)
           ∙ sym (of_no_worker count worker set (deeds_in worker moves) before ∙ all_stay count worker (deeds_in worker moves) own)))
           (λ apart. ap (λ (test : Bool). deeds_in other (cond test moves [])) (ne_eqb other worker apart)
-          ∙ sym (of_no_worker count other set (deeds_in worker moves) before
-          ∙ none_of setting count worker other moves Idle Idle steps none apart))
+          ∙ sym (of_no_worker count other set (deeds_in worker moves) before ∙ none_of count worker other (deeds_in worker moves) own apart))
           (cases_eq other worker);
       steps = λ other below. ⊎_elim
           (λ same. subst (λ (one : ℕ). AreSteps setting count one Idle (moves_of worker moves one) Idle) (sym same)
@@ -212,7 +190,22 @@ one_worker_is_one_list setting plan count worker set moves options count_is plan
           ∙ none_past setting count worker moves Idle (subst (λ (one : ℕ). setting.options.workers ≤ one) same past) steps))
           (λ apart. ap (λ (test : Bool). cond test moves []) (ne_eqb other worker apart))
           (cases_eq other worker);
-    }))
+    }
+
+-- where no move met a full journal, the deeds are entries
+pub none_met : (plan : ℕ → ShardPlan) (worker : ℕ) (set : List Entry) (moves : List Move) → NoneRefused moves →
+    AreMet plan (reverse (deeds_set set ++ deeds_in worker moves))
+none_met plan worker set moves none =
+    let deeds : List Deed = deeds_set set ++ deeds_in worker moves in
+    none_looks plan (reverse deeds)
+    (all_reverse IsWritten deeds (all_both IsWritten (deeds_set set) (deeds_in worker moves) (set_written set) (all_written worker moves none)))
+
+pub one_worker_is_one_list : OneWorkerIsOneList
+one_worker_is_one_list setting plan count worker set moves options count_is plans before steps none legal =
+    subst (λ (entries : List Entry). IsOneList setting count (set_and_done set moves) (moves_of worker moves) entries)
+    (set_entries set (deeds_in worker moves) ∙ ap (λ (list : List Entry). set ++ list) (all_entries worker moves))
+    (one_order_is_one_list setting plan count (set_and_done set moves) (moves_of worker moves) (deeds_set set ++ deeds_in worker moves)
+    (order_of_one setting plan count worker set moves options count_is plans before steps (none_met plan worker set moves none) legal))
 
 -- ---- one run
 
@@ -252,47 +245,3 @@ as_steps setting count worker [] later before after last steps more =
     subst (λ (here : InRun). AreSteps setting count worker (running here) later last) (sym steps) more
 as_steps setting count worker (move ∷ moves) later before after last steps more =
     (running steps.0, steps.1, as_steps setting count worker moves later steps.0 after last steps.2 more)
-
-pub run_alone_is_one_list : RunAloneIsOneList
-run_alone_is_one_list setting plan count worker told now frame set exchanges verdict last options count_is plans before run legal =
-    let start : MachineState = initial_state (input_frame frame) told now in
-    let there : Reaches (Exited setting verdict last) setting count worker start [] exchanges =
-    reached setting count worker run.instructions verdict last start [] exchanges tt run.within run.formed run.trace in
-    let left : List ℕ = rising count there.after in
-    let ending : List Move = does worker ∷ leavings worker left in
-    let moves : List Move = begins worker frame now told ∷ there.run ++ ending in
-    let steps : AreSteps setting count worker Idle moves Idle = (
-      Runs start [],
-      RunBegins frame now told run.few run.input run.early run.low,
-      as_steps setting count worker there.run ending (beginning frame told now) (record { state = there.ending; entered = there.after }) Idle there.runs (
-        run_over there.after,
-        RunEnds there.ending last verdict there.after there.ended,
-        all_leave setting count worker there.after there.distinct,
-      ),
-    ) in
-    let none : NoneRefused moves = (
-      refl,
-      all_both (λ (move : Move). IsFalse (is_refusal move.asked)) there.run ending
-          (run_refuses_none setting count worker there.run (beginning frame told now) (record { state = there.ending; entered = there.after }) there.runs)
-          (refl, leavings_refuse_none worker left),
-    ) in
-    let done : (number : ℕ) → entries_on number moves ≡ session_at worker number exchanges =
-    λ number. append_on number there.run ending ∙ sym (append_on number there.run (leavings worker left))
-    ∙ whole_session (Exited setting verdict last) setting count worker start exchanges there number in
-    let made = one_worker_is_one_list setting plan count worker set moves options count_is plans before steps none
-    (λ number below. subst (λ (list : List Entry). IsLegalJournal (plan number) (filter (is_of_shard number) set ++ list)) (sym (done number))
-    (legal number below)) in
-    record {
-      run = there.run ++ ending;
-      moves = moves;
-      begins_so = refl;
-      list = record {
-        events = made.events;
-        can = made.can;
-        written = made.written;
-        of_each = made.of_each;
-        histories = λ number below. made.histories number below
-            ∙ ap (λ (list : List Entry). filter (is_of_shard number) set ++ list) (done number);
-        idle = made.idle;
-      };
-    }

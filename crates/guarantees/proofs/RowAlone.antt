@@ -1,21 +1,31 @@
--- The row of a run alone, computed.
-use Rattle.std.proofs.Common.{◌≡◌, inl, ℕ, ◌%◌, ◌<◌, ◌≤◌, List, [], length, refl, sym, subst, arith}
-use Rattle.std.specs.Prelude.{All, Some}
-use Rattle.std.proofs.lemmas.List.Elements.{All-nil, All-cons}
+-- The rows of runs alone, computed.
+use Rattle.std.proofs.Common.{◌≡◌, inl, inr, ℕ, ◌%◌, ◌<◌, ◌≤◌, List, [], ◌∷◌, ◌++◌, length, refl, sym, subst, arith}
+use Rattle.std.specs.Prelude.{All, None, replicate}
+use Rattle.std.proofs.lemmas.List.Elements.{All-nil, All-cons, All-replicate}
 use Rattle.ebpf_decode.specs.InstructionEncoding.{slot_count}
 use Rattle.ebpf_decode.specs.declared.map.MapDef.{MapDef}
+use Rattle.map_updates.specs.Misfits.{misfit_of}
+use Rattle.map_updates.specs.declared.update.MapUpdate.{MapUpdate}
+use Rattle.semantics.specs.declared.call.Call.TheVariants.{Lookup}
 use Rattle.semantics.specs.declared.verdict.Verdict.TheVariants.{Tx}
 use Rattle.semantics.specs.History.{IsLegalJournal}
-use Rattle.semantics.specs.MachineState.{MachineState, initial_state}
+use Rattle.semantics.specs.MachineState.{MachineState}
 use Rattle.semantics.specs.RunTrace.{RunStand, HasExited, Waits, HasTrapped, GoesOn, trace_of}
-use Rattle.semantics.specs.ShardPlan.{plan_at, AreOptions}
-use Rattle.semantics.specs.System.{program_of, IsInputFrame, input_frame}
-use Rattle.semantics.specs.SystemRows.{frame_of}
+use Rattle.semantics.specs.ShardPlan.{AreOptions}
+use Rattle.semantics.specs.System.{program_of, IsInputFrame}
+use Rattle.semantics.specs.SystemRows.{frame_of, key_of}
 use Rattle.semantics.proofs.shared.ConditionLemmas.{tested_bytes}
-use Rattle.map_port.specs.Exchanges.{replies_in}
-use Rattle.guarantees.specs.Merging.{IsRunAlone, RunAloneIsOneList, set_and_run}
+use Rattle.journals.specs.JournalsView.{JournalsView, entries_at}
+use Rattle.machine.specs.declared.exit.Stop.TheVariants.{JournalFull}
+use Rattle.map_port.specs.Exchanges.{Exchange, replies_in}
+use Rattle.shard_port.specs.Asking.{enter_by, leave_by}
+use Rattle.shard_port.specs.PassSessions.{session_at}
+use Rattle.runs.specs.ShardRuns.{HasEnded, HasWaited}
+use Rattle.runs.specs.SingleRuns.{IsLegalAt, AreJournalsOf, HasRunAlone, IsCutBehind, HasStoppedAlone}
+use Rattle.runs.specs.Updates.{served_by, updates_at}
 use Rattle.guarantees.specs.RunRows.{row_setting, row_plan}
-use Rattle.guarantees.specs.AloneRow.{set_to_two, read_two, AloneRow}
+use Rattle.guarantees.specs.RunsAlone.{IsAskedAlone, RunsAloneAreOfTheSystem, StoppedRunsAloneAreOfTheSystem}
+use Rattle.guarantees.specs.AloneRow.{set_to, row_start, row_journals, read_two, ended_journal, stopped_journal, AloneRow}
 
 options : AreOptions row_setting.maps row_setting.options
 options = record {
@@ -33,33 +43,36 @@ only_zero P at number below = let same : number ≡ 0 = omega (arith, below) in 
 input_of : (bytes : List ℕ) → 14 ≤ length bytes → length bytes ≤ 2048 → All (λ byte. byte < 256) bytes → IsInputFrame bytes
 input_of bytes least greatest all = record { least = least; greatest = greatest; bytes = all }
 
-start : MachineState
-start = initial_state (input_frame (frame_of 1)) 0 0
+asked_of : (count number : ℕ) → misfit_of row_setting.maps (set_to number) ≡ None → IsAskedAlone row_setting 0 0 (frame_of 1) (replicate count (set_to number))
+asked_of count number fits = record {
+  options = options;
+  few = omega arith;
+  input = input_of (frame_of 1) (omega arith) (omega arith) (tested_bytes (frame_of 1) refl);
+  early = omega arith;
+  fit = All-replicate (λ (update : MapUpdate). misfit_of row_setting.maps update ≡ None) count (set_to number) fits;
+}
 
 abbrev state_of : RunStand → MachineState
 state_of (HasExited verdict last) = last
 state_of (Waits state) = state
-state_of (HasTrapped cause) = start
-state_of GoesOn = start
+state_of (HasTrapped cause) = row_start
+state_of GoesOn = row_start
 
-abbrev last_state : MachineState
-last_state = state_of (trace_of 17 (program_of row_setting) (initial_state (input_frame (frame_of 1)) 0 0) (replies_in read_two)).stand
+abbrev last_state : List Exchange → MachineState
+last_state exchanges = state_of (trace_of 17 (program_of row_setting) row_start (replies_in exchanges)).stand
 
-alone : IsRunAlone row_setting 1 0 0 0 (frame_of 1) read_two Tx last_state
-unfolding slot_count
-alone = record {
-  few = omega arith;
-  input = input_of (frame_of 1) (omega arith) (omega arith) (tested_bytes (frame_of 1) refl);
-  early = omega arith;
-  low = omega arith;
-  instructions = 17;
-  trace = refl;
-  formed = (refl, (omega arith, tt));
-  within = (omega arith, (omega arith, tt));
+journals_of : (journal : JournalsView) → journal.maps ≡ row_setting.maps → journal.options ≡ row_setting.options → length journal.shards ≡ 1 →
+    IsLegalJournal row_plan (entries_at journal 0) → AreJournalsOf row_setting.maps row_setting.options journal
+journals_of journal maps options count legal = record {
+  maps_are = maps;
+  options_are = options;
+  count = count;
+  legal = λ number below. only_zero (λ (n : ℕ). IsLegalAt row_setting.maps row_setting.options n (entries_at journal n))
+      (record { plan = row_plan; planned = refl; legal = legal }) number (subst (λ (n : ℕ). number < n) count below);
 }
 
-legal : IsLegalJournal row_plan (set_and_run set_to_two 0 read_two 0)
-legal = (
+ended_legal : IsLegalJournal row_plan ended_journal
+ended_legal = (
   record { step = record { met = refl; replied = refl }; room = refl },
   (
     record { step = record { met = refl; replied = refl }; room = refl },
@@ -67,25 +80,122 @@ legal = (
       record { step = record { met = refl; replied = refl }; room = refl },
       (
         record { step = record { met = refl; replied = refl }; room = refl },
-        (record { step = record { met = refl; replied = refl }; room = refl }, tt),
+        (
+          record { step = record { met = refl; replied = refl }; room = refl },
+          tt,
+        ),
       ),
     ),
   ),
 )
 
-plans : (number : ℕ) → number < 1 → plan_at row_setting.maps row_setting.options number ≡ Some row_plan
-plans = only_zero (λ number. plan_at row_setting.maps row_setting.options number ≡ Some row_plan) refl
+ended : HasEnded (program_of row_setting) row_start read_two Tx (last_state read_two).steps (last_state read_two).frame
+unfolding slot_count
+ended = record {
+  last = last_state read_two;
+  trace = refl;
+  formed = (refl, (omega arith, tt));
+  counted = refl;
+  bounded = omega arith;
+  sent = refl;
+}
 
-pub alone_row : RunAloneIsOneList → AloneRow
-alone_row law = record {
-  options = options;
-  plans = plans;
-  set = (record { who = refl; within = omega arith }, tt);
-  last = last_state;
-  alone = alone;
-  legal = legal;
-  one_list =
-      law row_setting (λ number. row_plan) 1 0 0 0 (frame_of 1) set_to_two read_two Tx last_state options refl plans
-      (record { who = refl; within = omega arith }, tt) alone
-      (only_zero (λ number. IsLegalJournal row_plan (set_and_run set_to_two 0 read_two number)) legal);
+ran : HasRunAlone (program_of row_setting) row_start row_setting.options 0 (set_to 2 ∷ []) Tx (last_state read_two).steps (last_state read_two).frame
+    (row_journals ended_journal)
+ran = record {
+  journals_are = journals_of (row_journals ended_journal) refl refl refl ended_legal;
+  exchanges = read_two;
+  ended = ended;
+  within = (omega arith, (omega arith, tt));
+  written = only_zero (λ (n : ℕ). entries_at (row_journals ended_journal) n
+      ≡ updates_at (served_by row_setting.maps row_setting.options) n (set_to 2 ∷ []) ++ session_at 0 n read_two) refl;
+}
+
+stopped_legal : IsLegalJournal row_plan stopped_journal
+stopped_legal = (
+  record { step = record { met = refl; replied = refl }; room = refl },
+  (
+    record { step = record { met = refl; replied = refl }; room = refl },
+    (
+      record { step = record { met = refl; replied = refl }; room = refl },
+      (
+        record { step = record { met = refl; replied = refl }; room = refl },
+        (
+          record { step = record { met = refl; replied = refl }; room = refl },
+          (
+            record { step = record { met = refl; replied = refl }; room = refl },
+            (
+              record { step = record { met = refl; replied = refl }; room = refl },
+              (
+                record { step = record { met = refl; replied = refl }; room = refl },
+                (
+                  record { step = record { met = refl; replied = refl }; room = refl },
+                  (
+                    record { step = record { met = refl; replied = refl }; room = refl },
+                    (
+                      record { step = record { met = refl; replied = refl }; room = refl },
+                      (
+                        record { step = record { met = refl; replied = refl }; room = refl },
+                        (
+                          record { step = record { met = refl; replied = refl }; room = refl },
+                          (
+                            record { step = record { met = refl; replied = refl }; room = refl },
+                            (
+                              record { step = record { met = refl; replied = refl }; room = refl },
+                              (
+                                record { step = record { met = refl; replied = refl }; room = refl },
+                                tt,
+                              ),
+                            ),
+                          ),
+                        ),
+                      ),
+                    ),
+                  ),
+                ),
+              ),
+            ),
+          ),
+        ),
+      ),
+    ),
+  ),
+)
+
+waited : HasWaited (program_of row_setting) row_start [] (Lookup 0 (key_of 0)) (last_state []).frame
+unfolding slot_count
+waited = record { waiting = last_state []; trace = refl; formed = tt; kept_back = refl }
+
+stops : HasStoppedAlone (program_of row_setting) row_start row_setting.options 0 (replicate 14 (set_to 5)) (last_state []).frame (JournalFull 0)
+    (row_journals stopped_journal)
+stops = record {
+  journals_are = journals_of (row_journals stopped_journal) refl refl refl stopped_legal;
+  exchanges = [];
+  refused = Lookup 0 (key_of 0);
+  named = refl;
+  waited = waited;
+  within = tt;
+  refused_within = omega arith;
+  written = only_zero (λ (n : ℕ). IsCutBehind (updates_at (served_by row_setting.maps row_setting.options) n (replicate 14 (set_to 5))) 0 n []
+      (Lookup 0 (key_of 0)) (entries_at (row_journals stopped_journal) n))
+      (record { own = enter_by 0 0 ∷ leave_by 0 0 ∷ []; session = inr (record { own_shard = refl; first_call = refl; visit = refl }); both = refl });
+  plan = row_plan;
+  planned = refl;
+  full = inr (record { full = refl; leaves = refl });
+}
+
+pub alone_row : RunsAloneAreOfTheSystem → StoppedRunsAloneAreOfTheSystem → AloneRow
+alone_row ends halts = record {
+  asked = asked_of 1 2 refl;
+  last = last_state read_two;
+  ran = ran;
+  ended =
+      ends row_setting 0 0 (frame_of 1) (set_to 2 ∷ []) Tx (last_state read_two).steps (last_state read_two).frame (row_journals ended_journal)
+      (asked_of 1 2 refl) ran;
+  asked_more = asked_of 14 5 refl;
+  left = (last_state []).frame;
+  stops = stops;
+  stopped =
+      halts row_setting 0 0 (frame_of 1) (replicate 14 (set_to 5)) (last_state []).frame (JournalFull 0) (row_journals stopped_journal)
+      (asked_of 14 5 refl) stops;
 }

@@ -6,9 +6,12 @@ use Rattle.wire.specs.declared.records.Sent.{Sent}
 use Rattle.semantics.specs.declared.options.Options.{Options}
 use Rattle.semantics.specs.declared.plan.ShardPlan.{ShardPlan}
 use Rattle.semantics.specs.declared.verdict.Verdict.{Verdict}
+use Rattle.semantics.specs.declared.call.Call.{Call}
+use Rattle.semantics.specs.MachineState.{MachineState}
 use Rattle.semantics.specs.History.{shard_of_call}
-use Rattle.semantics.specs.Step.{Step}
-use Rattle.semantics.specs.System.{Setting, SystemEvent, WorkerState, Idle, run_over}
+use Rattle.semantics.specs.Step.{Step, Exits}
+use Rattle.semantics.specs.Semantics.{next_step}
+use Rattle.semantics.specs.System.{Setting, program_of, SystemEvent, WorkerState, Idle, run_over}
 use Rattle.verifier.specs.Verified.{Verified}
 use Rattle.machine.specs.declared.exit.Stop.{Stop}
 use Rattle.machine.specs.declared.exit.Stop.TheVariants.{JournalFull}
@@ -105,7 +108,7 @@ run_begins_none setting count worker (move ∷ moves) later before after steps =
     begins_none setting count worker (running before) move (running steps.0) steps.1 before refl (events_of (moves ++ later))
     ∙ run_begins_none setting count worker moves later steps.0 after steps.2
 
-leaving_begins_none : (worker : ℕ) (left : List ℕ) → begun_by worker (events_of (leavings worker left)) ≡ []
+pub leaving_begins_none : (worker : ℕ) (left : List ℕ) → begun_by worker (events_of (leavings worker left)) ≡ []
 leaving_begins_none worker [] = refl
 leaving_begins_none worker (shard ∷ left) = leaving_begins_none worker left
 
@@ -123,6 +126,44 @@ pub record IsRunOn (setting : Setting) (count worker : ℕ) (input : Input) (mov
   pub walk : Walk setting count worker Idle moves (ending ∷ [])
   pub begun : begun_by worker (events_of moves) ≡ input ∷ []
 
+-- steps of a run, and then moves with which it ends so
+pub run_on : (setting : Setting) (count worker told now : ℕ) (frame : List ℕ) (run final : List Move) (here : InRun) (ending : Ending) → told ≡ worker →
+    IsStep setting count worker Idle (begins worker frame now told) (running (beginning frame told now)) →
+    AreStepsOfRun setting count worker (beginning frame told now) run here → Walk setting count worker (running here) final (ending ∷ []) →
+    begun_by worker (events_of final) ≡ [] →
+    IsRunOn setting count worker (record { frame = frame; now = now; told = worker }) (begins worker frame now told ∷ run ++ final) ending
+run_on setting count worker told now frame run final here ending own first goes_on rest none =
+    let walk = as_walk setting count worker run final (beginning frame told now) here (ending ∷ []) goes_on rest in
+    record {
+      walk = record { steps = (running (beginning frame told now), first, walk.steps); ends_are = walk.ends_are };
+      begun = ap (λ (number : ℕ). begun_by worker (events_of (begins worker frame now number ∷ run ++ final))) own
+          ∙ begins_one worker frame now (run ++ final)
+          (run_begins_none setting count worker run final (beginning frame told now) here goes_on ∙ none);
+    }
+
+-- the instruction that ends a run, and leaving
+pub exit_walk : (setting : Setting) (count worker : ℕ) (here : InRun) (verdict : Verdict) (last : MachineState) (left : List ℕ) →
+    next_step (program_of setting) here.state ≡ Exits verdict last → IsStep setting count worker (running here) (does worker) (run_over here.entered) →
+    AreSteps setting count worker (run_over here.entered) (leavings worker left) Idle →
+    Walk setting count worker (running here) (does worker ∷ leavings worker left) (Exited verdict last.frame.bytes last.steps ∷ [])
+exit_walk setting count worker here verdict last left exits ends leaves = record {
+  steps = (run_over here.entered, ends, leaves);
+  ends_are = ap (λ (step : Step). exit_at step ++ ends_in setting count worker (run_over here.entered) (leavings worker left) Idle leaves) exits
+      ∙ ap (λ (list : List Ending). Exited verdict last.frame.bytes last.steps ∷ list)
+      (leaving_ends_none setting count worker left (run_over here.entered) leaves);
+}
+
+-- the call that met a full journal, and leaving
+pub stop_walk : (setting : Setting) (count worker : ℕ) (here : InRun) (refused : Call) (left : List ℕ) →
+    IsStep setting count worker (running here) (asks worker (Refused refused)) (run_over here.entered) →
+    AreSteps setting count worker (run_over here.entered) (leavings worker left) Idle →
+    Walk setting count worker (running here) (asks worker (Refused refused) ∷ leavings worker left) (Stopped (shard_of_call refused) ∷ [])
+stop_walk setting count worker here refused left refuses leaves = record {
+  steps = (run_over here.entered, refuses, leaves);
+  ends_are = ap (λ (list : List Ending). Stopped (shard_of_call refused) ∷ list)
+      (leaving_ends_none setting count worker left (run_over here.entered) leaves);
+}
+
 ran_so : (setting : Setting) (count worker : ℕ) (moment : Moment) (frame : List ℕ) (before after : PassView) (sent : FrameView)
     (verdict : Verdict) (steps : ℕ) → moment.worker ≡ worker → (ran : RanInSystem setting worker moment frame count before after verdict steps sent) →
     IsRunOn setting count worker (record { frame = frame; now = moment.now_ns; told = worker })
@@ -130,21 +171,9 @@ ran_so : (setting : Setting) (count worker : ℕ) (moment : Moment) (frame : Lis
     (Exited verdict ran.last.frame.bytes ran.last.steps)
 ran_so setting count worker moment frame before after sent verdict steps own ran =
     let is = ran.of_system in
-    let last : Ending = Exited verdict ran.last.frame.bytes ran.last.steps in
-    let ending : List Move = does worker ∷ leavings worker is.left in
-    let rest : Walk setting count worker (running is.ending) ending (last ∷ []) = record {
-      steps = (run_over is.ending.entered, is.ends, is.leaves);
-      ends_are = ap (λ (step : Step). exit_at step ++ ends_in setting count worker (run_over is.ending.entered) (leavings worker is.left) Idle is.leaves) is.exits
-          ∙ ap (λ (list : List Ending). last ∷ list) (leaving_ends_none setting count worker is.left (run_over is.ending.entered) is.leaves);
-    } in
-    let walk = as_walk setting count worker is.run ending (beginning frame moment.worker moment.now_ns) is.ending (last ∷ []) is.goes_on rest in
-    record {
-      walk = record { steps = (running (beginning frame moment.worker moment.now_ns), is.begins_so, walk.steps); ends_are = walk.ends_are };
-      begun = ap (λ (told : ℕ). begun_by worker (events_of (begins worker frame moment.now_ns told ∷ is.run ++ ending))) own
-          ∙ begins_one worker frame moment.now_ns (is.run ++ ending)
-          (run_begins_none setting count worker is.run ending (beginning frame moment.worker moment.now_ns) is.ending is.goes_on
-          ∙ leaving_begins_none worker is.left);
-    }
+    run_on setting count worker moment.worker moment.now_ns frame is.run (does worker ∷ leavings worker is.left) is.ending
+    (Exited verdict ran.last.frame.bytes ran.last.steps) own is.begins_so is.goes_on
+    (exit_walk setting count worker is.ending verdict ran.last is.left is.exits is.ends is.leaves) (leaving_begins_none worker is.left)
 
 -- how a stopped run ended
 unfoldable pub ending_at_stop : (setting : Setting) (worker : ℕ) (moment : Moment) (frame : List ℕ) (plan : ℕ → ShardPlan) (count : ℕ)
@@ -162,21 +191,10 @@ stopped_so : (setting : Setting) (count worker : ℕ) (plan : ℕ → ShardPlan)
 unfolding ending_at_stop
 stopped_so setting count worker plan moment frame before after kept_back (JournalFull shard) own stopped =
     let is = stopped.of_system in
-    let last : Ending = Stopped (shard_of_call is.refused) in
     let waiting : InRun = record { state = stopped.waiting; entered = is.entered } in
-    let ending : List Move = asks worker (Refused is.refused) ∷ leavings worker is.left in
-    let rest : Walk setting count worker (running waiting) ending (last ∷ []) = record {
-      steps = (run_over is.entered, is.refuses, is.leaves);
-      ends_are = ap (λ (list : List Ending). last ∷ list) (leaving_ends_none setting count worker is.left (run_over is.entered) is.leaves);
-    } in
-    let walk = as_walk setting count worker is.run ending (beginning frame moment.worker moment.now_ns) waiting (last ∷ []) is.goes_on rest in
-    record {
-      walk = record { steps = (running (beginning frame moment.worker moment.now_ns), is.begins_so, walk.steps); ends_are = walk.ends_are };
-      begun = ap (λ (told : ℕ). begun_by worker (events_of (begins worker frame moment.now_ns told ∷ is.run ++ ending))) own
-          ∙ begins_one worker frame moment.now_ns (is.run ++ ending)
-          (run_begins_none setting count worker is.run ending (beginning frame moment.worker moment.now_ns) waiting is.goes_on
-          ∙ leaving_begins_none worker is.left);
-    }
+    run_on setting count worker moment.worker moment.now_ns frame is.run (asks worker (Refused is.refused) ∷ leavings worker is.left) waiting
+    (Stopped (shard_of_call is.refused)) own is.begins_so is.goes_on
+    (stop_walk setting count worker waiting is.refused is.left is.refuses is.leaves) (leaving_begins_none worker is.left)
 
 module _ (verified : Verified) (options : Options) (plan : ℕ → ShardPlan) (count worker : ℕ) where
   unfoldable pub ending_of : (captured : Sent) (before : PassView) (end : RunEnd) (after : PassView) →

@@ -98,7 +98,7 @@ by_step setting count worker steps call waiting later state entered exchanges di
     trapped : HasTrapped cause ≡ Waits waiting → ⊥
     trapped stands = cc
 
-led : (setting : Setting) (count worker steps : ℕ) (call : Call) (waiting : MachineState) → IsLed setting count worker steps call waiting
+pub led : (setting : Setting) (count worker steps : ℕ) (call : Call) (waiting : MachineState) → IsLed setting count worker steps call waiting
 led setting count worker zero call waiting state entered exchanges distinct within formed trace =
     absurd (let stands : GoesOn ≡ Waits waiting = ap (λ (one : RunTrace). one.stand) trace in cc)
 led setting count worker (suc steps) call waiting state entered exchanges distinct within formed trace =
@@ -145,7 +145,7 @@ called_by worker count exchanges call entered inside enters is =
 
 -- ---- each of the ways to stop
 
-led_there : (setting : Setting) (count worker told now : ℕ) (frame : List ℕ) (call : Call) (waiting : MachineState) (exchanges : List Exchange)
+pub led_there : (setting : Setting) (count worker told now : ℕ) (frame : List ℕ) (call : Call) (waiting : MachineState) (exchanges : List Exchange)
     (reaches : Reaches (WaitsFor setting call waiting) setting count worker (initial_state (input_frame frame) told now) [] exchanges) →
     AreStepsOfRun setting count worker (beginning frame told now) reaches.run (record { state = waiting; entered = reaches.after })
 led_there setting count worker told now frame call waiting exchanges reaches =
@@ -153,13 +153,67 @@ led_there setting count worker told now frame call waiting exchanges reaches =
     reaches.ended.is reaches.runs
 
 -- steps, with the last one apart
-steps_end : (setting : Setting) (count worker : ℕ) (before between after : InRun) (moves : List Move) (last : Move) →
+pub steps_end : (setting : Setting) (count worker : ℕ) (before between after : InRun) (moves : List Move) (last : Move) →
     AreStepsOfRun setting count worker before moves between → IsStep setting count worker (running between) last (running after) →
     AreStepsOfRun setting count worker before (moves ++ last ∷ []) after
 steps_end setting count worker before between after [] last are ends =
     (after, subst (λ (one : InRun). IsStep setting count worker (running one) last (running after)) (sym are) ends, refl)
 steps_end setting count worker before between after (move ∷ moves) last are ends =
     (are.0, are.1, steps_end setting count worker are.0 between after moves last are.2 ends)
+
+module _ (setting : Setting) (worker told now : ℕ) (frame : List ℕ) (count : ℕ) (exchanges : List Exchange) (call : Call) (waiting : MachineState)
+    (refused_within : shard_of_call call < count)
+    (reaches : Reaches (WaitsFor setting call waiting) setting count worker (initial_state (input_frame frame) told now) [] exchanges) where
+  abbrev start_at : MachineState
+  start_at = initial_state (input_frame frame) told now
+
+  -- the run has called a shard exactly where it has entered it
+  pub called_none : (number : ℕ) → is_entered number reaches.after ≡ false → exchange_entries worker number exchanges ≡ []
+  called_none number out = none_there (exchange_entries worker number exchanges) (sym (reaches.stays number) ∙ out)
+
+  pub called_some : (number : ℕ) → is_entered number reaches.after ≡ true → exchange_entries worker number exchanges ≡ [] → ⊥
+  called_some number inside none =
+      let some : is_entered number reaches.after ≡ is_some_entry (exchange_entries worker number exchanges) = reaches.stays number in
+      let no : is_some_entry (exchange_entries worker number exchanges) ≡ false = ap is_some_entry none in cc
+
+  -- entered for the refused call alone
+  abbrev pub visits : List Move
+  visits = reaches.run ++ asks worker (Writes (enter_by worker (shard_of_call call))) ∷ []
+
+  -- what the moves write then
+  visit_writes : (number : ℕ) (here : Bool) → (shard_of_call call == number) ≡ here → is_entered (shard_of_call call) reaches.after ≡ false →
+      entries_on number (visits ++ leavings worker (rising count (shard_of_call call ∷ reaches.after)))
+      ≡ (entries_on number reaches.run ++ (if here then enter_by worker (shard_of_call call) ∷ [] else []))
+      ++ (if (here || is_entered number reaches.after) then leave_by worker number ∷ [] else [])
+  visit_writes number here is outside =
+      append_on number visits (leavings worker (rising count (shard_of_call call ∷ reaches.after)))
+      ∙ ap (λ (list : List Entry). list ++ entries_on number (leavings worker (rising count (shard_of_call call ∷ reaches.after))))
+      (append_on number reaches.run (asks worker (Writes (enter_by worker (shard_of_call call))) ∷ []))
+      ∙ ap (λ (list : List Entry). (entries_on number reaches.run
+      ++ (if shard_of_call call == number then enter_by worker (shard_of_call call) ∷ [] else [])) ++ list)
+      (left_on count worker number (shard_of_call call ∷ reaches.after) (outside, refused_within, reaches.distinct))
+      ∙ ap (λ (test : Bool). (entries_on number reaches.run ++ (if test then enter_by worker (shard_of_call call) ∷ [] else []))
+      ++ (if (test || is_entered number reaches.after) then leave_by worker number ∷ [] else [])) is
+
+  pub visit_elsewhere : (number : ℕ) → number ≢ shard_of_call call → is_entered (shard_of_call call) reaches.after ≡ false →
+      entries_on number (visits ++ leavings worker (rising count (shard_of_call call ∷ reaches.after))) ≡ session_at worker number exchanges
+  visit_elsewhere number apart outside =
+      visit_writes number false (ne_eqb (shard_of_call call) number (λ same. apart (sym same))) outside
+      ∙ ap (λ (list : List Entry). list ++ (if is_entered number reaches.after then leave_by worker number ∷ [] else []))
+      (append-nil (entries_on number reaches.run))
+      ∙ ap (λ (list : List Entry). entries_on number reaches.run ++ list) (sym (left_on count worker number reaches.after reaches.distinct))
+      ∙ sym (append_on number reaches.run (leavings worker (rising count reaches.after)))
+      ∙ whole_session (WaitsFor setting call waiting) setting count worker start_at exchanges reaches number
+
+  pub visit_there : is_entered (shard_of_call call) reaches.after ≡ false →
+      entries_on (shard_of_call call) (visits ++ leavings worker (rising count (shard_of_call call ∷ reaches.after)))
+      ≡ enter_by worker (shard_of_call call) ∷ leave_by worker (shard_of_call call) ∷ []
+  visit_there outside =
+      let before : entries_on (shard_of_call call) reaches.run ≡ [] =
+      reaches.writes (shard_of_call call)
+      ∙ ap (λ (list : List Entry). since false worker (shard_of_call call) list) (called_none (shard_of_call call) outside) in
+      visit_writes (shard_of_call call) true (itself (shard_of_call call)) outside
+      ∙ ap (λ (list : List Entry). (list ++ enter_by worker (shard_of_call call) ∷ []) ++ leave_by worker (shard_of_call call) ∷ []) before
 
 module _ (setting : Setting) (worker told now : ℕ) (frame : List ℕ) (plan : ℕ → ShardPlan) (count : ℕ) (before after : PassView)
     (exchanges : List Exchange) (call : Call) (waiting : MachineState) (few : worker < setting.options.workers) (input : IsInputFrame frame)
@@ -171,20 +225,14 @@ module _ (setting : Setting) (worker told now : ℕ) (frame : List ℕ) (plan : 
   abbrev IsStop : Type 0
   IsStop = IsStoppedInSystem setting worker told now frame plan count before after call waiting
 
+  abbrev passing : List Move
+  passing = visits setting worker told now frame count exchanges call waiting sessions.refused_within reaches
+
   abbrev AtCall : Type 0
   AtCall = StoppedAtCall (plan (shard_of_call call)) sessions.full_at count worker exchanges call before after
 
   abbrev AtEnter : Type 0
   AtEnter = StoppedAtEnter (plan (shard_of_call call)) sessions.full_at count worker exchanges call before after
-
-  -- the run has called a shard exactly where it has entered it
-  called_none : (number : ℕ) → is_entered number reaches.after ≡ false → exchange_entries worker number exchanges ≡ []
-  called_none number out = none_there (exchange_entries worker number exchanges) (sym (reaches.stays number) ∙ out)
-
-  called_some : (number : ℕ) → is_entered number reaches.after ≡ true → exchange_entries worker number exchanges ≡ [] → ⊥
-  called_some number inside none =
-      let some : is_entered number reaches.after ≡ is_some_entry (exchange_entries worker number exchanges) = reaches.stays number in
-      let no : is_some_entry (exchange_entries worker number exchanges) ≡ false = ap is_some_entry none in cc
 
   -- the call's shard has a session already: the call was refused inside
   inside_stop : is_entered (shard_of_call call) reaches.after ≡ true → AtCall → IsStop
@@ -206,7 +254,8 @@ module _ (setting : Setting) (worker told now : ℕ) (frame : List ℕ) (plan : 
     written = all_written setting worker start count before after exchanges (WaitsFor setting call waiting) reaches
         (λ number within. ⊎_elim (λ same. same)
         (λ (visited : IsVisitedAt worker exchanges call number (own_at before number) (own_at after number)).
-        absurd (called_some number (subst (λ (one : ℕ). is_entered one reaches.after ≡ true) visited.own_shard inside) visited.first_call))
+        absurd (called_some setting worker told now frame count exchanges call waiting sessions.refused_within reaches number
+        (subst (λ (one : ℕ). is_entered one reaches.after ≡ true) visited.own_shard inside) visited.first_call))
         (sessions.written number within));
     did = at.did ∙ ap (λ (list : List Deed). reverse list ++ before.deeds)
         (sym (stop_deeds worker reaches.run (asked_deeds worker [] exchanges ++ []) call (rising count reaches.after)
@@ -254,66 +303,28 @@ module _ (setting : Setting) (worker told now : ℕ) (frame : List ℕ) (plan : 
           (at.kept_out.nothing
           ∙ ap (λ (list : List Entry). reverse (session worker (shard_of_call call) list) ++ own_at before (shard_of_call call)) (sym at.kept_out.first_call))
 
-  -- ---- entered for the refused call alone
-
-  abbrev visits : List Move
-  visits = reaches.run ++ asks worker (Writes (enter_by worker (shard_of_call call))) ∷ []
-
-  -- what the moves write then
-  visit_writes : (number : ℕ) (here : Bool) → (shard_of_call call == number) ≡ here → is_entered (shard_of_call call) reaches.after ≡ false →
-      entries_on number (visits ++ leavings worker (rising count (shard_of_call call ∷ reaches.after)))
-      ≡ (entries_on number reaches.run ++ (if here then enter_by worker (shard_of_call call) ∷ [] else []))
-      ++ (if (here || is_entered number reaches.after) then leave_by worker number ∷ [] else [])
-  visit_writes number here is outside =
-      append_on number visits (leavings worker (rising count (shard_of_call call ∷ reaches.after)))
-      ∙ ap (λ (list : List Entry). list ++ entries_on number (leavings worker (rising count (shard_of_call call ∷ reaches.after))))
-      (append_on number reaches.run (asks worker (Writes (enter_by worker (shard_of_call call))) ∷ []))
-      ∙ ap (λ (list : List Entry). (entries_on number reaches.run
-      ++ (if shard_of_call call == number then enter_by worker (shard_of_call call) ∷ [] else [])) ++ list)
-      (left_on count worker number (shard_of_call call ∷ reaches.after) (outside, sessions.refused_within, reaches.distinct))
-      ∙ ap (λ (test : Bool). (entries_on number reaches.run ++ (if test then enter_by worker (shard_of_call call) ∷ [] else []))
-      ++ (if (test || is_entered number reaches.after) then leave_by worker number ∷ [] else [])) is
-
-  visit_elsewhere : (number : ℕ) → number ≢ shard_of_call call → is_entered (shard_of_call call) reaches.after ≡ false →
-      entries_on number (visits ++ leavings worker (rising count (shard_of_call call ∷ reaches.after))) ≡ session_at worker number exchanges
-  visit_elsewhere number apart outside =
-      visit_writes number false (ne_eqb (shard_of_call call) number (λ same. apart (sym same))) outside
-      ∙ ap (λ (list : List Entry). list ++ (if is_entered number reaches.after then leave_by worker number ∷ [] else []))
-      (append-nil (entries_on number reaches.run))
-      ∙ ap (λ (list : List Entry). entries_on number reaches.run ++ list) (sym (left_on count worker number reaches.after reaches.distinct))
-      ∙ sym (append_on number reaches.run (leavings worker (rising count reaches.after)))
-      ∙ whole_session (WaitsFor setting call waiting) setting count worker start exchanges reaches number
-
-  visit_there : is_entered (shard_of_call call) reaches.after ≡ false →
-      entries_on (shard_of_call call) (visits ++ leavings worker (rising count (shard_of_call call ∷ reaches.after)))
-      ≡ enter_by worker (shard_of_call call) ∷ leave_by worker (shard_of_call call) ∷ []
-  visit_there outside =
-      let before : entries_on (shard_of_call call) reaches.run ≡ [] =
-      reaches.writes (shard_of_call call)
-      ∙ ap (λ (list : List Entry). since false worker (shard_of_call call) list) (called_none (shard_of_call call) outside) in
-      visit_writes (shard_of_call call) true (itself (shard_of_call call)) outside
-      ∙ ap (λ (list : List Entry). (list ++ enter_by worker (shard_of_call call) ∷ []) ++ leave_by worker (shard_of_call call) ∷ []) before
-
   visit_own : is_entered (shard_of_call call) reaches.after ≡ false → AtCall → (number : ℕ) → number < count →
       own_at after number
-      ≡ reverse (entries_on number (visits ++ leavings worker (rising count (shard_of_call call ∷ reaches.after)))) ++ own_at before number
+      ≡ reverse (entries_on number (passing ++ leavings worker (rising count (shard_of_call call ∷ reaches.after)))) ++ own_at before number
   visit_own outside at number within = ⊎_elim
       (λ (here : number ≡ shard_of_call call).
       subst (λ (one : ℕ). own_at after one
-      ≡ reverse (entries_on one (visits ++ leavings worker (rising count (shard_of_call call ∷ reaches.after)))) ++ own_at before one) (sym here)
-      (at.visited (called_none (shard_of_call call) outside)
-      ∙ ap (λ (list : List Entry). reverse list ++ own_at before (shard_of_call call)) (sym (visit_there outside))))
+      ≡ reverse (entries_on one (passing ++ leavings worker (rising count (shard_of_call call ∷ reaches.after)))) ++ own_at before one) (sym here)
+      (at.visited (called_none setting worker told now frame count exchanges call waiting sessions.refused_within reaches (shard_of_call call) outside)
+      ∙ ap (λ (list : List Entry). reverse list ++ own_at before (shard_of_call call))
+      (sym (visit_there setting worker told now frame count exchanges call waiting sessions.refused_within reaches outside))))
       (λ (apart : number ≢ shard_of_call call).
       elsewhere_own number within apart
-      ∙ ap (λ (list : List Entry). reverse list ++ own_at before number) (sym (visit_elsewhere number apart outside)))
+      ∙ ap (λ (list : List Entry). reverse list ++ own_at before number)
+      (sym (visit_elsewhere setting worker told now frame count exchanges call waiting sessions.refused_within reaches number apart outside)))
       (cases_eq number (shard_of_call call))
 
   visit_deeds : is_entered (shard_of_call call) reaches.after ≡ false →
-      deeds_in worker (visits ++ asks worker (Refused call) ∷ leavings worker (rising count (shard_of_call call ∷ reaches.after)))
+      deeds_in worker (passing ++ asks worker (Refused call) ∷ leavings worker (rising count (shard_of_call call ∷ reaches.after)))
       ≡ deeds_to_call worker count exchanges call
   visit_deeds outside =
       let enter : List Deed = Wrote (enter_by worker (shard_of_call call)) ∷ [] in
-      stop_deeds worker visits (asked_deeds worker [] exchanges ++ enter) call (rising count (shard_of_call call ∷ reaches.after))
+      stop_deeds worker passing (asked_deeds worker [] exchanges ++ enter) call (rising count (shard_of_call call ∷ reaches.after))
       (append_deeds worker reaches.run (asks worker (Writes (enter_by worker (shard_of_call call))) ∷ [])
       ∙ ap (λ (list : List Deed). list ++ Wrote (enter_by worker (shard_of_call call)) ∷ []) reaches.deeds)
       ∙ called_by worker count exchanges call reaches.after false reaches.enters outside
@@ -321,7 +332,7 @@ module _ (setting : Setting) (worker told now : ℕ) (frame : List ℕ) (plan : 
   visit_stop : is_entered (shard_of_call call) reaches.after ≡ false → AtCall → IsStop
   visit_stop outside at = record {
     begins_so = RunBegins frame now told few input early low;
-    run = visits;
+    run = passing;
     entered = shard_of_call call ∷ reaches.after;
     goes_on = steps_end setting count worker (beginning frame told now) (record { state = waiting; entered = reaches.after })
         (record { state = waiting; entered = shard_of_call call ∷ reaches.after }) reaches.run
@@ -346,7 +357,8 @@ module _ (setting : Setting) (worker told now : ℕ) (frame : List ℕ) (plan : 
 
   pub by_inside : (inside : Bool) → is_entered (shard_of_call call) reaches.after ≡ inside → IsStop
   by_inside true is = ⊎_elim (λ (at : AtCall). inside_stop is at)
-      (λ (at : AtEnter). absurd (called_some (shard_of_call call) is at.kept_out.first_call)) sessions.full
+      (λ (at : AtEnter).
+      absurd (called_some setting worker told now frame count exchanges call waiting sessions.refused_within reaches (shard_of_call call) is at.kept_out.first_call)) sessions.full
   by_inside false is = ⊎_elim (λ (at : AtCall). visit_stop is at) (λ (at : AtEnter). outside_stop is at) sessions.full
 
 pub stopped_is_of_system : StoppedRunsAreOfTheSystem

@@ -8,6 +8,7 @@ pub mod StepLaws
 pub mod RunRows
 pub mod SafeRow
 pub mod Merging
+pub mod RunsAlone
 pub mod AloneRow
 pub mod Places
 pub mod Runs

@@ -1,24 +1,18 @@
 -- One order of what all callers did on the shards, and the one list of events that it makes.
-use Rattle.std.specs.Prelude.{◌≡◌, ℕ, ◌<◌, ◌≤◌, ◌*◌, ◌==◌, ◌^◌, Bool, true, false, List, [], ◌∷◌, ◌++◌}
+use Rattle.std.specs.Prelude.{◌≡◌, ℕ, ◌<◌, ◌≤◌, ◌*◌, ◌==◌, Bool, true, false, List, [], ◌∷◌, ◌++◌}
 use Rattle.std.specs.Prelude.{length, reverse, filter, map, Some, if◌then◌else◌, IsFalse}
 use Rattle.std.specs.List.{AllByRecursion}
 use Rattle.semantics.specs.declared.call.Caller.TheVariants.{Worker, Controller}
-use Rattle.semantics.specs.declared.verdict.Verdict.{Verdict}
-use Rattle.semantics.specs.MachineState.{MachineState, initial_state}
-use Rattle.semantics.specs.RunTrace.{HasExited, trace_of}
-use Rattle.map_port.specs.Exchanges.{Exchange, calls_in, replies_in}
-use Rattle.shard_port.specs.PassSessions.{session_at, AreCallsWithin}
-use Rattle.runs.specs.FrameRuns.{AreFormed}
 use Rattle.semantics.specs.declared.call.Entry.{Entry}
 use Rattle.semantics.specs.declared.plan.ShardPlan.{ShardPlan}
 use Rattle.semantics.specs.ShardPlan.{plan_at, AreOptions}
 use Rattle.semantics.specs.History.{shard_of_call, IsLegalJournal}
-use Rattle.semantics.specs.System.{Setting, program_of, IsInputFrame, input_frame, SystemEvent, SystemState, Idle}
+use Rattle.semantics.specs.System.{Setting, SystemEvent, SystemState, Idle}
 use Rattle.semantics.specs.System.{worker_state, history_of, with_entry, after_event, opening_system, system_after, CanAllHappen}
 use Rattle.shards.specs.declared.deeds.Deed.{Deed}
 use Rattle.shards.specs.declared.deeds.OrderPart.TheVariants.{ByCaller}
 use Rattle.shards.specs.Deeds.{deeds_of, is_of_shard, entries_made, made_on, AreMet, AreDeedsWithin}
-use Rattle.guarantees.specs.Steps.{AskedOfShard, Refused, Move, AreSteps, entries_in, entries_on, deeds_in, begins}
+use Rattle.guarantees.specs.Steps.{AskedOfShard, Refused, Move, AreSteps, entries_in, entries_on, deeds_in}
 use Rattle.guarantees.specs.Moves.{is_event_of}
 
 abbrev pub is_refusal : AskedOfShard → Bool
@@ -103,40 +97,3 @@ OneWorkerIsOneList =
     AllByRecursion (IsSetBefore count) set → AreSteps setting count worker Idle moves Idle → NoneRefused moves →
     ((number : ℕ) → number < count → IsLegalJournal (plan number) (set_and_done set moves number)) →
     IsOneList setting count (set_and_done set moves) (moves_of worker moves) (set ++ entries_in moves)
-
--- the run of one worker behind that, by its trace
-pub record IsRunAlone (setting : Setting) (count worker told now : ℕ) (frame : List ℕ) (exchanges : List Exchange) (verdict : Verdict)
-    (last : MachineState) : Type 0 where
-  pub few : worker < setting.options.workers
-  pub input : IsInputFrame frame
-  pub early : now < 2 ^ 64
-  pub low : told < 8
-  pub instructions : ℕ
-  pub trace :
-      trace_of instructions (program_of setting) (initial_state (input_frame frame) told now) (replies_in exchanges)
-      ≡ record { calls = calls_in exchanges; stand = HasExited verdict last }
-  pub formed : AreFormed (program_of setting) exchanges
-  pub within : AreCallsWithin count exchanges
-
--- the journal of a shard, which has what the controller set, and then the run's session
-abbrev pub set_and_run : List Entry → ℕ → List Exchange → ℕ → List Entry
-set_and_run set worker exchanges number = filter (is_of_shard number) set ++ session_at worker number exchanges
-
--- that run's moves, which are one list of events with what was set before
-pub record IsListOfOne (setting : Setting) (count worker told now : ℕ) (frame : List ℕ) (set : List Entry) (exchanges : List Exchange) :
-    Type 0 where
-  pub run : List Move
-  pub moves : List Move
-  pub begins_so : moves ≡ begins worker frame now told ∷ run
-  pub list : IsOneList setting count (set_and_run set worker exchanges) (moves_of worker moves) (set ++ entries_in moves)
-
--- journals that have what the controller set and then one run, as `run_alone` makes them, are one list of events of the system
-abbrev pub RunAloneIsOneList : Type 0
-RunAloneIsOneList =
-    (setting : Setting) (plan : ℕ → ShardPlan) (count worker told now : ℕ) (frame : List ℕ) (set : List Entry) (exchanges : List Exchange)
-    (verdict : Verdict) (last : MachineState) →
-    AreOptions setting.maps setting.options → count ≡ length setting.maps * setting.options.shards →
-    ((number : ℕ) → number < count → plan_at setting.maps setting.options number ≡ Some (plan number)) →
-    AllByRecursion (IsSetBefore count) set → IsRunAlone setting count worker told now frame exchanges verdict last →
-    ((number : ℕ) → number < count → IsLegalJournal (plan number) (set_and_run set worker exchanges number)) →
-    IsListOfOne setting count worker told now frame set exchanges

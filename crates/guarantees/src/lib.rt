@@ -11,7 +11,7 @@
 //! in the history alone. `one_caller` speaks of runs one after the other without locks, `readers` of programs that only read.
 #![tactic(auto)]
 
-mod fits;
+mod lone_runs;
 pub mod one_caller;
 pub mod place_laws;
 pub mod readers;
@@ -23,9 +23,10 @@ ghost use Rattle.semantics.specs.Safety.{IsSafeImage};
 ghost use Rattle.guarantees.specs.HeadlineOf.{ReplaysKeepHeadline};
 ghost use Rattle.guarantees.specs.Guarantees.{EntriesAreSteps, EntriesAreAnswered};
 ghost use Rattle.guarantees.specs.SystemLaws.{RunsAreOfTheSystem, StoppedRunsAreOfTheSystem};
-ghost use Rattle.guarantees.specs.Merging.{OneOrderIsOneList, OneWorkerIsOneList, RunAloneIsOneList};
+ghost use Rattle.guarantees.specs.Merging.{OneOrderIsOneList, OneWorkerIsOneList};
+ghost use Rattle.guarantees.specs.RunsAlone.{RunsAloneAreOfTheSystem, StoppedRunsAloneAreOfTheSystem};
 
-pub use fits::commands_fit;
+pub use lone_runs::lone_run;
 pub use one_caller::{
     opened_shards_are_ready, runs_are_their_meaning, runs_leave_others_alone,
     stopped_runs_are_beginnings,
@@ -112,11 +113,16 @@ pub fn one_worker_is_one_list()
     one_order_is_one_list();
 }
 
-/// One run behind what the controller set, as `run_alone` makes it, is one list of events of the system, where it ended, so that no call of
-/// it met a full journal: from what its journals have (the updates, and then the run's sessions) and from its program's trace on these
-/// replies.
-pub fn run_alone_is_one_list()
-    ensures { RunAloneIsOneList }
-{
-    one_worker_is_one_list();
-}
+/// A run by `run_alone` that ended is one list of events of the system, where the worker is one of the options, and the frame and the updates
+/// fit: the controller's updates first, each answered 0; then the worker's run, begun on the frame at its moment, which ends with this
+/// verdict, frame and number of instructions; and nothing else. They can all happen, from the opening on, and lead to these journals and
+/// idle workers. It is said with the definitions that say what a replay is, but no round of the reclaimer follows a run alone.
+pub fn runs_alone_are_of_the_system()
+    ensures { RunsAloneAreOfTheSystem }
+{}
+
+/// And so is one that a full journal stopped: its last step asks that shard, for the call or for the Enter before it, and then the worker
+/// leaves the shards that it entered.
+pub fn stopped_runs_alone_are_of_the_system()
+    ensures { StoppedRunsAloneAreOfTheSystem }
+{}

@@ -7,7 +7,7 @@ ghost use Rattle.guarantees.specs.RunRows.{RunRows};
 ghost use Rattle.guarantees.specs.SafeRow.{SafeRow};
 ghost use Rattle.guarantees.specs.StepLaws.{StepsAreListed, MovesLeadToOne, RunsAreTraces, RunsHaveOneOutcome};
 
-use crate::run_alone_is_one_list;
+use crate::{runs_alone_are_of_the_system, stopped_runs_alone_are_of_the_system};
 use verifier::laws::accepted_is_safe;
 
 /// Each step is an event that can happen, and leads to what the step says, in every state of the system in which its worker is where the
@@ -51,12 +51,14 @@ pub fn a_safe_program_is_computed()
     accepted_is_safe();
 }
 
-/// One run behind an update that sets the map's number, computed: its journal is legal, and it is one list of events with the update. So
-/// what `run_alone_is_one_list` asks for can be met.
-pub fn a_run_alone_is_computed()
+/// Two runs alone, computed: one behind an update that sets the map's number, and one behind 14 updates, which enters the shard and meets a
+/// full journal with its first call. Their journals are legal, and each is one list of events with its updates. So what
+/// `runs_alone_are_of_the_system` and `stopped_runs_alone_are_of_the_system` ask for can be met.
+pub fn runs_alone_are_computed()
     ensures { AloneRow }
 {
-    run_alone_is_one_list();
+    runs_alone_are_of_the_system();
+    stopped_runs_alone_are_of_the_system();
 }
 
 /// Two replays as lists of events, computed: in one a command takes a key away while a run holds its cell, in the other a journal is full for

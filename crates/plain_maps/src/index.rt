@@ -1,6 +1,7 @@
 //! The index.
 
-ghost use Rattle.std.specs.Prelude.{◌≡◌, ◌<◌, ◌≤◌, ◌+◌, ◌*◌, ◌^◌, ◌≢◌, ℕ, List, [], length, IfOk, IfSome, None, Some, cond, if◌then◌else◌};
+ghost use Rattle.std.specs.Prelude.{◌≡◌, ◌<◌, ◌≤◌, ◌+◌, ◌*◌, ◌^◌, ◌≢◌, ℕ, List, [], length, IfOk, IfSome, None, Some};
+ghost use Rattle.std.specs.Prelude.{cond, if◌then◌else◌};
 ghost use Rattle.std.specs.Prelude.{is_some, bytes_eq};
 ghost use Rattle.plain_maps.specs.Keyed.{KeyMap, entry_of, key_of_number, AreInverse};
 ghost use Rattle.plain_maps.specs.Hashing.{home_of};

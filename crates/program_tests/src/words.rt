@@ -1,7 +1,7 @@
 //! Command lines.
 
 use crate::asserting::{holds_of, same_text};
-use command_line::{ReplayFiles, RunFiles, Settings, WordsFault, settings};
+use command_line::{ReplayFiles, ReplaySettings, RunFiles, Settings, WordsFault, settings};
 use map_updates::MapUpdate;
 use semantics::Options;
 use std::alloc::{AllocError, Global};
@@ -30,20 +30,13 @@ fn shown(rt: &impl Abort, alloc: Global, settings: Settings<'_>) -> Result<Strin
         Settings::Asm { text, out, source } => format!(in alloc; "asm {text} {out} {source}"),
         Settings::Shipped { out, ring } => format!(in alloc; "shipped {out} {ring}"),
         Settings::Table { script, ring } => format!(in alloc; "table {script} {ring}"),
-        Settings::Replay {
-            files,
-            options,
-            ring,
-            exact,
-            summary,
-            skip_long,
-            no_journals,
-            updates,
-        } => {
-            let mut text = replay_shown(rt, alloc, files, options, ring);
-            put_flags(rt, &mut text, exact, summary, skip_long, no_journals);
-            put_report(rt, &mut text, files);
-            put_updates(rt, alloc, &mut text, &updates);
+        Settings::Script { capture, timed } => format!(in alloc; "script {capture} {timed}"),
+        Settings::Compare { first, second } => format!(in alloc; "compare {first} {second}"),
+        Settings::Replay(asked) => {
+            let mut text = replay_shown(rt, alloc, asked.files, asked.options, asked.ring);
+            put_flags(rt, &mut text, &asked);
+            put_report(rt, &mut text, asked.files);
+            put_updates(rt, alloc, &mut text, &asked.updates);
             Ok(text)
         }
     }
@@ -57,18 +50,15 @@ fn put_if(rt: &impl Abort, text: &mut String, is_said: bool, word: &str) {
 }
 
 /// The flags of a replay that are given.
-fn put_flags(
-    rt: &impl Abort,
-    text: &mut String,
-    exact: bool,
-    summary: bool,
-    skip_long: bool,
-    no_journals: bool,
-) {
-    put_if(rt, text, exact, " exact");
-    put_if(rt, text, summary, " summary");
-    put_if(rt, text, skip_long, " skip-long");
-    put_if(rt, text, no_journals, " no-journals");
+fn put_flags(rt: &impl Abort, text: &mut String, asked: &ReplaySettings<'_>) {
+    put_if(rt, text, asked.exact, " exact");
+    put_if(rt, text, asked.summary, " summary");
+    put_if(rt, text, asked.reading.skip_long, " skip-long");
+    put_if(rt, text, asked.reading.pad_cut, " pad-cut");
+    put_if(rt, text, asked.reading.allow_cut, " allow-cut");
+    put_if(rt, text, asked.no_journals, " no-journals");
+    put_if(rt, text, asked.strict, " strict");
+    put_if(rt, text, asked.no_clobber, " no-clobber");
 }
 
 /// Whether a replay has no steering, and the file of its report.
@@ -132,7 +122,7 @@ fn replay_shown(
 }
 
 #[rattlefmt::skip]
-const READ: [(&str, &str); 43] = [
+const READ: [(&str, &str); 50] = [
     ("xlb check a",                             "check a false"),
     ("xlb check --explain a",                   "check a true"),
     ("xlb check a --explain",                   "check a true"),
@@ -172,6 +162,14 @@ const READ: [(&str, &str); 43] = [
     ("xlb replay --exact a b --script s",       "replay a b - s 1 1 65536 251 - exact"),
     ("xlb replay a b --summary",                "replay a b - - 1 1 65536 251 - summary"),
     ("xlb replay a b --skip-long",              "replay a b - - 1 1 65536 251 - skip-long"),
+    ("xlb replay a b --pad-cut",                "replay a b - - 1 1 65536 251 - pad-cut"),
+    ("xlb replay a --allow-cut b",              "replay a b - - 1 1 65536 251 - allow-cut"),
+    ("xlb replay --strict a b",                 "replay a b - - 1 1 65536 251 - strict"),
+    ("xlb replay a b --no-clobber",             "replay a b - - 1 1 65536 251 - no-clobber"),
+    ("xlb replay a b --no-clobber --strict --allow-cut --pad-cut --skip-long --exact",
+        "replay a b - - 1 1 65536 251 - exact skip-long pad-cut allow-cut strict no-clobber"),
+    ("xlb script a b",                          "script a b"),
+    ("xlb compare a b",                         "compare a b"),
     ("xlb replay a b --no-journals --workers 4", "replay a b - - 4 1 65536 251 - no-journals"),
     ("xlb replay a b --report r.json",          "replay a b - - 1 1 65536 251 - report r.json"),
     ("xlb replay a b --update 0 07 02 --image i --update +1 0A ff", "replay a b i - 1 1 65536 251 - no-steering 0=07:02 1=0a:ff"),

@@ -18,3 +18,4 @@ pub mod TurnFates
 pub mod TurnSimulation
 pub mod TurnAccounts
 pub mod PieceLemmas
+pub mod LaterTurns

@@ -8,5 +8,6 @@ pub mod TurnFaults
 pub mod TurnStates
 pub mod ExactReplays
 pub mod TurnOrder
+pub mod LaterTurns
 pub mod TurnsAccounted
 pub mod Pieces

@@ -1,5 +1,6 @@
 //! Laws of replays, as contracts of functions that do nothing.
 
+ghost use Rattle.replay.specs.LaterTurns.{TurnsComeInOrder};
 ghost use Rattle.replay.specs.TurnsAccounted.{TurnsAreAccounted};
 
 use shard_port::laws::{own_entries_after_a_refusal, own_entries_are_sessions};
@@ -13,3 +14,10 @@ pub fn turns_are_accounted()
     own_entries_are_sessions();
     own_entries_after_a_refusal();
 }
+
+/// In the one order of an exact replay nothing that a later turn writes comes before anything that an earlier one writes, on any shard: an
+/// entry that lies behind the journal that its shard has at the end of a turn is written when every shard has the whole of its journal of
+/// then. So an order in which an update of a command comes before an entry of a record in front of the command is of no exact replay.
+pub fn turns_come_in_order()
+    ensures { TurnsComeInOrder }
+{}

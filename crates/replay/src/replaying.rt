@@ -22,8 +22,8 @@ use crate::setting::{
 use crate::threads::Setting;
 use actors::worker::ShardRunner;
 use actors::{Outcome, ReplayFault, all_are_captured};
-use control::Script;
-use guarantees::{commands_fit, headline};
+use control::{Script, commands_fit};
+use guarantees::headline;
 use map_updates::MapUpdate;
 use rx_queues::{PutPass, Queues, TakePass};
 use semantics::{Options, Recording};

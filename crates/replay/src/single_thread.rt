@@ -45,8 +45,8 @@ use actors::dispatch::{ROUND_EVERY, due, is_short, worker_of};
 use actors::first_updates::{copied, set_all};
 use actors::worker::{end_of, moment_of};
 use actors::{Applied, Outcome, PieceOutcome, RecordEnd, ReplayFault, RunEnd, all_are_captured};
-use control::{Command, ControlFault, Controller, Script};
-use guarantees::{commands_fit, headline};
+use control::{Command, ControlFault, Controller, Script, commands_fit};
+use guarantees::headline;
 use map_updates::MapUpdate;
 use runs::closing::journals_of;
 use semantics::{Caller, Options, Recording};
@@ -492,8 +492,8 @@ fn with_records(rest: Outcome, done: PieceOutcome) -> Outcome
 /// of its flow, if it has 14 bytes; and after every 64 records the reclaimer makes a round. Behind the last record come the commands that
 /// are left, and one more round. So a command finds what the runs of all frames before it left, and what it sets is found by every later
 /// one. Two such replays of the same input give the same outcome, unless memory was refused to a command (no law says so). What is returned
-/// is accounted for as what a replay on threads returns, also where no rows of journals are kept; the one order of all deeds is that of the
-/// turns (`in_turn`), and the headline holds (`headline`, `one_list`).
+/// is accounted for as what a replay on threads returns, also where no rows of journals are kept; the one order of all deeds goes through the
+/// states of the turns (`in_turn`), and the headline holds (`headline`, `one_list`).
 ///
 /// The gate is called after each round that follows a record, as for a reply of the reclaimer, with the number of such rounds: it shows how
 /// far the replay is.

@@ -319,7 +319,7 @@ fn is_refused<R: Abort + Threads + Wait + Sync>(
 }
 
 #[test]
-fn whoever_is_refused_memory_takes_its_jobs_to_the_end(rt: HostRuntime) -> Result<(), Fail> {
+fn an_actor_that_is_refused_memory_takes_its_jobs_to_the_end(rt: HostRuntime) -> Result<(), Fail> {
     for refusal in &REFUSALS {
         is_refused(&rt, rt.alloc(), refusal)?;
     }

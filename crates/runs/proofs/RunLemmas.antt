@@ -11,6 +11,7 @@ use Rattle.semantics.specs.declared.verdict.Verdict.{Verdict}
 use Rattle.semantics.specs.MachineState.{MachineState}
 use Rattle.semantics.specs.Program.{Program}
 use Rattle.semantics.specs.History.{shard_of_call, IsJournalFull}
+use Rattle.semantics.specs.Reclamation.{is_inside}
 use Rattle.semantics.specs.RunTrace.{IsReplyTo}
 use Rattle.shard_core.specs.JournaledShard.{JournaledShard, opened_shard}
 use Rattle.map_port.specs.Exchanges.{Exchange, IsChain}
@@ -21,7 +22,7 @@ use Rattle.machine.specs.Running.{Ends, StopsSo}
 use Rattle.shard_port.specs.Asking.{is_in, enter_by, leave_by, all_left, left, can_enter, entered, CannotEnter, CannotCall}
 use Rattle.shard_port.specs.declared.plain.PlainPort.{PlainPort}
 use Rattle.shard_port.specs.PlainPorts.{PortGives, PortRefuses, maps_of}
-use Rattle.shard_port.specs.PortLaws.{append_none, set_here}
+use Rattle.shard_port.specs.PortLaws.{append_none, newest_first, same_worker as same_number, set_here}
 use Rattle.shard_port.specs.Sessions.{WritesSessions, WritesRefusedSessions, IsVisited, exchange_entries, behind_enter, session, with_entries}
 use Rattle.shard_port.specs.PassSessions.{session_at, AreCallsWithin}
 use Rattle.runs.specs.FrameRuns.{AreFormed}
@@ -94,6 +95,21 @@ outside_full worker one full = neither (is_in worker one) _ full
 stays_left : (worker : ℕ) (one : JournaledShard) → is_in worker one ≡ false → (left worker one).journal ≡ one.journal
 stays_left worker one outside =
     ap (λ (inside : Bool). one.journal ++ (if inside then leave_by worker one.plan.number ∷ [] else [])) outside ∙ append_none one.journal
+
+-- who has entered is inside, and leaves
+inside_entered : (worker : ℕ) (one : JournaledShard) → is_in worker (entered worker one) ≡ true
+inside_entered worker one = by_test (is_in worker one) refl
+  where
+    by_test : (inside : Bool) → is_in worker one ≡ inside →
+        is_inside worker (reverse (one.journal ++ (if inside then [] else enter_by worker one.plan.number ∷ []))) ≡ true
+    by_test true is = rw (append_none one.journal) is
+    by_test false is = rw (newest_first one (enter_by worker one.plan.number), same_number worker) refl
+
+leaves_entered : (worker number : ℕ) (one : JournaledShard) → one.plan.number ≡ number →
+    (left worker (entered worker one)).journal ≡ (entered worker one).journal ++ leave_by worker number ∷ []
+leaves_entered worker number one same =
+    ap (λ (inside : Bool). (entered worker one).journal ++ (if inside then leave_by worker one.plan.number ∷ [] else [])) (inside_entered worker one)
+    ∙ ap (λ (n : ℕ). (entered worker one).journal ++ leave_by worker n ∷ []) same
 
 -- the entries of a visit
 abbrev visit_by : ℕ → ℕ → List Entry
@@ -192,22 +208,31 @@ module _ (program : Program) (start : MachineState) (worker : ℕ) (before after
         let is : away.shard ≡ here = same_found _ _ _ away.known there in
         let of_worker : middle.worker ≡ worker = chain_worker port middle exchanges chain ∙ same_worker in
         let of_later : later.worker ≡ worker = refused.same_port.same_worker ∙ of_worker in
+        let left_so : shard_at after number ≡ left later.worker away.new =
+        left_as number (left later.worker away.new)
+        (left_at later.worker later.shards.now number away.new
+        (ap (λ (shards : List JournaledShard). slice_get shards number) away.put_back ∙ set_here middle.shards.now number away.shard away.new away.known)) in
         ⊎_elim
         (λ (out : CannotEnter middle.worker away.shard away.new).
         let full : IsFalse (can_enter worker here) = subst (λ (n : ℕ). IsFalse (can_enter n here)) of_worker
         (subst (λ (one : JournaledShard). IsFalse (can_enter middle.worker one)) is out.full) in
         inl (record {
           full = full;
-          nothing = ap (λ (one : JournaledShard). one.journal)
-              (left_as number (left later.worker away.new)
-              (left_at later.worker later.shards.now number away.new
-              (ap (λ (shards : List JournaledShard). slice_get shards number) away.put_back ∙ set_here middle.shards.now number away.shard away.new away.known)))
+          nothing = ap (λ (one : JournaledShard). one.journal) left_so
               ∙ ap (λ (one : JournaledShard). (left later.worker one).journal) (out.unchanged ∙ is)
               ∙ ap (λ (n : ℕ). (left n here).journal) of_later
               ∙ stays_left worker here (outside_full worker here full);
         }))
-        (λ (out : CannotCall middle.worker away.shard call away.new). inr (subst (λ (n : ℕ). IsJournalFull here.plan (reverse (entered n here).journal) call) of_worker
-        (subst (λ (one : JournaledShard). IsJournalFull one.plan (reverse (entered middle.worker one).journal) call) is out.full)))
+        (λ (out : CannotCall middle.worker away.shard call away.new). inr (record {
+          full = subst (λ (n : ℕ). IsJournalFull here.plan (reverse (entered n here).journal) call) of_worker
+              (subst (λ (one : JournaledShard). IsJournalFull one.plan (reverse (entered middle.worker one).journal) call) is out.full);
+          leaves = ap (λ (one : JournaledShard). one.journal) left_so
+              ∙ ap (λ (one : JournaledShard). (left later.worker one).journal) out.entered_only
+              ∙ ap (λ (n : ℕ). (left n (entered middle.worker away.shard)).journal) of_later
+              ∙ ap (λ (n : ℕ). (left worker (entered n away.shard)).journal) of_worker
+              ∙ ap (λ (one : JournaledShard). (left worker (entered worker one)).journal) is
+              ∙ leaves_entered worker number here (outside.numbered number below);
+        }))
         away.turned_away
 
     pub stopped_over : WritesSessions → WritesRefusedSessions → (frame : FrameView) (stop : Stop) →

@@ -57,11 +57,16 @@ pub record IsFullForEnter (worker : ℕ) (here : JournaledShard) (journal : List
   pub full : IsFalse (can_enter worker here)
   pub nothing : journal ≡ here.journal
 
+-- the worker had entered, and the journal had no room for its call; it has the worker's Leave behind that
+pub record IsFullForCall (worker number : ℕ) (here : JournaledShard) (refused : Call) (journal : List Entry) : Type 0 where
+  pub full : IsJournalFull here.plan (reverse (entered worker here).journal) refused
+  pub leaves : journal ≡ (entered worker here).journal ++ leave_by worker number ∷ []
+
 -- after what the run had done there, the journal was full for the Enter before the call, or for the call
 abbrev pub IsFullAfter : ℕ → ℕ → List Exchange → Call → JournaledShard → List Entry → Type 0
 IsFullAfter worker number exchanges refused before journal =
     let here : JournaledShard = with_entries before (behind_enter worker number (exchange_entries worker number exchanges)) in
-    IsFullForEnter worker here journal ⊎ IsJournalFull here.plan (reverse (entered worker here).journal) refused
+    IsFullForEnter worker here journal ⊎ IsFullForCall worker number here refused journal
 
 -- ---- over shards
 

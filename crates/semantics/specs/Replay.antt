@@ -28,7 +28,7 @@ pub record Asked : Type 0 where
   pub records : List Captured
   -- the worker that runs a frame
   pub worker_of : List ℕ → ℕ
-  -- the controller's calls before the first record, and those of each command of the script
+  -- the controller's calls: updates that it makes first of all, then those of each command of the script
   pub updates : List Call
   pub commands : List (List Call)
 
@@ -106,7 +106,7 @@ pub record Result : Type 0 where
   pub totals : Totals
   -- what is sent, in the capture's order
   pub sent : List Captured
-  -- the answers to the updates before the first record, and to the calls of each command: none where a journal was full
+  -- the answers to the updates, and to the calls of each command: none where a journal was full
   pub first_answers : List (Option Reply)
   pub answers : List (List (Option Reply))
   -- the journal of each shard, the oldest entry first
@@ -200,7 +200,7 @@ pub record AreAnswersOf (asked : Asked) (result : Result) : Type 0 where
 pub record IsReplay (setting : Setting) (asked : Asked) (result : Result) (events : List SystemEvent) : Type 0 where
   -- they can all happen, one after the other, from the opening on
   pub can : CanAllHappen setting (reverse events)
-  -- each worker runs its share of the records, one after the other; the controller makes the updates before the first record and then the
+  -- each worker runs its share of the records, one after the other; the controller makes first the updates and then the
   -- calls of the commands, in the script's order over all shards; the reclaimer makes its rounds; and nothing else happens
   pub begun : (worker : ℕ) → begun_by worker events ≡ inputs_of asked worker
   pub called : controlled events ≡ calls_of asked

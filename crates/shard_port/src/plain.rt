@@ -1,6 +1,7 @@
 //! The port of a single caller: one worker, one run at a time, no lock.
 
-ghost use Rattle.std.specs.Prelude.{Some, ◌≡◌, ◌<◌, ◌≤◌, ◌+◌, ◌*◌, ◌%◌, ◌^◌, ℕ, pos, IsTrue, IfOk, IfErr, OnErr, length, slice_get, nat_lt};
+ghost use Rattle.std.specs.Prelude.{Some, ◌≡◌, ◌<◌, ◌≤◌, ◌+◌, ◌*◌, ◌%◌, ◌^◌, ℕ, pos, IsTrue};
+ghost use Rattle.std.specs.Prelude.{IfOk, IfErr, OnErr, length, slice_get, nat_lt};
 ghost use Rattle.std.specs.Prelude.{IsFalse, OnOk};
 ghost use Rattle.semantics.specs.ShardPlan.{AreOptions};
 ghost use Rattle.semantics.specs.History.{shard_of_call, IsLegalJournal};

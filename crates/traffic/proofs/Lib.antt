@@ -1,4 +1,4 @@
 -- Lemmas for the answers of this crate.
 pub mod MoveLemmas
 pub mod TableLemmas
-pub mod LongRecordLemmas
+pub mod ReadingLemmas

@@ -2,7 +2,7 @@
 pub mod Kinds
 pub mod Counting
 pub mod Moving
-pub mod LongRecords
+pub mod Readings
 pub mod SummaryText
 pub mod RecordLines
 pub mod NotSent

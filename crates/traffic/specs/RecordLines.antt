@@ -1,6 +1,9 @@
--- The line of a record in a report, as CSV or as JSON (RFC 4180, RFC 8259): number, moment, worker, verdict, steps, case, backend, address.
--- What is not known is empty, or null.
-use Rattle.std.specs.Prelude.{ℕ, ◌/◌, ◌%◌, ◌++◌, List, [], ◌∷◌, codes, decimal, Option, Some, None}
+-- The line of a record in a report, as CSV or as JSON (RFC 4180, RFC 8259): number, moment, worker, verdict, steps, case, backend, address,
+-- and the flow of its frame: source, source port, destination, destination port, protocol. What is not known is empty, or null.
+use Rattle.std.specs.Prelude.{ℕ, ◌/◌, ◌%◌, ◌==◌, ◌++◌, List, [], ◌∷◌, codes, decimal, Option, Some, None, if◌then◌else◌, slice_index}
+use Rattle.wire.specs.BigEndian.{be_word_at}
+use Rattle.traffic.specs.Counting.{address_at}
+use Rattle.traffic.specs.Kinds.{is_of_flow_kind, kind_of}
 use Rattle.traffic.specs.declared.kind.FrameKind.{FrameKind}
 use Rattle.traffic.specs.declared.kind.FrameKind.TheVariants as kinds
 use Rattle.traffic.specs.declared.record_line.ReportForm.{ReportForm}
@@ -107,12 +110,12 @@ front_text form number micros worker verdict =
 -- in how many steps, by which case, and where it was sent
 abbrev pub csv_back : List ℕ → List ℕ → List ℕ → List ℕ → List ℕ
 csv_back steps case backend address =
-    codes "," ++ (steps ++ (codes "," ++ (case ++ (codes "," ++ (backend ++ (codes "," ++ (address ++ codes "\n")))))))
+    codes "," ++ (steps ++ (codes "," ++ (case ++ (codes "," ++ (backend ++ (codes "," ++ address))))))
 
 abbrev pub json_back : List ℕ → List ℕ → List ℕ → List ℕ → List ℕ
 json_back steps case backend address =
     codes ",\"steps\":" ++ (steps ++ (codes ",\"case\":" ++ (case ++ (codes ",\"backend\":" ++ (backend ++ (codes ",\"address\":"
-    ++ (address ++ codes "}\n")))))))
+    ++ address))))))
 
 abbrev pub back_of_pieces : ReportForm → List ℕ → List ℕ → List ℕ → List ℕ → List ℕ
 back_of_pieces Csv steps case backend address = csv_back steps case backend address
@@ -122,11 +125,51 @@ abbrev pub back_text : ReportForm → Option ℕ → List ℕ → Option ℕ →
 back_text form steps case backend address =
     back_of_pieces form (number_text form steps) (word_text form case) (number_text form backend) (target_text form address)
 
-abbrev pub record_line : ReportForm → RecordLine → List ℕ
-record_line form line =
-    front_text form line.number line.micros line.worker line.verdict ++ back_text form line.steps line.case_of.now line.backend line.address
+-- ---- the flow
+
+-- a protocol by its number in the IPv4 header
+abbrev pub protocol_word : ℕ → List ℕ
+protocol_word protocol = if protocol == 6 then codes "tcp" else codes "udp"
+
+abbrev pub csv_flow : List ℕ → List ℕ → List ℕ → List ℕ → List ℕ → List ℕ
+csv_flow source source_port destination destination_port protocol =
+    codes "," ++ (source ++ (codes "," ++ (source_port ++ (codes "," ++ (destination ++ (codes "," ++ (destination_port ++ (codes ","
+    ++ (protocol ++ codes "\n")))))))))
+
+abbrev pub json_flow : List ℕ → List ℕ → List ℕ → List ℕ → List ℕ → List ℕ
+json_flow source source_port destination destination_port protocol =
+    codes ",\"source\":" ++ (source ++ (codes ",\"source_port\":" ++ (source_port ++ (codes ",\"destination\":" ++ (destination
+    ++ (codes ",\"destination_port\":" ++ (destination_port ++ (codes ",\"protocol\":" ++ (protocol ++ codes "}\n")))))))))
+
+abbrev pub flow_of_pieces : ReportForm → List ℕ → List ℕ → List ℕ → List ℕ → List ℕ → List ℕ
+flow_of_pieces Csv source source_port destination destination_port protocol =
+    csv_flow source source_port destination destination_port protocol
+flow_of_pieces Json source source_port destination destination_port protocol =
+    json_flow source source_port destination destination_port protocol
+
+-- the flow of a frame that has one: addresses and ports as they are in the frame, the first byte highest
+abbrev pub known_flow : ReportForm → List ℕ → List ℕ
+known_flow form frame =
+    flow_of_pieces form (target_text form (Some (address_at 26 frame))) (number_text form (Some (be_word_at 34 frame)))
+    (target_text form (Some (address_at 30 frame))) (number_text form (Some (be_word_at 36 frame)))
+    (word_text form (protocol_word (slice_index frame 23)))
+
+abbrev pub no_flow : ReportForm → List ℕ
+no_flow form = flow_of_pieces form (missing form) (missing form) (missing form) (missing form) (missing form)
+
+-- the flow of a frame, and the line's end
+abbrev pub flow_text : ReportForm → List ℕ → List ℕ
+flow_text form frame = if is_of_flow_kind (kind_of frame) then known_flow form frame else no_flow form
+
+-- ---- the whole line
+
+-- the line of a record with this frame
+abbrev pub record_line : ReportForm → RecordLine → List ℕ → List ℕ
+record_line form line frame =
+    (front_text form line.number line.micros line.worker line.verdict
+    ++ back_text form line.steps line.case_of.now line.backend line.address) ++ flow_text form frame
 
 -- what comes before the first line
 abbrev pub head_of : ReportForm → List ℕ
-head_of Csv = codes "number,moment,worker,verdict,steps,case,backend,address\n"
+head_of Csv = codes "number,moment,worker,verdict,steps,case,backend,address,source,source_port,destination,destination_port,protocol\n"
 head_of Json = []

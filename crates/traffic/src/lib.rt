@@ -2,11 +2,12 @@
 #![tactic(auto)]
 
 mod backends;
+mod flow_columns;
 mod kind;
-mod long_records;
 mod moves;
 mod not_sent;
 mod printing;
+mod readings;
 mod record_line;
 mod shares;
 mod tables;
@@ -15,10 +16,10 @@ mod written_maps;
 
 pub use backends::Backends;
 pub use kind::FrameKind;
-pub use long_records::{ShortenedCapture, without_long_records};
 pub use moves::{moved_places, moves_in};
 pub use not_sent::{NotSent, is_for, services};
 pub use printing::summary;
+pub use readings::{AlteredCapture, Reading, altered_capture};
 pub use record_line::{LineVerdict, RecordLine, ReportForm, case_word};
 pub use shares::{least_moves, moved_slots, share_of};
 pub use tables::{Refused, Tables, tables_of};

@@ -11,7 +11,7 @@ use std::collections::BTreeMap;
 use wire::{Sent, word_at};
 
 /// The four bytes at an index as one number, the first byte highest.
-fn address_at(frame: &[u8], at: usize) -> u32
+pub(crate) fn address_at(frame: &[u8], at: usize) -> u32
     requires { at + 4 ≤ length frame.now }
     ensures { result ≡ address_at at frame.now }
 {

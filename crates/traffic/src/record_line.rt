@@ -5,6 +5,7 @@ ghost use Rattle.traffic.specs.RecordLines.{back_text, case_word, csv_back, csv_
 ghost use Rattle.traffic.specs.RecordLines.{kind_word, missing, moment_text};
 ghost use Rattle.traffic.specs.RecordLines.{number_text, quoted, record_line, six_digits, target_text, verdict_word, word_text};
 
+use crate::flow_columns::flow_text;
 use crate::kind::FrameKind;
 use crate::printing::address_text;
 use std::alloc::{AllocError, Global};
@@ -31,7 +32,7 @@ pub enum LineVerdict {
     Tx,
 }
 
-/// What a report says of a record. What is not known is none, or an empty word.
+/// What a report says of a record beside its flow. What is not known is none, or an empty word.
 #[derive(Clone, Copy, Debug, PartialEq, Eq)]
 pub struct RecordLine {
     /// Which record of the capture it is, counted from 1.
@@ -71,7 +72,7 @@ fn moment_text(alloc: Global, micros: u64) -> Result<String, AllocError>
 }
 
 /// What is written for what is not known.
-fn missing(form: ReportForm) -> &'static str
+pub(crate) fn missing(form: ReportForm) -> &'static str
     ensures { result.now ≡ missing form }
 {
     match form {
@@ -81,7 +82,11 @@ fn missing(form: ReportForm) -> &'static str
 }
 
 /// A number, if it is known.
-fn number_text(alloc: Global, form: ReportForm, number: Option<u64>) -> Result<String, AllocError>
+pub(crate) fn number_text(
+    alloc: Global,
+    form: ReportForm,
+    number: Option<u64>,
+) -> Result<String, AllocError>
     ensures { IfOk result (λ text. string_bytes text ≡ number_text form number) }
 {
     match number {
@@ -98,7 +103,7 @@ fn quoted(alloc: Global, word: &str) -> Result<String, AllocError>
 }
 
 /// A word, if it is known.
-fn word_text(alloc: Global, form: ReportForm, word: &str) -> Result<String, AllocError>
+pub(crate) fn word_text(alloc: Global, form: ReportForm, word: &str) -> Result<String, AllocError>
     ensures { IfOk result (λ text. string_bytes text ≡ word_text form word.now) }
 {
     if word.is_empty() {
@@ -111,7 +116,11 @@ fn word_text(alloc: Global, form: ReportForm, word: &str) -> Result<String, Allo
 }
 
 /// An address, if it is known.
-fn target_text(alloc: Global, form: ReportForm, address: Option<u32>) -> Result<String, AllocError>
+pub(crate) fn target_text(
+    alloc: Global,
+    form: ReportForm,
+    address: Option<u32>,
+) -> Result<String, AllocError>
     ensures { IfOk result (λ text. string_bytes text ≡ target_text form address) }
 {
     match address {
@@ -212,7 +221,7 @@ fn csv_back(
 ) -> Result<String, AllocError>
     ensures { IfOk result (λ text. string_bytes text ≡ csv_back steps.now case.now backend.now address.now) }
 {
-    format!(in alloc; ",{steps},{case},{backend},{address}\n")
+    format!(in alloc; ",{steps},{case},{backend},{address}")
 }
 
 /// What a line of JSON says of the run.
@@ -226,7 +235,7 @@ fn json_back(
     ensures { IfOk result (λ text. string_bytes text ≡ json_back steps.now case.now backend.now address.now) }
 {
     format!(in alloc;
-        ",\"steps\":{steps},\"case\":{case},\"backend\":{backend},\"address\":{address}}}\n"
+        ",\"steps\":{steps},\"case\":{case},\"backend\":{backend},\"address\":{address}"
     )
 }
 
@@ -236,7 +245,9 @@ impl ReportForm {
         ensures { result.now ≡ head_of self }
     {
         match self {
-            ReportForm::Csv => "number,moment,worker,verdict,steps,case,backend,address\n",
+            ReportForm::Csv => {
+                "number,moment,worker,verdict,steps,case,backend,address,source,source_port,destination,destination_port,protocol\n"
+            }
             ReportForm::Json => "",
         }
     }
@@ -295,13 +306,15 @@ impl ReportForm {
         }
     }
 
-    /// The line of a record.
-    pub fn line(self, alloc: Global, line: &RecordLine) -> Result<String, AllocError>
-        ensures { IfOk result (λ text. string_bytes text ≡ record_line self line.now) }
+    /// The line of a record with this frame.
+    pub fn line(self, alloc: Global, line: &RecordLine, frame: &[u8]) -> Result<String, AllocError>
+        ensures { IfOk result (λ text. string_bytes text ≡ record_line self line.now frame.now) }
     {
         let mut text = self.front(alloc, line)?;
         let back = self.back(alloc, line)?;
         text.push_str(back.as_str())?;
+        let flow = flow_text(alloc, self, frame)?;
+        text.push_str(flow.as_str())?;
         Ok(text)
     }
 }

@@ -1,6 +1,6 @@
 //! The word `-` on the command line: the standard input where a file is read, the standard output where one is written.
 
-use command_line::{ReplayFiles, RunFiles, Settings};
+use command_line::{ReplayFiles, ReplaySettings, RunFiles, Settings};
 use folders::{STANDARD_INPUT, STANDARD_OUTPUT};
 
 /// The word for a standard stream. A file of this name is `./-`.
@@ -104,25 +104,18 @@ pub(crate) fn with_streams<'a>(settings: Settings<'a>) -> Settings<'a> {
             script: read_from(script),
             ring,
         },
-        Settings::Replay {
-            files,
-            options,
-            ring,
-            exact,
-            summary,
-            skip_long,
-            no_journals,
-            updates,
-        } => Settings::Replay {
-            files: replay_files(files),
-            options,
-            ring,
-            exact,
-            summary,
-            skip_long,
-            no_journals,
-            updates,
+        Settings::Script { capture, timed } => Settings::Script {
+            capture: read_from(capture),
+            timed: read_from(timed),
         },
+        Settings::Compare { first, second } => Settings::Compare {
+            first: read_from(first),
+            second: read_from(second),
+        },
+        Settings::Replay(asked) => Settings::Replay(ReplaySettings {
+            files: replay_files(asked.files),
+            ..asked
+        }),
     }
 }
 
@@ -139,10 +132,20 @@ fn inputs_of<'a>(settings: &Settings<'a>) -> [Named<'a>; 3] {
             ("JOURNALS", Some(*journals)),
             NONE,
         ],
-        Settings::Replay { files, .. } => [
-            ("CAPTURE", Some(files.capture)),
-            (image_option(files), files.image),
-            ("--script", files.script),
+        Settings::Script { capture, timed } => [
+            ("CAPTURE", Some(*capture)),
+            ("TIMED", Some(*timed)),
+            NONE,
+        ],
+        Settings::Compare { first, second } => [
+            ("FIRST", Some(*first)),
+            ("SECOND", Some(*second)),
+            NONE,
+        ],
+        Settings::Replay(asked) => [
+            ("CAPTURE", Some(asked.files.capture)),
+            (image_option(&asked.files), asked.files.image),
+            ("--script", asked.files.script),
         ],
         _ => [NONE, NONE, NONE],
     }
@@ -163,10 +166,10 @@ fn outputs_of<'a>(settings: &Settings<'a>) -> [Named<'a>; 3] {
         Settings::Run { files, .. } => [("--journals", files.journals), NONE, NONE],
         Settings::Asm { out, .. } => [("OUT", Some(*out)), NONE, NONE],
         Settings::Shipped { out, .. } => [("OUT", Some(*out)), NONE, NONE],
-        Settings::Replay { files, .. } => [
-            ("SENT", Some(files.sent)),
-            ("--journals", files.journals),
-            ("--report", files.report),
+        Settings::Replay(asked) => [
+            ("SENT", Some(asked.files.sent)),
+            ("--journals", asked.files.journals),
+            ("--report", asked.files.report),
         ],
         _ => [NONE, NONE, NONE],
     }

@@ -10,6 +10,7 @@ use Rattle.control.specs.declared.command.Command.{Command}
 use Rattle.journals.specs.JournalsView.{JournalsView}
 use Rattle.command_line.specs.declared.commands.ReplayFiles.{ReplayFiles}
 use Rattle.command_line.specs.Reading.{text_of}
+use Rattle.traffic.specs.declared.readings.Reading.{Reading}
 use Rattle.xlb_commands.specs.declared.fault.Fault.{Fault}
 use Rattle.xlb_commands.specs.declared.report.Report.{Report}
 use Rattle.xlb_commands.specs.Files.{FileBytes, AreKept, AreOthersKept, AreAllButKept}
@@ -37,9 +38,9 @@ pub script_before : (a b : FileBytes) → AreKept a b → (name : Option (List �
 script_before a b kept None script is = is
 script_before a b kept (Some name) script is = record { bytes = is.bytes; read = (kept name is.bytes).1 is.read; spelled = is.spelled }
 
-pub capture_before : (a b : FileBytes) → AreKept a b → (skip_long : Bool) (name : List ℕ) (records : List Sent)
-    → IsCaptureOf b skip_long name records → IsCaptureOf a skip_long name records
-capture_before a b kept skip_long name records is =
+pub capture_before : (a b : FileBytes) → AreKept a b → (reading : Reading) (name : List ℕ) (records : List Sent)
+    → IsCaptureOf b reading name records → IsCaptureOf a reading name records
+capture_before a b kept reading name records is =
     record { bytes = is.bytes; read = (kept name is.bytes).1 is.read; spelled = is.spelled }
 
 pub unfiled_before : (a b c : FileBytes) (failed since : Type 0) (names : ReplayFiles) (sent : List ℕ) (journals : JournalsView) (fault : Fault)
@@ -56,14 +57,14 @@ broken_since failed since fault so (no_piece unserved) = no_piece (unserved_sinc
 broken_since failed since fault so (no_replay_memory is) = no_replay_memory is
 
 pub report_before : (a b c : FileBytes) (files : ReplayFiles) (program : Contents) (states : List (Option State)) (script : List Command) (options : Options)
-    (recording : Recording) (ring : ℕ) (exact skip_long : Bool) (updates : List MapUpdate) (report : Report) → AreKept a b
-    → IsReplayReport b c files program states script options recording ring exact skip_long updates report
-    → IsReplayReport a c files program states script options recording ring exact skip_long updates report
-report_before a b c files program states script options recording ring exact skip_long updates report kept is = (
+    (recording : Recording) (ring : ℕ) (exact : Bool) (reading : Reading) (updates : List MapUpdate) (report : Report) → AreKept a b
+    → IsReplayReport b c files program states script options recording ring exact reading updates report
+    → IsReplayReport a c files program states script options recording ring exact reading updates report
+report_before a b c files program states script options recording ring exact reading updates report kept is = (
   is.0,
   record {
     records = is.1.records;
-    capture = capture_before a b kept skip_long files.capture.now is.1.records is.1.capture;
+    capture = capture_before a b kept reading files.capture.now is.1.records is.1.capture;
     outcome = is.1.outcome;
     made = is.1.made;
     headline = is.1.headline;
@@ -76,24 +77,25 @@ report_before a b c files program states script options recording ring exact ski
     lines = is.1.lines;
   },
   is.2,
+  is.3,
 )
 
 pub unreplayed_before : (a b c : FileBytes) (failed since : Type 0) (names : ReplayFiles) (program : Contents) (script : List Command) (options : Options)
-    (recording : Recording) (exact skip_long : Bool) (updates : List MapUpdate) (fault : Fault) → AreKept a b → (failed → since)
-    → IsUnreplayed b c failed names program script options recording exact skip_long updates fault
-    → IsUnreplayed a c since names program script options recording exact skip_long updates fault
-unreplayed_before a b c failed since names program script options recording exact skip_long updates fault kept so (no_replay_capture still refused) =
-    no_replay_capture (kept_twice a b c kept still) (capture_refusal_before a b failed since skip_long names.capture.now fault kept so refused)
-unreplayed_before a b c failed since names program script options recording exact skip_long updates fault kept so (given_up records why still capture given is) =
-    given_up records why (kept_twice a b c kept still) (capture_before a b kept skip_long names.capture.now records capture) given is
-unreplayed_before a b c failed since names program script options recording exact skip_long updates fault kept so
+    (recording : Recording) (exact : Bool) (reading : Reading) (updates : List MapUpdate) (fault : Fault) → AreKept a b → (failed → since)
+    → IsUnreplayed b c failed names program script options recording exact reading updates fault
+    → IsUnreplayed a c since names program script options recording exact reading updates fault
+unreplayed_before a b c failed since names program script options recording exact reading updates fault kept so (no_replay_capture still refused) =
+    no_replay_capture (kept_twice a b c kept still) (capture_refusal_before a b failed since reading names.capture.now fault kept so refused)
+unreplayed_before a b c failed since names program script options recording exact reading updates fault kept so (given_up records why still capture given is) =
+    given_up records why (kept_twice a b c kept still) (capture_before a b kept reading names.capture.now records capture) given is
+unreplayed_before a b c failed since names program script options recording exact reading updates fault kept so
     (broken_off records is_exact all no_report still capture fit broken) =
-    broken_off records is_exact all no_report (kept_twice a b c kept still) (capture_before a b kept skip_long names.capture.now records capture) fit
+    broken_off records is_exact all no_report (kept_twice a b c kept still) (capture_before a b kept reading names.capture.now records capture) fit
     (broken_since failed since fault so broken)
-unreplayed_before a b c failed since names program script options recording exact skip_long updates fault kept so
+unreplayed_before a b c failed since names program script options recording exact reading updates fault kept so
     (not_reported records outcome still capture made lacks) =
-    not_reported records outcome (kept_twice a b c kept still) (capture_before a b kept skip_long names.capture.now records capture) made lacks
-unreplayed_before a b c failed since names program script options recording exact skip_long updates fault kept so
+    not_reported records outcome (kept_twice a b c kept still) (capture_before a b kept reading names.capture.now records capture) made lacks
+unreplayed_before a b c failed since names program script options recording exact reading updates fault kept so
     (not_written_down records outcome capture made unfiled) =
-    not_written_down records outcome (capture_before a b kept skip_long names.capture.now records capture) made
+    not_written_down records outcome (capture_before a b kept reading names.capture.now records capture) made
     (unfiled_before a b c failed since names _ outcome.journals fault kept so unfiled)

@@ -13,6 +13,7 @@ use Rattle.wire.specs.CaptureFormat.{record_bytes, records_bytes}
 use Rattle.wire.specs.declared.records.Sent.{Sent}
 use Rattle.xlb_commands.specs.Files.{FileBytes, AreKept}
 use Rattle.xlb_commands.specs.InPieces.{AreAdded, AreRun, HaveRun}
+use Rattle.traffic.specs.Readings.{unaltered}
 use Rattle.xlb_commands.specs.Replays.{IsCaptureOf}
 
 -- the records of a list and of another, one after another
@@ -93,7 +94,7 @@ read_still has left left' records reader same is = record {
 
 -- the whole file is a capture
 pub capture_is : (files : FileBytes) (name : List ℕ) (records : List Sent) (cut : ℕ) → IsReadWhole (files name) records cut
-    → IsCaptureOf files false name records
+    → IsCaptureOf files unaltered name records
 capture_is files name records cut whole = record {
   bytes = whole.all;
   read = whole.held;

@@ -2,6 +2,7 @@
 use Rattle.std.proofs.Common.{◌≡◌, ℕ, Bool, List, Option, Some, None, arith, refl, subst}
 use Rattle.journals.specs.JournalsView.{JournalsView}
 use Rattle.journals.specs.JournalText.{journals_text}
+use Rattle.traffic.specs.declared.readings.Reading.{Reading}
 use Rattle.xlb_commands.specs.declared.fault.Fault.{Fault}
 use Rattle.xlb_commands.specs.Files.{FileBytes, AreKept}
 use Rattle.xlb_commands.specs.Replays.{HasBytes, AreWritten}
@@ -48,11 +49,11 @@ script_refusal_before before after failed since (Some name) fault kept so (no_sc
 script_refusal_before before after failed since (Some name) fault kept so (no_script bytes why read explains is) =
     no_script bytes why ((kept name bytes).1 read) explains is
 
-pub capture_refusal_before : (before after : FileBytes) (failed since : Type 0) (skip_long : Bool) (name : List ℕ) (fault : Fault) → AreKept before after → (failed → since)
-    → IsCaptureRefusal after failed skip_long name fault → IsCaptureRefusal before since skip_long name fault
-capture_refusal_before before after failed since skip_long name fault kept so (no_capture_bytes unserved) =
+pub capture_refusal_before : (before after : FileBytes) (failed since : Type 0) (reading : Reading) (name : List ℕ) (fault : Fault) → AreKept before after → (failed → since)
+    → IsCaptureRefusal after failed reading name fault → IsCaptureRefusal before since reading name fault
+capture_refusal_before before after failed since reading name fault kept so (no_capture_bytes unserved) =
     no_capture_bytes (unserved_since failed since fault so unserved)
-capture_refusal_before before after failed since skip_long name fault kept so (no_capture bytes read is) = no_capture bytes ((kept name bytes).1 read) is
+capture_refusal_before before after failed since reading name fault kept so (no_capture bytes read is) = no_capture bytes ((kept name bytes).1 read) is
 
 -- where a file is named for the journals, it has their text
 pub written_down : (files : FileBytes) (name : Option (List ℕ)) (bytes : List ℕ) (journals : JournalsView)

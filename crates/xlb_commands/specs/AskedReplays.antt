@@ -1,11 +1,12 @@
 -- What a replay that is asked for comes to.
-use Rattle.std.specs.Prelude.{false, true, List}
+use Rattle.std.specs.Prelude.{true, List}
 use Rattle.wire.specs.declared.records.Sent.{Sent}
 use Rattle.semantics.specs.ShardPlan.{recorded}
 use Rattle.machine.specs.Running.{program_of}
 use Rattle.actors.specs.Parts.{AreBadOptions}
 use Rattle.actors.specs.declared.fault.ReplayFault.{ReplayFault}
 use Rattle.actors.specs.declared.outcome.Outcome.{Outcome}
+use Rattle.traffic.specs.Readings.{unaltered}
 use Rattle.command_line.specs.Reading.{text_of}
 use Rattle.xlb_commands.specs.declared.fault.Fault.{Fault}
 use Rattle.xlb_commands.specs.declared.replays.Asked.{Asked}
@@ -18,13 +19,13 @@ use Rattle.xlb_commands.specs.Replays.{IsCaptureOf, IsMade, IsReplayReport, imag
 abbrev pub IsAnswered : FileBytes → FileBytes → Asked → Report → Type 0
 IsAnswered before after asked report =
     IsReplayReport before after asked.files.now (image_of asked.verified.now) asked.verified.now.states asked.script.now asked.options
-    asked.recording asked.ring asked.exact asked.skip_long asked.updates.now report
+    asked.recording asked.ring asked.exact asked.reading asked.updates.now report
 
 -- it was not made, or not written down, and this is why
 abbrev pub IsDenied : FileBytes → FileBytes → Type 0 → Asked → Fault → Type 0
 IsDenied before after failed asked fault =
     IsUnreplayed before after failed asked.files.now (image_of asked.verified.now) asked.script.now asked.options asked.recording
-    asked.exact asked.skip_long asked.updates.now fault
+    asked.exact asked.reading asked.updates.now fault
 
 -- no file changed but those that it is to write
 abbrev pub LeavesOthers : FileBytes → FileBytes → Asked → Type 0
@@ -48,7 +49,7 @@ HasBadOptions asked = AreBadOptions asked.verified.now.maps asked.options asked.
 -- it was made in turn of the file's whole capture
 pub record IsMadeInTurn (before : FileBytes) (asked : Asked) : Type 0 where
   pub records : List Sent
-  pub capture : IsCaptureOf before false asked.files.now.capture.now records
+  pub capture : IsCaptureOf before unaltered asked.files.now.capture.now records
   pub outcome : Outcome
   pub made : IsMade true (program_of asked.verified.now asked.options.shards) asked.updates.now asked.script.now
       (recorded asked.recording asked.options) records outcome

@@ -1,5 +1,5 @@
--- Files that would be written over others by one command: a mistake of the command line.
-use Rattle.std.specs.Prelude.{◌≡◌, ◌≢◌, ◌⊎◌, ◌++◌, ℕ, List, Some, codes}
+-- Files that would be written over others by one command, or over what is there: mistakes of the command line.
+use Rattle.std.specs.Prelude.{◌≡◌, ◌≢◌, ◌⊎◌, ◌++◌, ℕ, Bool, false, true, List, Some, codes}
 use Rattle.command_line.specs.Reading.{text_of}
 use Rattle.command_line.specs.declared.commands.ReplayFiles.{ReplayFiles}
 use Rattle.command_line.specs.declared.commands.Settings.{Settings}
@@ -22,7 +22,7 @@ abbrev pub IsOver : Settings → List ℕ → List ℕ → Type 0
 IsOver (Asm text out source) written other = (written ≡ out.now) × (other ≡ text.now)
 IsOver (Run files now worker updates) written other =
     (text_of files.journals ≡ Some written) × ((other ≡ files.image.now) ⊎ (other ≡ files.frame.now))
-IsOver (Replay files options ring exact summary skip_long no_journals updates) written other = IsOverInReplay files written other
+IsOver (Replay asked) written other = IsOverInReplay asked.files written other
 IsOver settings written other = ⊥
 
 -- the names of what the command writes are no others that it has
@@ -33,3 +33,22 @@ AreApart settings = (written other : List ℕ) → IsOver settings written other
 abbrev pub clash_text : List ℕ → List ℕ → List ℕ
 clash_text written other =
     codes "error: " ++ (written ++ (codes " would be written over " ++ (other ++ codes ": they are one file\n")))
+
+-- ---- files that are there already
+
+-- a replay writes the file of this name
+abbrev pub IsWrittenInReplay : ReplayFiles → List ℕ → Type 0
+IsWrittenInReplay files name = (name ≡ files.sent.now) ⊎ ((text_of files.journals ≡ Some name) ⊎ (text_of files.report ≡ Some name))
+
+-- the command writes the file of this name, and may write over none
+abbrev pub IsWrittenAnew : Settings → List ℕ → Type 0
+IsWrittenAnew (Replay asked) name = (asked.no_clobber ≡ true) × IsWrittenInReplay asked.files name
+IsWrittenAnew settings name = ⊥
+
+-- the files that it writes so are not there
+abbrev pub AreFree : (List ℕ → Bool → Type 0) → Settings → Type 0
+AreFree has settings = (name : List ℕ) → IsWrittenAnew settings name → has name false
+
+-- the line of such a mistake
+abbrev pub present_text : List ℕ → List ℕ
+present_text name = codes "error: " ++ (name ++ codes " is there already: --no-clobber writes over no file\n")

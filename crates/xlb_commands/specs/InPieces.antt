@@ -18,11 +18,12 @@ use Rattle.replay.specs.Pieces.{IsUnderway}
 use Rattle.replay.specs.declared.in_pieces.PieceReplay.{PieceReplay}
 use Rattle.actors.specs.declared.outcome.Outcome.{Outcome}
 use Rattle.actors.specs.declared.outcome.RecordEnd.{RecordEnd}
+use Rattle.traffic.specs.Readings.{unaltered}
 use Rattle.command_line.specs.Reading.{text_of}
 use Rattle.command_line.specs.declared.commands.ReplayFiles.{ReplayFiles}
 use Rattle.xlb_commands.specs.declared.report.Report.{Report}
 use Rattle.xlb_commands.specs.Files.{FileBytes}
-use Rattle.xlb_commands.specs.Replays.{FollowsRule, IsCaptureOf, IsMade, KeepsHeadline, SendsAlike}
+use Rattle.xlb_commands.specs.Replays.{FollowsRule, IsCaptureOf, IsMade, KeepsHeadline, LeavesNothingOut, SendsAlike}
 use Rattle.xlb_commands.specs.Replays.{counts_text, program_of_replay, refusals_text}
 
 -- no reader counts too far: each record takes 16 bytes at least
@@ -73,12 +74,13 @@ pub record IsMadeOf (files : ReplayFiles) (program : Contents) (states : List (O
   pub journals_are : (file : List ℕ) → text_of files.journals ≡ Some file → journals ≡ journals_text whole.journals
   pub text : string_bytes report.text ≡ counts_text whole.counts ++ refusals_text whole.refused.items
   pub none_refused : (whole.refused.items ≡ []) ↔ (report.is_refused ≡ false)
+  pub all : report.leaves_out ≡ false → LeavesNothingOut script records whole
 
 -- the file is a capture, and all its records were run
 pub record HasGoneThrough (files : FileBytes) (name : List ℕ) (program : Program) (script : List Command) (options : Options)
     (before after : PieceReplay) (made made' : FileBytes) : Type 0 where
   pub records : List Sent
-  pub capture : IsCaptureOf files false name records
+  pub capture : IsCaptureOf files unaltered name records
   pub have_run : HaveRun program script options before after made made' records
 
 -- besides, the replay came to its end, and the report and the bytes of the journals are its
@@ -87,6 +89,6 @@ pub record IsLeft (before made made' : FileBytes) (files : ReplayFiles) (program
     (journals : List ℕ) : Type 0 where
   pub records : List Sent
   pub sent : List Sent
-  pub capture : IsCaptureOf before false files.capture.now records
+  pub capture : IsCaptureOf before unaltered files.capture.now records
   pub added : AreAdded made made' sent
   pub made_of : IsMadeOf files program states script options recording ring updates records sent report journals

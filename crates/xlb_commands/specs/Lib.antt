@@ -4,6 +4,8 @@ pub mod Clashes
 pub mod RecordReports
 pub mod Replays
 pub mod Tables
+pub mod Timed
+pub mod Comparing
 pub mod Results
 pub mod FaultLines
 pub mod Refused

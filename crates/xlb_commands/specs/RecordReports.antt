@@ -15,7 +15,7 @@ use Rattle.actors.specs.declared.outcome.RecordEnd.TheVariants.{Short, Stopped, 
 use Rattle.traffic.specs.Counting.{address_at, one_if, target_of}
 use Rattle.traffic.specs.Holders.{holder_among, holder_in, only_number}
 use Rattle.traffic.specs.Kinds.{kind_of}
-use Rattle.traffic.specs.RecordLines.{back_text, case_word, front_text, head_of}
+use Rattle.traffic.specs.RecordLines.{back_text, case_word, flow_text, front_text, head_of}
 use Rattle.traffic.specs.declared.backends.Backends.{Backends}
 use Rattle.traffic.specs.declared.record_line.LineVerdict.{LineVerdict}
 use Rattle.traffic.specs.declared.record_line.LineVerdict.TheVariants as words
@@ -107,12 +107,12 @@ backend_at backends (Some address) = only_number (holder_among address backends)
 -- ---- the lines
 
 -- the line of a record, counted from 0: its number, counted from 1, its moment in microseconds, its worker, its verdict, its steps, the
--- case, the backend and the address
+-- case, the backend and the address, and the flow of its frame
 abbrev pub line_text : ReportForm → Bool → List (ℕ × ℕ) → ℕ → Sent → RecordEnd → Option Sent → List ℕ
 line_text form is_steering backends number captured end sent =
-    front_text form (number + 1) (captured.seconds * 1000000 + captured.micros) (worker_in end) (verdict_in end)
+    (front_text form (number + 1) (captured.seconds * 1000000 + captured.micros) (worker_in end) (verdict_in end)
     ++ back_text form (steps_in end) (case_in is_steering captured.bytes.items end) (backend_at backends (address_in end sent))
-    (address_in end sent)
+    (address_in end sent)) ++ flow_text form captured.bytes.items
 
 -- what became of the record of this number
 abbrev pub end_of : List RecordEnd → ℕ → RecordEnd

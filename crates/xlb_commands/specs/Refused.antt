@@ -62,17 +62,23 @@ use Rattle.actors.specs.declared.outcome.Outcome.{Outcome}
 use Rattle.actors.specs.Parts.{AreBadOptions}
 use Rattle.command_line.specs.declared.commands.RunFiles.{RunFiles}
 use Rattle.command_line.specs.declared.commands.ReplayFiles.{ReplayFiles}
+use Rattle.command_line.specs.declared.commands.ReplaySettings.{ReplaySettings}
 use Rattle.command_line.specs.Reading.{text_of}
 use Rattle.command_line.specs.declared.commands.Settings.{Settings}
 use Rattle.command_line.specs.declared.commands.Settings.TheVariants.{Check, Run, Disasm, Audit, Explain, Asm, Shipped, Replay, Table}
+use Rattle.command_line.specs.declared.commands.Settings.TheVariants.{Script, Compare}
+use Rattle.timed_scripts.specs.MeantScript.{Explains as MeansNone}
+use Rattle.traffic.specs.Readings.{alters, unaltered}
+use Rattle.traffic.specs.declared.readings.Reading.{Reading}
 use Rattle.xlb_commands.specs.declared.fault.Fault.{Fault}
 use Rattle.xlb_commands.specs.declared.fault.Fault.TheVariants as faults
 use Rattle.xlb_commands.specs.Files.{FileBytes, AreKept, AreOthersKept, IsImageFile, IsJudged}
-use Rattle.xlb_commands.specs.Clashes.{IsOver, clash_text}
+use Rattle.xlb_commands.specs.Clashes.{IsOver, clash_text, IsWrittenAnew, present_text}
 use Rattle.xlb_commands.specs.FaultLines.{fault_line, mistake_text}
 use Rattle.xlb_commands.specs.Replays.{AreWritten, IsProgramOf, IsScriptFile, IsScriptOf, IsCaptureOf, AreCaptureBytes, program_of_replay}
-use Rattle.xlb_commands.specs.Replays.{recording_of, IsMade}
+use Rattle.xlb_commands.specs.Replays.{reading_in, recording_in, IsMade}
 use Rattle.xlb_commands.specs.Results.{IsDone, IsDoneInPart, IsReported, IsMistake, Stream, run_options, program_of_run, start_of_run}
+use Rattle.xlb_commands.specs.Results.{IsUnlikeSaid}
 
 -- ---- files
 
@@ -341,6 +347,11 @@ pub data IsTableRefusal (files : FileBytes) (failed : Type 0) (name : List ℕ) 
   no_table_lines : (script : List Command) → IsRingSize ring → IsScriptFile files name script → fault ≡ faults.Memory
       → IsTableRefusal files failed name ring fault
 
+-- xlb compare: a file was not read; or memory was refused
+pub data IsComparisonRefusal (failed : Type 0) (fault : Fault) : Type 0 where
+  no_report_bytes : IsUnserved failed fault → IsComparisonRefusal failed fault
+  no_comparison : fault ≡ faults.Memory → IsComparisonRefusal failed fault
+
 -- no script: of the file, or where none is named memory was refused for that of no commands
 abbrev pub IsScriptRefusal : FileBytes → Type 0 → Option (List ℕ) → Fault → Type 0
 IsScriptRefusal files failed (Some name) fault = IsScriptFileRefusal files failed name fault
@@ -351,16 +362,24 @@ pub data IsNoCapture (bytes : List ℕ) (fault : Fault) : Type 0 where
   too_large : 2 ^ 40 < length bytes → fault ≡ faults.Memory → IsNoCapture bytes fault
   no_records : (why : CaptureFault) → RefusesCapture bytes why → fault ≡ faults.Capture why → IsNoCapture bytes fault
 
--- what of the bytes is read is no capture; or memory was refused for the bytes without the long records
-pub data IsNoCaptureIn (skip_long : Bool) (bytes : List ℕ) (fault : Fault) : Type 0 where
-  left_refused : (left : List ℕ) → AreCaptureBytes skip_long bytes left → IsNoCapture left fault → IsNoCaptureIn skip_long bytes fault
-  none_left : IsTrue skip_long → fault ≡ faults.Memory → IsNoCaptureIn skip_long bytes fault
+-- what of the bytes is read is no capture; or memory was refused for what is read, where that is altered
+pub data IsNoCaptureIn (reading : Reading) (bytes : List ℕ) (fault : Fault) : Type 0 where
+  left_refused : (left : List ℕ) → AreCaptureBytes reading bytes left → IsNoCapture left fault → IsNoCaptureIn reading bytes fault
+  none_left : alters reading ≡ true → fault ≡ faults.Memory → IsNoCaptureIn reading bytes fault
 
 -- the file was not read, or its bytes are no capture
-pub data IsCaptureRefusal (files : FileBytes) (failed : Type 0) (skip_long : Bool) (name : List ℕ) (fault : Fault) : Type 0 where
-  no_capture_bytes : IsUnserved failed fault → IsCaptureRefusal files failed skip_long name fault
-  no_capture : (bytes : List ℕ) → files name bytes → IsNoCaptureIn skip_long bytes fault
-      → IsCaptureRefusal files failed skip_long name fault
+pub data IsCaptureRefusal (files : FileBytes) (failed : Type 0) (reading : Reading) (name : List ℕ) (fault : Fault) : Type 0 where
+  no_capture_bytes : IsUnserved failed fault → IsCaptureRefusal files failed reading name fault
+  no_capture : (bytes : List ℕ) → files name bytes → IsNoCaptureIn reading bytes fault
+      → IsCaptureRefusal files failed reading name fault
+
+-- xlb script: no capture was read; or one was, and the timed script was not; or both were, and this means no script for its records
+pub data IsTimedRefusal (files : FileBytes) (failed : Type 0) (capture timed : List ℕ) (fault : Fault) : Type 0 where
+  no_timed_capture : IsCaptureRefusal files failed unaltered capture fault → IsTimedRefusal files failed capture timed fault
+  no_timed_bytes : (records : List Sent) → IsCaptureOf files unaltered capture records → IsUnserved failed fault
+      → IsTimedRefusal files failed capture timed fault
+  means_none : (records : List Sent) (bytes : List ℕ) (why : ControlFault) → IsCaptureOf files unaltered capture records → files timed bytes
+      → MeansNone records bytes why → fault ≡ faults.Script why → IsTimedRefusal files failed capture timed fault
 
 -- why the replay was given up: for its options exactly where no shards are opened with them, or the script has commands and the maps are
 -- not those of steering; else memory was refused, an update was refused or met a full journal, or a thread could not be started (an exact
@@ -394,36 +413,42 @@ pub data IsBrokenOff (failed : Type 0) (fault : Fault) : Type 0 where
 -- broken off; one that was made, and memory was refused for its sent frames, its journals, its report or what is printed; until then no
 -- file changed; or its files were not written.
 pub data IsUnreplayed (files after : FileBytes) (failed : Type 0) (names : ReplayFiles) (program : Contents) (script : List Command)
-    (options : Options) (recording : Recording) (exact skip_long : Bool) (updates : List MapUpdate) (fault : Fault) : Type 0 where
-  no_replay_capture : AreKept files after → IsCaptureRefusal files failed skip_long names.capture.now fault
-      → IsUnreplayed files after failed names program script options recording exact skip_long updates fault
-  given_up : (records : List Sent) (why : ReplayFault) → AreKept files after → IsCaptureOf files skip_long names.capture.now records
+    (options : Options) (recording : Recording) (exact : Bool) (reading : Reading) (updates : List MapUpdate) (fault : Fault) : Type 0 where
+  no_replay_capture : AreKept files after → IsCaptureRefusal files failed reading names.capture.now fault
+      → IsUnreplayed files after failed names program script options recording exact reading updates fault
+  given_up : (records : List Sent) (why : ReplayFault) → AreKept files after → IsCaptureOf files reading names.capture.now records
       → IsGivenUp exact program.maps updates script options recording why → fault ≡ faults.Replay why
-      → IsUnreplayed files after failed names program script options recording exact skip_long updates fault
-  broken_off : (records : List Sent) → exact ≡ true → skip_long ≡ false → text_of names.report ≡ None → AreKept files after
-      → IsCaptureOf files skip_long names.capture.now records → (¬ AreBadOptions program.maps options script) → IsBrokenOff failed fault
-      → IsUnreplayed files after failed names program script options recording exact skip_long updates fault
-  not_reported : (records : List Sent) (outcome : Outcome) → AreKept files after → IsCaptureOf files skip_long names.capture.now records
+      → IsUnreplayed files after failed names program script options recording exact reading updates fault
+  broken_off : (records : List Sent) → exact ≡ true → reading ≡ unaltered → text_of names.report ≡ None → AreKept files after
+      → IsCaptureOf files reading names.capture.now records → (¬ AreBadOptions program.maps options script) → IsBrokenOff failed fault
+      → IsUnreplayed files after failed names program script options recording exact reading updates fault
+  not_reported : (records : List Sent) (outcome : Outcome) → AreKept files after → IsCaptureOf files reading names.capture.now records
       → IsMade exact (program_of_replay program options) updates script (recorded recording options) records outcome
       → LacksRoom (text_of names.journals) fault
-      → IsUnreplayed files after failed names program script options recording exact skip_long updates fault
-  not_written_down : (records : List Sent) (outcome : Outcome) → IsCaptureOf files skip_long names.capture.now records
+      → IsUnreplayed files after failed names program script options recording exact reading updates fault
+  not_written_down : (records : List Sent) (outcome : Outcome) → IsCaptureOf files reading names.capture.now records
       → IsMade exact (program_of_replay program options) updates script (recorded recording options) records outcome
       → AreUnfiled files after failed names (capture_bytes outcome.sent.items) outcome.journals fault
-      → IsUnreplayed files after failed names program script options recording exact skip_long updates fault
+      → IsUnreplayed files after failed names program script options recording exact reading updates fault
 
 -- xlb replay: no program that may run; no script; or both, and no replay that was made and written down
 pub data IsReplayRefusal (files after : FileBytes) (failed : Type 0) (names : ReplayFiles) (options : Options) (recording : Recording)
-    (ring : ℕ) (exact skip_long : Bool) (updates : List MapUpdate) (fault : Fault) : Type 0 where
+    (ring : ℕ) (exact : Bool) (reading : Reading) (updates : List MapUpdate) (fault : Fault) : Type 0 where
   no_replay_program : AreKept files after → IsReplayProgramRefusal files failed (text_of names.image) ring fault
-      → IsReplayRefusal files after failed names options recording ring exact skip_long updates fault
+      → IsReplayRefusal files after failed names options recording ring exact reading updates fault
   no_replay_script : (program : Contents) → AreKept files after → IsReplayProgram files (text_of names.image) ring program
       → AreFitting program.maps updates → IsScriptRefusal files failed (text_of names.script) fault
-      → IsReplayRefusal files after failed names options recording ring exact skip_long updates fault
+      → IsReplayRefusal files after failed names options recording ring exact reading updates fault
   not_replayed : (program : Contents) (script : List Command) → IsReplayProgram files (text_of names.image) ring program
       → AreFitting program.maps updates → IsScriptOf files (text_of names.script) script
-      → IsUnreplayed files after failed names program script options recording exact skip_long updates fault
-      → IsReplayRefusal files after failed names options recording ring exact skip_long updates fault
+      → IsUnreplayed files after failed names program script options recording exact reading updates fault
+      → IsReplayRefusal files after failed names options recording ring exact reading updates fault
+
+-- the same of what is asked
+abbrev pub IsReplayRefused : FileBytes → FileBytes → Type 0 → ReplaySettings → Fault → Type 0
+IsReplayRefused before after failed asked fault =
+    IsReplayRefusal before after failed asked.files asked.options (recording_in asked) asked.ring asked.exact (reading_in asked)
+    asked.updates.items fault
 
 -- ---- commands
 
@@ -440,9 +465,9 @@ IsRefusedWith before after failed (Asm text out false) fault = IsAsmRefusal befo
 IsRefusedWith before after failed (Asm text out true) fault = IsSourceRefusal before after failed text.now fault
 IsRefusedWith before after failed (Shipped out ring) fault = IsShippedFileRefusal before after failed ring fault
 IsRefusedWith before after failed (Table script ring) fault = IsTableRefusal before failed script.now ring fault
-IsRefusedWith before after failed (Replay files options ring exact summary skip_long without updates) fault =
-    IsReplayRefusal before after failed files options (recording_of without (text_of files.journals)) ring exact skip_long
-    updates.items fault
+IsRefusedWith before after failed (Script capture timed) fault = IsTimedRefusal before failed capture.now timed.now fault
+IsRefusedWith before after failed (Compare first second) fault = IsComparisonRefusal failed fault
+IsRefusedWith before after failed (Replay asked) fault = IsReplayRefused before after failed asked fault
 
 -- the fault that is printed: the command was refused with it; or it was done, and what it prints could not be printed
 pub data IsPrintedFault (before after : FileBytes) (failed unprinted : Type 0) (settings : Settings) (fault : Fault) : Type 0 where
@@ -475,6 +500,21 @@ pub data PrintsClash (written other : List ℕ) (before after : Option (List ℕ
   in_line : after ≡ append_known before (clash_text written other) → PrintsClash written other before after
   lacks_line : after ≡ append_known before (codes "fault 8 Memory\n") → PrintsClash written other before after
 
+-- the same of a file that is there already
+pub data PrintsPresent (name : List ℕ) (before after : Option (List ℕ)) : Type 0 where
+  in_its_line : after ≡ append_known before (present_text name) → PrintsPresent name before after
+  lacks_its_line : after ≡ append_known before (codes "fault 8 Memory\n") → PrintsPresent name before after
+
+-- a file that is to be written is there already, by what the folder knows, and the command may write over none: that was printed on `err`,
+-- unless that failed; no file was read or written, and nothing was printed on `out`
+pub record IsInTheWay (before after : FileBytes) (has : List ℕ → Bool → Type 0) (settings : Settings) (out out' err err' : Stream) : Type 0 where
+  pub name : List ℕ
+  pub anew : IsWrittenAnew settings name
+  pub there : has name true
+  pub kept : AreKept before after
+  pub printed : err'.failures ≡ err.failures → PrintsPresent name err.held err'.held
+  pub nothing : out' ≡ out
+
 -- a file would be written over another one that the command has, which are one by what the folder knows: that was printed on `err`, unless
 -- that failed; no file was read or written, and nothing was printed on `out`
 pub record IsClash (before after : FileBytes) (are_one : FileBytes) (settings : Settings) (out out' err err' : Stream) : Type 0 where
@@ -494,10 +534,20 @@ pub record IsMisfitPrinted (before after : FileBytes) (settings : Settings) (out
   pub printed : err'.failures ≡ err.failures → PrintsMistake place misfit err.held err'.held
   pub nothing : out' ≡ out
 
--- a mistake that shows only in the image, or in the files' names
-abbrev pub IsMistaken : FileBytes → FileBytes → FileBytes → Settings → Stream → Stream → Stream → Stream → Type 0
-IsMistaken before after are_one settings out out' err err' =
-    IsMisfitPrinted before after settings out out' err err' ⊎ IsClash before after are_one settings out out' err err'
+-- files cannot be compared: that was printed on `err`, unless that failed, and nothing on `out`
+pub record IsUnlikePrinted (before after : FileBytes) (settings : Settings) (out out' err err' : Stream) : Type 0 where
+  pub text : List ℕ
+  pub said : IsUnlikeSaid before after settings text
+  pub printed : err'.failures ≡ err.failures → err'.held ≡ append_known err.held text
+  pub nothing : out' ≡ out
+
+-- a mistake that shows only in the image, in the files' names, or in files that cannot be compared
+abbrev pub IsMistaken : FileBytes → FileBytes → FileBytes → (List ℕ → Bool → Type 0) → Settings → Stream → Stream → Stream → Stream
+    → Type 0
+IsMistaken before after are_one has settings out out' err err' =
+    IsMisfitPrinted before after settings out out' err err'
+    ⊎ (IsClash before after are_one settings out out' err err'
+    ⊎ (IsInTheWay before after has settings out out' err err' ⊎ IsUnlikePrinted before after settings out out' err err'))
 
 -- the line of the command's fault was printed on `err`, unless that failed, and nothing to `out`, unless that failed
 pub record IsRefusalPrinted (before after : FileBytes) (failed : Type 0) (settings : Settings) (out out' err err' : Stream) : Type 0 where

@@ -1,7 +1,7 @@
 -- What it means that a replay is done: the files that it read and wrote, and its report.
-use Rattle.std.specs.Prelude.{◌≡◌, ◌≢◌, ◌↔◌, ◌+◌, ◌++◌, ◌∷◌, ℕ, Bool, true, false, List, [], Option, Some, None}
+use Rattle.std.specs.Prelude.{◌≡◌, ◌≢◌, ◌↔◌, ◌⊎◌, ◌<◌, ◌+◌, ◌++◌, ◌∷◌, ℕ, Bool, true, false, List, [], Option, Some, None}
 use Rattle.std.specs.Prelude.{codes, decimal, length, string_bytes}
-use Rattle.std.specs.List.{flat_map}
+use Rattle.std.specs.List.{AllByRecursion, flat_map}
 use mathlib.Core.Path.{subst}
 use Rattle.ebpf_decode.specs.ImageContents.{Contents}
 use Rattle.semantics.specs.Safety.{IsSafeImage}
@@ -36,9 +36,11 @@ use Rattle.guarantees.specs.ReaderReplays.{all_sent_at_opening}
 use Rattle.replay.specs.TurnOrder.{IsInTurnOrder}
 use Rattle.steered_replays.specs.SteeredRuns.{IsSteeredReplay}
 use Rattle.steered_replays.specs.Totals.{AreTotals}
-use Rattle.traffic.specs.LongRecords.{IsShortened}
-use Rattle.traffic.specs.declared.long_records.ShortenedCapture.{ShortenedCapture}
+use Rattle.traffic.specs.Readings.{IsAltered, alters}
+use Rattle.traffic.specs.declared.readings.AlteredCapture.{AlteredCapture}
+use Rattle.traffic.specs.declared.readings.Reading.{Reading}
 use Rattle.command_line.specs.declared.commands.ReplayFiles.{ReplayFiles}
+use Rattle.command_line.specs.declared.commands.ReplaySettings.{ReplaySettings}
 use Rattle.command_line.specs.Reading.{text_of}
 use Rattle.xlb_commands.specs.declared.report.Report.{Report}
 use Rattle.xlb_commands.specs.Files.{FileBytes, IsImageFile}
@@ -62,28 +64,32 @@ abbrev pub IsScriptOf : FileBytes → Option (List ℕ) → List Command → Typ
 IsScriptOf files (Some name) script = IsScriptFile files name script
 IsScriptOf files None script = IsScriptText [] script
 
--- the bytes of the file without its records of more than 2048 bytes
-pub record AreWithoutLong (bytes left : List ℕ) : Type 0 where
-  pub shortened : ShortenedCapture
-  pub is : IsShortened bytes shortened
-  pub left_are : shortened.bytes.items ≡ left
+-- what is left of the file's bytes where the reading alters them
+pub record AreAltered (reading : Reading) (bytes left : List ℕ) : Type 0 where
+  pub altered : AlteredCapture
+  pub is : IsAltered reading bytes altered
+  pub left_are : altered.bytes.items ≡ left
 
--- what of the file's bytes is read as a capture: all of them, or if long records are skipped those without them
-abbrev pub AreCaptureBytes : Bool → List ℕ → List ℕ → Type 0
-AreCaptureBytes false bytes left = bytes ≡ left
-AreCaptureBytes true bytes left = AreWithoutLong bytes left
+-- by whether it does: else all of them
+abbrev pub AreLeft : Bool → Reading → List ℕ → List ℕ → Type 0
+AreLeft false reading bytes left = bytes ≡ left
+AreLeft true reading bytes left = AreAltered reading bytes left
 
--- the bytes are a capture of these records, besides those that are skipped
-pub record IsCaptureIn (skip_long : Bool) (bytes : List ℕ) (records : List Sent) : Type 0 where
+-- the capture that is read of these bytes under this reading
+abbrev pub AreCaptureBytes : Reading → List ℕ → List ℕ → Type 0
+AreCaptureBytes reading bytes left = AreLeft (alters reading) reading bytes left
+
+-- the bytes are under this reading a capture of these records
+pub record IsCaptureIn (reading : Reading) (bytes : List ℕ) (records : List Sent) : Type 0 where
   pub left : List ℕ
-  pub left_are : AreCaptureBytes skip_long bytes left
+  pub left_are : AreCaptureBytes reading bytes left
   pub spelled : IsCaptureFile left records
 
--- the file is a capture of these records, besides those that are skipped
-pub record IsCaptureOf (files : FileBytes) (skip_long : Bool) (name : List ℕ) (records : List Sent) : Type 0 where
+-- the file is under this reading a capture of these records
+pub record IsCaptureOf (files : FileBytes) (reading : Reading) (name : List ℕ) (records : List Sent) : Type 0 where
   pub bytes : List ℕ
   pub read : files name bytes
-  pub spelled : IsCaptureIn skip_long bytes records
+  pub spelled : IsCaptureIn reading bytes records
 
 -- ---- what is written
 
@@ -133,6 +139,17 @@ abbrev pub recording_of : Bool → Option (List ℕ) → Recording
 recording_of true None = NoRows
 recording_of true (Some name) = Rows
 recording_of false name = Rows
+
+abbrev pub recording_in : ReplaySettings → Recording
+recording_in asked = recording_of asked.no_journals (text_of asked.files.journals)
+
+-- how the bytes of its capture are read
+abbrev pub reading_in : ReplaySettings → Reading
+reading_in asked = record {
+  skip_long = asked.reading.skip_long;
+  pad_cut = asked.reading.pad_cut;
+  allow_cut = asked.reading.allow_cut;
+}
 
 -- the image that was verified
 abbrev pub image_of : Verified → Contents
@@ -199,10 +216,10 @@ pub record KeepsHeadline (image : Contents) (script : List Command) (options : O
 -- the sent frames, the journals and the report are written to their files; and what is printed are the counts, and the commands that were
 -- refused. Where no rows of journals are kept, the journals are known to proofs alone.
 pub record IsReplayedWith (before after : FileBytes) (files : ReplayFiles) (program : Contents) (states : List (Option State))
-    (script : List Command) (options : Options) (recording : Recording) (ring : ℕ) (exact skip_long : Bool) (updates : List MapUpdate)
+    (script : List Command) (options : Options) (recording : Recording) (ring : ℕ) (exact : Bool) (reading : Reading) (updates : List MapUpdate)
     (printed : List ℕ) (refused : List Applied) : Type 0 where
   pub records : List Sent
-  pub capture : IsCaptureOf before skip_long files.capture.now records
+  pub capture : IsCaptureOf before reading files.capture.now records
   pub outcome : Outcome
   pub made : IsMade exact (program_of_replay program options) updates script (recorded recording options) records outcome
   pub headline : KeepsHeadline program script (recorded recording options) records outcome made.accounted
@@ -221,34 +238,48 @@ pub record IsReplayedWith (before after : FileBytes) (files : ReplayFiles) (prog
   pub report : IsReportFile after (text_of files.report) files.is_steering script records outcome
   pub lines : printed ≡ counts_text outcome.counts ++ refusals_text refused
 
--- the report is that of such a replay, and says whether a command was refused
+-- the command takes effect before a record of so many, or before all
+abbrev pub IsInTime : ℕ → Command → Type 0
+IsInTime records command = (command.frame ≡ 0) ⊎ (command.frame < records)
+
+-- no run was stopped at a full journal, and each command comes before a record
+pub record LeavesNothingOut (script : List Command) (records : List Sent) (outcome : Outcome) : Type 0 where
+  pub none_stopped : outcome.counts.stopped ≡ 0
+  pub in_time : AllByRecursion (IsInTime (length records)) script
+
+-- the report is that of such a replay, and says whether a command was refused, and where nothing was left out
 abbrev pub IsReplayReport : FileBytes → FileBytes → ReplayFiles → Contents → List (Option State) → List Command → Options → Recording
-    → ℕ → Bool → Bool → List MapUpdate → Report → Type 0
-IsReplayReport before after files program states script options recording ring exact skip_long updates report = (refused : List Applied)
-    × IsReplayedWith before after files program states script options recording ring exact skip_long updates
-    (string_bytes report.text) refused
+    → ℕ → Bool → Reading → List MapUpdate → Report → Type 0
+IsReplayReport before after files program states script options recording ring exact reading updates report = (refused : List Applied)
+    × (replayed : IsReplayedWith before after files program states script options recording ring exact reading updates
+    (string_bytes report.text) refused)
     × ((refused ≡ []) ↔ (report.is_refused ≡ false))
+    × (report.leaves_out ≡ false → LeavesNothingOut script replayed.records replayed.outcome)
 
 -- the program may run, the script is read from its file, and the replay was made with both
-pub record IsReplayed (before after : FileBytes) (files : ReplayFiles) (options : Options) (recording : Recording) (ring : ℕ)
-    (exact skip_long : Bool) (updates : List MapUpdate) (printed : List ℕ) (refused : List Applied) : Type 0 where
+pub record IsReplayed (before after : FileBytes) (asked : ReplaySettings) (printed : List ℕ) (refused : List Applied) : Type 0 where
   pub program : Contents
-  pub program_is : IsProgramOf before (text_of files.image) ring program
+  pub program_is : IsProgramOf before (text_of asked.files.image) asked.ring program
   pub states : List (Option State)
   pub accepted : Accepts program.version program.maps program.code states
   pub safe : IsSafeImage program.maps program.code
   pub script : List Command
-  pub script_is : IsScriptOf before (text_of files.script) script
-  pub replayed : IsReplayedWith before after files program states script options recording ring exact skip_long updates printed refused
+  pub script_is : IsScriptOf before (text_of asked.files.script) script
+  pub replayed : IsReplayedWith before after asked.files program states script asked.options (recording_in asked) asked.ring asked.exact
+      (reading_in asked) asked.updates.items printed refused
 
--- and every command of the script was carried out
-abbrev pub IsReplayedWhole : FileBytes → FileBytes → ReplayFiles → Options → Recording → ℕ → Bool → Bool → List MapUpdate → List ℕ → Type 0
-IsReplayedWhole before after files options recording ring exact skip_long updates printed =
-    IsReplayed before after files options recording ring exact skip_long updates printed []
+-- a strict replay left nothing out
+abbrev pub IsStrictlyKept : {before after : FileBytes} (asked : ReplaySettings) {printed : List ℕ} {refused : List Applied}
+    → IsReplayed before after asked printed refused → Type 0
+IsStrictlyKept asked is = asked.strict ≡ true → LeavesNothingOut is.script is.replayed.records is.replayed.outcome
 
--- but some command of the script was refused
-pub record IsReplayedInPart (before after : FileBytes) (files : ReplayFiles) (options : Options) (recording : Recording) (ring : ℕ)
-    (exact skip_long : Bool) (updates : List MapUpdate) (printed : List ℕ) : Type 0 where
+-- and every command of the script was carried out; where the replay is a strict one, nothing was left out
+pub record IsReplayedWhole (before after : FileBytes) (asked : ReplaySettings) (printed : List ℕ) : Type 0 where
+  pub replayed : IsReplayed before after asked printed []
+  pub all : IsStrictlyKept asked replayed
+
+-- but some command of the script was refused, or the replay is a strict one
+pub record IsReplayedInPart (before after : FileBytes) (asked : ReplaySettings) (printed : List ℕ) : Type 0 where
   pub refused : List Applied
-  pub some : refused ≢ []
-  pub replayed : IsReplayed before after files options recording ring exact skip_long updates printed refused
+  pub some : (refused ≢ []) ⊎ (asked.strict ≡ true)
+  pub replayed : IsReplayed before after asked printed refused

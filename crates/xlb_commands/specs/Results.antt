@@ -17,10 +17,12 @@ use Rattle.semantics.specs.declared.verdict.Verdict.{Verdict}
 use Rattle.semantics.specs.declared.verdict.Verdict.TheVariants.{Aborted, Drop, Pass, Tx}
 use Rattle.semantics.specs.MachineState.{MachineState, initial_state}
 use Rattle.semantics.specs.Program.{Program}
-use Rattle.semantics.specs.System.{IsInputFrame}
+use Rattle.semantics.specs.Events.{Exited}
+use Rattle.semantics.specs.System.{Setting, IsInputFrame}
 use Rattle.maglev.specs.RingSize.{IsRingSize}
 use Rattle.steer.specs.ShippedProgram.{shipped_image}
 use Rattle.runs.specs.SingleRuns.{HasRunAlone}
+use Rattle.guarantees.specs.RunsAlone.{IsAloneInSystem}
 use Rattle.journals.specs.JournalsView.{JournalsView}
 use Rattle.journals.specs.JournalReading.{IsJournalsFile}
 use Rattle.journals.specs.LegalJournals.{AreLegal}
@@ -36,15 +38,18 @@ use Rattle.xlb_commands.specs.declared.one_run.RunAnswer.TheVariants.{Printed, M
 use Rattle.xlb_commands.specs.declared.serving.CommandAnswer.{CommandAnswer}
 use Rattle.xlb_commands.specs.declared.serving.CommandAnswer.TheVariants as answers
 use Rattle.xlb_commands.specs.Files.{FileBytes, AreKept, AreOthersKept, AreAllButKept, AreAllKeptBut, IsImageFile, IsJudged}
-use Rattle.actors.specs.declared.outcome.Applied.{Applied}
 use Rattle.xlb_commands.specs.declared.replays.ReplayAnswer.{ReplayAnswer}
 use Rattle.xlb_commands.specs.declared.replays.ReplayAnswer.TheVariants as replayed
-use Rattle.xlb_commands.specs.Replays.{AreWritten, IsProgramOf, IsReplayed, IsReplayedWhole, IsReplayedInPart, recording_of}
+use Rattle.xlb_commands.specs.Replays.{AreWritten, IsProgramOf, IsReplayedWhole, IsReplayedInPart}
 use Rattle.xlb_commands.specs.Tables.{IsTableShown}
+use Rattle.xlb_commands.specs.Timed.{IsScriptShown}
+use Rattle.xlb_commands.specs.Comparing.{IsComparison, IsUnlikeTold}
 use Rattle.command_line.specs.declared.commands.ReplayFiles.{ReplayFiles}
+use Rattle.command_line.specs.declared.commands.ReplaySettings.{ReplaySettings}
 use Rattle.command_line.specs.declared.commands.RunFiles.{RunFiles}
 use Rattle.command_line.specs.declared.commands.Settings.{Settings}
 use Rattle.command_line.specs.declared.commands.Settings.TheVariants.{Check, Run, Disasm, Audit, Explain, Asm, Shipped, Replay, Table}
+use Rattle.command_line.specs.declared.commands.Settings.TheVariants.{Script, Compare}
 
 abbrev pub yes_or_no : Bool → List ℕ
 yes_or_no true = codes "yes"
@@ -103,9 +108,14 @@ program_of_run image = record { code = image.code; maps = image.maps; shards = 1
 abbrev pub start_of_run : List ℕ → ℕ → ℕ → MachineState
 start_of_run bytes worker now = initial_state (record { bytes = bytes; headroom = 256 }) worker now
 
+-- the image over maps that are opened so, with a worker for each number
+abbrev pub setting_of_run : Contents → Setting
+setting_of_run image = record { maps = image.maps; code = image.code; options = run_options }
+
 -- The image may run, the file of the frame is one, and there is such a worker. What is printed is what the program's run came to on the
 -- frame, at this time and as this worker, over maps in which nothing had happened but these updates: its own trace on replies that are in
 -- journals, which are legal and have nothing but the updates and this run's calls. Where a file is named for them, it has these journals.
+-- The updates and the run are one list of events of the system.
 pub record IsRun (before after : FileBytes) (files : RunFiles) (now worker : ℕ) (updates : List MapUpdate) (printed : List ℕ) : Type 0 where
   pub program : Contents
   pub file : IsImageFile before files.image.now program
@@ -119,6 +129,7 @@ pub record IsRun (before after : FileBytes) (files : RunFiles) (now worker : ℕ
   pub left : FrameView
   pub journals : JournalsView
   pub run : HasRunAlone (program_of_run program) (start_of_run bytes worker now) run_options worker updates verdict steps left journals
+  pub of_system : IsAloneInSystem (setting_of_run program) worker now bytes updates (Exited verdict left.bytes steps) journals
   pub written : AreWritten after (text_of files.journals) journals
   pub lines : printed ≡ run_text verdict steps left.bytes
 
@@ -145,13 +156,12 @@ pub record IsMisfitReplay (before after : FileBytes) (files : ReplayFiles) (ring
   pub kept : AreKept before after
 
 -- what a replay comes to that is not refused
-abbrev pub IsReplayAnswer : FileBytes → FileBytes → ReplayFiles → Options → Recording → ℕ → Bool → Bool → List MapUpdate
-    → ReplayAnswer → Type 0
-IsReplayAnswer before after files options recording ring exact skip_long updates (replayed.Made report) = (refused : List Applied)
-    × IsReplayed before after files options recording ring exact skip_long updates (string_bytes report.text) refused
-    × ((refused ≡ []) ↔ (report.is_refused ≡ false))
-IsReplayAnswer before after files options recording ring exact skip_long updates (replayed.Mistaken place misfit) =
-    IsMisfitReplay before after files ring updates place misfit
+abbrev pub IsReplayAnswer : FileBytes → FileBytes → ReplaySettings → ReplayAnswer → Type 0
+IsReplayAnswer before after asked (replayed.Made report) =
+    (report.is_refused ≡ false → IsReplayedWhole before after asked (string_bytes report.text))
+    × (report.is_refused ≡ true → IsReplayedInPart before after asked (string_bytes report.text))
+IsReplayAnswer before after asked (replayed.Mistaken place misfit) =
+    IsMisfitReplay before after asked.files asked.ring asked.updates.items place misfit
 
 -- what is printed is the image's text
 pub record IsDisassembled (files : FileBytes) (name : List ℕ) (printed : List ℕ) : Type 0 where
@@ -209,17 +219,16 @@ IsDone before after (Explain about) printed = printed ≡ explanation_text about
 IsDone before after (Asm text out false) printed = IsAssembled before after text.now out.now × (printed ≡ [])
 IsDone before after (Asm text out true) printed = IsSourceAssembled before after text.now out.now × (printed ≡ [])
 IsDone before after (Shipped out ring) printed = IsShippedFile after out.now ring × (printed ≡ [])
-IsDone before after (Replay files options ring exact summary skip_long no_journals updates) printed =
-    IsReplayedWhole before after files options (recording_of no_journals (text_of files.journals)) ring exact skip_long
-    updates.items printed
+IsDone before after (Replay asked) printed = IsReplayedWhole before after asked printed
 IsDone before after (Table script ring) printed = IsTableShown before script.now ring printed false
+IsDone before after (Script capture timed) printed = IsScriptShown before capture.now timed.now printed
+IsDone before after (Compare first second) printed = IsComparison before first.now second.now printed false
 
--- the command is done except a part that was refused, as the report says: commands of a script
+-- the command is done except a part that was refused, as the report says: commands of a script; or reports were compared, and differ
 abbrev pub IsDoneInPart : FileBytes → FileBytes → Settings → List ℕ → Type 0
-IsDoneInPart before after (Replay files options ring exact summary skip_long no_journals updates) printed =
-    IsReplayedInPart before after files options (recording_of no_journals (text_of files.journals)) ring exact skip_long
-    updates.items printed
+IsDoneInPart before after (Replay asked) printed = IsReplayedInPart before after asked printed
 IsDoneInPart before after (Table script ring) printed = IsTableShown before script.now ring printed true
+IsDoneInPart before after (Compare first second) printed = IsComparison before first.now second.now printed true
 IsDoneInPart before after other printed = ⊥
 
 -- no file changes but those that the command is to write, whether it is done or refused
@@ -232,8 +241,10 @@ KeepsFiles before after (Explain about) = AreKept before after
 KeepsFiles before after (Asm text out source) = AreOthersKept before after out.now
 KeepsFiles before after (Shipped out ring) = AreOthersKept before after out.now
 KeepsFiles before after (Table script ring) = AreKept before after
-KeepsFiles before after (Replay files options ring exact summary skip_long no_journals updates) =
-    AreAllButKept before after files.sent.now (text_of files.journals) (text_of files.report)
+KeepsFiles before after (Script capture timed) = AreKept before after
+KeepsFiles before after (Compare first second) = AreKept before after
+KeepsFiles before after (Replay asked) =
+    AreAllButKept before after asked.files.sent.now (text_of asked.files.journals) (text_of asked.files.report)
 
 -- a stream: what was written to it, where that is known, and how many of its calls failed
 pub record Stream : Type 0 where
@@ -249,10 +260,12 @@ pub record AreNotesPrinted (before after : Stream) : Type 0 where
   pub are_notes : AreNotes notes
   pub printed : after.failures ≡ before.failures → after.held ≡ append_known before.held notes
 
--- what is written to the error stream after a command's report: of a run, of a replay and of tables such lines, of another command nothing
+-- what is written to the error stream after a command's report: of a run, of a replay, of tables and of a timed script such lines, of another
+-- command nothing
 abbrev pub IsNoted : Settings → Stream → Stream → Type 0
-IsNoted (Replay files options ring exact summary skip_long no_journals updates) before after = AreNotesPrinted before after
+IsNoted (Replay asked) before after = AreNotesPrinted before after
 IsNoted (Table script ring) before after = AreNotesPrinted before after
+IsNoted (Script capture timed) before after = AreNotesPrinted before after
 IsNoted (Run files now worker updates) before after = AreNotesPrinted before after
 IsNoted other before after = after ≡ before
 
@@ -266,9 +279,14 @@ pub record IsReported (before after : FileBytes) (settings : Settings) (out out'
 -- a mistake of the command line that shows in the image: its maps do not take an update of a run or a replay
 abbrev pub IsMistake : FileBytes → FileBytes → Settings → ℕ → Misfit → Type 0
 IsMistake before after (Run files now worker updates) place misfit = IsMisfitRun before after files updates.items place misfit
-IsMistake before after (Replay files options ring exact summary skip_long no_journals updates) place misfit =
-    IsMisfitReplay before after files ring updates.items place misfit
+IsMistake before after (Replay asked) place misfit =
+    IsMisfitReplay before after asked.files asked.ring asked.updates.items place misfit
 IsMistake before after other place misfit = ⊥
+
+-- the command's files cannot be compared, and the text says why; no file changed
+abbrev pub IsUnlikeSaid : FileBytes → FileBytes → Settings → List ℕ → Type 0
+IsUnlikeSaid before after (Compare first second) text = AreKept before after × IsUnlikeTold before first.now second.now text
+IsUnlikeSaid before after other text = ⊥
 
 -- what a command comes to that is not refused: it was done, whole or in part, or its words are mistaken
 abbrev pub IsAnswer : FileBytes → FileBytes → Settings → CommandAnswer → Type 0
@@ -276,3 +294,4 @@ IsAnswer before after settings (answers.Reported report) =
     (report.is_refused ≡ false → IsDone before after settings (string_bytes report.text))
     × (report.is_refused ≡ true → IsDoneInPart before after settings (string_bytes report.text))
 IsAnswer before after settings (answers.Mistaken place misfit) = IsMistake before after settings place misfit
+IsAnswer before after settings (answers.Unlike text) = IsUnlikeSaid before after settings (string_bytes text)

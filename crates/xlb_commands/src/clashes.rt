@@ -140,7 +140,7 @@ pub(crate) fn clash_of<'a, D: Folder>(folder: &D, settings: &Settings<'a>) -> Op
     match settings {
         Settings::Asm { text, out, .. } => over(folder, Some(*out), Some(*text)),
         Settings::Run { files, .. } => over_in_run(folder, files),
-        Settings::Replay { files, .. } => over_in_replay(folder, files),
+        Settings::Replay(asked) => over_in_replay(folder, &asked.files),
         _ => None,
     }
 }

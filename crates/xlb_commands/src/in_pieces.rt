@@ -32,10 +32,12 @@ ghost use Rattle.xlb_commands.specs.Files.{AreAllButKept, AreKept, AreOthersKept
 ghost use Rattle.xlb_commands.specs.AskedReplays.{IsAnswered, IsDenied, IsMadeInTurn, LeavesOthers};
 ghost use Rattle.xlb_commands.specs.InPieces.{HasGoneThrough, HasRoom, HaveRun, IsGoing, IsLeft, IsMadeOf};
 ghost use Rattle.xlb_commands.specs.Refused.{AreUnfiled, HasFailed, IsBrokenOff, IsGivenUp, IsUnserved, LacksRoom};
+ghost use Rattle.traffic.specs.Readings.{unaltered};
 ghost use Rattle.xlb_commands.specs.Replays.{HasBytes, IsCaptureOf, IsMade, image_of};
 
 use crate::fault::{Fault, Refusal};
 use crate::files::{journal_bytes, unserved, write_journals_to};
+use crate::left_out::is_left_out;
 use crate::notes::{Altered, Notes, first_stopped};
 use crate::progress::{Progress, Rounds};
 use crate::replays::{Asked, bytes_of_frames, given_up, readers_send_alike, steered_where_shipped};
@@ -166,7 +168,7 @@ fn look_through<D: Folder>(
 ) -> Result<Option<Seen>, Refusal>
     requires { D.failure_count folder.old < 2 ^ 64 - 1 }
     ensures capture { IfOk result (λ found. IfSome found
-        (λ seen. (records : List Record) × IsCaptureOf (D.holds folder.old) false name.now records × (seen.records ≡ length records))) }
+        (λ seen. (records : List Record) × IsCaptureOf (D.holds folder.old) unaltered name.now records × (seen.records ≡ length records))) }
     ensures kept { AreKept (D.holds folder.old) (D.holds folder.new) }
     ensures steady { OnOk result (D.failure_count folder.new ≡ D.failure_count folder.old) }
     ensures refused { IfErr result
@@ -497,7 +499,15 @@ fn left_in_pieces(
     let notes = Notes::of(asked, altered)
         .lines(alloc, asked.script, &outcome, stopped)
         .ok();
-    let report = replayed(alloc, frames, outcome.counts, &outcome.refused, notes)?;
+    let left_out = is_left_out(altered, asked.script, frames);
+    let report = replayed(
+        alloc,
+        frames,
+        outcome.counts,
+        &outcome.refused,
+        left_out,
+        notes,
+    )?;
     Ok(LeftInPieces { journals, report })
 }
 
@@ -535,7 +545,7 @@ fn left_by_pieces<D: Folder, G: Gate>(
     }
     let altered = Altered {
         cut: seen.cut,
-        long: 0,
+        ..Altered::default()
     };
     let left = left_in_pieces(alloc, asked, altered, going)?;
     Ok(Some(left))
@@ -590,7 +600,7 @@ pub(crate) fn replay_in_pieces<D: Folder, P: Progress + Sync>(
 ) -> Result<Option<Report>, Refusal>
     requires failures { D.failure_count folder.old < 2 ^ 64 - 1 }
     requires exact { asked.exact ≡ true }
-    requires all { asked.skip_long ≡ false }
+    requires all { asked.reading ≡ unaltered }
     requires no_report { text_of asked.files.now.report ≡ None }
     requires fit { AreFitting asked.verified.now.maps asked.updates.now }
     requires rows { (file : List ℕ) → text_of asked.files.now.journals ≡ Some file → asked.recording ≡ Rows }

@@ -4,14 +4,17 @@
 
 mod clashes;
 mod commands;
+mod comparing;
 mod fault;
 mod fault_lines;
 mod files;
 mod hints;
 mod in_pieces;
 mod last_table;
+mod left_out;
 mod notes;
 mod one_run;
+mod present;
 mod printable;
 mod progress;
 mod record_report;
@@ -21,6 +24,7 @@ mod report;
 mod serving;
 mod shipping;
 mod tables;
+mod timed;
 
 pub use fault::{Fault, Refusal};
 pub use fault_lines::fault_line;

@@ -22,6 +22,19 @@ pub(crate) struct Altered {
     pub cut: u64,
     /// How many records are skipped because they keep more than 2048 bytes.
     pub long: u64,
+    /// How many records got zeros for the bytes that their frames had and they do not keep.
+    pub padded: u64,
+    /// How many bytes at the capture's end were left out: those of a record that is cut short.
+    pub left_over: usize,
+    /// How many whole records the capture has, where it was altered.
+    pub whole: u64,
+}
+
+impl Altered {
+    /// Whether there is any such record.
+    pub(crate) fn is_any(self) -> bool {
+        self.cut > 0 || self.long > 0 || self.padded > 0 || self.left_over > 0
+    }
 }
 
 /// What is printed below the report of a replay.
@@ -85,7 +98,9 @@ impl Notes<'_> {
         self.put_ring(alloc, &mut text)?;
         self.put_uneven(alloc, &mut text, script)?;
         self.put_long(alloc, &mut text)?;
+        self.put_padded(alloc, &mut text)?;
         self.put_cut(alloc, &mut text)?;
+        self.put_left_over(alloc, &mut text)?;
         if outcome.counts.stopped > 0 {
             put_stopped(alloc, &mut text, stopped)?;
             put_full(alloc, &mut text, &outcome.journals)?;
@@ -161,6 +176,31 @@ impl Notes<'_> {
             return Ok(());
         }
         let line = format!(in alloc; "long {long}: records above 2048 bytes were skipped\n")?;
+        text.push_str(line.as_str())
+    }
+
+    /// Records that were filled with zeros.
+    fn put_padded(&self, alloc: Global, text: &mut String) -> Result<(), AllocError> {
+        let padded = self.altered.padded;
+        if padded == 0 {
+            return Ok(());
+        }
+        let line = format!(in alloc;
+            "padded {padded}: these records were filled with zeros, to the length of their frames\n"
+        )?;
+        text.push_str(line.as_str())
+    }
+
+    /// The record within which the capture ends.
+    fn put_left_over(&self, alloc: Global, text: &mut String) -> Result<(), AllocError> {
+        let left_over = self.altered.left_over;
+        if left_over == 0 {
+            return Ok(());
+        }
+        let record = self.altered.whole.saturating_add(1);
+        let line = format!(in alloc;
+            "left out {left_over}: bytes of record {record}, within which the capture ends\n"
+        )?;
         text.push_str(line.as_str())
     }
 

@@ -2,8 +2,11 @@
 
 ghost use Rattle.std.specs.Prelude.{◌≡◌, ◌↔◌, ◌+◌, ◌-◌, ◌<◌, ◌≤◌, ◌^◌, IfErr, IfOk, IsErrOf};
 ghost use Rattle.verifier.specs.Dataflow.{Accepts};
+ghost use Rattle.semantics.specs.Events.{Exited};
 ghost use Rattle.machine.specs.Running.{program_of};
 ghost use Rattle.runs.specs.SingleRuns.{HasRunAlone, HasStoppedAlone};
+ghost use Rattle.guarantees.specs.RunsAlone.{IsAloneInSystem};
+ghost use Rattle.guarantees.specs.SystemRuns.{setting_of};
 ghost use Rattle.map_updates.specs.Misfits.{AreFitting};
 ghost use Rattle.command_line.specs.Reading.{text_of};
 ghost use Rattle.xlb_commands.specs.Files.{AreAllKeptBut};
@@ -19,9 +22,10 @@ use command_line::RunFiles;
 use control::ControlFault;
 use ebpf_decode::MapDef;
 use folders::Folder;
+use guarantees::lone_run;
 use machine::Moment;
 use map_updates::{MapUpdate, Misfit, first_misfit};
-use runs::{RunFault, SingleRun, run_alone};
+use runs::{RunFault, SingleRun};
 use semantics::{MOST_WORKERS, Options};
 use shards::OpenFault;
 use std::alloc::Global;
@@ -135,12 +139,15 @@ fn run_over(
         (start_of_run frame.old.bytes moment.now.worker moment.now.now_ns) run_options moment.now.worker updates.now exit.verdict
         exit.steps frame.new
         single.journals)) }
+    ensures of_system { IfOk result (λ single. IfOk single.ended (λ exit. IsAloneInSystem (setting_of verified.now run_options)
+        moment.now.worker moment.now.now_ns frame.old.bytes updates.now (Exited exit.verdict frame.new.bytes exit.steps)
+        single.journals)) }
     ensures stop { IfOk result (λ single. IfErr single.ended (λ stop. HasStoppedAlone (program_of verified.now 1)
         (start_of_run frame.old.bytes moment.now.worker moment.now.now_ns) run_options moment.now.worker updates.now frame.new stop
         single.journals)) }
     ensures refused { IfErr result (λ refusal. IsRunFault verified.now.maps updates.now refusal.fault) }
 {
-    match run_alone(alloc, verified, frame, moment, OPTIONS, updates) {
+    match lone_run(alloc, verified, frame, moment, OPTIONS, updates) {
         Ok(single) => Ok(single),
         Err(RunFault::Open(fault)) => Err(Refusal::from(Fault::Options(fault))),
         Err(RunFault::Refused { place, answer }) => Err(Refusal::noted(

@@ -199,7 +199,7 @@ impl Lines<'_> {
             backend: backend_at(self.table, self.script, address),
             address,
         };
-        self.form.line(alloc, &line)
+        self.form.line(alloc, &line, &captured.bytes)
     }
 
     /// Appends the lines of all records, which ended so.

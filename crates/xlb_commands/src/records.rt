@@ -38,6 +38,7 @@ pub(crate) fn of_capture(
         _ => about_kept(
             alloc,
             kept_at(bytes, offset).unwrap_or(0),
+            had_at(bytes, offset).unwrap_or(0),
             there.saturating_sub(RECORD_HEAD_LEN),
         )?,
     };
@@ -49,12 +50,18 @@ fn about_part(alloc: Global, part: &str, bytes: usize, there: usize) -> Result<S
     format!(in alloc; "{part} has {bytes} bytes, and the file ends after {there} of them")
 }
 
-/// Of a record that should keep `kept` bytes, where `there` bytes are left in the file: the file ends within it, or it is too long.
-fn about_kept(alloc: Global, kept: u32, there: usize) -> Result<String, AllocError> {
+/// Of a record that should keep `kept` bytes of a frame of `had`, where `there` bytes are left in the file: the file ends within it, or it
+/// is too long, at least once it is padded.
+fn about_kept(alloc: Global, kept: u32, had: u32, there: usize) -> Result<String, AllocError> {
     if there < kept as usize {
         let missing = (kept as usize).saturating_sub(there);
         return format!(in alloc;
             "the record keeps {kept} bytes by its head, and the file has {there} of them, {missing} too few"
+        );
+    }
+    if kept as usize <= MAX_FRAME {
+        return format!(in alloc;
+            "the record keeps {kept} bytes of a frame of {had}, and a frame has at most {MAX_FRAME}: --skip-long skips such records, and counts them"
         );
     }
     format!(in alloc;

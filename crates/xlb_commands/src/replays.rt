@@ -36,8 +36,9 @@ ghost use Rattle.xlb_commands.specs.AskedReplays.{HasBadOptions, IsAnswered, IsD
 ghost use Rattle.xlb_commands.specs.Files.{AreKept, AreAllButKept};
 ghost use Rattle.xlb_commands.specs.Refused.{HasFailed, LacksRoom, AreUnfiled, IsReplayProgramRefusal, IsScriptFileRefusal};
 ghost use Rattle.xlb_commands.specs.Refused.{IsScriptRefusal};
-ghost use Rattle.xlb_commands.specs.Refused.{IsNoCapture, IsNoCaptureIn, IsCaptureRefusal, IsReplayRefusal};
-ghost use Rattle.xlb_commands.specs.Replays.{image_of};
+ghost use Rattle.xlb_commands.specs.Refused.{IsNoCapture, IsNoCaptureIn, IsCaptureRefusal, IsReplayRefused};
+ghost use Rattle.xlb_commands.specs.Replays.{LeavesNothingOut, image_of};
+ghost use Rattle.traffic.specs.Readings.{alters, unaltered};
 ghost use Rattle.xlb_commands.specs.Replays.{IsProgramOf, IsScriptOf, IsScriptFile, IsCaptureIn, IsCaptureOf, HasBytes};
 ghost use Rattle.xlb_commands.specs.Replays.{FollowsRule, SendsAlike, recording_of, counts_text, refusals_text, AreWritten};
 ghost use Rattle.xlb_commands.specs.RecordReports.{form_of, report_text};
@@ -46,6 +47,7 @@ use crate::commands::judged_of;
 use crate::fault::{Fault, Refusal};
 use crate::files::{bytes_of, journal_bytes, write_journals_to, write_text_to, write_to};
 use crate::in_pieces::replay_in_pieces;
+use crate::left_out::is_left_out;
 use crate::notes::{Altered, Notes};
 use crate::one_run::maps_of;
 use crate::progress::{Progress, Rounds};
@@ -54,11 +56,11 @@ use crate::report::{Report, replayed};
 use crate::shipping::shipped_program;
 use crate::{hints, records};
 use actors::all_are_captured;
-use command_line::ReplayFiles;
-use control::{Script, parse_script};
+use command_line::{ReplayFiles, ReplaySettings};
+use control::{Script, commands_fit, parse_script};
 use folders::Folder;
+use guarantees::headline;
 use guarantees::readers::readers_send_as_at_opening;
-use guarantees::{commands_fit, headline};
 use journals::Journals;
 use map_updates::{MapUpdate, Misfit, first_misfit};
 use replay::{Outcome, ReplayFault, replay, replay_in_turn};
@@ -68,7 +70,7 @@ use std::alloc::{AllocError, Global};
 use std::sync::Wait;
 use std::thread::Threads;
 use steered_replays::laws::shipped_replays_are_steered;
-use traffic::without_long_records;
+use traffic::{Reading, altered_capture};
 use verifier::Verified;
 use wire::{Capture, MOST_GIVEN, MemorySink, MemorySource, Sent, read_capture, write_capture};
 
@@ -172,7 +174,7 @@ fn records_of(alloc: Global, bytes: &[u8]) -> Result<Capture, Refusal>
     }
 }
 
-/// A refusal of a capture without its long records, with the byte of the whole file; `skipped` records were left out.
+/// A refusal of a capture that was altered, with the byte of the whole file; `skipped` records were left out.
 fn in_whole_file(alloc: Global, bytes: &[u8], skipped: u64, refusal: Refusal) -> Refusal
     ensures { result.fault ≡ refusal.fault }
 {
@@ -185,35 +187,46 @@ fn in_whole_file(alloc: Global, bytes: &[u8], skipped: u64, refusal: Refusal) ->
     }
 }
 
-/// The records of a capture's bytes that keep at most 2048 bytes, and in `altered` how many keep more.
-fn short_records_of(alloc: Global, bytes: &[u8], altered: &mut Altered) -> Result<Capture, Refusal>
-    ensures records { IfOk result (λ capture. IsCaptureIn true bytes.now capture.records.items) }
-    ensures refused { IfErr result (λ refusal. IsNoCaptureIn true bytes.now refusal.fault) }
+/// The records of the capture that is read of these bytes, and in `altered` what was altered.
+fn altered_records_of(
+    alloc: Global,
+    bytes: &[u8],
+    reading: Reading,
+    altered: &mut Altered,
+) -> Result<Capture, Refusal>
+    requires { alters reading ≡ true }
+    ensures records { IfOk result (λ capture. IsCaptureIn reading bytes.now capture.records.items) }
+    ensures refused { IfErr result (λ refusal. IsNoCaptureIn reading bytes.now refusal.fault) }
 {
-    let shortened = without_long_records(alloc, bytes)?;
-    match records_of(alloc, &shortened.bytes) {
+    let read = altered_capture(alloc, bytes, reading)?;
+    match records_of(alloc, &read.bytes) {
         Ok(capture) => {
-            altered.cut = records::cut_records(&shortened.bytes, capture.records.len());
-            altered.long = shortened.skipped;
+            let records = capture.records.len();
+            altered.cut = records::cut_records(&read.bytes, records);
+            altered.long = read.skipped;
+            altered.padded = read.padded;
+            altered.left_over = read.left_over;
+            altered.whole = (records as u64).saturating_add(read.skipped);
             Ok(capture)
         }
-        Err(refusal) => Err(in_whole_file(alloc, bytes, shortened.skipped, refusal)),
+        Err(refusal) => Err(in_whole_file(alloc, bytes, read.skipped, refusal)),
     }
 }
 
-/// The records of a capture's bytes, and in `altered` how many of these were cut when they were captured. `skip_long`: without those of
-/// more than 2048 bytes, which are counted, in place of refusing the capture.
+/// The records of a capture's bytes, as these are read, and in `altered` which of them are not as their frames were: those that were cut
+/// when they were captured, were skipped, or got zeros, and the one within which the bytes end.
 fn records_in(
     alloc: Global,
     bytes: &[u8],
-    skip_long: bool,
+    reading: Reading,
     altered: &mut Altered,
 ) -> Result<Capture, Refusal>
-    ensures records { IfOk result (λ capture. IsCaptureIn skip_long bytes.now capture.records.items) }
-    ensures refused { IfErr result (λ refusal. IsNoCaptureIn skip_long bytes.now refusal.fault) }
+    ensures records { IfOk result (λ capture. IsCaptureIn reading bytes.now capture.records.items) }
+    ensures refused { IfErr result (λ refusal. IsNoCaptureIn reading bytes.now refusal.fault) }
 {
-    if skip_long {
-        return short_records_of(alloc, bytes, altered);
+    let is_altered = reading.alters();
+    if is_altered {
+        return altered_records_of(alloc, bytes, reading, altered);
     }
     match records_of(alloc, bytes) {
         Ok(capture) => {
@@ -225,22 +238,22 @@ fn records_in(
 }
 
 /// The capture of a file, and in `altered` which of its records are not as their frames were.
-fn capture_of<D: Folder>(
+pub(crate) fn capture_of<D: Folder>(
     alloc: Global,
     folder: &mut D,
     name: &str,
-    skip_long: bool,
+    reading: Reading,
     altered: &mut Altered,
 ) -> Result<Capture, Refusal>
     requires { D.failure_count folder.old < 2 ^ 64 - 1 }
-    ensures capture { IfOk result (λ capture. IsCaptureOf (D.holds folder.old) skip_long name.now capture.records.items) }
+    ensures capture { IfOk result (λ capture. IsCaptureOf (D.holds folder.old) reading name.now capture.records.items) }
     ensures kept { AreKept (D.holds folder.old) (D.holds folder.new) }
     ensures steady { OnOk result (D.failure_count folder.new ≡ D.failure_count folder.old) }
     ensures refused { IfErr result (λ refusal. IsCaptureRefusal (D.holds folder.old)
-        (HasFailed (D.failure_count folder.old) (D.failure_count folder.new)) skip_long name.now refusal.fault) }
+        (HasFailed (D.failure_count folder.old) (D.failure_count folder.new)) reading name.now refusal.fault) }
 {
     let bytes = bytes_of(alloc, folder, name)?;
-    let capture = records_in(alloc, &bytes, skip_long, altered)?;
+    let capture = records_in(alloc, &bytes, reading, altered)?;
     Ok(capture)
 }
 
@@ -403,6 +416,7 @@ fn left_of(
     script: &Script,
     capture: &Capture,
     outcome: &Outcome,
+    altered: Altered,
     notes: Option<String>,
 ) -> Result<Leavings, Refusal>
     requires frames { length capture.now.records.items ≡ frames_in outcome.now.counts }
@@ -418,6 +432,8 @@ fn left_of(
     ensures text { IfOk result
         (λ left. string_bytes left.report.text ≡ counts_text outcome.now.counts ++ refusals_text outcome.now.refused.items) }
     ensures whole { IfOk result (λ left. (outcome.now.refused.items ≡ []) ↔ (left.report.is_refused ≡ false)) }
+    ensures all { IfOk result (λ left. left.report.leaves_out ≡ false →
+        LeavesNothingOut script.now capture.now.records.items outcome.now) }
     ensures refused { IfErr result (λ refusal. LacksRoom (text_of files.now.journals) refusal.fault) }
 {
     let sent = bytes_of_frames(alloc, &outcome.sent)?;
@@ -431,7 +447,15 @@ fn left_of(
         outcome,
     )?;
     let frames = capture.records.len();
-    let report = replayed(alloc, frames, outcome.counts, &outcome.refused, notes)?;
+    let left_out = is_left_out(altered, script, frames);
+    let report = replayed(
+        alloc,
+        frames,
+        outcome.counts,
+        &outcome.refused,
+        left_out,
+        notes,
+    )?;
     Ok(Leavings {
         sent,
         journals,
@@ -490,17 +514,17 @@ pub(crate) struct Asked<'a> {
     pub exact: bool,
     /// Whether the summary of the traffic is printed.
     pub summary: bool,
-    /// Whether records of more than 2048 bytes are skipped.
-    pub skip_long: bool,
+    /// How the bytes of the capture are read.
+    pub reading: Reading,
 }
 
 impl Asked<'_> {
     /// Whether the replay may be made in pieces: it is exact, and nothing is asked for that needs all records.
     fn is_in_pieces(self) -> bool
-        ensures { IsTrue result → (self.entry.exact ≡ true) × (self.entry.skip_long ≡ false)
+        ensures { IsTrue result → (self.entry.exact ≡ true) × (self.entry.reading ≡ unaltered)
             × (text_of self.entry.files.now.report ≡ None) }
     {
-        self.exact && !self.summary && !self.skip_long && self.files.report.is_none()
+        self.exact && !self.summary && !self.reading.alters() && self.files.report.is_none()
     }
 }
 
@@ -524,7 +548,7 @@ fn replay_whole<R: Threads + Wait + Sync, D: Folder, P: Progress + Sync>(
 {
     let files = asked.files;
     let mut altered = Altered::default();
-    let capture = capture_of(alloc, folder, files.capture, asked.skip_long, &mut altered)?;
+    let capture = capture_of(alloc, folder, files.capture, asked.reading, &mut altered)?;
     let frames = capture.records.len() as u64;
     let rounds = Rounds::of(
         progress,
@@ -540,7 +564,15 @@ fn replay_whole<R: Threads + Wait + Sync, D: Folder, P: Progress + Sync>(
     let notes = Notes::of(asked, altered)
         .text(alloc, &capture, asked.script, &outcome)
         .ok();
-    let left = left_of(alloc, files, asked.script, &capture, &outcome, notes)?;
+    let left = left_of(
+        alloc,
+        files,
+        asked.script,
+        &capture,
+        &outcome,
+        altered,
+        notes,
+    )?;
     write_files(alloc, folder, files, &left, &outcome.journals)?;
     Ok(left.report)
 }
@@ -603,27 +635,19 @@ pub fn replay_files<R: Threads + Wait + Sync, D: Folder, P: Progress + Sync>(
     rt: &R,
     alloc: Global,
     folder: &mut D,
-    files: &ReplayFiles<'_>,
-    options: Options,
-    recording: Recording,
-    ring: u32,
-    exact: bool,
-    summary: bool,
-    skip_long: bool,
-    updates: &[MapUpdate],
+    settings: &ReplaySettings<'_>,
     progress: &P,
 ) -> Result<ReplayAnswer, Refusal>
     requires failures { D.failure_count folder.old < 2 ^ 64 - 1 }
-    requires rows { (file : List ℕ) → text_of files.now.journals ≡ Some file → recording ≡ Rows }
-    ensures done { IfOk result
-        (IsReplayAnswer (D.holds folder.old) (D.holds folder.new) files.now options recording ring exact skip_long updates.now) }
-    ensures kept { AreAllButKept (D.holds folder.old) (D.holds folder.new) files.now.sent.now (text_of files.now.journals)
-        (text_of files.now.report) }
-    ensures refused { IfErr result (λ refusal. IsReplayRefusal (D.holds folder.old) (D.holds folder.new)
-        (HasFailed (D.failure_count folder.old) (D.failure_count folder.new)) files.now options recording ring exact skip_long updates.now
-        refusal.fault) }
+    ensures done { IfOk result (IsReplayAnswer (D.holds folder.old) (D.holds folder.new) settings.now) }
+    ensures kept { AreAllButKept (D.holds folder.old) (D.holds folder.new) settings.now.files.sent.now
+        (text_of settings.now.files.journals) (text_of settings.now.files.report) }
+    ensures refused { IfErr result (λ refusal. IsReplayRefused (D.holds folder.old) (D.holds folder.new)
+        (HasFailed (D.failure_count folder.old) (D.failure_count folder.new)) settings.now refusal.fault) }
 {
-    let verified = program_of(alloc, folder, files.image, ring)?;
+    let files = &settings.files;
+    let updates: &[MapUpdate] = &settings.updates;
+    let verified = program_of(alloc, folder, files.image, settings.ring)?;
     if let Some((place, misfit)) = first_misfit(maps_of(&verified), updates) {
         return Ok(ReplayAnswer::Mistaken { place, misfit });
     }
@@ -633,13 +657,17 @@ pub fn replay_files<R: Threads + Wait + Sync, D: Folder, P: Progress + Sync>(
         verified: &verified,
         script: &script,
         updates,
-        options,
-        recording,
-        ring,
-        exact,
-        summary,
-        skip_long,
+        options: settings.options,
+        recording: recording_of(settings.no_journals, files.journals),
+        ring: settings.ring,
+        exact: settings.exact,
+        summary: settings.summary,
+        reading: Reading {
+            skip_long: settings.reading.skip_long,
+            pad_cut: settings.reading.pad_cut,
+            allow_cut: settings.reading.allow_cut,
+        },
     };
     let report = replay_once(rt, alloc, folder, asked, progress)?;
-    Ok(ReplayAnswer::Made(report))
+    Ok(ReplayAnswer::Made(report.of_strict(settings.strict)))
 }

@@ -1,6 +1,6 @@
 //! What commands print when they are done.
 
-ghost use Rattle.std.specs.Prelude.{◌≡◌, ◌↔◌, ◌≤◌, ◌++◌, [], false, IfOk, OnOk, Bool, IsTrue, string_bytes};
+ghost use Rattle.std.specs.Prelude.{◌≡◌, ◌↔◌, ◌⊎◌, ◌≤◌, ◌++◌, [], true, false, IfOk, OnOk, Bool, IsTrue, string_bytes};
 ghost use Rattle.ebpf_decode.specs.InstructionEncoding.{total_slots};
 ghost use Rattle.verifier.specs.Readers.{IsReader};
 ghost use Rattle.actors.specs.Accounts.{frames_in};
@@ -20,6 +20,9 @@ use wire::Frame;
 pub struct Report {
     pub text: String,
     pub is_refused: bool,
+    /// Whether a replay left something out: a run that was stopped, a record that it did not have as it was on the wire, a command behind
+    /// the last record.
+    pub leaves_out: bool,
     /// Lines for people, which go to the error stream.
     pub notes: Option<String>,
 }
@@ -32,7 +35,32 @@ impl Report {
         Report {
             text,
             is_refused: false,
+            leaves_out: false,
             notes: None,
+        }
+    }
+
+    /// The text of a comparison, which counts as refused in part where a record is treated differently.
+    pub fn compared(text: String, differs: bool) -> Report
+        ensures { (result.text ≡ text) × (result.is_refused ≡ differs) }
+    {
+        Report {
+            text,
+            is_refused: differs,
+            leaves_out: false,
+            notes: None,
+        }
+    }
+
+    /// The report of a replay that counts as refused in part, if it is strict, where something was left out.
+    pub fn of_strict(self, strict: bool) -> Report
+        ensures text { result.text ≡ self.text }
+        ensures done { result.is_refused ≡ false → (self.is_refused ≡ false) × (strict ≡ true → self.leaves_out ≡ false) }
+        ensures part { result.is_refused ≡ true → (self.is_refused ≡ true) ⊎ (strict ≡ true) }
+    {
+        Report {
+            is_refused: self.is_refused || strict && self.leaves_out,
+            ..self
         }
     }
 }
@@ -172,23 +200,27 @@ fn put_refusals(alloc: Global, text: &mut String, refused: &[Applied]) -> Result
     Ok(())
 }
 
-/// What a replay came to: its counts, of `frames` frames in all, and the commands that were refused; with these notes.
+/// What a replay came to: its counts, of `frames` frames in all, and the commands that were refused; with these notes. `left_out`: besides
+/// runs that were stopped something was left out.
 pub fn replayed(
     alloc: Global,
     frames: usize,
     counts: Counts,
     refused: &[Applied],
+    left_out: bool,
     notes: Option<String>,
 ) -> Result<Report, AllocError>
     requires { frames ≡ frames_in counts }
     ensures text { IfOk result (λ report. string_bytes report.text ≡ counts_text counts ++ refusals_text refused.now) }
     ensures refused { IfOk result (λ report. (refused.now ≡ []) ↔ (report.is_refused ≡ false)) }
+    ensures all { IfOk result (λ report. report.leaves_out ≡ false → (counts.stopped ≡ 0) × (left_out ≡ false)) }
 {
     let mut text = counts_text(alloc, frames, counts)?;
     put_refusals(alloc, &mut text, refused)?;
     Ok(Report {
         text,
         is_refused: !refused.is_empty(),
+        leaves_out: counts.stopped > 0 || left_out,
         notes,
     })
 }

@@ -4,10 +4,11 @@ ghost use Rattle.std.specs.Prelude.{◌≡◌, ◌+◌, ◌-◌, ◌<◌, ◌≤
 ghost use Rattle.std.specs.Prelude.{drop, length, IfErr, IfOk, OnOk, string_bytes};
 ghost use Rattle.std.specs.Io.KnownBytes.{append_known};
 ghost use Rattle.faults.specs.Refusals.{IsRefusalText};
-ghost use Rattle.xlb_commands.specs.Clashes.{AreApart};
+ghost use Rattle.xlb_commands.specs.Clashes.{AreApart, AreFree};
 ghost use Rattle.xlb_commands.specs.FaultLines.{fault_line, mistake_text};
 ghost use Rattle.xlb_commands.specs.Results.{AreNotesPrinted, IsAnswer, IsDone, IsNoted, KeepsFiles, stream};
-ghost use Rattle.xlb_commands.specs.Refused.{HasFailed, IsMistaken, IsRefused, IsRefusedWith, PrintsClash, PrintsMistake, PrintsRefusal};
+ghost use Rattle.xlb_commands.specs.Refused.{HasFailed, IsMistaken, IsRefused, IsRefusedWith, PrintsClash, PrintsMistake};
+ghost use Rattle.xlb_commands.specs.Refused.{PrintsPresent, PrintsRefusal};
 ghost use Rattle.xlb_commands.specs.Refused.{printed_notes};
 
 use crate::clashes::{Clash, clash_of};
@@ -15,14 +16,17 @@ use crate::commands::{
     assemble_file, assemble_source_file, audit_file, check, check_explained, disassemble,
     disassemble_source,
 };
+use crate::comparing::{ComparisonAnswer, compare_files};
 use crate::fault::{Fault, Refusal};
 use crate::fault_lines::fault_line;
 use crate::one_run::{RunAnswer, run_once};
+use crate::present::{in_the_way, present_text};
 use crate::progress::Progress;
-use crate::replays::{ReplayAnswer, recording_of, replay_files};
+use crate::replays::{ReplayAnswer, replay_files};
 use crate::report::Report;
 use crate::shipping::write_shipped;
 use crate::tables::table_file;
+use crate::timed::timed_file;
 use command_line::Settings;
 use faults::refusal_text;
 use folders::Folder;
@@ -48,6 +52,8 @@ enum CommandAnswer {
     Reported(Report),
     /// A mistake of the command line that shows only in the image: its maps do not take the update at this place, from 0.
     Mistaken { place: usize, misfit: Misfit },
+    /// Files that cannot be compared: the line that says why.
+    Unlike(String),
 }
 
 impl CommandAnswer {
@@ -65,6 +71,7 @@ impl CommandAnswer {
         CommandAnswer::Reported(Report {
             text,
             is_refused: false,
+            leaves_out: false,
             notes,
         })
     }
@@ -125,29 +132,18 @@ fn answer<R: Threads + Wait + Sync, D: Folder, P: Progress + Sync>(
         Settings::Table { script, ring } => {
             Ok(CommandAnswer::Reported(table_file(alloc, folder, script, *ring)?))
         }
-        Settings::Replay {
-            files,
-            options,
-            ring,
-            exact,
-            summary,
-            skip_long,
-            no_journals,
-            updates,
-        } => match replay_files(
-            rt,
-            alloc,
-            folder,
-            files,
-            *options,
-            recording_of(*no_journals, files.journals),
-            *ring,
-            *exact,
-            *summary,
-            *skip_long,
-            updates,
-            progress,
-        )? {
+        Settings::Script { capture, timed } => {
+            Ok(CommandAnswer::Reported(timed_file(alloc, folder, capture, timed)?))
+        }
+        Settings::Compare { first, second } => {
+            match compare_files(alloc, folder, first, second)? {
+                ComparisonAnswer::Compared { text, differs } => {
+                    Ok(CommandAnswer::Reported(Report::compared(text, differs)))
+                }
+                ComparisonAnswer::Unlike(text) => Ok(CommandAnswer::Unlike(text)),
+            }
+        }
+        Settings::Replay(asked) => match replay_files(rt, alloc, folder, asked, progress)? {
             ReplayAnswer::Made(report) => Ok(CommandAnswer::Reported(report)),
             ReplayAnswer::Mistaken { place, misfit } => Ok(CommandAnswer::Mistaken {
                 place,
@@ -193,6 +189,29 @@ fn refuse_clash<E: Sink>(alloc: Global, clash: &Clash<'_>, err: &mut E) -> u8
     MISTAKEN
 }
 
+/// Prints which file that is to be written is there already. Where memory is refused, 8 is printed in its place.
+fn refuse_present<E: Sink>(alloc: Global, name: &str, err: &mut E) -> u8
+    requires { E.failure_count err.old < 2 ^ 64 - 1 }
+    ensures status { result ≡ 2 }
+    ensures printed { E.failure_count err.new ≡ E.failure_count err.old → PrintsPresent name.now (E.held err.old) (E.held err.new) }
+{
+    match present_text(alloc, name) {
+        Ok(text) => print(err, text.as_bytes()),
+        Err(_no_memory) => print(err, b"fault 8 Memory\n"),
+    }
+    MISTAKEN
+}
+
+/// Prints why files cannot be compared.
+fn refuse_unlike<E: Sink>(text: &str, err: &mut E) -> u8
+    requires { E.failure_count err.old < 2 ^ 64 - 1 }
+    ensures status { result ≡ 2 }
+    ensures printed { E.failure_count err.new ≡ E.failure_count err.old → E.held err.new ≡ append_known (E.held err.old) text.now }
+{
+    print(err, text.as_bytes());
+    MISTAKEN
+}
+
 /// Prints a text without its first byte.
 fn print_below<E: Sink>(err: &mut E, text: &[u8])
     requires err { E.failure_count err.old < 2 ^ 64 - 1 }
@@ -218,20 +237,22 @@ fn print_notes<E: Sink>(alloc: Global, report: &Report, err: &mut E)
     }
 }
 
-/// Prints the notes for people on a run or a replay that was made, or on tables. Nothing is printed of another command.
+/// Prints the notes for people on a run or a replay that was made, on tables, or on a timed script. Nothing is printed of another command.
 fn note<E: Sink>(alloc: Global, settings: &Settings<'_>, report: &Report, err: &mut E)
     requires { E.failure_count err.old < 2 ^ 64 - 1 }
     ensures { IsNoted settings.now (stream (E.held err.old) (E.failure_count err.old)) (stream (E.held err.new) (E.failure_count err.new)) }
 {
     match settings {
-        Settings::Replay { .. } => print_notes(alloc, report, err),
+        Settings::Replay(_) => print_notes(alloc, report, err),
         Settings::Table { .. } => print_notes(alloc, report, err),
+        Settings::Script { .. } => print_notes(alloc, report, err),
         Settings::Run { .. } => print_notes(alloc, report, err),
         Settings::Check { .. }
         | Settings::Disasm { .. }
         | Settings::Audit { .. }
         | Settings::Explain { .. }
         | Settings::Asm { .. }
+        | Settings::Compare { .. }
         | Settings::Shipped { .. } => {}
     }
 }
@@ -282,8 +303,9 @@ fn status_of(is_refused: bool) -> u8
 /// fault of what the command reads on `err`, with notes for people below it, and returns 1. The fault is 7 where what the command prints
 /// could not be printed; the line is that of fault 8 where there was no memory for it. Where commands of a replay's script were refused,
 /// the report is printed and names them, and the status is 1. Where the image's maps do not take an update of a run or a replay, or a file
-/// that is to be written is another one of the command's, that is printed on `err`, and the status is 2, as of other mistakes in the
-/// command's words. After the report of a run, of a replay, or of tables, lines for people may follow on `err`.
+/// that is to be written is another one of the command's, or is there already where nothing may be written over, or files cannot be
+/// compared, that is printed on `err`, and the status is 2, as of other mistakes in the command's words. After the report of a run, of a
+/// replay, or of tables, lines for people may follow on `err`.
 pub fn serve<R: Threads + Wait + Sync, D: Folder, P: Progress + Sync, O: Sink, E: Sink>(
     rt: &R,
     alloc: Global,
@@ -302,20 +324,25 @@ pub fn serve<R: Threads + Wait + Sync, D: Folder, P: Progress + Sync, O: Sink, E
     ensures noted { result ≡ 0 → IsNoted settings.now (stream (E.held err.old) (E.failure_count err.old))
         (stream (E.held err.new) (E.failure_count err.new)) }
     ensures apart { result < 2 → AreApart settings.now }
+    ensures free { result < 2 → AreFree (D.has folder.old) settings.now }
     ensures kept { KeepsFiles (D.holds folder.old) (D.holds folder.new) settings.now }
     ensures refused { result ≡ 1 → IsRefused (D.holds folder.old) (D.holds folder.new)
         (HasFailed (D.failure_count folder.old) (D.failure_count folder.new)) settings.now
         (stream (O.held out.old) (O.failure_count out.old)) (stream (O.held out.new) (O.failure_count out.new))
         (stream (E.held err.old) (E.failure_count err.old)) (stream (E.held err.new) (E.failure_count err.new)) }
-    ensures mistaken { result ≡ 2 → IsMistaken (D.holds folder.old) (D.holds folder.new) (D.are_one folder.old) settings.now
+    ensures mistaken { result ≡ 2 → IsMistaken (D.holds folder.old) (D.holds folder.new) (D.are_one folder.old) (D.has folder.old) settings.now
         (stream (O.held out.old) (O.failure_count out.old)) (stream (O.held out.new) (O.failure_count out.new))
         (stream (E.held err.old) (E.failure_count err.old)) (stream (E.held err.new) (E.failure_count err.new)) }
 {
     if let Some(clash) = clash_of(folder, settings) {
         return refuse_clash(alloc, &clash, err);
     }
+    if let Some(name) = in_the_way(folder, settings) {
+        return refuse_present(alloc, name, err);
+    }
     match answer(rt, alloc, settings, folder, progress) {
         Ok(CommandAnswer::Mistaken { place, misfit }) => mistake(alloc, place, misfit, err),
+        Ok(CommandAnswer::Unlike(text)) => refuse_unlike(text.as_str(), err),
         Ok(CommandAnswer::Reported(report)) => match write_all(out, report.text.as_bytes()) {
             Ok(()) => {
                 note(alloc, settings, &report, err);

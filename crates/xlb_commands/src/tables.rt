@@ -44,6 +44,7 @@ fn shown(alloc: Global, script: &Script, ring: u32) -> Result<Report, AllocError
     Ok(Report {
         text: tables.text,
         is_refused,
+        leaves_out: false,
         notes,
     })
 }

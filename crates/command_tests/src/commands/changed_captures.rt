@@ -32,6 +32,8 @@ impl Folder for ChangingFolder {
 
     ghost are_one = { λ _ _ _. Unit {0} };
 
+    ghost has = { λ _ _ _. Unit {0} };
+
     ghost is_left = { λ _ _. Unit {0} };
 
     ghost most_left = { λ folder. folder.left };
@@ -101,6 +103,10 @@ impl Folder for ChangingFolder {
 
     fn is_same(&self, name: &str, other: &str) -> bool {
         self.files.is_same(name, other)
+    }
+
+    fn has(&self, name: &str) -> bool {
+        self.files.has(name)
     }
 
     fn failures(&self) -> u64 {

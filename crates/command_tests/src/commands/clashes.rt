@@ -60,3 +60,52 @@ fn writes_over_no_file_of_its_own(rt: HostRuntime) {
         compare_clash(&rt, rt.alloc(), row);
     }
 }
+
+/// What a row shows, and a command that would write the file `kept`, which is there.
+#[rattlefmt::skip]
+const THERE: [(&str, &str); 5] = [
+    ("sent frames",                 "xlb replay frame kept --no-clobber"),
+    ("journals",                    "xlb replay frame sent --journals kept --no-clobber"),
+    ("a report",                    "xlb replay frame sent --report kept --no-clobber"),
+    ("a report, and exact",         "xlb replay frame sent --report kept --exact --no-clobber"),
+    ("before any fault of a file",  "xlb replay nosuch kept --image nosuch --no-clobber --workers 9"),
+];
+
+/// Holds that a command refuses to write over a file that is there, and leaves it.
+fn compare_there<R: Abort + Threads + Wait + Sync>(rt: &R, alloc: Global, name: &str, line: &str) {
+    let folder = assembled(rt, alloc, name, PASSES, ("frame", ZEROS));
+    let folder = put(rt, alloc, folder, "kept", KEPT);
+    let wanted = Wanted {
+        status: 2,
+        out: "",
+        err: "error: kept is there already: --no-clobber writes over no file\n",
+    };
+    let folder = left_by(rt, alloc, name, folder, line, wanted);
+    compare_file(rt, alloc, name, folder, "kept", KEPT);
+}
+
+#[test]
+fn writes_over_nothing_that_is_there(rt: HostRuntime) {
+    for (name, line) in &THERE {
+        compare_there(&rt, rt.alloc(), name, line);
+    }
+}
+
+/// A capture of no frames.
+const NO_FRAMES: &[u8] = &[
+    0xd4, 0xc3, 0xb2, 0xa1, 2, 0, 4, 0, 0, 0, 0, 0, 0, 0, 0, 0, 0xff, 0xff, 0, 0, 1, 0, 0, 0,
+];
+
+#[test]
+fn writes_what_is_not_there(rt: HostRuntime) {
+    let name = "nothing is there";
+    let folder = assembled(&rt, rt.alloc(), name, PASSES, ("capture", NO_FRAMES));
+    let wanted = Wanted {
+        status: 0,
+        out: "frames 0\nshort 0\nstopped 0\naborted 0\ndrop 0\npass 0\ntx 0\n",
+        err: "",
+    };
+    let line = "xlb replay capture sent --image image --no-clobber --strict";
+    let folder = left_by(&rt, rt.alloc(), name, folder, line, wanted);
+    compare_file(&rt, rt.alloc(), name, folder, "sent", NO_FRAMES);
+}

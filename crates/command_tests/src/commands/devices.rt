@@ -48,6 +48,8 @@ impl Folder for FullFolder {
 
     ghost are_one = { λ _ _ _. Unit {0} };
 
+    ghost has = { λ _ _ _. Unit {0} };
+
     ghost is_left = { λ _ _. Unit {0} };
 
     ghost most_left = { λ _. 0 };
@@ -108,6 +110,10 @@ impl Folder for FullFolder {
 
     fn is_same(&self, name: &str, other: &str) -> bool {
         name == other
+    }
+
+    fn has(&self, _name: &str) -> bool {
+        false
     }
 
     fn failures(&self) -> u64 {

@@ -313,8 +313,18 @@ const STEERED: [Steered; 6] = [
     ("refused between two pieces", "1024 down 7\n1025 down 0\n1025 up 1 192.0.2.2\n", 1030, 1025, 1, FOURTH_REFUSED, UNKNOWN),
 ];
 
+/// The status of a strict replay: 1 where something was left out, which is then said.
+fn strict_status(status: u8, err: &str) -> u8 {
+    if err.is_empty() { status } else { 1 }
+}
+
 /// Compares the replay of a row.
-fn compare_steered<R: Abort + Threads + Wait + Sync>(rt: &R, alloc: Global, row: &Steered) {
+fn compare_steered<R: Abort + Threads + Wait + Sync>(
+    rt: &R,
+    alloc: Global,
+    row: &Steered,
+    strict: bool,
+) {
     let (name, later, count, first, status, out, err) = *row;
     let script = format!(in alloc; "{SERVED}{later}").expect(rt, "a script");
     let capture = repeated(rt, alloc, (DATAGRAM, count), ("", 0));
@@ -330,8 +340,15 @@ fn compare_steered<R: Abort + Threads + Wait + Sync>(rt: &R, alloc: Global, row:
         script: &script,
         capture: &capture,
     };
+    let (status, words) = if strict {
+        (
+            strict_status(status, err),
+            "--script script --ring 7 --strict",
+        )
+    } else {
+        (status, "--script script --ring 7")
+    };
     let wanted = Wanted { status, out, err };
-    let words = "--script script --ring 7";
     compare_ways(
         rt,
         alloc,
@@ -347,7 +364,8 @@ fn compare_steered<R: Abort + Threads + Wait + Sync>(rt: &R, alloc: Global, row:
 #[test]
 fn commands_fall_on_the_ends_of_pieces(rt: HostRuntime) {
     for row in &STEERED {
-        compare_steered(&rt, rt.alloc(), row);
+        compare_steered(&rt, rt.alloc(), row, false);
+        compare_steered(&rt, rt.alloc(), row, true);
     }
 }
 
@@ -370,6 +388,7 @@ fn compare_stopped<R: Abort + Threads + Wait + Sync>(
     rt: &R,
     alloc: Global,
     row: &(&str, &str, u16, &str, &str),
+    strict: bool,
 ) {
     let (name, words, count, out, err) = *row;
     let capture = numbered(rt, alloc, count);
@@ -378,19 +397,21 @@ fn compare_stopped<R: Abort + Threads + Wait + Sync>(
         script: "",
         capture: &capture,
     };
-    let wanted = Wanted {
-        status: 0,
-        out,
-        err,
+    let (status, more) = if strict {
+        (strict_status(0, err), " --strict")
+    } else {
+        (0, "")
     };
-    let words = format!(in alloc; "--image image {words}").expect(rt, "words");
+    let wanted = Wanted { status, out, err };
+    let words = format!(in alloc; "--image image {words}{more}").expect(rt, "words");
     compare_ways(rt, alloc, name, files, &words, wanted, Some(&HEADER), &WAYS);
 }
 
 #[test]
 fn the_first_stopped_run_is_named(rt: HostRuntime) {
     for row in &STOPPED {
-        compare_stopped(&rt, rt.alloc(), row);
+        compare_stopped(&rt, rt.alloc(), row, false);
+        compare_stopped(&rt, rt.alloc(), row, true);
     }
 }
 
@@ -632,7 +653,7 @@ const NO_READ: &str = "fault 7 Device\n  capture failed\n";
 /// The whole capture has room in the reader's buffer: it takes one call of `next`, and from record 957 on, where fewer than 2,064 bytes are
 /// unread, one more before each record and one at the end. So the first reading has 70 of these calls.
 #[rattlefmt::skip]
-const FAILING: [Failing; 18] = [
+const FAILING: [Failing; 20] = [
     ("the first reading is not opened",              "--exact", FolderCall::Open,   0,  1, NO_READ, None),
     ("the second one is not",                        "--exact", FolderCall::Open,   1,  1, NO_READ, None),
     ("there is no third one",                        "--exact", FolderCall::Open,   2,  0, "", ALL_SENT),
@@ -650,6 +671,8 @@ const FAILING: [Failing; 18] = [
     ("no file is written whole",                     "--exact", FolderCall::Write,  0,  0, "", ALL_SENT),
     ("a report needs the whole capture",             "--exact --report lines", FolderCall::Read, 0, 1, NO_READ, None),
     ("records that are skipped need it",             "--exact --skip-long", FolderCall::Read, 0, 1, NO_READ, None),
+    ("records that are padded need it",              "--exact --pad-cut", FolderCall::Read, 0, 1, NO_READ, None),
+    ("an end that may be cut needs it",              "--exact --allow-cut", FolderCall::Read, 0, 1, NO_READ, None),
     ("and so does a replay with threads",            "--workers 1", FolderCall::Read, 0, 1, NO_READ, None),
 ];
 

@@ -49,7 +49,8 @@ const FOUR: &str = "\
     02000000000102000000000208004500001c0001000040111494c6336407cb0071019c40005000080000";
 
 /// What a report in CSV begins with.
-const HEAD: &str = "number,moment,worker,verdict,steps,case,backend,address\n";
+const HEAD: &str =
+    "number,moment,worker,verdict,steps,case,backend,address,source,source_port,destination,destination_port,protocol\n";
 
 /// The first backend goes down after three frames, and the second one is up from then on.
 const MOVED: &str =
@@ -74,32 +75,37 @@ type Row = (
 
 #[rattlefmt::skip]
 static ROWS: [Row; 17] = [
-    ("13 bytes are short", SENDS, "", ZEROS_13, "--image image", "report.csv", &["1,1.000002,,SHORT,,#,,\n"]),
-    ("the same for a program of steering", SENDS, "", ZEROS_13, "--program image", "report", &["1,1.000002,,SHORT,,short,#,\n"]),
+    ("13 bytes are short", SENDS, "", ZEROS_13, "--image image", "report.csv", &["1,1.000002,,SHORT,,#,,,,,,,\n"]),
+    ("the same for a program of steering", SENDS, "", ZEROS_13, "--program image", "report", &["1,1.000002,,SHORT,,short,#,,,,,,\n"]),
     ("the same in JSON", SENDS, "", ZEROS_13, "--image image", "report.JSON",
         &["{\"number\":1,\"moment\":\"1.000002\",\"worker\":null,\"verdict\":\"SHORT\",\"steps\":null,#\
-           \"case\":null,\"backend\":null,\"address\":null}\n"]),
-    ("a frame that is in no tunnel", SENDS, "", LAST_MOMENT, "--image image", "report.jsonx", &["1,4294967295.999999,0,TX,2,#,,\n"]),
+           \"case\":null,\"backend\":null,\"address\":null,\"source\":null,\"source_port\":null,\"destination\":null,\
+           \"destination_port\":null,\"protocol\":null}\n"]),
+    ("a frame that is in no tunnel", SENDS, "", LAST_MOMENT, "--image image", "report.jsonx", &["1,4294967295.999999,0,TX,2,#,,,,,,,\n"]),
     ("the same for a program of steering", SENDS, "", LAST_MOMENT, "--program image", "json",
-        &["1,4294967295.999999,0,TX,2,sent#,,\n"]),
-    ("a datagram that is sent as it is", SENDS, "", DATAGRAM, "--image image", "report", &["1,1.000002,0,TX,2,#,,\n"]),
-    ("no verdict", ABORTS, "", LAST_MOMENT, "--program image", "report", &["1,4294967295.999999,0,ABORTED,2,#,,\n"]),
+        &["1,4294967295.999999,0,TX,2,sent#,,,,,,,\n"]),
+    ("a datagram that is sent as it is", SENDS, "", DATAGRAM, "--image image", "report", &["1,1.000002,0,TX,2,#,,,198.51.100.7,40000,203.0.113.1,80,udp\n"]),
+    ("no verdict", ABORTS, "", LAST_MOMENT, "--program image", "report", &["1,4294967295.999999,0,ABORTED,2,#,,,,,,,\n"]),
     ("a full journal stops the last run", READS_ONE, "", FIVE_ZEROS, "--image image --journal 16", "report",
-        &["1,1.000002,0,PASS,9,#,,\n", "2,2.000002,0,PASS,9,#,,\n", "3,3.000002,0,PASS,9,#,,\n", "4,4.000002,0,PASS,9,#,,\n",
-          "5,5.000002,0,STOPPED,,#,,\n"]),
-    ("no backend", "", NO_BACKEND, DATAGRAM, "--script script", "report", &["1,1.000002,0,DROP,#,no-backend,,\n"]),
-    ("a time to live of 0", "", SERVICE, NOT_TO_LIVE, "--script script", "report", &["1,1.000002,0,DROP,#,expired,,\n"]),
-    ("no service", "", "", DATAGRAM, "--script script", "report", &["1,1.000002,0,PASS,#,no-service,,\n"]),
-    ("another Ethernet type", "", "", LAST_MOMENT, "--script script", "report", &["1,4294967295.999999,0,PASS,#,other-type,,\n"]),
-    ("a backend", "", SERVICE, DATAGRAM, "--script script", "report", &["1,1.000002,0,TX,#,sent,0,192.0.2.1\n"]),
+        &["1,1.000002,0,PASS,9,#,,,,,,,\n", "2,2.000002,0,PASS,9,#,,,,,,,\n", "3,3.000002,0,PASS,9,#,,,,,,,\n", "4,4.000002,0,PASS,9,#,,,,,,,\n",
+          "5,5.000002,0,STOPPED,,#,,,,,,,\n"]),
+    ("no backend", "", NO_BACKEND, DATAGRAM, "--script script", "report", &["1,1.000002,0,DROP,#,no-backend,,,198.51.100.7,40000,203.0.113.1,80,udp\n"]),
+    ("a time to live of 0", "", SERVICE, NOT_TO_LIVE, "--script script", "report", &["1,1.000002,0,DROP,#,expired,,,198.51.100.7,40000,203.0.113.1,80,udp\n"]),
+    ("no service", "", "", DATAGRAM, "--script script", "report", &["1,1.000002,0,PASS,#,no-service,,,198.51.100.7,40000,203.0.113.1,80,udp\n"]),
+    ("another Ethernet type", "", "", LAST_MOMENT, "--script script", "report", &["1,4294967295.999999,0,PASS,#,other-type,,,,,,,\n"]),
+    ("a backend", "", SERVICE, DATAGRAM, "--script script", "report", &["1,1.000002,0,TX,#,sent,0,192.0.2.1,198.51.100.7,40000,203.0.113.1,80,udp\n"]),
     ("a backend in JSON", "", SERVICE, DATAGRAM, "--script script", "report.jsonl",
         &["{\"number\":1,\"moment\":\"1.000002\",\"worker\":0,\"verdict\":\"TX\",\"steps\":#,\
-           \"case\":\"sent\",\"backend\":0,\"address\":\"192.0.2.1\"}\n"]),
-    ("an address of two numbers", "", TWO_NUMBERS, DATAGRAM, "--script script", "report", &["1,1.000002,0,TX,#,sent,,192.0.2.1\n"]),
+           \"case\":\"sent\",\"backend\":0,\"address\":\"192.0.2.1\",\"source\":\"198.51.100.7\",\"source_port\":40000,\
+           \"destination\":\"203.0.113.1\",\"destination_port\":80,\"protocol\":\"udp\"}\n"]),
+    ("an address of two numbers", "", TWO_NUMBERS, DATAGRAM, "--script script", "report",
+        &["1,1.000002,0,TX,#,sent,,192.0.2.1,198.51.100.7,40000,203.0.113.1,80,udp\n"]),
     ("no record", "", "", "d4c3b2a1020004000000000000000000ffff000001000000", "--script script", "report", &[]),
     ("a flow that goes to another backend", "", MOVED, FOUR, "--script script --exact", "report",
-        &["1,1.000002,,SHORT,#,short,,\n", "2,1.000002,0,TX,#,sent,7,192.0.2.1\n", "3,1.000002,0,PASS,#,other-type,,\n",
-          "4,1.000002,0,TX,#,sent,5,192.0.2.2\n"]),
+        &["1,1.000002,,SHORT,#,short,,,,,,,\n",
+        "2,1.000002,0,TX,#,sent,7,192.0.2.1,198.51.100.7,40000,203.0.113.1,80,udp\n",
+        "3,1.000002,0,PASS,#,other-type,,,,,,,\n",
+          "4,1.000002,0,TX,#,sent,5,192.0.2.2,198.51.100.7,40000,203.0.113.1,80,udp\n"]),
 ];
 
 /// The files of a replay: a script, a capture, and the image of a text where there is one.

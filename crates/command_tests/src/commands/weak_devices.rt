@@ -160,6 +160,8 @@ impl<D: Folder> Folder for WeakFolder<D> {
 
     ghost are_one = { λ folder. D.are_one folder.files };
 
+    ghost has = { λ folder. D.has folder.files };
+
     ghost is_left = { λ folder. D.is_left folder.files };
 
     ghost most_left = { λ folder. folder.left };
@@ -278,6 +280,10 @@ impl<D: Folder> Folder for WeakFolder<D> {
 
     fn is_same(&self, name: &str, other: &str) -> bool {
         self.files.is_same(name, other)
+    }
+
+    fn has(&self, name: &str) -> bool {
+        self.files.has(name)
     }
 
     fn failures(&self) -> u64 {

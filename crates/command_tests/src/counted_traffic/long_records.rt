@@ -3,13 +3,20 @@
 use crate::asserting::{holds_of, same_bytes_of};
 use std::alloc::Global;
 use std::process::Abort;
-use traffic::without_long_records;
+use traffic::{Reading, altered_capture};
 use wire::{Capture, CaptureFault, MemorySource, read_capture};
 
 /// The header of a capture: pcap 2.4, low byte first, with a snap length of 262144 bytes.
 static HEADER: [u8; 24] = [
     0xd4, 0xc3, 0xb2, 0xa1, 2, 0, 4, 0, 0, 0, 0, 0, 0, 0, 0, 0, 0, 0, 4, 0, 1, 0, 0, 0,
 ];
+
+/// Long records are skipped, and no more.
+const WITHOUT_LONG: Reading = Reading {
+    skip_long: true,
+    pad_cut: false,
+    allow_cut: false,
+};
 
 /// What a row shows; how many bytes each of three records keeps, and whether it stays; how many bytes of the file are missing at its end;
 /// and how many records are left out.
@@ -66,7 +73,7 @@ fn compare(rt: &impl Abort, alloc: Global, row: &Row) {
     let (name, .., skipped) = *row;
     let file = file_of(rt, alloc, row, true);
     let wanted = file_of(rt, alloc, row, false);
-    let shortened = without_long_records(alloc, &file).expect(rt, "memory");
+    let shortened = altered_capture(alloc, &file, WITHOUT_LONG).expect(rt, "memory");
     same_bytes_of(
         rt,
         name,
@@ -86,7 +93,7 @@ fn long_records_are_left_out(rt: HostRuntime) {
 
 /// Compares what is left of bytes that have no whole record.
 fn stays(rt: &impl Abort, alloc: Global, bytes: &[u8]) {
-    let shortened = without_long_records(alloc, bytes).expect(rt, "memory");
+    let shortened = altered_capture(alloc, bytes, WITHOUT_LONG).expect(rt, "memory");
     same_bytes_of(
         rt,
         "no whole record",
@@ -132,7 +139,7 @@ fn what_is_left_is_read(rt: HostRuntime) {
     let mut file = file_of(&rt, alloc, &ROWS[1], true);
     let before = read(alloc, &mut file);
     holds_of(&rt, "before", "refused", before.is_err());
-    let mut shortened = without_long_records(alloc, &file).expect(&rt, "memory");
+    let mut shortened = altered_capture(alloc, &file, WITHOUT_LONG).expect(&rt, "memory");
     let capture = read(alloc, &mut shortened.bytes).expect(&rt, "a capture");
     holds_of(&rt, "after", "two records", capture.records.len() == 2);
     let third = capture.records[1].bytes.len();

@@ -24,7 +24,5 @@ returns-in-Run-clause-none g c = λ none.
 
 pub returns-in-Replay-clause-none : goal.returns-in-Replay-clause-none
 returns-in-Replay-clause-none g c = λ none.
-    let is : c.args.settings.now ≡ Replay c.in-Replay.files c.in-Replay.options c.in-Replay.ring c.in-Replay.exact c.in-Replay.summary c.in-Replay.skip_long
-    c.in-Replay.no_journals c.in-Replay.updates =
-    search rules in
+    let is : c.args.settings.now ≡ Replay c.in-Replay.asked = search rules in
     subst (λ (it : Settings). AreApart it) (sym is) (λ written other over. c.over_in_replay.ensures.none none written other over)

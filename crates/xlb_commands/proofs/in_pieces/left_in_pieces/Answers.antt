@@ -14,7 +14,8 @@ use Rattle.semantics.specs.ShardPlan.{KeepsRows, recorded, room_for}
 use Rattle.semantics.specs.declared.options.Recording.{Recording}
 use Rattle.semantics.specs.declared.options.Options.{Options}
 use Rattle.command_line.specs.Reading.{text_of}
-use Rattle.xlb_commands.specs.Replays.{counts_text, image_of, program_of_replay, refusals_text}
+use Rattle.std.specs.List.{AllByRecursion}
+use Rattle.xlb_commands.specs.Replays.{IsInTime, counts_text, image_of, program_of_replay, refusals_text}
 use Rattle.xlb_commands.specs.Refused.{no_report_room}
 use Rattle.xlb_commands.proofs.Outcomes.{journals_fit, rule_of}
 use Rattle.xlb_commands.proofs.ReaderFiles.{reader_file_is}
@@ -128,4 +129,9 @@ returns-clause-left c = λ records sent ends under captured.
       journals_are = λ file named. c.in_ok-journals.ensures.bytes file named ∙ ap journals_text (sym is.journals);
       text = text_is _ c.in_ok-outcome.outcome whole c.deref.result.now is.counts (is.refused ∙ sym c.deref.ensures.value) c.in_ok-report.ensures.text;
       none_refused = none_is _ whole c.deref.result.now (is.refused ∙ sym c.deref.ensures.value) c.in_ok-report.ensures.refused;
+      all = λ none_left. record {
+        none_stopped = ap (λ (counts : Counts). counts.stopped) is.counts ∙ (c.in_ok-report.ensures.all none_left).0;
+        in_time = subst (λ (count : ℕ). AllByRecursion (IsInTime count) asked.script.now) (c.taken-frames.ensures ∙ under.taken)
+            (c.is_left_out-left_out.ensures (c.in_ok-report.ensures.all none_left).1);
+      };
     }

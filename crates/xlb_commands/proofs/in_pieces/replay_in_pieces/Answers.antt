@@ -1,9 +1,11 @@
-use Rattle.std.proofs.Common.{◌≡◌, ◌++◌, ◌⊎◌, inl, inr, ℕ, Bool, true, false, List, Option, None, arith, refl, subst, sym}
+use Rattle.std.proofs.Common.{◌≡◌, ◌++◌, ◌⊎◌, inl, inr, ℕ, Bool, true, List, Option, None, arith, refl, subst, sym}
 use Rattle.std.proofs.lemmas.Result.{err_from_is_err_and}
 use Rattle.wire.specs.CaptureFormat.{capture_bytes, header_bytes, records_bytes}
 use Rattle.wire.specs.declared.records.Sent.{Sent}
 use Rattle.command_line.specs.Reading.{text_of}
 use Rattle.semantics.specs.ShardPlan.{recorded}
+use Rattle.traffic.specs.Readings.{unaltered}
+use Rattle.traffic.specs.declared.readings.Reading.{Reading}
 use Rattle.xlb_commands.specs.RecordReports.{IsReportFile}
 use Rattle.xlb_commands.specs.declared.fault.Fault.{Fault}
 use Rattle.xlb_commands.specs.declared.replays.Asked.{Asked}
@@ -38,7 +40,7 @@ returns-in_err-going-clause-refused g c =
     let p = err_from_is_err_and c.from_residual-in_err-going.result c.from_residual-in_err-going.ensures.1 in
     rw (p.1, p.2)
     (given_up seen.0 why.0 c.look_through.ensures.kept
-    (subst (λ (skip : Bool). IsCaptureOf (g.D.Folder.holds c.args.folder.now) skip asked.files.now.capture.now seen.0) (sym c.requires.all) seen.1)
+    (subst (λ (reading : Reading). IsCaptureOf (g.D.Folder.holds c.args.folder.now) reading asked.files.now.capture.now seen.0) (sym c.requires.all) seen.1)
     (subst (λ (exact : Bool). IsGivenUp exact asked.verified.now.maps asked.updates.now asked.script.now asked.options asked.recording why.0)
     (sym c.requires.exact) why.2)
     why.1)
@@ -53,7 +55,7 @@ returns-in_err-write_pieces-in-Ok-Some-clause-refused g c =
     let p = err_from_is_err_and c.from_residual-in_err-write_pieces-in-Ok-Some.result c.from_residual-in_err-write_pieces-in-Ok-Some.ensures.1 in
     rw (p.1, p.2)
     (not_written_down left.records made_of.whole
-    (subst (λ (skip : Bool). IsCaptureOf (g.D.Folder.holds c.args.folder.now) skip asked.files.now.capture.now left.records) (sym c.requires.all)
+    (subst (λ (reading : Reading). IsCaptureOf (g.D.Folder.holds c.args.folder.now) reading asked.files.now.capture.now left.records) (sym c.requires.all)
     (capture_before _ _ before _ _ left.records left.capture))
     (subst (λ (exact : Bool). IsMade exact (program_of_replay (image_of asked.verified.now) asked.options) asked.updates.now asked.script.now
     (recorded asked.recording asked.options) left.records made_of.whole) (sym c.requires.exact) made_of.made)
@@ -74,7 +76,7 @@ returns-in_ok-write_pieces-in-Ok-Some-clause-done g c =
       made_of.whole.refused.items,
       record {
         records = left.records;
-        capture = subst (λ (skip : Bool). IsCaptureOf (g.D.Folder.holds c.args.folder.now) skip asked.files.now.capture.now left.records)
+        capture = subst (λ (reading : Reading). IsCaptureOf (g.D.Folder.holds c.args.folder.now) reading asked.files.now.capture.now left.records)
             (sym c.requires.all) (capture_before _ _ before _ _ left.records left.capture);
         outcome = made_of.whole;
         made = record {
@@ -96,21 +98,22 @@ returns-in_ok-write_pieces-in-Ok-Some-clause-done g c =
         lines = made_of.text;
       },
       made_of.none_refused,
+      made_of.all,
     )
 
 -- the replay was broken off, or it was made and memory was refused for what it leaves
 denied : (before after held : FileBytes) (failed since : Type 0) (asked : Asked) (records : List Sent) (fault : Fault) → asked.exact ≡ true
-    → asked.skip_long ≡ false → text_of asked.files.now.report ≡ None → AreKept before held → AreKept before after → IsCaptureOf before false asked.files.now.capture.now records
+    → asked.reading ≡ unaltered → text_of asked.files.now.report ≡ None → AreKept before held → AreKept before after → IsCaptureOf before unaltered asked.files.now.capture.now records
     → (¬ HasBadOptions asked) → (failed → since)
     → (IsBrokenOff failed fault ⊎ (IsMadeInTurn held asked × LacksRoom (text_of asked.files.now.journals) fault)) → IsDenied before after since asked fault
 denied before after held failed since asked records fault exact all no_report same kept capture good so (inl broken) =
     broken_off records exact all no_report kept
-    (subst (λ (skip : Bool). IsCaptureOf before skip asked.files.now.capture.now records) (sym all) capture) good (broken_since failed since fault so broken)
+    (subst (λ (reading : Reading). IsCaptureOf before reading asked.files.now.capture.now records) (sym all) capture) good (broken_since failed since fault so broken)
 denied before after held failed since asked records fault exact all no_report same kept capture good so (inr both) =
     let made = both.0 in
     not_reported made.records made.outcome kept
-    (subst (λ (skip : Bool). IsCaptureOf before skip asked.files.now.capture.now made.records) (sym all)
-    (capture_before before held same false asked.files.now.capture.now made.records made.capture))
+    (subst (λ (reading : Reading). IsCaptureOf before reading asked.files.now.capture.now made.records) (sym all)
+    (capture_before before held same unaltered asked.files.now.capture.now made.records made.capture))
     (subst (λ (exact : Bool). IsMade exact (program_of_replay (image_of asked.verified.now) asked.options) asked.updates.now asked.script.now
     (recorded asked.recording asked.options) made.records made.outcome) (sym exact) made.made)
     both.1
@@ -130,6 +133,6 @@ returns-in_err-begin_sent-clause-refused g c =
     let p = err_from_is_err_and c.from_residual-in_err-begin_sent.result c.from_residual-in_err-begin_sent.ensures.1 in
     rw (p.1, p.2)
     (broken_off seen.0 c.requires.exact c.requires.all c.requires.no_report (kept_twice _ _ _ c.look_through.ensures.kept c.begin_sent.ensures.kept)
-    (subst (λ (skip : Bool). IsCaptureOf (g.D.Folder.holds c.args.folder.now) skip asked.files.now.capture.now seen.0) (sym c.requires.all) seen.1)
+    (subst (λ (reading : Reading). IsCaptureOf (g.D.Folder.holds c.args.folder.now) reading asked.files.now.capture.now seen.0) (sym c.requires.all) seen.1)
     c.in_ok-going.ensures.good
     (no_piece (unserved_since _ _ _ (failed_since _ _ _ c.in_ok-seen.ensures.steady) c.in_err-begin_sent.ensures.refused)))

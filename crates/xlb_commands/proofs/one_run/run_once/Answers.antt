@@ -9,15 +9,17 @@ use Rattle.semantics.specs.Program.{Program}
 use Rattle.semantics.specs.declared.options.Options.{Options}
 use Rattle.semantics.specs.ShardPlan.{KeepsRows}
 use Rattle.semantics.specs.Safety.{IsSafeImage}
-use Rattle.semantics.specs.System.{IsInputFrame}
+use Rattle.semantics.specs.Events.{Ending, Exited}
+use Rattle.semantics.specs.System.{Setting, IsInputFrame}
 use Rattle.semantics.specs.declared.verdict.Verdict.{Verdict}
 use Rattle.runs.specs.SingleRuns.{HasRunAlone, HasStoppedAlone}
+use Rattle.guarantees.specs.RunsAlone.{IsAloneInSystem}
 use Rattle.wire.specs.FrameView.{FrameView}
 use Rattle.command_line.specs.Reading.{text_of}
 use Rattle.command_line.specs.declared.commands.RunFiles.{RunFiles}
 use Rattle.xlb_commands.specs.Files.{FileBytes, AreKept, AreAllKeptBut, IsImageFile}
 use Rattle.xlb_commands.specs.Refused.{IsFittingProgram, AreRunInputs, IsEndedRun, no_report_room, no_run_program, no_run_frame, no_worker, not_run, stopped, no_output_room, not_filed}
-use Rattle.xlb_commands.specs.Results.{run_options, program_of_run, start_of_run}
+use Rattle.xlb_commands.specs.Results.{run_options, program_of_run, setting_of_run, start_of_run}
 use Rattle.xlb_commands.proofs.Refusals.{kept_twice, frame_refusal_before, failed_since, unfiled_since, written_down}
 use Rattle.xlb_commands.proofs.one_run.run_once.Goals as goal
 
@@ -60,6 +62,13 @@ ended_so program bytes updates verdict steps frame journals worker now made_work
     subst (λ (it : ℕ). HasRunAlone program (start_of_run bytes it now) run_options it updates verdict steps frame journals) same_worker
     (subst (λ (it : ℕ). HasRunAlone program (start_of_run bytes made_worker it) run_options made_worker updates verdict steps frame journals) same_now is)
 
+system_so : (setting : Setting) (bytes : List ℕ) (updates : List MapUpdate) (ending : Ending) (journals : JournalsView)
+    (worker now made_worker made_now : ℕ) → made_worker ≡ worker → made_now ≡ now
+    → IsAloneInSystem setting made_worker made_now bytes updates ending journals → IsAloneInSystem setting worker now bytes updates ending journals
+system_so setting bytes updates ending journals worker now made_worker made_now same_worker same_now is =
+    subst (λ (it : ℕ). IsAloneInSystem setting it now bytes updates ending journals) same_worker
+    (subst (λ (it : ℕ). IsAloneInSystem setting made_worker it bytes updates ending journals) same_now is)
+
 pub returns-clause-done : goal.returns-clause-done
 returns-clause-done g c =
     let program : Contents =
@@ -67,6 +76,8 @@ returns-clause-done g c =
     let below : c.args.worker < 8 = omega (arith, c.in_ok-moment.ensures.given.1, c.in_ok-moment.ensures.below) in
     let at : HasRunAlone (program_of_run program) (start_of_run c.in_ok-frame.frame.bytes c.in_ok-moment.moment.worker c.in_ok-moment.moment.now_ns) run_options
     c.in_ok-moment.moment.worker c.args.updates.now c.in-Ok.exit.verdict c.in-Ok.exit.steps c.run_over.new.frame c.in_ok-ended.field-0.journals = search rules in
+    let alone : IsAloneInSystem (setting_of_run program) c.in_ok-moment.moment.worker c.in_ok-moment.moment.now_ns c.in_ok-frame.frame.bytes
+    c.args.updates.now (Exited c.in-Ok.exit.verdict c.run_over.new.frame.bytes c.in-Ok.exit.steps) c.in_ok-ended.field-0.journals = search rules in
     record {
       program = program;
       file = c.in_ok-verified.ensures.file;
@@ -80,6 +91,7 @@ returns-clause-done g c =
       left = c.run_over.new.frame;
       journals = c.in_ok-ended.field-0.journals;
       run = ended_so _ _ _ _ _ _ _ _ _ _ _ c.in_ok-moment.ensures.given.1 c.in_ok-moment.ensures.given.0 at;
+      of_system = system_so _ _ _ _ _ _ _ _ _ c.in_ok-moment.ensures.given.1 c.in_ok-moment.ensures.given.0 alone;
       written = written_down (g.D.Folder.holds c.write_journals_to.new.folder) (text_of c.args.files.now.journals) c.in_ok-file.file.bytes
           c.in_ok-ended.field-0.journals c.in_ok-file.ensures.bytes c.in_ok-write_journals_to.ensures.written;
       lines = c.in_ok-text.ensures;

@@ -1,12 +1,28 @@
-use Rattle.std.proofs.Common.{rules, ◌≡◌, ℕ, List, Option, None, subst}
+use Rattle.std.proofs.Common.{rules, ◌≡◌, ◌∙◌, ◌++◌, ◌↔◌, ◌⊎◌, inl, inr, ℕ, Bool, true, false, List, [], Option, Some, None, ap, refl, subst, sym}
+use Rattle.std.proofs.Common.{string_bytes, true≢false}
+use Rattle.std.specs.Prelude.{◌≢◌}
+use Rattle.abstract_state.specs.declared.state.State.{State}
+use Rattle.verifier.specs.Dataflow.{Accepts}
+use Rattle.semantics.specs.Safety.{IsSafeImage}
+use Rattle.semantics.specs.declared.options.Recording.{Recording}
+use Rattle.semantics.specs.declared.options.Recording.TheVariants.{Rows}
+use Rattle.control.specs.declared.command.Command.{Command}
+use Rattle.actors.specs.declared.outcome.Applied.{Applied}
+use Rattle.command_line.specs.declared.commands.ReplaySettings.{ReplaySettings}
+use Rattle.xlb_commands.specs.declared.report.Report.{Report}
+use Rattle.xlb_commands.specs.declared.replays.ReplayAnswer.TheVariants as replayed
+use Rattle.xlb_commands.specs.Results.{IsReplayAnswer}
 use Rattle.std.proofs.lemmas.Result.{err_from_is_err_and}
 use Rattle.ebpf_decode.specs.ImageContents.{Contents}
 use Rattle.map_updates.specs.Misfits.{AreFitting}
+use Rattle.map_updates.specs.declared.update.MapUpdate.{MapUpdate}
 use Rattle.command_line.specs.Reading.{text_of}
 use Rattle.steer.specs.ShippedProgram.{shipped_image}
 use Rattle.xlb_commands.specs.Files.{FileBytes}
-use Rattle.xlb_commands.specs.Replays.{IsProgramOf, image_of}
-use Rattle.xlb_commands.specs.Refused.{no_replay_program, no_replay_script, not_replayed}
+use Rattle.xlb_commands.specs.Replays.{IsProgramOf, IsReplayReport, IsReplayedWith, IsScriptOf, counts_text, image_of, reading_in, recording_in, recording_of}
+use Rattle.xlb_commands.specs.Replays.{refusals_text}
+use Rattle.xlb_commands.specs.declared.fault.Fault.{Fault}
+use Rattle.xlb_commands.specs.Refused.{HasFailed, IsUnreplayed, no_replay_program, no_replay_script, not_replayed}
 use Rattle.xlb_commands.proofs.Earlier.{all_but_kept, report_before, script_before, unreplayed_before}
 use Rattle.xlb_commands.proofs.Refusals.{kept_twice, failed_since, script_refusal_before}
 use Rattle.xlb_commands.proofs.replays.replay_files.Goals as goal
@@ -16,28 +32,131 @@ shipped_of : (files : FileBytes) (name : Option (List ℕ)) (ring : ℕ) (progra
     name ≡ None → program ≡ shipped_image ring
 shipped_of files name ring program is none = subst (λ (other : Option (List ℕ)). IsProgramOf files other ring program) none is
 
+-- where a file is named for the journals, their rows are kept
+rows_where_named : (no_journals : Bool) (name : Option (List ℕ)) (file : List ℕ) → name ≡ Some file → recording_of no_journals name ≡ Rows
+rows_where_named true (Some name) file is = refl
+rows_where_named true None file is = absurd cc
+rows_where_named false name file is = refl
+
+pub replay_once-requires-clause-rows : goal.replay_once-requires-clause-rows
+replay_once-requires-clause-rows g c κs outlives =
+    λ file is. c.recording_of.ensures ∙ rows_where_named c.args.settings.now.no_journals (text_of c.args.settings.now.files.journals) file is
+
 pub replay_once-requires-clause-shipped : goal.replay_once-requires-clause-shipped
 replay_once-requires-clause-shipped g c κs outlives =
-    shipped_of (g.D.Folder.holds c.args.folder.now) (text_of c.args.files.now.image) c.args.ring (image_of c.in_ok-verified.verified)
+    shipped_of (g.D.Folder.holds c.args.folder.now) (text_of c.args.settings.now.files.image) c.args.settings.now.ring (image_of c.in_ok-verified.verified)
     c.in_ok-verified.ensures.program
+
+-- a command was refused, or the replay is strict
+some_of : (refused : List Applied) (strict is_refused : Bool) → ((refused ≡ []) ↔ (is_refused ≡ false))
+    → (is_refused ≡ true) ⊎ (strict ≡ true) → (refused ≢ []) ⊎ (strict ≡ true)
+some_of refused strict is_refused none (inl is) = inl (λ empty. true≢false (sym is ∙ none.0 empty))
+some_of refused strict is_refused none (inr is) = inr is
+
+-- the report of a replay with what is asked for, by the same recording and the same updates
+as_asked : (before after : FileBytes) (asked : ReplaySettings) (program : Contents) (states : List (Option State)) (script : List Command)
+    (recording : Recording) (updates : List MapUpdate) (report : Report) → recording ≡ recording_in asked → updates ≡ asked.updates.items
+    → IsReplayReport before after asked.files program states script asked.options recording asked.ring asked.exact (reading_in asked) updates
+    report
+    → IsReplayReport before after asked.files program states script asked.options (recording_in asked) asked.ring asked.exact
+    (reading_in asked) asked.updates.items report
+as_asked before after asked program states script recording updates report recorded same is =
+    subst (λ (it : List MapUpdate). IsReplayReport before after asked.files program states script asked.options (recording_in asked) asked.ring
+    asked.exact (reading_in asked) it report) same
+    (subst (λ (it : Recording). IsReplayReport before after asked.files program states script asked.options it asked.ring asked.exact
+    (reading_in asked) updates report) recorded is)
+
+-- why a replay with what is asked for was not made
+unmade_as_asked : (before after : FileBytes) (failed : Type 0) (asked : ReplaySettings) (program : Contents) (script : List Command)
+    (recording : Recording) (updates : List MapUpdate) (fault : Fault) → recording ≡ recording_in asked → updates ≡ asked.updates.items
+    → IsUnreplayed before after failed asked.files program script asked.options recording asked.exact (reading_in asked) updates fault
+    → IsUnreplayed before after failed asked.files program script asked.options (recording_in asked) asked.exact (reading_in asked)
+    asked.updates.items fault
+unmade_as_asked before after failed asked program script recording updates fault recorded same is =
+    subst (λ (it : List MapUpdate). IsUnreplayed before after failed asked.files program script asked.options (recording_in asked) asked.exact
+    (reading_in asked) it fault) same
+    (subst (λ (it : Recording). IsUnreplayed before after failed asked.files program script asked.options it asked.exact (reading_in asked)
+    updates fault) recorded is)
+
+-- the same replay, whose text and refused commands are said otherwise
+as_said : (before after : FileBytes) (asked : ReplaySettings) (program : Contents) (states : List (Option State)) (script : List Command)
+    (printed other : List ℕ) (refused others : List Applied) → other ≡ printed → refused ≡ others
+    → IsReplayedWith before after asked.files program states script asked.options (recording_in asked) asked.ring asked.exact
+    (reading_in asked) asked.updates.items printed refused
+    → IsReplayedWith before after asked.files program states script asked.options (recording_in asked) asked.ring asked.exact
+    (reading_in asked) asked.updates.items other others
+as_said before after asked program states script printed other refused others text same is = record {
+  records = is.records;
+  capture = is.capture;
+  outcome = is.outcome;
+  made = is.made;
+  headline = is.headline;
+  by_rule = is.by_rule;
+  readers = is.readers;
+  refused_are = is.refused_are ∙ same;
+  sent = is.sent;
+  journals = is.journals;
+  report = is.report;
+  lines = text ∙ (is.lines ∙ ap (λ (l : List Applied). counts_text is.outcome.counts ++ refusals_text l) same);
+}
+
+-- of a program that may run and a script, what is reported of a replay that was made with both: it was done whole, or in part
+answer_is : (before after : FileBytes) (asked : ReplaySettings) (program : Contents) (states : List (Option State)) (script : List Command)
+    (made report : Report) → IsProgramOf before (text_of asked.files.image) asked.ring program
+    → Accepts program.version program.maps program.code states → IsSafeImage program.maps program.code
+    → IsScriptOf before (text_of asked.files.script) script
+    → IsReplayReport before after asked.files program states script asked.options (recording_in asked) asked.ring asked.exact
+    (reading_in asked) asked.updates.items made
+    → string_bytes report.text ≡ string_bytes made.text
+    → (report.is_refused ≡ false → (made.is_refused ≡ false) × (asked.strict ≡ true → made.leaves_out ≡ false))
+    → (report.is_refused ≡ true → (made.is_refused ≡ true) ⊎ (asked.strict ≡ true))
+    → IsReplayAnswer before after asked (replayed.Made report)
+unfolding as_said
+answer_is before after asked program states script made report program_is accepted safe script_is is text whole part = (
+  (λ done. record {
+    replayed = record {
+      program = program;
+      program_is = program_is;
+      states = states;
+      accepted = accepted;
+      safe = safe;
+      script = script;
+      script_is = script_is;
+      replayed = as_said before after asked program states script _ _ is.0 [] text (is.2.1 (whole done).0) is.1;
+    };
+    all = λ strict. is.3 ((whole done).1 strict);
+  }),
+  (λ in_part. record {
+    refused = is.0;
+    some = some_of is.0 asked.strict made.is_refused is.2 (part in_part);
+    replayed = record {
+      program = program;
+      program_is = program_is;
+      states = states;
+      accepted = accepted;
+      safe = safe;
+      script = script;
+      script_is = script_is;
+      replayed = as_said before after asked program states script _ _ is.0 is.0 text refl is.1;
+    };
+  }),
+)
 
 pub returns-clause-done : goal.returns-clause-done
 returns-clause-done g c =
-    let is = report_before _ _ _ _ _ _ _ _ _ _ _ _ _ c.in_ok-report.report
-    (kept_twice _ _ _ c.program_of.ensures.kept c.script_of.ensures.kept) c.in_ok-report.ensures.done in (
-      is.0,
-      record {
-        program = image_of c.in_ok-verified.verified;
-        program_is = c.in_ok-verified.ensures.program;
-        states = c.in_ok-verified.verified.states;
-        accepted = c.maps_of.ensures.accepted;
-        safe = c.in_ok-verified.ensures.safe;
-        script = c.in_ok-script.script;
-        script_is = script_before _ _ c.program_of.ensures.kept _ _ c.in_ok-script.ensures.script;
-        replayed = is.1;
-      },
-      is.2,
-    )
+    let settings = c.args.settings.now in
+    let program = image_of c.in_ok-verified.verified in
+    let states = c.in_ok-verified.verified.states in
+    let script = c.in_ok-script.script in
+    let report = c.in_ok-report.report in
+    let made = report_before _ _ _ _ _ _ _ _ _ _ _ _ _ report
+    (kept_twice _ _ _ c.program_of.ensures.kept c.script_of.ensures.kept) c.in_ok-report.ensures.done in
+    answer_is (g.D.Folder.holds c.args.folder.now) (g.D.Folder.holds c.replay_once.new.folder) settings program states script report
+    c.of_strict.result c.in_ok-verified.ensures.program c.maps_of.ensures.accepted c.in_ok-verified.ensures.safe
+    (script_before _ _ c.program_of.ensures.kept _ _ c.in_ok-script.ensures.script)
+    (as_asked (g.D.Folder.holds c.args.folder.now) (g.D.Folder.holds c.replay_once.new.folder) settings program states script _ _ report
+    c.recording_of.ensures c.deref-updates.ensures.value made)
+    (ap string_bytes c.of_strict.ensures.text) c.of_strict.ensures.done c.of_strict.ensures.part
 
 pub returns-clause-kept : goal.returns-clause-kept
 returns-clause-kept g c =
@@ -54,7 +173,7 @@ returns-in_err-verified-clause-refused g c =
 
 pub returns-in_err-script-clause-refused : goal.returns-in_err-script-clause-refused
 returns-in_err-script-clause-refused g c =
-    let fits : AreFitting c.in_ok-verified.verified.maps c.args.updates.now = search rules in
+    let fits : AreFitting c.in_ok-verified.verified.maps c.args.settings.now.updates.items = search rules in
     let p = err_from_is_err_and c.from_residual-in_err-script.result c.from_residual-in_err-script.ensures.1 in
     rw (p.1, p.2)
     (no_replay_script (image_of c.in_ok-verified.verified) (kept_twice _ _ _ c.program_of.ensures.kept c.script_of.ensures.kept)
@@ -63,12 +182,15 @@ returns-in_err-script-clause-refused g c =
 
 pub returns-in_err-report-clause-refused : goal.returns-in_err-report-clause-refused
 returns-in_err-report-clause-refused g c =
-    let fits : AreFitting c.in_ok-verified.verified.maps c.args.updates.now = search rules in
+    let fits : AreFitting c.in_ok-verified.verified.maps c.args.settings.now.updates.items = search rules in
     let p = err_from_is_err_and c.from_residual-in_err-report.result c.from_residual-in_err-report.ensures.1 in
     rw (p.1, p.2)
     (not_replayed (image_of c.in_ok-verified.verified) c.in_ok-script.script
     (record { is = c.in_ok-verified.ensures.program; safe = c.in_ok-verified.ensures.safe }) fits
     (script_before _ _ c.program_of.ensures.kept _ _ c.in_ok-script.ensures.script)
+    (unmade_as_asked (g.D.Folder.holds c.args.folder.now) (g.D.Folder.holds c.replay_once.new.folder)
+    (HasFailed (g.D.Folder.failure_count c.args.folder.now) (g.D.Folder.failure_count c.replay_once.new.folder)) c.args.settings.now
+    (image_of c.in_ok-verified.verified) c.in_ok-script.script _ _ c.in_err-report.field-0.0.fault c.recording_of.ensures c.deref-updates.ensures.value
     (unreplayed_before _ _ _ _ _ _ _ _ _ _ _ _ _ _ (kept_twice _ _ _ c.program_of.ensures.kept c.script_of.ensures.kept)
     (λ failed. failed_since _ _ _ c.in_ok-verified.ensures.steady (failed_since _ _ _ c.in_ok-script.ensures.steady failed))
-    c.in_err-report.ensures.refused))
+    c.in_err-report.ensures.refused)))

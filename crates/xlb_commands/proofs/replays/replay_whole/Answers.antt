@@ -89,6 +89,7 @@ returns-clause-done g c = (
     lines = c.in_ok-left.ensures.text;
   },
   c.in_ok-left.ensures.whole,
+  c.in_ok-left.ensures.all,
 )
 
 pub returns-in_err-capture-clause-refused : goal.returns-in_err-capture-clause-refused

@@ -1,13 +1,11 @@
-use Rattle.std.proofs.Common.{◌≡◌, ◌∙◌, ℕ, Bool, List, [], Option, Some, None, true, false, rules, refl, subst, sym, ap, string_bytes, true≢false}
+use Rattle.std.proofs.Common.{◌≡◌, ◌∙◌, ℕ, List, [], true, false, rules, refl, subst, sym, ap, string_bytes, true≢false}
 use Rattle.std.specs.Borrow.{Bor}
-use Rattle.semantics.specs.declared.options.Recording.TheVariants.{Rows}
-use Rattle.command_line.specs.Reading.{text_of}
 use Rattle.command_line.specs.declared.commands.Settings.{Settings}
-use Rattle.command_line.specs.declared.commands.Settings.TheVariants.{Shipped, Table}
+use Rattle.command_line.specs.declared.commands.Settings.TheVariants.{Script, Shipped, Table}
 use Rattle.xlb_commands.specs.Files.{FileBytes}
 use Rattle.xlb_commands.specs.Results.{IsAnswer, IsShippedFile}
-use Rattle.xlb_commands.specs.Replays.{recording_of}
 use Rattle.xlb_commands.specs.Tables.{IsTableShown}
+use Rattle.xlb_commands.specs.Timed.{IsScriptShown}
 use Rattle.xlb_commands.specs.declared.report.Report.{Report}
 use Rattle.xlb_commands.specs.declared.serving.CommandAnswer.{CommandAnswer}
 use Rattle.xlb_commands.specs.declared.serving.CommandAnswer.TheVariants as answers
@@ -43,11 +41,15 @@ returns-in_ok-table_file-in-Table-clause-answered g c =
     tables_shown _ _ c.args.settings.now c.in-Table.script c.in-Table.ring _ c.in_ok-table_file-in-Table.field-0 same refl
     c.in_ok-table_file-in-Table.ensures.done
 
--- where a file is named for the journals, their rows are kept
-rows_where_named : (no_journals : Bool) (name : Option (List ℕ)) (file : List ℕ) → name ≡ Some file → recording_of no_journals name ≡ Rows
-rows_where_named true (Some name) file is = refl
-rows_where_named true None file is = absurd cc
-rows_where_named false name file is = refl
+-- the script that a timed script means is printed, whole
+script_shown : (before after : FileBytes) (settings : Settings) (capture timed : Bor (List ℕ)) (answer : CommandAnswer) (report : Report)
+    → settings ≡ Script capture timed → answer ≡ answers.Reported report → report.is_refused ≡ false
+    → IsScriptShown before capture.now timed.now (string_bytes report.text) → IsAnswer before after settings answer
+script_shown before after settings capture timed answer report same is whole shown =
+    rw (same, is) ((λ _. shown), (λ refused. true≢false (sym refused ∙ whole)))
 
-pub replay_files-requires-clause-rows : goal.replay_files-requires-clause-rows
-replay_files-requires-clause-rows g c κs outlives = λ file is. c.recording_of.ensures ∙ rows_where_named c.in-Replay.no_journals (text_of c.in-Replay.files.journals) file is
+pub returns-in_ok-timed_file-in-Script-clause-answered : goal.returns-in_ok-timed_file-in-Script-clause-answered
+returns-in_ok-timed_file-in-Script-clause-answered g c =
+    let same : c.args.settings.now ≡ Script c.in-Script.capture c.in-Script.timed = search rules in
+    script_shown _ _ c.args.settings.now c.in-Script.capture c.in-Script.timed _ c.in_ok-timed_file-in-Script.field-0 same refl
+    c.in_ok-timed_file-in-Script.ensures.whole c.in_ok-timed_file-in-Script.ensures.done

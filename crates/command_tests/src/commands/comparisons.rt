@@ -1,0 +1,97 @@
+//! Reports of replays that are compared.
+
+ghost use Rattle.std.specs.Prelude.{◌≡◌};
+
+use super::{Wanted, compare, put};
+use folders::MemoryFolder;
+use std::alloc::Global;
+use std::process::Abort;
+use std::sync::Wait;
+use std::thread::Threads;
+
+/// Two frames that are sent, and one that passes.
+const THREE: &[u8] = b"\
+    number,moment,worker,verdict,steps,case,backend,address,source,source_port,destination,destination_port,protocol\n\
+    1,1.000002,0,TX,131,sent,7,192.0.2.1,198.51.100.7,40000,203.0.113.1,80,udp\n\
+    2,1.000003,,SHORT,,short,,,,,,,\n\
+    3,2.000000,1,TX,131,sent,5,192.0.2.2,198.51.100.8,40000,203.0.113.1,80,tcp\n";
+
+/// The same by other workers, in other steps.
+const THREE_AGAIN: &[u8] = b"\
+    number,moment,worker,verdict,steps,case,backend,address,source,source_port,destination,destination_port,protocol\n\
+    1,1.000002,3,TX,9,sent,7,192.0.2.1,198.51.100.7,40000,203.0.113.1,80,udp\n\
+    2,1.000003,,SHORT,,short,,,,,,,\n\
+    3,2.000000,0,TX,8,sent,5,192.0.2.2,198.51.100.8,40000,203.0.113.1,80,tcp\n";
+
+/// The first one goes elsewhere, and the third one is dropped.
+const MOVED: &[u8] = b"\
+    number,moment,worker,verdict,steps,case,backend,address,source,source_port,destination,destination_port,protocol\n\
+    1,1.000002,0,TX,131,sent,5,192.0.2.2,198.51.100.7,40000,203.0.113.1,80,udp\n\
+    2,1.000003,,SHORT,,short,,,,,,,\n\
+    3,2.000000,1,DROP,40,no-backend,,,198.51.100.8,40000,203.0.113.1,80,tcp\n";
+
+/// The third one came later.
+const LATER: &[u8] = b"\
+    number,moment,worker,verdict,steps,case,backend,address,source,source_port,destination,destination_port,protocol\n\
+    1,1.000002,0,TX,131,sent,7,192.0.2.1,198.51.100.7,40000,203.0.113.1,80,udp\n\
+    2,1.000003,,SHORT,,short,,,,,,,\n\
+    3,2.000001,1,TX,131,sent,5,192.0.2.2,198.51.100.8,40000,203.0.113.1,80,tcp\n";
+
+/// No record.
+const HEAD: &[u8] =
+    b"number,moment,worker,verdict,steps,case,backend,address,source,source_port,destination,destination_port,protocol\n";
+
+/// A field is missing in the second line of a record.
+const CUT: &[u8] = b"\
+    number,moment,worker,verdict,steps,case,backend,address,source,source_port,destination,destination_port,protocol\n\
+    1,1.000002,0,TX,131,sent,7,192.0.2.1,198.51.100.7,40000,203.0.113.1,80,udp\n\
+    2,1.000003,,SHORT,,short,,,,,,\n\
+    3,2.000000,1,TX,131,sent,5,192.0.2.2,198.51.100.8,40000,203.0.113.1,80,tcp\n";
+
+/// What a row shows, the two files, the status, and what is printed and of which mistake.
+type Row = (
+    &'static str,
+    &'static [u8],
+    &'static [u8],
+    u8,
+    &'static str,
+    &'static str,
+);
+
+#[rattlefmt::skip]
+static ROWS: [Row; 13] = [
+    ("a report and itself", THREE, THREE, 0, "3 records in both, 0 treated differently\n", ""),
+    ("other workers and steps", THREE, THREE_AGAIN, 0, "3 records in both, 0 treated differently\n", ""),
+    ("no record", HEAD, HEAD, 0, "0 records in both, 0 treated differently\n", ""),
+    ("two are treated differently", THREE, MOVED, 1,
+        "3 records in both, 2 treated differently\n\
+         1 from TX sent 5 192.0.2.2 to DROP no-backend\n\
+         1 from TX sent 7 192.0.2.1 to TX sent 5 192.0.2.2\n\
+         record 1 at 1.000002, udp 198.51.100.7:40000 to 203.0.113.1:80: from TX sent 7 192.0.2.1 to TX sent 5 192.0.2.2\n\
+         record 3 at 2.000000, tcp 198.51.100.8:40000 to 203.0.113.1:80: from TX sent 5 192.0.2.2 to DROP no-backend\n", ""),
+    ("another moment", THREE, LATER, 2, "", "error: first and second are not of the same records: record 3 differs\n"),
+    ("fewer records", THREE, HEAD, 2, "", "error: first and second are not of the same records: record 1 differs\n"),
+    ("more records", HEAD, THREE, 2, "", "error: first and second are not of the same records: record 1 differs\n"),
+    ("a field is missing", THREE, CUT, 2, "", "error: second is no report of CSV: line 3\n"),
+    ("no bytes", b"", THREE, 2, "", "error: first is no report of CSV: line 1\n"),
+    ("a head that is cut", THREE, b"number,moment\n", 2, "", "error: second is no report of CSV: line 1\n"),
+    ("JSON lines", THREE, b"{}\n", 2, "", "error: second has JSON lines: reports of CSV are compared\n"),
+    ("bytes that are no text", b"a\n\xff", THREE, 2, "", "error: first is no report of CSV: line 2\n"),
+    ("JSON before anything else", b"{\xff", b"", 2, "", "error: first has JSON lines: reports of CSV are compared\n"),
+];
+
+/// Holds the comparison of a row's files against what is wanted.
+fn compare_row<R: Abort + Threads + Wait + Sync>(rt: &R, alloc: Global, row: &Row) {
+    let (name, first, second, status, out, err) = *row;
+    let folder = put(rt, alloc, MemoryFolder::new(alloc), "first", first);
+    let folder = put(rt, alloc, folder, "second", second);
+    let wanted = Wanted { status, out, err };
+    compare(rt, alloc, name, folder, "xlb compare first second", wanted);
+}
+
+#[test]
+fn reports_are_compared(rt: HostRuntime) {
+    for row in &ROWS {
+        compare_row(&rt, rt.alloc(), row);
+    }
+}

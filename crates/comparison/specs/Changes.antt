@@ -1,0 +1,53 @@
+-- What is compared of the rows of two reports: which records they are of, and which of these were treated differently.
+use Rattle.std.specs.Prelude.{◌≡◌, ◌≢◌, ℕ, zero, suc, ◌<◌, ◌≤◌, ◌++◌, ◌∷◌, ◌&&◌, ◌⊎◌, not, Bool, true, false, List, [], codes, if◌then◌else◌}
+use Rattle.std.specs.Prelude.{length}
+use Rattle.std.specs.Str.{bytes_eq}
+use Rattle.comparison.specs.Rows.{field, row_at}
+
+-- the rows are of one record: they have its number and its moment
+abbrev pub is_same_record : List ℕ → List ℕ → Bool
+is_same_record first second = bytes_eq (field 0 first) (field 0 second) && bytes_eq (field 1 first) (field 1 second)
+
+-- the first N rows are of the same records
+abbrev pub AreSameRecords : List (List ℕ) → List (List ℕ) → ℕ → Type 0
+AreSameRecords first second count = (place : ℕ) → place < count → is_same_record (row_at first place) (row_at second place) ≡ true
+
+-- the first N rows are of the same records, and behind these one report ends, or two rows are not of one record
+pub record IsSharedCount (first second : List (List ℕ)) (count : ℕ) : Type 0 where
+  pub within_first : count ≤ length first
+  pub within_second : count ≤ length second
+  pub same : AreSameRecords first second count
+  pub next : (count ≡ length first) ⊎ ((count ≡ length second) ⊎ (is_same_record (row_at first count) (row_at second count) ≡ false))
+
+-- the records are treated differently: with another verdict, by another case, or sent to another backend or address
+abbrev pub is_changed : List ℕ → List ℕ → Bool
+is_changed first second =
+    not (bytes_eq (field 3 first) (field 3 second) && bytes_eq (field 5 first) (field 5 second)
+    && (bytes_eq (field 6 first) (field 6 second) && bytes_eq (field 7 first) (field 7 second)))
+
+abbrev pub is_changed_at : List (List ℕ) → List (List ℕ) → ℕ → Bool
+is_changed_at first second place = is_changed (row_at first place) (row_at second place)
+
+-- those of the first N records that are treated differently, by their places, counted from 0
+abbrev pub changed_until : List (List ℕ) → List (List ℕ) → ℕ → List ℕ
+changed_until first second zero = []
+changed_until first second (suc place) =
+    changed_until first second place ++ (if is_changed_at first second place then place ∷ [] else [])
+
+-- ---- in words
+
+-- a field behind a blank, if it is not empty
+abbrev pub spaced : List ℕ → List ℕ
+spaced [] = []
+spaced (byte ∷ more) = codes " " ++ (byte ∷ more)
+
+-- how a record is treated: its verdict, case, backend and address
+abbrev pub treatment : List ℕ → List ℕ
+treatment row = field 3 row ++ (spaced (field 5 row) ++ (spaced (field 6 row) ++ spaced (field 7 row)))
+
+-- from which treatment to which
+abbrev pub change_text : List ℕ → List ℕ → List ℕ
+change_text first second = codes "from " ++ (treatment first ++ (codes " to " ++ treatment second))
+
+abbrev pub change_at : List (List ℕ) → List (List ℕ) → ℕ → List ℕ
+change_at first second place = change_text (row_at first place) (row_at second place)

@@ -1,0 +1,92 @@
+-- The rows of a report of CSV (RFC 4180): a head, and a line for each record, with its fields between commas.
+use Rattle.std.specs.Prelude.{◌≡◌, ◌≢◌, ℕ, zero, suc, ◌+◌, ◌-◌, ◌<◌, ◌≤◌, ◌==◌, ◌++◌, ◌⊎◌, ◌∷◌, Bool, true, false, List, [], codes, count_by}
+use Rattle.std.specs.Prelude.{length, slice_index_or, take}
+use Rattle.std.specs.List.{after_first, before_first, slice_split}
+use Rattle.text_lines.specs.NoText.{IsNoText}
+use Rattle.comparison.specs.declared.fault.Unlike.{Unlike}
+use Rattle.comparison.specs.declared.fault.Unlike.TheVariants as unlikes
+use Rattle.comparison.specs.declared.fault.Which.{Which}
+
+-- ---- lines
+
+-- what comes before the first line of a record
+abbrev pub head_line : List ℕ
+head_line = codes "number,moment,worker,verdict,steps,case,backend,address,source,source_port,destination,destination_port,protocol\n"
+
+-- the parts of a text between marks
+abbrev pub parts_at : ℕ → List ℕ → List (List ℕ)
+parts_at mark text = slice_split (λ b. b == mark) text
+
+-- the parts of a text between its line feeds
+abbrev pub lines_of : List ℕ → List (List ℕ)
+lines_of text = parts_at 10 text
+
+-- the lines that a line feed ends, and what comes behind the last line feed
+abbrev pub ended_lines : List (List ℕ) → List (List ℕ)
+ended_lines lines = take (length lines - 1) lines
+
+abbrev pub last_line : List (List ℕ) → List ℕ
+last_line lines = slice_index_or lines (length lines - 1) []
+
+-- ---- fields
+
+-- a line has the thirteen fields of a record: twelve commas are between them
+abbrev pub is_row : List ℕ → Bool
+is_row line = count_by (λ b. b == 44) line == 12
+
+-- what is before the first comma, or all; and what comes after it
+abbrev pub first_field : List ℕ → List ℕ
+first_field line = before_first (λ b. b == 44) line
+
+abbrev pub later_fields : List ℕ → List ℕ
+later_fields line = after_first (λ b. b == 44) line
+
+-- the fields from this one on, counted from 0
+abbrev pub fields_from : ℕ → List ℕ → List ℕ
+fields_from zero line = line
+fields_from (suc place) line = later_fields (fields_from place line)
+
+abbrev pub field : ℕ → List ℕ → List ℕ
+field place line = first_field (fields_from place line)
+
+-- ---- reports
+
+-- the line at this place, counted from 0
+abbrev pub row_at : List (List ℕ) → ℕ → List ℕ
+row_at rows place = slice_index_or rows place []
+
+-- the first N lines are rows
+abbrev pub AreRows : List (List ℕ) → ℕ → Type 0
+AreRows lines count = (place : ℕ) → place < count → is_row (row_at lines place) ≡ true
+
+-- the bytes are a report with these rows: the head, and each row with a line feed at its end
+pub record IsReport (bytes : List ℕ) (rows : List (List ℕ)) : Type 0 where
+  pub rest : List ℕ
+  pub begins : bytes ≡ head_line ++ rest
+  pub rows_are : rows ≡ ended_lines (lines_of rest)
+  pub ended : length (last_line (lines_of rest)) ≡ 0
+  pub are_rows : AreRows rows (length rows)
+
+-- this many first lines are rows, and the next one is none
+pub record IsRowCount (lines : List (List ℕ)) (count : ℕ) : Type 0 where
+  pub within : count ≤ length lines
+  pub are_rows : AreRows lines count
+  pub next : (count ≡ length lines) ⊎ (is_row (row_at lines count) ≡ false)
+
+-- The bytes are no report, and this is the first line that shows it, counted from 1: they are no text from there on; they do not begin with
+-- the head; or the line has not the fields of a record, or lacks its line feed.
+pub data IsNoReport (bytes : List ℕ) (line : ℕ) : Type 0 where
+  no_text : IsNoText bytes line → IsNoReport bytes line
+  no_head : ((rest : List ℕ) → bytes ≢ head_line ++ rest) → line ≡ 1 → IsNoReport bytes line
+  no_row : (rest : List ℕ) (count : ℕ) → bytes ≡ head_line ++ rest → IsRowCount (ended_lines (lines_of rest)) count
+      → (count ≡ length (ended_lines (lines_of rest)) → length (last_line (lines_of rest)) ≢ 0) → line ≡ 2 + count → IsNoReport bytes line
+
+-- the bytes begin as JSON lines do
+abbrev pub BeginsAsJson : List ℕ → Type 0
+BeginsAsJson bytes = (rest : List ℕ) × (bytes ≡ 123 ∷ rest)
+
+-- why the rows of a file were not read: it has JSON lines; it is no report; or memory was refused
+pub data IsUnread (which : Which) (bytes : List ℕ) (unlike : Unlike) : Type 0 where
+  is_json : BeginsAsJson bytes → unlike ≡ unlikes.JsonLines which → IsUnread which bytes unlike
+  is_no_report : (line : ℕ) → IsNoReport bytes line → unlike ≡ unlikes.NoReport which line → IsUnread which bytes unlike
+  no_memory : unlike ≡ unlikes.Memory → IsUnread which bytes unlike

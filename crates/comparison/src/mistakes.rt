@@ -1,0 +1,58 @@
+//! What is printed where two files are not compared.
+
+ghost use Rattle.std.specs.Prelude.{◌≡◌, IfOk, string_bytes};
+ghost use Rattle.comparison.specs.Mistakes.{json_text, name_of, no_report_text, others_text, unlike_text};
+
+use crate::fault::{Unlike, Which};
+use std::alloc::{AllocError, Global};
+
+/// The name of one of the two files.
+fn name_of<'a>(which: Which, first: &'a str, second: &'a str) -> &'a str
+    ensures { result.now ≡ name_of which first.now second.now }
+{
+    match which {
+        Which::First => first,
+        Which::Second => second,
+    }
+}
+
+fn json_text(alloc: Global, name: &str) -> Result<String, AllocError>
+    ensures { IfOk result (λ text. string_bytes text ≡ json_text name.now) }
+{
+    format!(in alloc; "error: {name} has JSON lines: reports of CSV are compared\n")
+}
+
+fn no_report_text(alloc: Global, name: &str, line: usize) -> Result<String, AllocError>
+    ensures { IfOk result (λ text. string_bytes text ≡ no_report_text name.now line) }
+{
+    format!(in alloc; "error: {name} is no report of CSV: line {line}\n")
+}
+
+fn others_text(
+    alloc: Global,
+    first: &str,
+    second: &str,
+    number: usize,
+) -> Result<String, AllocError>
+    ensures { IfOk result (λ text. string_bytes text ≡ others_text first.now second.now number) }
+{
+    format!(in alloc;
+        "error: {first} and {second} are not of the same records: record {number} differs\n"
+    )
+}
+
+impl Unlike {
+    /// The line that says why the files of these names are not compared. It fails only for lack of memory.
+    pub fn text(self, alloc: Global, first: &str, second: &str) -> Result<String, AllocError>
+        ensures { IfOk result (λ text. string_bytes text ≡ unlike_text self first.now second.now) }
+    {
+        match self {
+            Unlike::JsonLines { which } => json_text(alloc, name_of(which, first, second)),
+            Unlike::NoReport { which, line } => {
+                no_report_text(alloc, name_of(which, first, second), line)
+            }
+            Unlike::OtherRecords { number } => others_text(alloc, first, second, number),
+            Unlike::Memory => String::from_str(alloc, "fault 8 Memory\n"),
+        }
+    }
+}

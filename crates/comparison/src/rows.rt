@@ -1,0 +1,145 @@
+//! The rows of a report.
+
+ghost use Rattle.std.specs.Prelude.{◌≡◌, ◌≢◌, ◌<◌, ◌++◌, ℕ, List, IfErr, IfNone, IfOk, IfSome, map};
+ghost use Rattle.comparison.specs.Rows.{IsReport, IsRowCount, IsUnread, field, fields_from, first_field, head_line, is_row};
+ghost use Rattle.comparison.specs.Rows.{ended_lines, last_line, later_fields, parts_at, row_at};
+
+use crate::fault::{Unlike, Which};
+use std::alloc::{AllocError, Global};
+use text_lines::text_or_line;
+
+/// What comes before the first line of a record.
+const HEAD: &str =
+    "number,moment,worker,verdict,steps,case,backend,address,source,source_port,destination,destination_port,protocol\n";
+
+/// Whether a line has the fields of a record.
+fn is_row(line: &str) -> bool
+    ensures { result ≡ is_row line.now }
+{
+    line.as_bytes().iter().filter(|byte| **byte == b',').count() == 12
+}
+
+/// What is before the first comma, or all.
+pub(crate) fn first_field(line: &str) -> &str
+    ensures { result.now ≡ first_field line.now }
+{
+    match line.split_once(',') {
+        Some((front, _)) => front,
+        None => line,
+    }
+}
+
+/// What comes after the first comma.
+pub(crate) fn later_fields(line: &str) -> &str
+    ensures { result.now ≡ later_fields line.now }
+{
+    match line.split_once(',') {
+        Some((_, back)) => back,
+        None => "",
+    }
+}
+
+/// The fields from this one on, counted from 0.
+pub(crate) fn fields_from(line: &str, place: usize) -> &str
+    ensures { result.now ≡ fields_from place line.now }
+{
+    let mut rest = line;
+    'fields: for _place in 0..place {
+        rest = later_fields(rest);
+    }
+    rest
+}
+
+/// A field, counted from 0.
+pub(crate) fn field(line: &str, place: usize) -> &str
+    ensures { result.now ≡ field place line.now }
+{
+    first_field(fields_from(line, place))
+}
+
+/// The parts of a text between marks.
+fn parts_at(alloc: Global, text: &str, mark: char) -> Result<Vec<&str>, AllocError>
+    requires { mark < 128 }
+    ensures { IfOk result (λ parts. map (λ part. part.now) parts.items ≡ parts_at mark text.now) }
+{
+    text.split(mark).collect(alloc)
+}
+
+/// How many lines from the first on are rows.
+fn row_count(lines: &[&str]) -> usize
+    ensures { IsRowCount (map (λ line. line.now) lines.now) result }
+{
+    let mut count = 0;
+    'lines: while count < lines.len() && is_row(row_at(lines, count)) {
+        count += 1;
+    }
+    count
+}
+
+/// The row at a place, or an empty one.
+pub(crate) fn row_at<'a>(rows: &[&'a str], place: usize) -> &'a str
+    ensures { result.now ≡ row_at (map (λ row. row.now) rows.now) place }
+{
+    match rows.get(place) {
+        Some(row) => *row,
+        None => "",
+    }
+}
+
+/// What comes behind the last line feed.
+fn last_line<'a>(lines: &[&'a str]) -> &'a str
+    ensures { result.now ≡ last_line (map (λ line. line.now) lines.now) }
+{
+    row_at(lines, lines.len().saturating_sub(1))
+}
+
+/// Leaves the lines that a line feed ends.
+fn drop_last(lines: &mut Vec<&str>)
+    ensures { map (λ line. line.now) lines.new.items ≡ ended_lines (map (λ line. line.now) lines.old.items) }
+{
+    lines.truncate(lines.len().saturating_sub(1));
+}
+
+/// The rows of a report, from what comes after its head.
+fn rows_of(alloc: Global, rest: &str, which: Which) -> Result<Vec<&str>, Unlike>
+    ensures rows { IfOk result (λ rows. IsReport (head_line ++ rest.now) (map (λ row. row.now) rows.items)) }
+    ensures refused { IfErr result (λ unlike. IsUnread which (head_line ++ rest.now) unlike) }
+{
+    let mut lines = parts_at(alloc, rest, '\n')?;
+    let behind = last_line(&lines).len();
+    drop_last(&mut lines);
+    let count = row_count(&lines);
+    if behind == 0 && count == lines.len() {
+        Ok(lines)
+    } else {
+        Err(Unlike::NoReport {
+            which,
+            line: 2 + count,
+        })
+    }
+}
+
+/// What comes after the head of a report.
+fn after_head(text: &str) -> Option<&str>
+    ensures begins { IfSome result (λ rest. text.now ≡ head_line ++ rest.now) }
+    ensures none { IfNone result ((rest : List ℕ) → text.now ≢ head_line ++ rest) }
+{
+    text.strip_prefix(HEAD)
+}
+
+/// The rows of a report. Refused where the bytes are none, with the first line that shows it, and where memory is refused.
+pub(crate) fn rows_in(alloc: Global, bytes: &[u8], which: Which) -> Result<Vec<&str>, Unlike>
+    ensures rows { IfOk result (λ rows. IsReport bytes.now (map (λ row. row.now) rows.items)) }
+    ensures refused { IfErr result (λ unlike. IsUnread which bytes.now unlike) }
+{
+    if !bytes.is_empty() && bytes[0] == b'{' {
+        return Err(Unlike::JsonLines { which });
+    }
+    match text_or_line(bytes) {
+        Err(line) => Err(Unlike::NoReport { which, line }),
+        Ok(text) => match after_head(text) {
+            Some(rest) => rows_of(alloc, rest, which),
+            None => Err(Unlike::NoReport { which, line: 1 }),
+        },
+    }
+}

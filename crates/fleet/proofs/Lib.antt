@@ -1,0 +1,4 @@
+pub mod shared
+mod KeyLemmas
+mod Totals
+mod NumberLemmas

@@ -1,0 +1,4 @@
+pub mod CuttingLemmas
+pub mod NumberLemmas
+pub mod LineLemmas
+pub mod TextLemmas

@@ -1,0 +1,103 @@
+//! The script that a timed script means for a capture.
+
+ghost use Rattle.std.specs.Prelude.{◌≡◌, ◌-◌, ◌<◌, ◌^◌, IfErr, IfOk, false, string_bytes};
+ghost use Rattle.control.specs.declared.fault.ControlFault.{ControlFault as Why};
+ghost use Rattle.timed_scripts.specs.MeantScript.{Explains, IsMeantScript};
+ghost use Rattle.xlb_commands.specs.Files.{AreKept};
+ghost use Rattle.xlb_commands.specs.Refused.{HasFailed, IsTimedRefusal};
+ghost use Rattle.xlb_commands.specs.Timed.{IsScriptShown};
+
+use crate::fault::{Fault, Refusal};
+use crate::files::bytes_of;
+use crate::notes::Altered;
+use crate::replays::capture_of;
+use crate::report::Report;
+use control::ControlFault;
+use folders::Folder;
+use std::alloc::{AllocError, Global};
+use timed_scripts::{TimedScript, timed_script};
+use traffic::Reading;
+use wire::Sent;
+
+/// The most late lines that are named.
+const MOST_LINES: usize = 10;
+
+/// How the capture's records are read.
+const AS_THEY_ARE: Reading = Reading {
+    skip_long: false,
+    pad_cut: false,
+    allow_cut: false,
+};
+
+/// What a line of a timed script is.
+const EXPECTED: &str =
+    "expected a moment (2026-11-28T10:03:00Z, 1764324180.25, or +180s from the first record), a space, and a command\n";
+
+/// Which line is no line of a timed script.
+fn about_line(alloc: Global, line: usize) -> Result<String, AllocError> {
+    let mut text = format!(in alloc;
+        "line {line} is none of a timed script, or its moment is before that of a line above\n"
+    )?;
+    text.push_str(EXPECTED)?;
+    Ok(text)
+}
+
+/// Why a timed script means no script.
+fn about_timed(alloc: Global, fault: ControlFault) -> Result<Option<String>, AllocError> {
+    match fault {
+        ControlFault::BadLine { line } => Ok(Some(about_line(alloc, line)?)),
+        _ => Ok(None),
+    }
+}
+
+/// The lines whose moments lie behind the last record.
+fn about_late(alloc: Global, late: &[usize]) -> Result<String, AllocError> {
+    let mut text = String::new(alloc);
+    for line in late.iter().take(MOST_LINES) {
+        text.push_str(&format!(in alloc; "line {line}: its moment is behind the last record\n")?)?;
+    }
+    if late.len() > MOST_LINES {
+        let more = late.len().saturating_sub(MOST_LINES);
+        text.push_str(&format!(in alloc; "and {more} more lines\n")?)?;
+    }
+    Ok(text)
+}
+
+/// The script that a text means for these records.
+fn meant(alloc: Global, bytes: &[u8], records: &[Sent]) -> Result<TimedScript, Refusal>
+    ensures meant { IfOk result (λ made. IsMeantScript records.now bytes.now (string_bytes made.text) made.late.items) }
+    ensures refused { IfErr result (λ refusal. (why : Why) × Explains records.now bytes.now why × (refusal.fault ≡ Fault.Script why)) }
+{
+    match timed_script(alloc, bytes, records) {
+        Ok(made) => Ok(made),
+        Err(fault) => Err(Refusal::hinted(Fault::Script(fault), about_timed(alloc, fault))),
+    }
+}
+
+/// Prints the script that a timed script's file means for the capture of another file. Refused as a replay refuses the capture, then with 7
+/// or 8 where the timed script is not read, 90 with the first of its lines that is wrong, or 95. No file changes.
+pub fn timed_file<D: Folder>(
+    alloc: Global,
+    folder: &mut D,
+    capture: &str,
+    timed: &str,
+) -> Result<Report, Refusal>
+    requires { D.failure_count folder.old < 2 ^ 64 - 1 }
+    ensures done { IfOk result (λ report. IsScriptShown (D.holds folder.old) capture.now timed.now (string_bytes report.text)) }
+    ensures whole { IfOk result (λ report. report.is_refused ≡ false) }
+    ensures kept { AreKept (D.holds folder.old) (D.holds folder.new) }
+    ensures refused { IfErr result (λ refusal. IsTimedRefusal (D.holds folder.old)
+        (HasFailed (D.failure_count folder.old) (D.failure_count folder.new)) capture.now timed.now refusal.fault) }
+{
+    let mut altered = Altered::default();
+    let captured = capture_of(alloc, folder, capture, AS_THEY_ARE, &mut altered)?;
+    let bytes = bytes_of(alloc, folder, timed)?;
+    let made = meant(alloc, &bytes, &captured.records)?;
+    let notes = about_late(alloc, &made.late).ok();
+    Ok(Report {
+        text: made.text,
+        is_refused: false,
+        leaves_out: false,
+        notes,
+    })
+}
