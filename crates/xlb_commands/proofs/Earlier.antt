@@ -73,6 +73,7 @@ report_before a b c files program states script options recording ring exact rea
     refused_are = is.1.refused_are;
     sent = is.1.sent;
     journals = is.1.journals;
+    accepted = is.1.accepted;
     report = is.1.report;
     lines = is.1.lines;
   },

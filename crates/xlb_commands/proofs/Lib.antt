@@ -1,4 +1,5 @@
 -- The lemmas that proofs of this crate share.
+pub mod AcceptedJournals
 pub mod Earlier
 pub mod LongImages
 pub mod Outcomes

@@ -23,7 +23,7 @@ use Rattle.command_line.specs.Reading.{text_of}
 use Rattle.command_line.specs.declared.commands.ReplayFiles.{ReplayFiles}
 use Rattle.xlb_commands.specs.declared.report.Report.{Report}
 use Rattle.xlb_commands.specs.Files.{FileBytes}
-use Rattle.xlb_commands.specs.Replays.{FollowsRule, IsCaptureOf, IsMade, KeepsHeadline, LeavesNothingOut, SendsAlike}
+use Rattle.xlb_commands.specs.Replays.{AreAccepted, FollowsRule, IsCaptureOf, IsMade, KeepsHeadline, LeavesNothingOut, SendsAlike}
 use Rattle.xlb_commands.specs.Replays.{counts_text, program_of_replay, refusals_text}
 
 -- no reader counts too far: each record takes 16 bytes at least
@@ -72,6 +72,7 @@ pub record IsMadeOf (files : ReplayFiles) (program : Contents) (states : List (O
       FollowsRule (text_of files.image) ring (program_of_replay program options) script (recorded recording options) records whole made.accounted
   pub readers : updates ≡ [] → SendsAlike program states script (recorded recording options) records whole
   pub journals_are : (file : List ℕ) → text_of files.journals ≡ Some file → journals ≡ journals_text whole.journals
+  pub accepted : (file : List ℕ) → text_of files.journals ≡ Some file → AreAccepted program.maps whole.journals
   pub text : string_bytes report.text ≡ counts_text whole.counts ++ refusals_text whole.refused.items
   pub none_refused : (whole.refused.items ≡ []) ↔ (report.is_refused ≡ false)
   pub all : report.leaves_out ≡ false → LeavesNothingOut script records whole

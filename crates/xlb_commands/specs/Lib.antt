@@ -9,5 +9,6 @@ pub mod Comparing
 pub mod Results
 pub mod FaultLines
 pub mod Refused
+pub mod AcceptedJournals
 pub mod AskedReplays
 pub mod InPieces

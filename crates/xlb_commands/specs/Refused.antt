@@ -208,13 +208,14 @@ pub data IsExplainRefusal (files : FileBytes) (failed : Type 0) (name : List ℕ
 
 -- ---- journals
 
--- the second file has these journals of the maps of the first file's image
+-- the second file has these journals of the maps of the first file's image, and no others
 pub record AreJournalsOfImage (files : FileBytes) (name journals : List ℕ) (view : JournalsView) : Type 0 where
   pub image : Contents
   pub file : IsImageFile files name image
   pub bytes : List ℕ
   pub read : files journals bytes
   pub spelled : IsJournalsFile image.maps bytes view
+  pub only : (other : JournalsView) → IsJournalsFile image.maps bytes other → view ≡ other
 
 -- xlb audit: no image; journals that were not read, that the file does not spell, or that are not legal; or memory was refused for the line
 pub data IsAuditRefusal (files : FileBytes) (failed : Type 0) (name journals : List ℕ) (fault : Fault) : Type 0 where

@@ -4,6 +4,7 @@ use Rattle.std.specs.Prelude.{codes, decimal, length, string_bytes}
 use Rattle.std.specs.List.{AllByRecursion, flat_map}
 use mathlib.Core.Path.{subst}
 use Rattle.ebpf_decode.specs.ImageContents.{Contents}
+use Rattle.ebpf_decode.specs.declared.map.MapDef.{MapDef}
 use Rattle.semantics.specs.Safety.{IsSafeImage}
 use Rattle.semantics.specs.declared.options.Options.{Options}
 use Rattle.semantics.specs.declared.options.Recording.{Recording}
@@ -25,6 +26,8 @@ use Rattle.control.specs.ScriptText.{IsScriptText}
 use Rattle.map_updates.specs.declared.update.MapUpdate.{MapUpdate}
 use Rattle.journals.specs.JournalsView.{JournalsView}
 use Rattle.journals.specs.JournalText.{journals_text}
+use Rattle.journals.specs.JournalReading.{IsJournalsFile}
+use Rattle.journals.specs.LegalJournals.{AreLegal}
 use Rattle.actors.specs.declared.account.Counts.{Counts}
 use Rattle.actors.specs.Accounts.{SentFrame, frames_in}
 use Rattle.actors.specs.declared.outcome.Applied.{Applied}
@@ -97,6 +100,11 @@ pub record IsCaptureOf (files : FileBytes) (reading : Reading) (name : List ℕ)
 abbrev pub HasBytes : FileBytes → Option (List ℕ) → List ℕ → Type 0
 HasBytes files (Some name) bytes = files name bytes
 HasBytes files None bytes = Unit {0}
+
+-- the text of the journals is their file, for these maps, and each is legal: an audit accepts them
+pub record AreAccepted (maps : List MapDef) (journals : JournalsView) : Type 0 where
+  pub spelled : IsJournalsFile maps (journals_text journals) journals
+  pub legal : AreLegal journals
 
 -- the file has the text of the journals, where one is named
 abbrev pub AreWritten : FileBytes → Option (List ℕ) → JournalsView → Type 0
@@ -214,7 +222,8 @@ pub record KeepsHeadline (image : Contents) (script : List Command) (options : O
 -- Of a program that may run and a script: the capture is read from its file; the replay was made, with these updates; it is one list of
 -- events, which keeps the headline; without updates the shipped program follows the steering rule, and one that only reads sends the same for every number of workers;
 -- the sent frames, the journals and the report are written to their files; and what is printed are the counts, and the commands that were
--- refused. Where no rows of journals are kept, the journals are known to proofs alone.
+-- refused. The journals that are written are ones that `xlb audit` accepts. Where no rows of journals are kept, they are known to proofs
+-- alone.
 pub record IsReplayedWith (before after : FileBytes) (files : ReplayFiles) (program : Contents) (states : List (Option State))
     (script : List Command) (options : Options) (recording : Recording) (ring : ℕ) (exact : Bool) (reading : Reading) (updates : List MapUpdate)
     (printed : List ℕ) (refused : List Applied) : Type 0 where
@@ -235,6 +244,7 @@ pub record IsReplayedWith (before after : FileBytes) (files : ReplayFiles) (prog
       text_of files.journals ≢ Some files.sent.now → text_of files.report ≢ Some files.sent.now →
       after files.sent.now (capture_bytes outcome.sent.items)
   pub journals : text_of files.report ≢ text_of files.journals → AreWritten after (text_of files.journals) outcome.journals
+  pub accepted : (file : List ℕ) → text_of files.journals ≡ Some file → AreAccepted program.maps outcome.journals
   pub report : IsReportFile after (text_of files.report) files.is_steering script records outcome
   pub lines : printed ≡ counts_text outcome.counts ++ refusals_text refused
 

@@ -3,6 +3,7 @@
 ghost use Rattle.std.specs.Prelude.{◌≡◌, ◌-◌, ◌<◌, ◌^◌, List, ℕ, Some, IfErr, IfOk, OnOk};
 ghost use Rattle.semantics.specs.ShardPlan.{KeepsRows};
 ghost use Rattle.journals.specs.JournalText.{journals_text};
+ghost use Rattle.journals.specs.FileJournals.{ReadBackWhereLegal};
 ghost use Rattle.command_line.specs.Reading.{text_of};
 ghost use Rattle.folders.specs.Fronts.{HasFront};
 ghost use Rattle.xlb_commands.specs.Files.{AreAllKeptBut, AreKept, AreOthersKept};
@@ -82,6 +83,7 @@ pub(crate) fn front_of<D: Folder>(
 fn bytes_of_journals(alloc: Global, name: &str, journals: &Journals) -> Result<MemorySink, Refusal>
     requires { KeepsRows journals.now.options.journal }
     ensures bytes { IfOk result (λ sink. sink.bytes ≡ journals_text journals.now) }
+    ensures reads_back { ReadBackWhereLegal journals.now }
     ensures refused { IfErr result (λ refusal. LacksRoom (Some name.now) refusal.fault) }
     ensures fault { IfErr result (λ refusal. refusal.fault ≡ Fault.Journals FileFault.Memory) }
 {
@@ -100,6 +102,7 @@ pub(crate) fn journal_bytes(
 ) -> Result<MemorySink, Refusal>
     requires { (file : List ℕ) → text_of name ≡ Some file → KeepsRows journals.now.options.journal }
     ensures bytes { IfOk result (λ sink. (file : List ℕ) → text_of name.entry ≡ Some file → sink.bytes ≡ journals_text journals.now) }
+    ensures reads_back { (file : List ℕ) → text_of name.entry ≡ Some file → ReadBackWhereLegal journals.now }
     ensures refused { IfErr result (λ refusal. LacksRoom (text_of name.entry) refusal.fault) }
     ensures fault { IfErr result (λ refusal. refusal.fault ≡ Fault.Journals FileFault.Memory) }
 {

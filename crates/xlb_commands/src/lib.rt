@@ -11,6 +11,7 @@ mod files;
 mod hints;
 mod in_pieces;
 mod last_table;
+pub mod laws;
 mod left_out;
 mod notes;
 mod one_run;

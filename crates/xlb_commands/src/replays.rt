@@ -31,6 +31,7 @@ ghost use Rattle.xlb_commands.specs.Results.{IsReplayAnswer};
 ghost use Rattle.steered_replays.specs.SteeredRuns.{IsSteeredReplay};
 ghost use Rattle.steered_replays.specs.Totals.{AreTotals};
 ghost use Rattle.journals.specs.JournalText.{journals_text};
+ghost use Rattle.journals.specs.FileJournals.{ReadBackWhereLegal};
 ghost use Rattle.command_line.specs.Reading.{text_of};
 ghost use Rattle.xlb_commands.specs.AskedReplays.{HasBadOptions, IsAnswered, IsDenied, IsOutcome, IsWhyNone, LeavesOthers};
 ghost use Rattle.xlb_commands.specs.Files.{AreKept, AreAllButKept};
@@ -425,6 +426,8 @@ fn left_of(
     ensures sent { IfOk result (λ left. left.sent.bytes ≡ capture_bytes outcome.now.sent.items) }
     ensures journals { IfOk result (λ left. (file : List ℕ) → text_of files.now.journals ≡ Some file →
         left.journals.bytes ≡ journals_text outcome.now.journals) }
+    ensures reads_back { IfOk result (λ left. (file : List ℕ) → text_of files.now.journals ≡ Some file →
+        ReadBackWhereLegal outcome.now.journals) }
     ensures lines { IfOk result (λ left. (file : List ℕ) → text_of files.now.report ≡ Some file →
         string_bytes left.lines ≡ report_text (form_of file) files.now.is_steering script.now capture.now.records.items
         outcome.now.ends.items

@@ -1,7 +1,8 @@
-use Rattle.std.proofs.Common.{ℕ, List, subst}
+use Rattle.std.proofs.Common.{◌≡◌, ℕ, List, subst, sym}
 use Rattle.std.proofs.lemmas.Result.{err_from_is_err_and}
 use Rattle.xlb_commands.specs.Refused.{no_audited_image, no_journal_bytes, no_journals, no_verdict, not_legal}
 use Rattle.journals.specs.JournalReading.{IsJournalsFile, Refuses}
+use Rattle.journals.specs.JournalsView.{JournalsView}
 use Rattle.xlb_commands.proofs.Refusals.{unserved_since, failed_since}
 use Rattle.xlb_commands.proofs.commands.audit_file.Goals as goal
 
@@ -27,18 +28,34 @@ pub returns-in_err-from_str-in-Ok-audit-clause-refused : goal.returns-in_err-fro
 returns-in_err-from_str-in-Ok-audit-clause-refused g c =
     let read = (c.in_ok-image.ensures.kept c.args.journals.now c.in_ok-bytes.bytes.items).1 c.in_ok-bytes.ensures.bytes in
     let spelled = subst (λ (text : List ℕ). IsJournalsFile c.in_ok-image.image.maps text c.in-Ok.journals) c.deref.ensures.value c.in-Ok.ensures.found in
+    let only : (other : JournalsView) → IsJournalsFile c.in_ok-image.image.maps c.in_ok-bytes.bytes.items other → c.in-Ok.journals ≡ other = λ other is. c.in-Ok.ensures.only other (subst (λ (text : List ℕ). IsJournalsFile c.in_ok-image.image.maps text other) (sym c.deref.ensures.value) is) in
     let p = err_from_is_err_and c.from_residual-in_err-from_str-in-Ok-audit.result c.from_residual-in_err-from_str-in-Ok-audit.ensures.1 in
     rw p.1
     (no_verdict c.in-Ok.journals
-    (record { image = c.in_ok-image.image; file = c.in_ok-image.ensures.file; bytes = c.in_ok-bytes.bytes.items; read = read; spelled = spelled })
+    (record {
+      image = c.in_ok-image.image;
+      file = c.in_ok-image.ensures.file;
+      bytes = c.in_ok-bytes.bytes.items;
+      read = read;
+      spelled = spelled;
+      only = only;
+    })
     c.in-Ok-audit.ensures.legal p.2)
 
 pub returns-clause-refused : goal.returns-clause-refused
 returns-clause-refused g c =
     let read = (c.in_ok-image.ensures.kept c.args.journals.now c.in_ok-bytes.bytes.items).1 c.in_ok-bytes.ensures.bytes in
     let spelled = subst (λ (text : List ℕ). IsJournalsFile c.in_ok-image.image.maps text c.in-Ok.journals) c.deref.ensures.value c.in-Ok.ensures.found in
+    let only : (other : JournalsView) → IsJournalsFile c.in_ok-image.image.maps c.in_ok-bytes.bytes.items other → c.in-Ok.journals ≡ other = λ other is. c.in-Ok.ensures.only other (subst (λ (text : List ℕ). IsJournalsFile c.in_ok-image.image.maps text other) (sym c.deref.ensures.value) is) in
     not_legal c.in-Ok.journals c.in-Err-audit.fault
-    (record { image = c.in_ok-image.image; file = c.in_ok-image.ensures.file; bytes = c.in_ok-bytes.bytes.items; read = read; spelled = spelled })
+    (record {
+      image = c.in_ok-image.image;
+      file = c.in_ok-image.ensures.file;
+      bytes = c.in_ok-bytes.bytes.items;
+      read = read;
+      spelled = spelled;
+      only = only;
+    })
     c.in-Err-audit.ensures.refused c.illegal.ensures
 
 pub audit-requires : goal.audit-requires

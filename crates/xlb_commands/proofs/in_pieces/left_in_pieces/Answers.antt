@@ -5,6 +5,7 @@ use Rattle.actors.specs.Accounted.{IsAccounted}
 use Rattle.std.proofs.lemmas.Result.{err_from_is_err_and}
 use Rattle.journals.specs.JournalsView.{JournalsView}
 use Rattle.journals.specs.JournalText.{journals_text}
+use Rattle.journals.specs.FileJournals.{ReadBackWhereLegal}
 use Rattle.machine.specs.Running.{program_of}
 use Rattle.actors.specs.declared.outcome.Applied.{Applied}
 use Rattle.actors.specs.declared.outcome.Outcome.{Outcome}
@@ -17,6 +18,7 @@ use Rattle.command_line.specs.Reading.{text_of}
 use Rattle.std.specs.List.{AllByRecursion}
 use Rattle.xlb_commands.specs.Replays.{IsInTime, counts_text, image_of, program_of_replay, refusals_text}
 use Rattle.xlb_commands.specs.Refused.{no_report_room}
+use Rattle.xlb_commands.proofs.AcceptedJournals.{accepted_of}
 use Rattle.xlb_commands.proofs.Outcomes.{journals_fit, rule_of}
 use Rattle.xlb_commands.proofs.ReaderFiles.{reader_file_is}
 use Rattle.xlb_commands.proofs.in_pieces.left_in_pieces.Goals as goal
@@ -127,6 +129,8 @@ returns-clause-left c = λ records sent ends under captured.
           (c.readers_send_alike.ensures.sends reads)
           (journals_fit program asked.script.now options records whole under.options_fit account) captured account (updated ∙ none) no_commands unstopped;
       journals_are = λ file named. c.in_ok-journals.ensures.bytes file named ∙ ap journals_text (sym is.journals);
+      accepted = λ file named. accepted_of program asked.script.now options records whole account
+          (subst ReadBackWhereLegal (sym is.journals) (c.journal_bytes.ensures.reads_back file named));
       text = text_is _ c.in_ok-outcome.outcome whole c.deref.result.now is.counts (is.refused ∙ sym c.deref.ensures.value) c.in_ok-report.ensures.text;
       none_refused = none_is _ whole c.deref.result.now (is.refused ∙ sym c.deref.ensures.value) c.in_ok-report.ensures.refused;
       all = λ none_left. record {

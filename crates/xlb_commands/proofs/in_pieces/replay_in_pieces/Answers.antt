@@ -93,6 +93,7 @@ returns-in_ok-write_pieces-in-Ok-Some-clause-done g c =
             (sym made_of.sent_are) begun) other;
         journals = λ apart. written_down (g.D.Folder.holds c.write_pieces.new.folder) (text_of asked.files.now.journals) _ made_of.whole.journals
             made_of.journals_are c.in_ok-write_pieces-in-Ok-Some.ensures.journals;
+        accepted = made_of.accepted;
         report = subst (λ (name : Option (List ℕ)). IsReportFile (g.D.Folder.holds c.write_pieces.new.folder) name asked.files.now.is_steering
             asked.script.now left.records made_of.whole) (sym c.requires.no_report) tt;
         lines = made_of.text;

@@ -96,6 +96,7 @@ as_said before after asked program states script printed other refused others te
   refused_are = is.refused_are ∙ same;
   sent = is.sent;
   journals = is.journals;
+  accepted = is.accepted;
   report = is.report;
   lines = text ∙ (is.lines ∙ ap (λ (l : List Applied). counts_text is.outcome.counts ++ refusals_text l) same);
 }

@@ -20,6 +20,7 @@ use Rattle.xlb_commands.specs.Files.{FileBytes}
 use Rattle.xlb_commands.specs.RecordReports.{IsReportFile, form_of, report_text}
 use Rattle.xlb_commands.specs.Replays.{HasBytes, image_of, program_of_replay}
 use Rattle.xlb_commands.specs.Refused.{AreUnfiled, no_replay_capture, given_up, not_reported, not_written_down}
+use Rattle.xlb_commands.proofs.AcceptedJournals.{accepted_of}
 use Rattle.xlb_commands.proofs.Earlier.{all_but_kept, unfiled_before}
 use Rattle.xlb_commands.proofs.Refusals.{failed_since}
 use Rattle.xlb_commands.proofs.replays.replay_whole.Goals as goal
@@ -83,6 +84,7 @@ returns-clause-done g c = (
         subst (λ (it : List ℕ). g.D.Folder.holds c.write_files.new.folder c.args.asked.files.now.sent.now it) c.in_ok-left.ensures.sent
         (c.in_ok-write_files.ensures.sent other third);
     journals = c.in_ok-write_files.ensures.journals;
+    accepted = λ file named. accepted_of _ _ _ _ c.in-Ok.outcome c.in-Ok.ensures.made.accounted (c.in_ok-left.ensures.reads_back file named);
     report = report_stands (g.D.Folder.holds c.write_files.new.folder) (text_of c.args.asked.files.now.report) c.args.asked.files.now.is_steering
         c.args.asked.script.now c.in_ok-capture.capture.records.items c.in-Ok.outcome _ c.in_ok-left.ensures.lines
         c.in_ok-write_files.ensures.report;
