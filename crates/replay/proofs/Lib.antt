@@ -19,3 +19,8 @@ pub mod TurnSimulation
 pub mod TurnAccounts
 pub mod PieceLemmas
 pub mod LaterTurns
+pub mod OneTrace
+pub mod OneRun
+pub mod OneCommand
+pub mod OneRound
+pub mod OneReplay

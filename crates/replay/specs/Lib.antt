@@ -11,3 +11,4 @@ pub mod TurnOrder
 pub mod LaterTurns
 pub mod TurnsAccounted
 pub mod Pieces
+pub mod SameReplays

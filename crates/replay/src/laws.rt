@@ -1,6 +1,7 @@
 //! Laws of replays, as contracts of functions that do nothing.
 
 ghost use Rattle.replay.specs.LaterTurns.{TurnsComeInOrder};
+ghost use Rattle.replay.specs.SameReplays.{ExactReplaysAgree, PiecesAgree};
 ghost use Rattle.replay.specs.TurnsAccounted.{TurnsAreAccounted};
 
 use shard_port::laws::{own_entries_after_a_refusal, own_entries_are_sessions};
@@ -20,4 +21,17 @@ pub fn turns_are_accounted()
 /// then. So an order in which an update of a command comes before an entry of a record in front of the command is of no exact replay.
 pub fn turns_come_in_order()
     ensures { TurnsComeInOrder }
+{}
+
+/// An exact replay is a function of its input: any two of one program, with the same options, updates and script, and with the same frames at
+/// the same moments, return the same counts, the same end of each record, the same sent frames, the same refused commands, each with its
+/// fault, and the same journals. Only lack of memory is no matter of the input, so in neither is a command refused for it.
+pub fn exact_replays_agree()
+    ensures { ExactReplaysAgree }
+{}
+
+/// The same of exact replays of captures that come in pieces, wherever each is cut, by all that was handed out of each: so a replay in pieces
+/// agrees with one of the whole capture, too, which is one piece.
+pub fn pieces_agree()
+    ensures { PiecesAgree }
 {}
