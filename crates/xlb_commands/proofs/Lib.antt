@@ -6,3 +6,4 @@ pub mod Outcomes
 pub mod PieceLemmas
 pub mod ReaderFiles
 pub mod Refusals
+pub mod SameFiles

@@ -17,7 +17,7 @@ use Rattle.actors.specs.Captured.{IsCaptured}
 use Rattle.xlb_commands.specs.Replays.{frame_records, reader_file}
 use Rattle.xlb_commands.proofs.Outcomes.{options_fit}
 
-records_are : (sents : List Sent) → records_bytes sents ≡ frame_records (sent_frames sents)
+pub records_are : (sents : List Sent) → records_bytes sents ≡ frame_records (sent_frames sents)
 records_are [] = refl
 records_are (sent ∷ sents) = ap (λ (rest : List ℕ). record_bytes sent ++ rest) (records_are sents)
 

@@ -10,5 +10,6 @@ pub mod Results
 pub mod FaultLines
 pub mod Refused
 pub mod AcceptedJournals
+pub mod SameFiles
 pub mod AskedReplays
 pub mod InPieces

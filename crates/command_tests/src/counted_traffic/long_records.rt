@@ -128,7 +128,7 @@ fn files_without_records_stay(rt: HostRuntime) {
 }
 
 /// Reads a capture of fewer bytes than a million.
-fn read(alloc: Global, bytes: &mut Vec<u8>) -> Result<Capture, CaptureFault> {
+pub(super) fn read(alloc: Global, bytes: &mut Vec<u8>) -> Result<Capture, CaptureFault> {
     bytes.truncate(1_000_000);
     read_capture(alloc, &mut MemorySource::new(bytes))
 }

@@ -1,10 +1,10 @@
 //! Captures that are read otherwise than as they are: padded, without an end that is cut, without long records.
 
+use super::long_records::read;
 use crate::asserting::{holds_of, same_bytes_of};
 use std::alloc::Global;
 use std::process::Abort;
 use traffic::{Reading, altered_capture};
-use wire::{MemorySource, read_capture};
 
 /// The header of a capture: pcap 2.4, low byte first.
 const HEADER: &str = "d4c3b2a1020004000000000000000000ffff000001000000";
@@ -137,9 +137,8 @@ fn pads_to(rt: &impl Abort, alloc: Global, frame: u16) {
     let mut file = hex::decode(alloc, &digits).expect(rt, "hexadecimal digits");
     file.extend_from_slice(&u32::from(frame).to_le_bytes())
         .expect(rt, "a length");
-    let altered = altered_capture(alloc, &file, EVERYTHING).expect(rt, "memory");
-    let mut source = MemorySource::new(altered.bytes.as_slice());
-    let capture = read_capture(alloc, &mut source).expect(rt, "a capture");
+    let mut altered = altered_capture(alloc, &file, EVERYTHING).expect(rt, "memory");
+    let capture = read(alloc, &mut altered.bytes).expect(rt, "a capture");
     let record = capture.records.first().expect(rt, "a record");
     holds_of(rt, "padded", "length", record.bytes.len() == frame as usize);
     holds_of(

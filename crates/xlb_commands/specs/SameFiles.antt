@@ -1,0 +1,33 @@
+-- Exact replays of one input write the same files, and print the same.
+use Rattle.std.specs.Prelude.{◌≡◌, ◌++◌, Bool, true, List}
+use Rattle.wire.specs.declared.records.Sent.{Sent}
+use Rattle.wire.specs.CaptureFormat.{capture_bytes}
+use Rattle.semantics.specs.declared.options.Options.{Options}
+use Rattle.semantics.specs.Program.{Program}
+use Rattle.map_updates.specs.declared.update.MapUpdate.{MapUpdate}
+use Rattle.control.specs.declared.command.Command.{Command}
+use Rattle.journals.specs.JournalText.{journals_text}
+use Rattle.traffic.specs.declared.record_line.ReportForm.{ReportForm}
+use Rattle.actors.specs.declared.outcome.Outcome.{Outcome}
+use Rattle.replay.specs.SameReplays.{AreSameFrames, HadMemory}
+use Rattle.xlb_commands.specs.RecordReports.{report_text}
+use Rattle.xlb_commands.specs.Replays.{IsMade, counts_text, refusals_text}
+
+-- the files of the sent frames, of the journals and of the report, in either form, have the same bytes, and what is printed is the same
+pub record WriteTheSame (script : List Command) (records others : List Sent) (one other : Outcome) : Type 0 where
+  pub sent : capture_bytes one.sent.items ≡ capture_bytes other.sent.items
+  pub journals : journals_text one.journals ≡ journals_text other.journals
+  pub report :
+      (form : ReportForm) (is_steering : Bool) →
+      report_text form is_steering script records one.ends.items one.sent.items
+      ≡ report_text form is_steering script others other.ends.items other.sent.items
+  pub printed : counts_text one.counts ++ refusals_text one.refused.items ≡ counts_text other.counts ++ refusals_text other.refused.items
+
+-- Any two exact replays of one program and script, with the same options and updates, of captures of the same frames at the same moments:
+-- unless memory was refused to a command of either, they write and print the same.
+abbrev pub ExactReplaysWriteTheSame : Type 0
+ExactReplaysWriteTheSame =
+    (program : Program) (updates : List MapUpdate) (script : List Command) (options : Options) (records others : List Sent)
+    (one other : Outcome) → AreSameFrames records others → IsMade true program updates script options records one →
+    IsMade true program updates script options others other → HadMemory one.refused.items → HadMemory other.refused.items →
+    WriteTheSame script records others one other
