@@ -13,4 +13,5 @@ mod ReplayLemmas
 -- flows that stay with their backends
 mod NoteLemmas
 mod StickyRuns
+mod StickyReplays
 mod StickyRow

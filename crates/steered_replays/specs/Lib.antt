@@ -3,4 +3,5 @@ pub mod Counting
 pub mod SteeredRuns
 pub mod Totals
 pub mod StickyFlows
+pub mod StickyReplays
 pub mod StickyRow

@@ -16,6 +16,7 @@ ghost use Rattle.steered_replays.specs.SteeredRuns.{RunsAreSteered, RefusedRunsA
 ghost use Rattle.steered_replays.specs.SteeredRuns.{IsSteeredReplay};
 ghost use Rattle.actors.specs.Captured.{IsCaptured};
 ghost use Rattle.steered_replays.specs.StickyFlows.{NotesAreFound, NotedFlowsStick};
+ghost use Rattle.steered_replays.specs.StickyReplays.{FlowsStayInReplays};
 ghost use Rattle.steered_replays.specs.StickyRow.{StickyRow};
 ghost use Rattle.steered_replays.specs.Totals.{AreTotals, TotalsAreExact};
 
@@ -85,6 +86,15 @@ pub fn noted_flows_stick()
     ensures stick { NotedFlowsStick }
 {
     flows_stick();
+}
+
+/// So flows stay in every replay of the shipped program. Whenever the run of a record got past the guards of a tracked service, its Lookup of
+/// the flow stands in the journal of the replay's shard of flows while a backend is noted there, and the backend's record says that it is up
+/// when the run reads it, the record's frame is sent through the tunnel to this backend.
+pub fn flows_stay_in_replays()
+    ensures { FlowsStayInReplays }
+{
+    noted_flows_stick();
 }
 
 /// One such run, computed, with the histories of both shards.

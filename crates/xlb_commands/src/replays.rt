@@ -29,6 +29,7 @@ ghost use Rattle.actors.specs.Accounts.{frames_in};
 ghost use Rattle.map_updates.specs.Misfits.{AreFitting};
 ghost use Rattle.xlb_commands.specs.Results.{IsReplayAnswer};
 ghost use Rattle.steered_replays.specs.SteeredRuns.{IsSteeredReplay};
+ghost use Rattle.steered_replays.specs.StickyReplays.{FlowsStayInReplays};
 ghost use Rattle.steered_replays.specs.Totals.{AreTotals};
 ghost use Rattle.journals.specs.JournalText.{journals_text};
 ghost use Rattle.journals.specs.FileJournals.{ReadBackWhereLegal};
@@ -70,7 +71,7 @@ use shard_port::Gate;
 use std::alloc::{AllocError, Global};
 use std::sync::Wait;
 use std::thread::Threads;
-use steered_replays::laws::shipped_replays_are_steered;
+use steered_replays::laws::{flows_stay_in_replays, shipped_replays_are_steered};
 use traffic::{Reading, altered_capture};
 use verifier::Verified;
 use wire::{Capture, MOST_GIVEN, MemorySink, MemorySource, Sent, read_capture, write_capture};
@@ -339,7 +340,9 @@ pub(crate) fn steered_where_shipped(asked: Asked<'_>)
         (outcome : Made) → AreOptions asked.entry.verified.now.maps options → AllByRecursion IsCaptured records →
         IsAccounted (program_with asked.entry.verified.now options.shards) script options records outcome →
         outcome.updates.items ≡ [] → outcome.counts.stopped ≡ 0 → AreTotals outcome }
+    ensures stay { FlowsStayInReplays }
 {
+    flows_stay_in_replays();
     match asked.files.image {
         Some(_) => {}
         None => shipped_replays_are_steered(asked.verified, asked.ring),

@@ -119,9 +119,11 @@ returns-clause-left c = λ records sent ends under captured.
             {x = image_of asked.verified.now} account;
       };
       by_rule = λ none. rule_of (text_of asked.files.now.image) asked.ring program asked.script.now options records whole account
-          (λ shipped. record {
-            runs = c.steered_where_shipped.ensures.steered shipped asked.script.now options records whole under.options_fit
-                captured account;
+          (λ shipped.
+          let steered = c.steered_where_shipped.ensures.steered shipped asked.script.now options records whole under.options_fit captured account in
+          record {
+            runs = steered;
+            stay = c.steered_where_shipped.ensures.stay asked.ring program asked.script.now options records whole account steered;
             totals = λ unstopped. c.steered_where_shipped.ensures.totals shipped asked.script.now options records whole under.options_fit
                 captured account (updated ∙ none) unstopped;
           });

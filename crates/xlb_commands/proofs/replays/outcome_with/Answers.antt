@@ -27,8 +27,12 @@ returns-clause-steered g c = λ none account.
     let fit = options_fit (program_of asked.verified.now asked.options.shards) asked.script.now options records outcome c.options.ensures.fit account in
     rule_of (text_of asked.files.now.image) asked.ring (program_of asked.verified.now asked.options.shards) asked.script.now options records outcome
     account
-    (λ shipped. record {
-      runs = c.steered_where_shipped.ensures.steered shipped asked.script.now options records outcome fit c.all_are_captured.ensures account;
+    (λ shipped.
+    let steered = c.steered_where_shipped.ensures.steered shipped asked.script.now options records outcome fit c.all_are_captured.ensures account in
+    record {
+      runs = steered;
+      stay = c.steered_where_shipped.ensures.stay asked.ring (program_of asked.verified.now asked.options.shards) asked.script.now options records
+          outcome account steered;
       totals = λ unstopped. c.steered_where_shipped.ensures.totals shipped asked.script.now options records outcome fit c.all_are_captured.ensures
           account (c.in_ok-outcome.ensures.made.updates_are ∙ none) unstopped;
     })

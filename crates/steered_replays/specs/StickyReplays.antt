@@ -1,0 +1,71 @@
+-- Flows stay with their backends in a replay of the shipped program, by the histories to which its own journals lead.
+use Rattle.std.specs.Prelude.{◌≡◌, ℕ, ◌<◌, List, reverse, Option, Some, None, slice_get}
+use Rattle.wire.specs.FrameView.{FrameView}
+use Rattle.wire.specs.declared.records.Sent.{Sent}
+use Rattle.semantics.specs.declared.call.Entry.{Entry}
+use Rattle.semantics.specs.declared.options.Options.{Options}
+use Rattle.semantics.specs.declared.plan.ShardPlan.{ShardPlan}
+use Rattle.semantics.specs.declared.verdict.Verdict.TheVariants as V
+use Rattle.semantics.specs.Program.{Program}
+use Rattle.semantics.specs.System.{input_frame}
+use Rattle.map_port.specs.Exchanges.{Exchange}
+use Rattle.journals.specs.JournalsView.{JournalsView, entries_at}
+use Rattle.ipip.specs.Encapsulation.{encapsulated_frame}
+use Rattle.conntrack.specs.declared.records.BackendRecord.{BackendRecord}
+use Rattle.conntrack.specs.declared.records.TunnelRecord.{TunnelRecord}
+use Rattle.conntrack.specs.Steering.{SteeringSizes}
+use Rattle.conntrack.specs.SteeringRule.{tunnel_to}
+use Rattle.steer.specs.SteeringLaws.{of_size}
+use Rattle.control.specs.declared.command.Command.{Command}
+use Rattle.actors.specs.declared.outcome.Outcome.{Outcome}
+use Rattle.actors.specs.declared.runner.RunEnd.{RunEnd}
+use Rattle.actors.specs.declared.runner.RunEnd.TheVariants.{Stopped}
+use Rattle.actors.specs.Accounted.{IsAccounted}
+use Rattle.actors.specs.Accounts.{fate_of}
+use Rattle.actors.specs.RunsOverShards.{IsTold}
+use Rattle.actors.specs.Shares.{frames_of, worker_of_frame}
+use Rattle.steered_replays.specs.SteeredRuns.{IsSteeredFate, IsSteeredReplay}
+use Rattle.steered_replays.specs.StickyFlows.{RunOfNoted}
+
+-- the history is the one to which the journal of a shard of the replay leads, by the shard's plan
+pub record IsOfReplay (plans : ℕ → ShardPlan) (count : ℕ) (journals : JournalsView) (plan : ShardPlan) (history : List Entry) : Type 0 where
+  pub number : ℕ
+  pub within : number < count
+  pub plan_is : plan ≡ plans number
+  pub history_is : history ≡ reverse (entries_at journals number)
+
+-- A run of a flow that is noted: it gets past the guards, its Lookup of the flow is in the journal of the replay's shard of flows while the
+-- backend is noted there, and its Lookup and Load of the backend are in the replay's shard of backends while the backend's record says that
+-- it is up.
+pub record IsNotedRun (plans : ℕ → ShardPlan) (count : ℕ) (journals : JournalsView) (frame : FrameView) (tunnel : TunnelRecord) (number : ℕ)
+    (backend : BackendRecord) (worker : ℕ) (exchanges : List Exchange) : Type 0 where
+  pub run : RunOfNoted frame tunnel number backend worker exchanges
+  pub flows : IsOfReplay plans count journals run.flows run.flows_history
+  pub backends : IsOfReplay plans count journals run.backends run.backends_history
+
+-- where the run of a record that ended is one of a flow that is noted, its frame is sent through the tunnel to the noted backend
+abbrev pub StaysWithBackend : (plans : ℕ → ShardPlan) (count : ℕ) (setting : SteeringSizes) (worker : ℕ) (journals : JournalsView)
+    (captured : Sent) (fate : Option RunEnd) → IsSteeredFate plans count setting worker captured fate → Type 0
+StaysWithBackend plans count setting worker journals captured None steered = Unit {0}
+StaysWithBackend plans count setting worker journals captured (Some Stopped) steered = Unit {0}
+StaysWithBackend plans count setting worker journals captured (Some end) steered =
+    (tunnel : TunnelRecord) (number : ℕ) (backend : BackendRecord) →
+    IsNotedRun plans count journals (input_frame captured.bytes.items) tunnel number backend worker steered.2.exchanges →
+    IsTold captured V.Tx (encapsulated_frame (tunnel_to tunnel backend.address) (input_frame captured.bytes.items)) end
+
+-- so it is of every record of a replay whose runs follow the rule
+abbrev pub FlowsStay : (size : ℕ) (program : Program) (script : List Command) (options : Options) (records : List Sent) (outcome : Outcome)
+    (accounted : IsAccounted program script options records outcome)
+    → IsSteeredReplay size program script options records outcome accounted → Type 0
+FlowsStay size program script options records outcome accounted steered =
+    (number : ℕ) (captured : Sent) (known : slice_get records number ≡ Some captured) →
+    StaysWithBackend accounted.plan accounted.count (of_size options.shards size) (worker_of_frame captured.bytes.items options.workers)
+    outcome.journals captured (fate_of (frames_of records) options.workers accounted.runs number) (steered.fates number captured known)
+
+-- in every replay
+abbrev pub FlowsStayInReplays : Type 0
+FlowsStayInReplays =
+    (size : ℕ) (program : Program) (script : List Command) (options : Options) (records : List Sent) (outcome : Outcome)
+    (accounted : IsAccounted program script options records outcome)
+    (steered : IsSteeredReplay size program script options records outcome accounted) →
+    FlowsStay size program script options records outcome accounted steered
