@@ -7,7 +7,7 @@ use folders::Folder;
 use replay::laws::exact_replays_agree;
 
 /// An audit of journals that `xlb replay --journals J` wrote, whatever the file is named now, and of an image of the same maps, is refused
-/// neither for a line (55) nor for an entry (53). So it prints `legal`, or ends for lack of memory or with a file that it can't read.
+/// neither for a line (55) nor for an entry (53), in a folder whose files have the bytes that `holds` says and no others.
 pub fn audits_accept<D: Folder>(folder: &D)
     ensures { AuditsAccept (D.holds folder.now) }
 {
@@ -15,7 +15,7 @@ pub fn audits_accept<D: Folder>(folder: &D)
 }
 
 /// Any two exact replays of one program, script and capture, with the same options and updates, write the same bytes to each of their files,
-/// and print the same, unless a command was refused for lack of memory (95).
+/// and the same report to the output, unless a command was refused for lack of memory (95).
 pub fn exact_replays_write_the_same()
     ensures { ExactReplaysWriteTheSame }
 {
