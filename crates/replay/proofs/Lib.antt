@@ -24,3 +24,8 @@ pub mod OneRun
 pub mod OneCommand
 pub mod OneRound
 pub mod OneReplay
+pub mod OtherPlans
+pub mod OtherShards
+pub mod OtherRuns
+pub mod OtherTurns
+pub mod OtherReplays

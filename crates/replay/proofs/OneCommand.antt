@@ -41,7 +41,7 @@ newest_step plan journal entry legal =
 abbrev maps_of : List MapDef → Options → List JournaledShard → TurnMaps
 maps_of maps options shards = record { maps = maps; options = options; shards = shards }
 
-one_state : (one other : TurnMaps) → one.maps ≡ other.maps → one.options ≡ other.options → one.shards ≡ other.shards → one ≡ other
+pub one_state : (one other : TurnMaps) → one.maps ≡ other.maps → one.options ≡ other.options → one.shards ≡ other.shards → one ≡ other
 one_state one other maps options shards =
     ap (λ (m : List MapDef). maps_of m one.options one.shards) maps ∙ ap (λ (o : Options). maps_of other.maps o one.shards) options
     ∙ ap (λ (s : List JournaledShard). maps_of other.maps other.options s) shards
@@ -190,7 +190,7 @@ refused_of_backend state action fault not_full is =
     ap (λ (full : Bool). if full then Some JournalFull else action_refusal state.size state.up action) not_full in
     action_of_backend state.size state.up action fault (sym test ∙ is)
 
-no_answer : (state : ControllerState) (action : Action) (answer : ℤ) → refusal_of state action ≡ Some (Refused answer) → ⊥
+pub no_answer : (state : ControllerState) (action : Action) (answer : ℤ) → refusal_of state action ≡ Some (Refused answer) → ⊥
 no_answer state action answer is = by_test state.is_full refl
   where
     by_test : (full : Bool) → state.is_full ≡ full → ⊥
@@ -203,44 +203,44 @@ no_answer state action answer is = by_test state.is_full refl
 
 -- ---- what a command did
 
-one_table : (size : ℕ) (up : List Server) (owners others : List ℕ) → IsTable size up owners → IsTable size up others → owners ≡ others
+pub one_table : (size : ℕ) (up : List Server) (owners others : List ℕ) → IsTable size up owners → IsTable size up others → owners ≡ others
 one_table size [] owners others table table' = table ∙ sym table'
 one_table size (server ∷ up) owners others table table' = table'.1 owners table.0
 
 module _ (state : ControllerState) (before : TurnMaps) (action : Action) where
-  abbrev firsts : List Change
+  abbrev pub firsts : List Change
   firsts = first_updates state.up action
 
-  abbrev ups : List Server
+  abbrev pub ups : List Server
   ups = up_after state.up action
 
   -- it was refused before anything was asked
-  record IsKept (fault : Option ControlFault) (state' : ControllerState) (after : TurnMaps) : Type 0 where
-    which : ControlFault
-    fault_is : fault ≡ Some which
-    refuses : refusal_of state action ≡ Some which
-    unchanged : IsUnchanged state before state' after
+  pub record IsKept (fault : Option ControlFault) (state' : ControllerState) (after : TurnMaps) : Type 0 where
+    pub which : ControlFault
+    pub fault_is : fault ≡ Some which
+    pub refuses : refusal_of state action ≡ Some which
+    pub unchanged : IsUnchanged state before state' after
 
   -- all its updates were made
-  record IsWhole (fault : Option ControlFault) (state' : ControllerState) (after : TurnMaps) : Type 0 where
-    fault_is : fault ≡ None
-    whole : IsCarriedOut IsUpdatedInTurn state before firsts ups state' after
+  pub record IsWhole (fault : Option ControlFault) (state' : ControllerState) (after : TurnMaps) : Type 0 where
+    pub fault_is : fault ≡ None
+    pub whole : IsCarriedOut IsUpdatedInTurn state before firsts ups state' after
 
   -- its one update was answered so
-  record IsTold (fault : Option ControlFault) (state' : ControllerState) (after : TurnMaps) : Type 0 where
-    answer : ℤ
-    fault_is : fault ≡ Some (Refused answer)
-    answered : IsAnswered IsUpdatedInTurn state before firsts answer state' after
+  pub record IsTold (fault : Option ControlFault) (state' : ControllerState) (after : TurnMaps) : Type 0 where
+    pub answer : ℤ
+    pub fault_is : fault ≡ Some (Refused answer)
+    pub answered : IsAnswered IsUpdatedInTurn state before firsts answer state' after
 
   -- an update met a full journal
-  record IsCut (fault : Option ControlFault) (state' : ControllerState) (after : TurnMaps) : Type 0 where
-    fault_is : fault ≡ Some JournalFull
-    stopped : IsStopped IsUpdatedInTurn IsTurnedAwayInTurn state before firsts ups state' after
+  pub record IsCut (fault : Option ControlFault) (state' : ControllerState) (after : TurnMaps) : Type 0 where
+    pub fault_is : fault ≡ Some JournalFull
+    pub stopped : IsStopped IsUpdatedInTurn IsTurnedAwayInTurn state before firsts ups state' after
 
-  abbrev IsOneOf : Option ControlFault → ControllerState → TurnMaps → Type 0
+  abbrev pub IsOneOf : Option ControlFault → ControllerState → TurnMaps → Type 0
   IsOneOf fault state' after = IsKept fault state' after ⊎ (IsWhole fault state' after ⊎ (IsTold fault state' after ⊎ IsCut fault state' after))
 
-  one_of_four : (fault : Option ControlFault) (state' : ControllerState) (after : TurnMaps) → fault ≢ Some Memory →
+  pub one_of_four : (fault : Option ControlFault) (state' : ControllerState) (after : TurnMaps) → fault ≢ Some Memory →
       IsAppliedInTurn fault state before action state' after → IsOneOf fault state' after
   one_of_four None state' after had did = inr (inl (record { fault_is = refl; whole = did }))
   one_of_four (Some UnknownBackend) state' after had did =
@@ -255,7 +255,7 @@ module _ (state : ControllerState) (before : TurnMaps) (action : Action) where
   one_of_four (Some (BadLine line)) state' after had did = absurd did
 
   -- the refusal comes first
-  abbrev IsFirst : Option ControlFault → Type 0
+  abbrev pub IsFirst : Option ControlFault → Type 0
   IsFirst fault = (other : ControlFault) → refusal_of state action ≡ Some other → fault ≡ Some other
 
   record IsOnce (fault fault' : Option ControlFault) (state' state'' : ControllerState) (after after' : TurnMaps) : Type 0 where

@@ -32,7 +32,7 @@ use Rattle.replay.specs.InTurn.{TurnMaps, TurnState, IsUpdatedInTurn, IsHandledI
 use Rattle.replay.specs.ExactReplays.{HasBegun, starts_in, first_maps, first_state}
 use Rattle.replay.specs.SameReplays.{HadMemory, AreSameFrames, ReturnTheSame, ExactReplaysAgree, PiecesAgree}
 use Rattle.replay.proofs.OneRun.{AreOneEnd, handled_once}
-use Rattle.replay.proofs.OneCommand.{all_set_once, IsAppliedOnce, applied_once}
+use Rattle.replay.proofs.OneCommand.{one_state, all_set_once, IsAppliedOnce, applied_once}
 use Rattle.replay.proofs.OneRound.{round_once}
 
 -- ---- lists
@@ -50,7 +50,7 @@ same_by_place {A} (first ∷ more) (second ∷ others) count each =
     ap (λ (x : A). x ∷ more) same ∙ ap (λ (list : List A). second ∷ list) rest
 
 -- the records at a place of two lists with the same frames
-frame_there : (records others : List Sent) (number : ℕ) (captured captured' : Sent) → sent_frames records ≡ sent_frames others →
+pub frame_there : (records others : List Sent) (number : ℕ) (captured captured' : Sent) → sent_frames records ≡ sent_frames others →
     slice_get records number ≡ Some captured → slice_get others number ≡ Some captured' → sent_frame captured ≡ sent_frame captured'
 frame_there [] others number captured captured' same known known' = absurd cc
 frame_there (first ∷ more) [] number captured captured' same known known' = absurd cc
@@ -65,11 +65,11 @@ frame_there (first ∷ more) (second ∷ others) (suc number) captured captured'
     let rest : sent_frames more ≡ sent_frames others = cc in
     frame_there more others number captured captured' rest known known'
 
-first_part : {A : Type 0} (P : A → Type 0) (one other : List A) → AllByRecursion P (one ++ other) → AllByRecursion P one
+pub first_part : {A : Type 0} (P : A → Type 0) (one other : List A) → AllByRecursion P (one ++ other) → AllByRecursion P one
 first_part P [] other all = tt
 first_part P (x ∷ one) other all = (all.0, first_part P one other all.1)
 
-last_part : {A : Type 0} (P : A → Type 0) (one : List A) (x : A) → AllByRecursion P (one ++ x ∷ []) → P x
+pub last_part : {A : Type 0} (P : A → Type 0) (one : List A) (x : A) → AllByRecursion P (one ++ x ∷ []) → P x
 last_part P [] x all = all.0
 last_part P (y ∷ one) x all = last_part P one x all.1
 
@@ -84,16 +84,8 @@ record AreAlike (script : List Command) (one other : TurnState) : Type 0 where
   sent : sent_frames one.sent ≡ sent_frames other.sent
   ends : one.ends ≡ other.ends
 
-abbrev maps_of : List MapDef → Options → List JournaledShard → TurnMaps
-maps_of maps options shards = record { maps = maps; options = options; shards = shards }
-
-one_state : (one other : TurnMaps) → one.maps ≡ other.maps → one.options ≡ other.options → one.shards ≡ other.shards → one ≡ other
-one_state one other maps options shards =
-    ap (λ (m : List MapDef). maps_of m one.options one.shards) maps ∙ ap (λ (o : Options). maps_of other.maps o one.shards) options
-    ∙ ap (λ (s : List JournaledShard). maps_of other.maps other.options s) shards
-
 -- a turn that leaves the controller as it was
-same_controller : (script : List Command) (one other one' other' : ControllerState) → one' ≡ one → other' ≡ other → (script ≡ []) ⊎ (one ≡ other) →
+pub same_controller : (script : List Command) (one other one' other' : ControllerState) → one' ≡ one → other' ≡ other → (script ≡ []) ⊎ (one ≡ other) →
     (script ≡ []) ⊎ (one' ≡ other')
 same_controller script one other one' other' first second (inl none) = inl none
 same_controller script one other one' other' first second (inr same) = inr (first ∙ same ∙ sym second)
@@ -187,9 +179,9 @@ module _ (program : Program) (script : List Command) (records others : List Sent
 
 -- ---- what was noted is kept
 
-record IsNotedOnTo (before after : List Applied) : Type 0 where
-  more : List Applied
-  is : after ≡ before ++ more
+pub record IsNotedOnTo (before after : List Applied) : Type 0 where
+  pub more : List Applied
+  pub is : after ≡ before ++ more
 
 module _ (program : Program) (script : List Command) (records : List Sent) (workers : ℕ) where
   turn_notes : (turn : Turn) (before after : TurnState) → IsTurn program script records workers turn before after → IsNotedOnTo before.noted after.noted
@@ -197,7 +189,7 @@ module _ (program : Program) (script : List Command) (records : List Sent) (work
   turn_notes (TheCommand number) before after made = record { more = record { command = number; fault = made.fault } ∷ []; is = made.noted }
   turn_notes TheRound before after made = record { more = []; is = made.noted ∙ sym (append-nil before.noted) }
 
-  turns_note : (turns : List Turn) (before after : TurnState) → AreTurns program script records workers turns before after →
+  pub turns_note : (turns : List Turn) (before after : TurnState) → AreTurns program script records workers turns before after →
       IsNotedOnTo before.noted after.noted
   turns_note [] before after made = record { more = []; is = ap (λ (state : TurnState). state.noted) made ∙ sym (append-nil before.noted) }
   turns_note (turn ∷ later) before after made =
@@ -267,7 +259,7 @@ abbrev entries_in : Option MapDef → ℕ
 entries_in None = 0
 entries_in (Some definition) = definition.max_entries
 
-first_controller : (maps : List MapDef) (script : List Command) (size other : ℕ) → IsRingSize size → IsRingSize other → ServesScript maps size script →
+pub first_controller : (maps : List MapDef) (script : List Command) (size other : ℕ) → IsRingSize size → IsRingSize other → ServesScript maps size script →
     ServesScript maps other script → (script ≡ []) ⊎ (opened_controller size ≡ opened_controller other)
 first_controller maps script size other served served' (inl none) serves' = inl none
 first_controller maps script size other served served' (inr of_table) (inl none) = inl none
@@ -278,20 +270,23 @@ first_controller maps script size other served served' (inr of_table) (inr of_ot
 
 -- ---- what they return
 
--- a command that was not refused met no lack of memory
-had_all : (noted : List Applied) → HadMemory (refused_of noted) → HadMemory noted
-had_all [] had = tt
-had_all (one ∷ later) had = by_fault (had_all later) one.fault refl
+-- a command that was not refused has no fault, so not this one either
+abbrev pub NoneFailedSo : ControlFault → List Applied → Type 0
+NoneFailedSo bad commands = AllByRecursion (λ (one : Applied). one.fault ≢ Some bad) commands
+
+pub none_of_all : (bad : ControlFault) (noted : List Applied) → NoneFailedSo bad (refused_of noted) → NoneFailedSo bad noted
+none_of_all bad [] none = tt
+none_of_all bad (one ∷ later) none = by_fault (none_of_all bad later) one.fault refl
   where
-    by_fault : (HadMemory (refused_of later) → HadMemory later) → (fault : Option ControlFault) → one.fault ≡ fault → HadMemory (one ∷ later)
+    by_fault : (NoneFailedSo bad (refused_of later) → NoneFailedSo bad later) → (fault : Option ControlFault) → one.fault ≡ fault → NoneFailedSo bad (one ∷ later)
     by_fault rest None is =
         let listed : refused_of (one ∷ later) ≡ refused_of later =
         ap (λ (f : Option ControlFault). cond (is_some f) (one ∷ refused_of later) (refused_of later)) is in
-        ((λ (memory : one.fault ≡ Some Memory). let both : None ≡ Some Memory = sym is ∙ memory in cc), rest (subst HadMemory listed had))
+        ((λ (failed : one.fault ≡ Some bad). let both : None ≡ Some bad = sym is ∙ failed in cc), rest (subst (NoneFailedSo bad) listed none))
     by_fault rest (Some fault) is =
         let listed : refused_of (one ∷ later) ≡ one ∷ refused_of later =
         ap (λ (f : Option ControlFault). cond (is_some f) (one ∷ refused_of later) (refused_of later)) is in
-        let all : HadMemory (one ∷ refused_of later) = subst HadMemory listed had in
+        let all : NoneFailedSo bad (one ∷ refused_of later) = subst (NoneFailedSo bad) listed none in
         (all.0, rest all.1)
 
 abbrev view_of : List MapDef → Options → List (List Entry) → JournalsView
@@ -330,7 +325,8 @@ replays_agree program script options records others one other frames turns turns
     alike : AreAlike script turns.last turns'.last
     alike = turns_once program script records others options.workers frames (all_turns (starts_in script) (length records))
         (first_state turns.begun turns.size) (first_state turns'.begun turns'.size) turns.last turns'.last starts
-        (had_all turns.last.noted (subst HadMemory turns.refused had)) (had_all turns'.last.noted (subst HadMemory turns'.refused had')) turns.in_order
+        (none_of_all Memory turns.last.noted (subst HadMemory turns.refused had))
+        (none_of_all Memory turns'.last.noted (subst HadMemory turns'.refused had')) turns.in_order
         (subst (λ (n : ℕ). AreTurns program script others options.workers (all_turns (starts_in script) n) (first_state turns'.begun turns'.size) turns'.last)
         count turns'.in_order)
 

@@ -270,8 +270,28 @@ abbrev start_at : SentFrame → ℕ → MachineState
 start_at captured worker =
     initial_state (record { bytes = captured.bytes; headroom = 256 }) worker ((captured.seconds * 1000000 + captured.micros) * 1000)
 
-same_start : (captured captured' : Sent) (worker : ℕ) → sent_frame captured ≡ sent_frame captured' → start_of captured' worker ≡ start_of captured worker
+pub same_start : (captured captured' : Sent) (worker : ℕ) → sent_frame captured ≡ sent_frame captured' → start_of captured' worker ≡ start_of captured worker
 same_start captured captured' worker same = ap (λ (one : SentFrame). start_at one worker) (sym same)
+
+-- two runs that ended with one verdict, in as many steps, and left one frame
+pub told_once : (captured captured' : Sent) (verdict verdict' : Verdict) (frame frame' : FrameView) (steps steps' count count' : ℕ) (fate fate' : FrameFate) →
+    sent_frame captured ≡ sent_frame captured' → verdict ≡ verdict' → count ≡ count' → frame ≡ frame' →
+    IsTold captured verdict frame (Exited steps fate) → IsTold captured' verdict' frame' (Exited steps' fate') → Some steps ≡ Some count →
+    Some steps' ≡ Some count' → AreOneEnd (Some (Exited steps fate)) (Some (Exited steps' fate'))
+told_once captured captured' verdict verdict' frame frame' steps steps' count count' fate fate' same verdicts_are counts_are frames told told' first second =
+    let fates : verdict_for fate ≡ verdict_for fate' =
+    told_verdict captured verdict frame steps fate told ∙ verdicts_are ∙ sym (told_verdict captured' verdict' frame' steps' fate' told') in
+    let same_steps : steps ≡ steps' = cc in
+    record {
+      counted_alike = λ counts. counted_so steps fate counts ∙ ap (counted_by counts) fates ∙ sym (counted_so steps' fate' counts);
+      sent_alike = sent_so captured verdict frame steps fate told
+          ∙ ap (λ (moment : SentFrame). sent_for (at_moment moment frame.bytes) verdict) same
+          ∙ ap (λ (one : FrameView). sent_for (at_moment (sent_frame captured') one.bytes) verdict) frames
+          ∙ ap (sent_for (at_moment (sent_frame captured') frame'.bytes)) verdicts_are
+          ∙ sym (sent_so captured' verdict' frame' steps' fate' told');
+      noted_alike = λ number. noted_so steps fate number ∙ ap (λ (one : Verdict). ends.Exited number one steps) fates
+          ∙ ap (λ (n : ℕ). ends.Exited number (verdict_for fate') n) same_steps ∙ sym (noted_so steps' fate' number);
+    }
 
 exit_once : (program : Program) (captured captured' : Sent) (worker : ℕ) (before after after' : List JournaledShard) (steps steps' : ℕ)
     (fate fate' : FrameFate) → sent_frame captured ≡ sent_frame captured' → IsExitInTurn program captured worker before (Exited steps fate) after →
@@ -281,25 +301,10 @@ exit_once program captured captured' worker before after after' steps steps' fat
     let one = exits_once program (start_of captured worker) worker before after after' exit.verdict exit'.verdict exit.steps exit'.steps exit.frame exit'.frame
     exit.run
     (subst (λ (start : MachineState). EndsInTurn program start worker before after' exit'.verdict exit'.steps exit'.frame)
-    (same_start captured captured' worker same) exit'.run) in
-    let fates : verdict_for fate ≡ verdict_for fate' =
-    told_verdict captured exit.verdict exit.frame steps fate exit.told ∙ one.verdicts_are
-    ∙ sym (told_verdict captured' exit'.verdict exit'.frame steps' fate' exit'.told) in
-    let first : Some steps ≡ Some exit.steps = exit.counted in
-    let second : Some steps' ≡ Some exit'.steps = exit'.counted in
-    let many : exit.steps ≡ exit'.steps = one.steps_are in
-    let same_steps : steps ≡ steps' = cc in (
+    (same_start captured captured' worker same) exit'.run) in (
       one.shards,
-      record {
-        counted_alike = λ counts. counted_so steps fate counts ∙ ap (counted_by counts) fates ∙ sym (counted_so steps' fate' counts);
-        sent_alike = sent_so captured exit.verdict exit.frame steps fate exit.told
-            ∙ ap (λ (moment : SentFrame). sent_for (at_moment moment exit.frame.bytes) exit.verdict) same
-            ∙ ap (λ (frame : FrameView). sent_for (at_moment (sent_frame captured') frame.bytes) exit.verdict) one.frames
-            ∙ ap (sent_for (at_moment (sent_frame captured') exit'.frame.bytes)) one.verdicts_are
-            ∙ sym (sent_so captured' exit'.verdict exit'.frame steps' fate' exit'.told);
-        noted_alike = λ number. noted_so steps fate number ∙ ap (λ (verdict : Verdict). ends.Exited number verdict steps) fates
-            ∙ ap (λ (count : ℕ). ends.Exited number (verdict_for fate') count) same_steps ∙ sym (noted_so steps' fate' number);
-      },
+      told_once captured captured' exit.verdict exit'.verdict exit.frame exit'.frame steps steps' exit.steps exit'.steps fate fate' same
+          one.verdicts_are one.steps_are one.frames exit.told exit'.told exit.counted exit'.counted,
     )
 
 pub run_once : (program : Program) (captured captured' : Sent) (worker : ℕ) (before after after' : List JournaledShard) (end end' : RunEnd) →

@@ -12,3 +12,4 @@ pub mod LaterTurns
 pub mod TurnsAccounted
 pub mod Pieces
 pub mod SameReplays
+pub mod OtherJournals

@@ -1,6 +1,7 @@
 //! Laws of replays, as contracts of functions that do nothing.
 
 ghost use Rattle.replay.specs.LaterTurns.{TurnsComeInOrder};
+ghost use Rattle.replay.specs.OtherJournals.{JournalsChangeNothing};
 ghost use Rattle.replay.specs.SameReplays.{ExactReplaysAgree, PiecesAgree};
 ghost use Rattle.replay.specs.TurnsAccounted.{TurnsAreAccounted};
 
@@ -34,4 +35,11 @@ pub fn exact_replays_agree()
 /// agrees with one of the whole capture, too, which is one piece.
 pub fn pieces_agree()
     ensures { PiecesAgree }
+{}
+
+/// How large the journals are changes nothing of what an exact replay sends: where in neither of two a journal was full for a run or for a
+/// command, they return the same counts, the same end of each record, the same sent frames and the same refused commands, with journals of
+/// any two sizes, also where the rows of one are not kept. A journal that is full for a round alone makes no difference to that.
+pub fn journals_change_nothing()
+    ensures { JournalsChangeNothing }
 {}
