@@ -16,10 +16,11 @@ use Rattle.actors.specs.declared.outcome.Applied.{Applied}
 use Rattle.actors.specs.declared.outcome.Outcome.{Outcome}
 use Rattle.actors.specs.declared.outcome.RecordEnd.{RecordEnd}
 use Rattle.replay.specs.SameReplays.{AreSameFrames, ExactReplaysAgree, ReturnTheSame}
+use Rattle.replay.specs.OtherJournals.{JournalsChangeNothing, SendTheSame}
 use Rattle.xlb_commands.specs.RecordReports.{address_in, backend_at, backends_in, case_in, end_of, is_sent, line_of, line_text, lines_until, report_text, sent_before}
 use Rattle.xlb_commands.specs.RecordReports.{steps_in, target_in, verdict_in, worker_in}
 use Rattle.xlb_commands.specs.Replays.{counts_text, frame_records, refusals_text}
-use Rattle.xlb_commands.specs.SameFiles.{ExactReplaysWriteTheSame, WriteTheSame}
+use Rattle.xlb_commands.specs.SameFiles.{ExactReplaysWriteTheSame, JournalsChangeNoBytes, SendTheSameBytes, WriteTheSame}
 use Rattle.xlb_commands.proofs.ReaderFiles.{records_are}
 
 -- both are there, as the same frame at the same moment, or none is
@@ -97,12 +98,11 @@ same_report form is_steering script records its ends sent others captured same =
     (same_lines form is_steering (backends_in script) records its ends sent others captured same (length records)
     ∙ ap (λ (count : ℕ). lines_until form is_steering (backends_in script) its ends others count) (same_count records its captured))
 
-written_alike : (script : List Command) (records others : List Sent) (one other : Outcome) → AreSameFrames records others
-    → ReturnTheSame one other → WriteTheSame script records others one other
-written_alike script records others one other captured same = record {
+sent_alike : (script : List Command) (records others : List Sent) (one other : Outcome) → AreSameFrames records others
+    → SendTheSame one other → SendTheSameBytes script records others one other
+sent_alike script records others one other captured same = record {
   sent = ap (λ (rest : List ℕ). header_bytes ++ rest)
       (records_are one.sent.items ∙ (ap (λ (frames : List SentFrame). frame_records frames) same.sent ∙ sym (records_are other.sent.items)));
-  journals = ap journals_text same.journals;
   report = λ form is_steering.
       same_report form is_steering script records others one.ends.items one.sent.items other.sent.items captured same.sent
       ∙ ap (λ (ends : List RecordEnd). report_text form is_steering script others ends other.sent.items) same.ends;
@@ -110,8 +110,22 @@ written_alike script records others one other captured same = record {
       ∙ ap (λ (refused : List Applied). counts_text other.counts ++ refusals_text refused) same.refused;
 }
 
+written_alike : (script : List Command) (records others : List Sent) (one other : Outcome) → AreSameFrames records others
+    → ReturnTheSame one other → WriteTheSame script records others one other
+written_alike script records others one other captured same = record {
+  besides = sent_alike script records others one other captured
+      (record { counts = same.counts; ends = same.ends; sent = same.sent; refused = same.refused });
+  journals = ap journals_text same.journals;
+}
+
 pub exact_replays_write_the_same : ExactReplaysAgree → ExactReplaysWriteTheSame
 exact_replays_write_the_same agree program updates script options records others one other captured made its had has =
     written_alike script records others one other captured
     (agree program script options records others one other captured (made.in_turn refl).turns (its.in_turn refl).turns
     (made.updates_are ∙ sym its.updates_are) had has)
+
+pub journals_change_no_bytes : JournalsChangeNothing → JournalsChangeNoBytes
+journals_change_no_bytes change program updates script options others_options records others one other same captured made its had has room its_room =
+    sent_alike script records others one other captured
+    (change program script options others_options records others one other same captured (made.in_turn refl).turns (its.in_turn refl).turns
+    (made.updates_are ∙ sym its.updates_are) had has room its_room)

@@ -1,10 +1,10 @@
 //! Laws of commands, as contracts of functions that do nothing.
 
 ghost use Rattle.xlb_commands.specs.AcceptedJournals.{AuditsAccept};
-ghost use Rattle.xlb_commands.specs.SameFiles.{ExactReplaysWriteTheSame};
+ghost use Rattle.xlb_commands.specs.SameFiles.{ExactReplaysWriteTheSame, JournalsChangeNoBytes};
 
 use folders::Folder;
-use replay::laws::exact_replays_agree;
+use replay::laws::{exact_replays_agree, journals_change_nothing};
 
 /// An audit of journals that `xlb replay --journals J` wrote, whatever the file is named now, and of an image of the same maps, is refused
 /// neither for a line (55) nor for an entry (53), in a folder whose files have the bytes that `holds` says and no others.
@@ -20,4 +20,12 @@ pub fn exact_replays_write_the_same()
     ensures { ExactReplaysWriteTheSame }
 {
     exact_replays_agree();
+}
+
+/// With journals of another size, or with none kept, an exact replay sends the same bytes, writes the same report of its records and prints
+/// the same, where in neither of the two a journal was full for a run or for a command, and memory was refused to no command.
+pub fn journals_change_no_bytes()
+    ensures { JournalsChangeNoBytes }
+{
+    journals_change_nothing();
 }
