@@ -8,8 +8,8 @@ use control::parse_script;
 use std::alloc::Global;
 use std::process::Abort;
 use traffic::{
-    Backends, FrameKind, LineVerdict, RecordLine, ReportForm, case_word, least_moves, moved_places,
-    moved_slots, services, share_of, summary, tables_of,
+    Backends, FrameKind, LineVerdict, RecordLine, ReportForm, by_program, case_word, least_moves,
+    moved_places, moved_slots, services, share_of, shares_of, summary, tables_of,
 };
 use wire::Sent;
 
@@ -353,18 +353,26 @@ static MOVES: [Moved; 5] = [
 ];
 
 /// Compares the moves of a row.
-fn compare_moves(rt: &impl Abort, row: &Moved) {
+fn compare_moves(rt: &impl Abort, alloc: Global, row: &Moved) {
     let (name, old, new, moved, least) = row;
+    let found = least_moves(alloc, old, new).expect(rt, "memory");
     holds_of(rt, *name, "moved", moved_slots(old, new, 4) == *moved);
-    holds_of(rt, *name, "least", least_moves(old, new) == *least);
+    holds_of(rt, *name, "least", found == *least);
 }
 
 #[test]
 fn least_moves_are_what_shares_gain(rt: HostRuntime) {
     for row in &MOVES {
-        compare_moves(&rt, row);
+        compare_moves(&rt, rt.alloc(), row);
     }
     holds_of(&rt, "a share", "two", share_of(2, &[2, 1, 2, 0]) == 2);
+}
+
+#[test]
+fn shares_are_counted_by_word(rt: HostRuntime) {
+    let shares = shares_of(rt.alloc(), &[2, 1, 2, 0, 9, 2], 4).expect(&rt, "shares");
+    let found = shares.as_slice();
+    holds_of(&rt, "shares", "of 0 to 3", found == &[1, 1, 3, 0]);
 }
 
 /// Two services; a frame is for the first one.
@@ -395,6 +403,40 @@ fn frames_of_services_and_why_they_were_not_sent(rt: HostRuntime) {
     let frames = datagrams(&rt, alloc, &JUDGED);
     let text = services(alloc, &frames, &script, &VERDICTS).expect(&rt, "text");
     same_text(&rt, "the reasons", text.as_str(), REASONS);
+}
+
+/// What is printed of these frames by another program, whose reasons nobody knows.
+const BY_PROGRAM: &str = "4 frames for 203.0.113.1 port 80 udp
+1 frame passed, by the program
+2 frames dropped, by the program
+1 frame sent, by the program
+";
+
+/// What is printed of five frames that another program aborted, one that a full journal stopped and one of 13 bytes.
+const ABORTED: &str = "5 frames aborted, by the program
+";
+
+/// The verdicts of these.
+const FIVE_ABORTED: [LineVerdict; 7] = [
+    LineVerdict::Aborted,
+    LineVerdict::Short,
+    LineVerdict::Aborted,
+    LineVerdict::Aborted,
+    LineVerdict::Stopped,
+    LineVerdict::Aborted,
+    LineVerdict::Aborted,
+];
+
+#[test]
+fn frames_of_services_and_what_a_program_did(rt: HostRuntime) {
+    let alloc = rt.alloc();
+    let script = parse_script(alloc, SERVICES.as_bytes()).expect(&rt, "a script");
+    let frames = datagrams(&rt, alloc, &JUDGED);
+    let text = by_program(alloc, &frames, &script, &VERDICTS).expect(&rt, "text");
+    same_text(&rt, "by the program", text.as_str(), BY_PROGRAM);
+    let none = parse_script(alloc, b"").expect(&rt, "a script");
+    let aborted = by_program(alloc, &frames, &none, &FIVE_ABORTED).expect(&rt, "text");
+    same_text(&rt, "aborted", aborted.as_str(), ABORTED);
 }
 
 #[test]

@@ -1,5 +1,5 @@
 -- What is compared of the rows of two reports: which records they are of, and which of these were treated differently.
-use Rattle.std.specs.Prelude.{◌≡◌, ◌≢◌, ℕ, zero, suc, ◌<◌, ◌≤◌, ◌++◌, ◌∷◌, ◌&&◌, ◌⊎◌, not, Bool, true, false, List, [], codes, if◌then◌else◌}
+use Rattle.std.specs.Prelude.{◌≡◌, ◌≢◌, ℕ, zero, suc, ◌<◌, ◌≤◌, ◌++◌, ◌∷◌, ◌&&◌, ◌||◌, ◌==◌, ◌⊎◌, not, Bool, true, false, List, [], codes, if◌then◌else◌}
 use Rattle.std.specs.Prelude.{length}
 use Rattle.std.specs.Str.{bytes_eq}
 use Rattle.comparison.specs.Rows.{field, row_at}
@@ -19,10 +19,14 @@ pub record IsSharedCount (first second : List (List ℕ)) (count : ℕ) : Type 0
   pub same : AreSameRecords first second count
   pub next : (count ≡ length first) ⊎ ((count ≡ length second) ⊎ (is_same_record (row_at first count) (row_at second count) ≡ false))
 
+-- two records are of one case, or the case of one of them is not known: a report of another program than the shipped one has none
+abbrev pub is_same_case : List ℕ → List ℕ → Bool
+is_same_case first second = length first == 0 || (length second == 0 || bytes_eq first second)
+
 -- the records are treated differently: with another verdict, by another case, or sent to another backend or address
 abbrev pub is_changed : List ℕ → List ℕ → Bool
 is_changed first second =
-    not (bytes_eq (field 3 first) (field 3 second) && bytes_eq (field 5 first) (field 5 second)
+    not (bytes_eq (field 3 first) (field 3 second) && is_same_case (field 5 first) (field 5 second)
     && (bytes_eq (field 6 first) (field 6 second) && bytes_eq (field 7 first) (field 7 second)))
 
 abbrev pub is_changed_at : List (List ℕ) → List (List ℕ) → ℕ → Bool

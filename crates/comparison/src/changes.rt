@@ -1,8 +1,8 @@
 //! Which records were treated differently.
 
 ghost use Rattle.std.specs.Prelude.{◌≡◌, ◌++◌, IfOk, OnOk, length, map, string_bytes};
-ghost use Rattle.comparison.specs.Changes.{IsSharedCount, change_at, change_text, changed_until, is_changed, is_changed_at, is_same_record};
-ghost use Rattle.comparison.specs.Changes.{spaced, treatment};
+ghost use Rattle.comparison.specs.Changes.{IsSharedCount, change_at, change_text, changed_until, is_changed, is_changed_at, is_same_case};
+ghost use Rattle.comparison.specs.Changes.{is_same_record, spaced, treatment};
 
 use crate::rows::{field, fields_from, first_field, later_fields, row_at};
 use std::alloc::{AllocError, Global};
@@ -28,6 +28,13 @@ pub(crate) fn shared_count(first: &[&str], second: &[&str]) -> usize
     count
 }
 
+/// Whether two records are of one case, or the case of one of them is not known.
+fn is_same_case(first: &str, second: &str) -> bool
+    ensures { result ≡ is_same_case first.now second.now }
+{
+    first.is_empty() || second.is_empty() || first == second
+}
+
 /// Whether a record is treated differently: with another verdict, by another case, or sent to another backend or address.
 fn is_changed(first: &str, second: &str) -> bool
     ensures { result ≡ is_changed first.now second.now }
@@ -43,7 +50,7 @@ fn is_changed(first: &str, second: &str) -> bool
         later_fields(second_backend),
     );
     !(first_field(first_verdict) == first_field(second_verdict)
-        && first_field(first_case) == first_field(second_case)
+        && is_same_case(first_field(first_case), first_field(second_case))
         && (first_field(first_backend) == first_field(second_backend)
             && first_field(first_address) == first_field(second_address)))
 }

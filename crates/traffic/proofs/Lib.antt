@@ -2,3 +2,4 @@
 pub mod MoveLemmas
 pub mod TableLemmas
 pub mod ReadingLemmas
+pub mod ShareLemmas

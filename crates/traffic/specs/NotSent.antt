@@ -1,4 +1,4 @@
--- Why frames of flows were not sent, and how many frames are for a service.
+-- Why frames of flows were not sent, and how many frames are for a service; of another program than the shipped one, what became of frames.
 use Rattle.std.specs.Prelude.{ℕ, zero, suc, ◌+◌, ◌==◌, ◌&&◌, ◌++◌, not, nat_lt, Bool, true, false, List, [], ◌∷◌, Option, Some, None, codes}
 use Rattle.std.specs.Prelude.{decimal}
 use Rattle.std.specs.Prelude.{length, filter, slice_get, slice_index, if◌then◌else◌}
@@ -108,3 +108,41 @@ service_lines frames script = flat_map (λ (command : Command). line_of_command 
 -- the text of the frames of services, and of those that were not sent
 abbrev pub services_text : List Sent → List Command → List LineVerdict → List ℕ
 services_text frames script list = service_lines frames script ++ reason_lines frames list reasons
+
+-- ---- of another program
+
+-- a record ended so
+abbrev pub is_end : LineVerdict → LineVerdict → Bool
+is_end verdicts.Short verdicts.Short = true
+is_end verdicts.Stopped verdicts.Stopped = true
+is_end verdicts.Aborted verdicts.Aborted = true
+is_end verdicts.Drop verdicts.Drop = true
+is_end verdicts.Pass verdicts.Pass = true
+is_end verdicts.Tx verdicts.Tx = true
+is_end end verdict = false
+
+-- how many of the records did
+abbrev pub how_many_ended : LineVerdict → List LineVerdict → ℕ
+how_many_ended end list = length (filter (is_end end) list)
+
+abbrev pub end_phrase : LineVerdict → List ℕ
+end_phrase verdicts.Pass = codes "passed, by the program"
+end_phrase verdicts.Drop = codes "dropped, by the program"
+end_phrase verdicts.Aborted = codes "aborted, by the program"
+end_phrase verdicts.Tx = codes "sent, by the program"
+end_phrase verdicts.Short = codes "too short to be run"
+end_phrase verdicts.Stopped = codes "whose runs a full journal stopped"
+
+-- the ends of runs that have lines, in their order
+abbrev pub ends : List LineVerdict
+ends = verdicts.Pass ∷ verdicts.Drop ∷ verdicts.Aborted ∷ verdicts.Tx ∷ []
+
+abbrev pub end_line : List LineVerdict → LineVerdict → List ℕ
+end_line list end = line_about (how_many_ended end list) (end_phrase end)
+
+abbrev pub end_lines : List LineVerdict → List LineVerdict → List ℕ
+end_lines list some = flat_map (end_line list) some
+
+-- the text of the frames of services, and of what a program did with frames: nothing is said of why
+abbrev pub by_program_text : List Sent → List Command → List LineVerdict → List ℕ
+by_program_text frames script list = service_lines frames script ++ end_lines list ends

@@ -1,4 +1,4 @@
-//! Which services the frames are for, and why frames of flows were not sent.
+//! Which services the frames are for, and why frames of flows were not sent; of another program than the shipped one, what became of them.
 
 ghost use Rattle.std.specs.Prelude.{◌≡◌, ◌++◌, ◌≤◌, IfOk, OnOk, length, slice_get, string_bytes};
 ghost use Rattle.traffic.specs.NotSent.{how_many_for, is_for, is_not_sent, is_record_not_sent, is_to, line_of_command, not_sent_below};
@@ -6,6 +6,7 @@ ghost use Rattle.traffic.specs.NotSent.{reason_line};
 ghost use Rattle.traffic.specs.NotSent.{reason_lines, reason_phrase, service_line, service_lines, service_of, service_phrase};
 ghost use Rattle.traffic.specs.NotSent.{services_text};
 ghost use Rattle.traffic.specs.NotSent.{words_of_service};
+ghost use Rattle.traffic.specs.NotSent.{by_program_text, end_line, end_lines, end_phrase, how_many_ended, is_end};
 
 use crate::kind::FrameKind;
 use crate::moves::one_if;
@@ -231,5 +232,85 @@ pub fn services(
     let mut text = String::new(alloc);
     put_services(alloc, &mut text, script.commands(), frames)?;
     put_reasons(alloc, &mut text, &REASONS, frames, verdicts)?;
+    Ok(text)
+}
+
+/// The ends of runs that have lines of their own, in the order in which they are printed.
+const ENDS: [LineVerdict; 4] = [
+    LineVerdict::Pass,
+    LineVerdict::Drop,
+    LineVerdict::Aborted,
+    LineVerdict::Tx,
+];
+
+/// Whether a record ended so.
+fn is_end(end: LineVerdict, verdict: LineVerdict) -> bool
+    ensures { result ≡ is_end end verdict }
+{
+    match end {
+        LineVerdict::Short => matches!(verdict, LineVerdict::Short),
+        LineVerdict::Stopped => matches!(verdict, LineVerdict::Stopped),
+        LineVerdict::Aborted => matches!(verdict, LineVerdict::Aborted),
+        LineVerdict::Drop => matches!(verdict, LineVerdict::Drop),
+        LineVerdict::Pass => matches!(verdict, LineVerdict::Pass),
+        LineVerdict::Tx => matches!(verdict, LineVerdict::Tx),
+    }
+}
+
+/// How many of the records ended so.
+fn count_ended(end: LineVerdict, verdicts: &[LineVerdict]) -> usize
+    ensures { result ≡ how_many_ended end verdicts.now }
+{
+    verdicts
+        .iter()
+        .filter(|verdict| is_end(end, **verdict))
+        .count()
+}
+
+/// What a program did with a frame, in words.
+fn end_phrase(end: LineVerdict) -> &'static str
+    ensures { result.now ≡ end_phrase end }
+{
+    match end {
+        LineVerdict::Pass => "passed, by the program",
+        LineVerdict::Drop => "dropped, by the program",
+        LineVerdict::Aborted => "aborted, by the program",
+        LineVerdict::Tx => "sent, by the program",
+        LineVerdict::Short => "too short to be run",
+        LineVerdict::Stopped => "whose runs a full journal stopped",
+    }
+}
+
+/// Appends a line for each of these ends that a record has.
+fn put_ends(
+    alloc: Global,
+    text: &mut String,
+    ends: &[LineVerdict],
+    verdicts: &[LineVerdict],
+) -> Result<(), AllocError>
+    ensures { OnOk result (string_bytes text.new ≡ string_bytes text.old ++ end_lines verdicts.now ends.now) }
+{
+    'ends: for end in ends {
+        let count = count_ended(*end, verdicts) as u64;
+        put_line(alloc, text, count, end_phrase(*end))?;
+    }
+    Ok(())
+}
+
+/// The same of another program than the shipped one, whose reasons nobody knows: how many of the captured frames are for each service of
+/// the script, in its order, and how many frames the program passed, dropped, aborted and sent: a line for each that there is. It fails only
+/// for lack of memory.
+pub fn by_program(
+    alloc: Global,
+    frames: &[Sent],
+    script: &Script,
+    verdicts: &[LineVerdict],
+) -> Result<String, AllocError>
+    ensures { IfOk result (λ text. string_bytes text ≡ by_program_text frames.now script.now verdicts.now) }
+{
+    let commands = script.commands();
+    let mut text = String::new(alloc);
+    put_services(alloc, &mut text, commands, frames)?;
+    put_ends(alloc, &mut text, &ENDS, verdicts)?;
     Ok(text)
 }

@@ -1,11 +1,13 @@
 //! How much of a lookup table each backend has, and how many slots change hands.
 
-ghost use Rattle.std.specs.Prelude.{◌≡◌, ◌≤◌, ◌*◌, ◌==◌, length};
+ghost use Rattle.std.specs.Prelude.{◌≡◌, ◌≤◌, ◌<◌, ◌+◌, ◌*◌, ◌^◌, ◌==◌, length, IfOk};
 ghost use Rattle.maglev.specs.Population.{share_of};
-ghost use Rattle.traffic.specs.Shares.{gain_of, gains_below, least_moves, moved_below, word_at};
+ghost use Rattle.traffic.specs.Shares.{AreShares, counted, entry_gain, entry_gains, least_moves, moved_below, word_at};
+
+use std::alloc::{AllocError, Global};
 
 /// The words that a slot may have: 0 where nobody owns it, or the number of one of 256 backends and one.
-const WORDS: u32 = 257;
+pub(crate) const WORDS: u32 = 257;
 
 /// How many slots have this word.
 pub fn share_of(word: u32, words: &[u32]) -> usize
@@ -34,17 +36,46 @@ pub fn moved_slots(old: &[u32], new: &[u32], size: u32) -> u32
     moved
 }
 
-/// How many slots more have this word in the second table.
-fn gain_of(old: &[u32], new: &[u32], word: u32) -> usize
-    ensures { result ≡ gain_of old.now new.now word }
+/// The entry of a word; 0 where there is none.
+pub(crate) fn entry_at(shares: &[usize], word: u32) -> usize
+    ensures { result ≡ word_at shares.now word }
 {
-    share_of(word, new).saturating_sub(share_of(word, old))
+    shares.get(word as usize).copied().unwrap_or(0)
 }
 
-/// What the words below this one gain.
-#[tactic(auto, unfolding(crate::specs::Shares::gains_below))]
-fn gains_below(old: &[u32], new: &[u32], words: u32) -> u128
-    ensures { result ≡ gains_below old.now new.now words }
+/// Counts a slot of this word, if the word has an entry.
+fn count_slot(shares: &mut Vec<usize>, word: u32)
+    requires { word_at shares.old.items word + 1 < 2 ^ 64 }
+    ensures { shares.new.items ≡ counted shares.old.items word }
+{
+    let place = word as usize;
+    if place < shares.len() {
+        shares[place] += 1;
+    }
+}
+
+/// How many slots have each of the words below this one, by word, in one pass over the table. It fails only for lack of memory.
+pub fn shares_of(alloc: Global, table: &[u32], words: u32) -> Result<Vec<usize>, AllocError>
+    ensures { IfOk result (λ shares. AreShares table.now words shares.items) }
+{
+    let mut shares = vec![in alloc; 0usize; words as usize]?;
+    'slots: for word in table {
+        count_slot(&mut shares, *word);
+    }
+    Ok(shares)
+}
+
+/// How many slots more have this word, by the shares in the first and in the second table.
+fn gain_of(old: &[usize], new: &[usize], word: u32) -> usize
+    ensures { result ≡ entry_gain old.now new.now word }
+{
+    entry_at(new, word).saturating_sub(entry_at(old, word))
+}
+
+/// What the words below this one gain, by the shares in the first and in the second table.
+#[tactic(auto, unfolding(crate::specs::Shares::entry_gains))]
+fn gains_below(old: &[usize], new: &[usize], words: u32) -> u128
+    ensures { result ≡ entry_gains old.now new.now words }
 {
     let mut gains: u128 = 0;
     'below: for word in 0..words {
@@ -54,8 +85,12 @@ fn gains_below(old: &[u32], new: &[u32], words: u32) -> u128
 }
 
 /// The least number of slots that change hands from the first table to any in which each backend, and nobody, has the share of the second.
-pub fn least_moves(old: &[u32], new: &[u32]) -> u128
-    ensures { result ≡ least_moves old.now new.now }
+/// It fails only for lack of memory.
+#[tactic(auto, using(crate::proofs::ShareLemmas::gains_are))]
+pub fn least_moves(alloc: Global, old: &[u32], new: &[u32]) -> Result<u128, AllocError>
+    ensures { IfOk result (λ least. least ≡ least_moves old.now new.now) }
 {
-    gains_below(old, new, WORDS)
+    let before = shares_of(alloc, old, WORDS)?;
+    let after = shares_of(alloc, new, WORDS)?;
+    Ok(gains_below(&before, &after, WORDS))
 }

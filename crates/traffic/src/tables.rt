@@ -4,13 +4,14 @@ ghost use Rattle.std.specs.Prelude.{◌≡◌, ◌++◌, ◌+◌, ◌<◌, ◌^�
 ghost use Rattle.maglev.specs.RingSize.{IsRingSize};
 ghost use Rattle.conntrack.specs.SteeringMaps.{steering_maps};
 ghost use Rattle.control.specs.FaultNumber.{control_fault_number};
+ghost use Rattle.traffic.specs.Shares.{AreShares};
 ghost use Rattle.traffic.specs.TableText.{backend_line, backend_text, byte_at, done_line, done_lines, front_address, hundredths};
 ghost use Rattle.traffic.specs.TableText.{lines_below};
 ghost use Rattle.control.specs.Controlling.{opened_controller};
 ghost use Rattle.traffic.specs.TableText.{percent_text, record_of, refused_line, AreTables, IsShown, is_some};
 
 use crate::printing::dotted;
-use crate::shares::{least_moves, moved_slots, share_of};
+use crate::shares::{WORDS, entry_at, least_moves, moved_slots, shares_of};
 use crate::written_maps::WrittenMaps;
 use conntrack::BACKENDS;
 use control::{Command, ControlFault, Controller, Script};
@@ -174,19 +175,21 @@ fn record_of(backends: &[Value], number: u32) -> &[u8]
     }
 }
 
-/// Appends the lines of the backends below this number that own a slot, by rising number.
+/// Appends the lines of the backends below this number that own a slot, by rising number, where these are the shares of the words.
 #[tactic(auto, unfolding(crate::specs::TableText::lines_below))]
 fn put_below(
     alloc: Global,
     lines: &mut String,
     maps: &WrittenMaps,
+    shares: &[usize],
     most: u32,
 ) -> Result<(), AllocError>
-    requires { most < 2 ^ 31 }
+    requires few { most < 257 }
+    requires shares { AreShares maps.now.words 257 shares.now }
     ensures { OnOk result (string_bytes lines.new ≡ string_bytes lines.old ++ lines_below maps.now most) }
 {
     'numbers: for number in 0..most {
-        let share = share_of(number + 1, maps.words());
+        let share = entry_at(shares, number + 1);
         let backend = record_of(maps.backends(), number);
         put_backend(alloc, lines, maps.size(), number, share, backend)?;
     }
@@ -204,9 +207,10 @@ fn done_lines(
     ensures { IfOk result (λ lines. string_bytes lines ≡ done_lines place frame before.now maps.now) }
 {
     let moved = moved_slots(before, maps.words(), maps.size());
-    let least = least_moves(before, maps.words());
+    let least = least_moves(alloc, before, maps.words())?;
+    let shares = shares_of(alloc, maps.words(), WORDS)?;
     let mut lines = done_line(alloc, place, frame, moved, least)?;
-    put_below(alloc, &mut lines, maps, BACKENDS)?;
+    put_below(alloc, &mut lines, maps, &shares, BACKENDS)?;
     Ok(lines)
 }
 
