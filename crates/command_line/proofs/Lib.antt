@@ -2,4 +2,5 @@
 pub mod FaultNumbers
 pub mod Named
 pub mod Numbers
+pub mod PartWords
 pub mod Pushed

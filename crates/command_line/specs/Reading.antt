@@ -1,5 +1,5 @@
 -- What the settings are of a command and what was found for its arguments.
-use Rattle.std.specs.Prelude.{◌≡◌, ◌<◌, ◌^◌, ◌*◌, ◌+◌, ◌/◌, ℕ, Bool, List, [], length, true, false, ◌&&◌, Option, Some, None, option_map}
+use Rattle.std.specs.Prelude.{◌≡◌, ◌<◌, ◌^◌, ◌*◌, ◌+◌, ◌/◌, ℕ, Bool, List, [], ◌∷◌, ◌++◌, length, true, false, ◌&&◌, Option, Some, None, option_map}
 use Rattle.std.specs.Prelude.{◌⊎◌}
 use Rattle.std.specs.Prelude.{IsTrue, IsFalse, ◌||◌, codes, is_none, is_some, unwrap_or, slice_get, slice_index_or}
 use Rattle.std.specs.Borrow.{Bor}
@@ -10,6 +10,7 @@ use Rattle.clap.specs.Values.{kind_of}
 use Rattle.clap.specs.declared.error.kind.ErrorKind.{ErrorKind}
 use Rattle.clap.specs.declared.error.kind.ErrorKind.TheVariants.{ArgumentConflict, OutOfMemory, ValueValidation}
 use Rattle.semantics.specs.declared.options.Options.{Options}
+use Rattle.fleet.specs.declared.part.Part.{Part}
 use Rattle.command_line.specs.declared.commands.Reading.{Reading}
 use Rattle.command_line.specs.declared.commands.ReplayFiles.{ReplayFiles}
 use Rattle.command_line.specs.declared.commands.RunFiles.{RunFiles}
@@ -18,7 +19,7 @@ use Rattle.command_line.specs.declared.commands.Settings.TheVariants.{Check, Run
 use Rattle.command_line.specs.declared.commands.Settings.TheVariants.{Script, Compare}
 use Rattle.command_line.specs.declared.words.WordsFault.{WordsFault}
 use Rattle.command_line.specs.declared.words.WordsFault.TheVariants.{Parser, UnknownFault, Both, TwoImages, UpdatesAlone, JournalsOfNone}
-use Rattle.command_line.specs.declared.words.WordsFault.TheVariants.{Update}
+use Rattle.command_line.specs.declared.words.WordsFault.TheVariants.{Update, NoPart}
 use Rattle.command_line.specs.declared.words.AskedWords.{AskedWords}
 use Rattle.command_line.specs.declared.words.AskedWords.TheVariants as asks
 use Rattle.command_line.specs.declared.words.AskedWords.TheVariants.{Command, NoSuchFault, ImageAndScript, ImageAndProgram, NoUpdate}
@@ -160,6 +161,36 @@ IsReadingOf rows reading = IsSwitchOf (codes "skip-long") rows reading.skip_long
     × IsSwitchOf (codes "pad-cut") rows reading.pad_cut
     × IsSwitchOf (codes "allow-cut") rows reading.allow_cut
 
+-- the word is K/N, with a slash between two numbers: K is below N
+pub record IsPartWord (word : Text) (number of : ℕ) : Type 0 where
+  pub before : Text
+  pub after : Text
+  pub split : word ≡ before ++ 0x2f ∷ after
+  pub first : Writes before number
+  pub second : Writes after of
+  pub within : number < of
+  pub fits : of < 2 ^ 32
+
+-- the word is that of no part
+abbrev pub IsNoPartWord : Text → Type 0
+IsNoPartWord word = (number of : ℕ) → ¬ IsPartWord word number of
+
+-- the part that a word says
+pub record SaysPart (word : Text) (part : Option Part) : Type 0 where
+  pub said : Part
+  pub part_is : part ≡ Some said
+  pub spelled : IsPartWord word said.number said.of
+
+-- the part that is asked for, where one is
+abbrev pub IsPartAsked : Option Text → Option Part → Type 0
+IsPartAsked None part = part ≡ None
+IsPartAsked (Some word) part = SaysPart word part
+
+-- a part is asked for, and the word is that of none
+pub record AsksNoPart (asked : Option Text) (word : Text) : Type 0 where
+  pub given : asked ≡ Some word
+  pub none : IsNoPartWord word
+
 -- a replay is asked for one program, and for updates only where that is an image
 abbrev pub IsOfOneProgram : List Row → Type 0
 IsOfOneProgram rows = IsFalse (are_both_given (codes "image") (codes "script") rows)
@@ -176,6 +207,11 @@ pub record NamesKeptRows (rows : List Row) : Type 0 where
 abbrev pub IsOfUpdates : Text → List Row → Type 0
 IsOfUpdates name rows =
     is_named name (codes "run") ⊎ (is_named name (codes "replay") × IsOfOneProgram rows × NamesKeptRows rows)
+
+-- no update is malformed
+pub record AreSomeUpdates (rows : List Row) : Type 0 where
+  pub updates : List MapUpdate
+  pub are : AreUpdates (words_of (codes "update") rows) updates
 
 -- the settings are those of the command of this name, with what was found for its arguments
 abbrev pub IsReadFrom : Text → List Row → Settings → Type 0
@@ -220,6 +256,7 @@ IsReadFrom name rows (Replay asked) = is_named name (codes "replay")
     × IsSwitchOf (codes "exact") rows asked.exact
     × IsSwitchOf (codes "summary") rows asked.summary
     × IsReadingOf rows asked.reading
+    × IsPartAsked (first_of (codes "part") rows) asked.part
     × IsSwitchOf (codes "no-journals") rows asked.no_journals
     × IsSwitchOf (codes "strict") rows asked.strict
     × IsSwitchOf (codes "no-clobber") rows asked.no_clobber
@@ -228,7 +265,7 @@ IsReadFrom name rows (Replay asked) = is_named name (codes "replay")
     × AreUpdates (words_of (codes "update") rows) asked.updates.items
 
 -- what was asked for: a command, what a word means that is no fault, a replay of both an image and a script or of two images, one with
--- updates and without an image, one with a file for journals that keep no rows, or a malformed update
+-- updates and without an image, one with a file for journals that keep no rows, a malformed update, or a replay of no part
 abbrev pub IsAsked : Text → List Row → AskedWords → Type 0
 IsAsked name rows (Command settings) = IsReadFrom name rows settings
 IsAsked name rows (NoSuchFault word) = is_named name (codes "explain")
@@ -247,9 +284,14 @@ IsAsked name rows asks.JournalsOfNone = is_named name (codes "replay")
     × IsSwitchOf (codes "no-journals") rows true
     × IsTrue (has_journals rows)
 IsAsked name rows (NoUpdate place mistake) = IsOfUpdates name rows × IsBadUpdate (words_of (codes "update") rows) place mistake
+IsAsked name rows (asks.NoPart word) = is_named name (codes "replay")
+    × IsOfOneProgram rows
+    × NamesKeptRows rows
+    × AreSomeUpdates rows
+    × AsksNoPart (first_of (codes "part") rows) word.now
 
 -- the words ask for what there is not: what a word means that is no fault, a replay of both an image and a script or of two images, one
--- with updates and without an image, one with a file for journals that keep no rows, or a malformed update
+-- with updates and without an image, one with a file for journals that keep no rows, a malformed update, or a replay of no part
 abbrev pub AsksInVain : Text → List Row → WordsFault → Type 0
 AsksInVain name rows (UnknownFault word) = IsAsked name rows (NoSuchFault word)
 AsksInVain name rows Both = IsAsked name rows ImageAndScript
@@ -257,6 +299,7 @@ AsksInVain name rows TwoImages = IsAsked name rows ImageAndProgram
 AsksInVain name rows UpdatesAlone = IsAsked name rows asks.UpdatesAlone
 AsksInVain name rows JournalsOfNone = IsAsked name rows asks.JournalsOfNone
 AsksInVain name rows (Update place mistake) = IsAsked name rows (NoUpdate place mistake)
+AsksInVain name rows (NoPart word) = IsAsked name rows (asks.NoPart word)
 AsksInVain name rows (Parser error) = ⊥
 
 -- the parser's word for what the user asked for, or got wrong
@@ -272,3 +315,4 @@ kind_in TwoImages = ArgumentConflict
 kind_in UpdatesAlone = ArgumentConflict
 kind_in JournalsOfNone = ArgumentConflict
 kind_in (Update place mistake) = kind_of_mistake mistake
+kind_in (NoPart word) = ValueValidation

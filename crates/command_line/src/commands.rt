@@ -1,6 +1,7 @@
 //! What a command line says.
 
 use faults::Explanation;
+use fleet::Part;
 use map_updates::MapUpdate;
 use semantics::Options;
 
@@ -80,6 +81,8 @@ pub struct ReplaySettings<'a> {
     /// Whether lines on the error stream say what the traffic was.
     pub summary: bool,
     pub reading: Reading,
+    /// The part of the capture that is replayed; the whole capture where it is missing.
+    pub part: Option<Part>,
     /// Whether no rows of journals are kept, which then have room for 134,217,728 calls each; then no file is named for them.
     pub no_journals: bool,
     /// Whether a replay that leaves something out is done in part: a run that was stopped, a record that was skipped or cut, a command

@@ -66,6 +66,9 @@ pub const PAD_CUT: &str = "pad-cut";
 /// Whether a replay reads a capture that ends within a record.
 pub const ALLOW_CUT: &str = "allow-cut";
 
+/// The part of a capture that a replay takes.
+pub const PART: &str = "part";
+
 /// Whether a replay that leaves something out is done in part.
 pub const STRICT: &str = "strict";
 
@@ -254,6 +257,10 @@ A capture with a record of more than 2048 bytes is refused; with --skip-long
 such records are skipped, and a line on the standard error gives their number.
 With --pad-cut a record that was cut when it was captured has zeros up to the
 length of its frame; with --allow-cut the end of a capture may be missing.
+With --part the frames of some of the flows are replayed, so that N replays, of
+the parts 0 to N - 1, share a capture: a flow is in one part, by a hash of its
+key, and a frame without a flow is in part 0. The numbers of the script's
+commands still count the frames of the whole capture.
 With --strict the status is 1 where a run was stopped, a record was skipped, cut
 or filled up, or a command comes behind the last record. With --no-clobber a
 file that is to be written and is there already is a mistake, with status 2.
@@ -303,6 +310,18 @@ fn option<'a>(alloc: Global, id: &'a str, help: &'a str) -> Arg<'a>
         .action(ArgAction::Set)
         .value_name("FILE")
         .help(help)
+}
+
+/// The part of a capture, which may be given.
+fn part<'a>(alloc: Global) -> Arg<'a>
+    ensures rule { rule_of result ≡ line.option_rule (codes "part") }
+    ensures local { result.global ≡ false }
+{
+    Arg::new(alloc, PART)
+        .long(PART)
+        .action(ArgAction::Set)
+        .value_name("K/N")
+        .help("Replays part K of N, counted from 0: the frames of some of the flows")
 }
 
 /// An option of three words that may be given any number of times.
@@ -607,7 +626,7 @@ fn replay_noted<'a>(alloc: Global) -> Result<Command<'a>, AllocError>
         .arg(summary)
 }
 
-/// The same with how the capture's records are read.
+/// The same with how the capture's records are read, and which of them.
 fn replay_read<'a>(alloc: Global) -> Result<Command<'a>, AllocError>
     ensures app { IfOk result (λ command. app_of command ≡ line.replay_read) }
     ensures local { IfOk result (λ command. (out-Command command).has_globals ≡ false) }
@@ -630,7 +649,8 @@ fn replay_read<'a>(alloc: Global) -> Result<Command<'a>, AllocError>
     replay_noted(alloc)?
         .arg(skip_long)?
         .arg(pad_cut)?
-        .arg(allow_cut)
+        .arg(allow_cut)?
+        .arg(part(alloc))
 }
 
 fn replay<'a>(alloc: Global) -> Result<Command<'a>, AllocError>

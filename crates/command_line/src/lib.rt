@@ -3,6 +3,7 @@
 
 mod commands;
 mod grammar;
+mod part_word;
 mod words;
 
 pub use commands::{DEFAULT_RING, Reading, ReplayFiles, ReplaySettings, RunFiles, Settings};

@@ -14,18 +14,20 @@ ghost use Rattle.command_line.specs.Reading.{IsReadFrom, IsAsked, IsBadUpdate, I
 ghost use Rattle.command_line.specs.Reading.{IsFirstName, IsName, Says, SaysNone, Writes};
 ghost use Rattle.command_line.specs.Reading.{AreReplayFiles, AreReplayOptions, AsksInVain, IsNumberOf, IsOfOneProgram, IsReadingOf};
 ghost use Rattle.command_line.specs.Reading.{are_both_given, are_updates_alone, either, has_journals, has_updates, kind_in, text_of, word_at};
-ghost use Rattle.command_line.specs.Reading.{word_of, words_of};
+ghost use Rattle.command_line.specs.Reading.{word_of, words_of, AsksNoPart, IsPartAsked};
 ghost use Rattle.clap.specs.declared.error.kind.ErrorKind.TheVariants.{DisplayHelp, DisplayVersion, OutOfMemory};
 
 use crate::commands::{DEFAULT_RING, Reading, ReplayFiles, ReplaySettings, RunFiles, Settings};
 use crate::grammar::{
     ALLOW_CUT, CAPTURE, EXACT, EXPLAIN, FAULT, FIRST, FRAME, IMAGE, JOURNAL, JOURNALS,
-    JOURNALS_OUT, NO_CLOBBER, NO_JOURNALS, NOW, OUT, PAD_CUT, PROGRAM, REPLAY_IMAGE, REPORT, RING,
-    SCRIPT, SECOND, SENT, SHARDS, SKIP_LONG, SOURCE, STRICT, SUMMARY, TABLE_SCRIPT, TEXT, TIMED,
-    UPDATE, WORKER, WORKERS, program,
+    JOURNALS_OUT, NO_CLOBBER, NO_JOURNALS, NOW, OUT, PAD_CUT, PART, PROGRAM, REPLAY_IMAGE, REPORT,
+    RING, SCRIPT, SECOND, SENT, SHARDS, SKIP_LONG, SOURCE, STRICT, SUMMARY, TABLE_SCRIPT, TEXT,
+    TIMED, UPDATE, WORKER, WORKERS, program,
 };
+use crate::part_word::part_said;
 use clap::{ArgMatches, Error};
 use faults::Explanation;
+use fleet::Part;
 use map_updates::{MapUpdate, Mistake, update_of};
 use semantics::Options;
 use std::alloc::Global;
@@ -61,6 +63,8 @@ pub enum WordsFault<'a> {
     JournalsOfNone,
     /// An update of a run or a replay, at this place among its updates, from 0, is malformed; or memory was refused for it.
     Update { place: usize, mistake: Mistake },
+    /// A replay has a part whose word is not K/N, with K below N.
+    NoPart(&'a str),
 }
 
 /// What words ask for that the parser finds no fault in.
@@ -80,6 +84,8 @@ enum AskedWords<'a> {
     JournalsOfNone,
     /// A run or a replay with a malformed update.
     NoUpdate { place: usize, mistake: Mistake },
+    /// A replay of a part whose word is that of none.
+    NoPart(&'a str),
 }
 
 impl WordsFault<'_> {
@@ -96,6 +102,7 @@ impl WordsFault<'_> {
             WordsFault::UpdatesAlone => 2,
             WordsFault::JournalsOfNone => 2,
             WordsFault::Update { .. } => 2,
+            WordsFault::NoPart(_) => 2,
         }
     }
 
@@ -121,6 +128,12 @@ impl fmt::Display for WordsFault<'_> {
                 let number = place.saturating_add(1);
                 write!(f, "error: update {number}: {mistake}")
             }
+            WordsFault::NoPart(word) => {
+                write!(
+                    f,
+                    "error: --part takes K/N, where K counts from 0 and is below N, and not {word}"
+                )
+            }
         }
     }
 }
@@ -129,7 +142,7 @@ impl fmt::Display for WordsFault<'_> {
 ///
 /// There is one exactly where the parser finds no fault in the words, and they don't ask what a word means that is no fault, for a
 /// replay of both an image and a script or of two images, for one with updates and without `--image`, for one with a file for journals that
-/// keep no rows, or for a run or a replay with a malformed update. Of several of these the first in this order is the fault. A fault is of
+/// keep no rows, for a run or a replay with a malformed update, or for a replay of a part that is not K/N. Of several of these the first in this order is the fault. A fault is of
 /// the first kind that the parser finds, or one of these, or memory was refused.
 pub fn settings<'a, S: AsStr>(alloc: Global, words: &'a [S]) -> Result<Settings<'a>, WordsFault<'a>>
     ensures found { IfOk result (λ settings. (name : Text) × (rows : List Row)
@@ -148,6 +161,7 @@ pub fn settings<'a, S: AsStr>(alloc: Global, words: &'a [S]) -> Result<Settings<
         Ok(AskedWords::UpdatesAlone) => Err(WordsFault::UpdatesAlone),
         Ok(AskedWords::JournalsOfNone) => Err(WordsFault::JournalsOfNone),
         Ok(AskedWords::NoUpdate { place, mistake }) => Err(WordsFault::Update { place, mistake }),
+        Ok(AskedWords::NoPart(word)) => Err(WordsFault::NoPart(word)),
         Err(error) => Err(WordsFault::Parser(error)),
     }
 }
@@ -274,21 +288,55 @@ fn replay_of<'a>(alloc: Global, found: &ArgMatches<'a>) -> AskedWords<'a>
         return AskedWords::JournalsOfNone;
     }
     match updates_found(alloc, found) {
-        Ok(updates) => AskedWords::Command(replay_with(found, no_journals, updates)),
+        Ok(updates) => replay_of_part(found, no_journals, updates),
         Err((place, mistake)) => AskedWords::NoUpdate { place, mistake },
     }
 }
 
-/// The settings of a replay with these updates, with rows of journals or without.
+/// What is asked of a replay with these updates, with rows of journals or without.
+fn replay_of_part<'a>(
+    found: &ArgMatches<'a>,
+    no_journals: bool,
+    updates: Vec<MapUpdate>,
+) -> AskedWords<'a>
+    requires program { IsOfOneProgram (rows_of (found_of found.now)) }
+    requires journals { IsSwitchOf (codes "no-journals") (rows_of (found_of found.now)) no_journals }
+    requires rows { IsFalse (no_journals && has_journals (rows_of (found_of found.now))) }
+    requires updates { AreUpdates (words_of (codes "update") (rows_of (found_of found.now))) updates.items }
+    ensures { IsAsked (codes "replay") (rows_of (found_of found.now)) result }
+{
+    match part_found(found) {
+        Ok(part) => AskedWords::Command(replay_with(found, no_journals, updates, part)),
+        Err(word) => AskedWords::NoPart(word),
+    }
+}
+
+/// The part that is asked for, where one is; or the word that is that of none.
+fn part_found<'a>(found: &ArgMatches<'a>) -> Result<Option<Part>, &'a str>
+    ensures asked { IfOk result (IsPartAsked (first_of (codes "part") (rows_of (found_of found.now)))) }
+    ensures none { IfErr result (λ word. AsksNoPart (first_of (codes "part") (rows_of (found_of found.now))) word.now) }
+{
+    match option(found, PART) {
+        Some(word) => match part_said(word) {
+            Some(part) => Ok(Some(part)),
+            None => Err(word),
+        },
+        None => Ok(None),
+    }
+}
+
+/// The settings of a replay with these updates, with rows of journals or without, of this part of its capture.
 fn replay_with<'a>(
     found: &ArgMatches<'a>,
     no_journals: bool,
     updates: Vec<MapUpdate>,
+    part: Option<Part>,
 ) -> Settings<'a>
     requires program { IsOfOneProgram (rows_of (found_of found.now)) }
     requires journals { IsSwitchOf (codes "no-journals") (rows_of (found_of found.now)) no_journals }
     requires rows { IsFalse (no_journals && has_journals (rows_of (found_of found.now))) }
     requires updates { AreUpdates (words_of (codes "update") (rows_of (found_of found.now))) updates.items }
+    requires part { IsPartAsked (first_of (codes "part") (rows_of (found_of found.now))) part }
     ensures { IsReadFrom (codes "replay") (rows_of (found_of found.now)) result }
 {
     Settings::Replay(ReplaySettings {
@@ -298,6 +346,7 @@ fn replay_with<'a>(
         exact: switch(found, EXACT),
         summary: switch(found, SUMMARY),
         reading: reading_of(found),
+        part,
         no_journals,
         strict: switch(found, STRICT),
         no_clobber: switch(found, NO_CLOBBER),

@@ -20,6 +20,7 @@ mod images;
 mod in_pieces;
 mod long_records;
 mod one_run;
+mod parts;
 mod programs;
 mod record_reports;
 mod replays;

@@ -35,6 +35,7 @@ fn shown(rt: &impl Abort, alloc: Global, settings: Settings<'_>) -> Result<Strin
         Settings::Replay(asked) => {
             let mut text = replay_shown(rt, alloc, asked.files, asked.options, asked.ring);
             put_flags(rt, &mut text, &asked);
+            put_part(rt, alloc, &mut text, &asked);
             put_report(rt, &mut text, asked.files);
             put_updates(rt, alloc, &mut text, &asked.updates);
             Ok(text)
@@ -59,6 +60,16 @@ fn put_flags(rt: &impl Abort, text: &mut String, asked: &ReplaySettings<'_>) {
     put_if(rt, text, asked.no_journals, " no-journals");
     put_if(rt, text, asked.strict, " strict");
     put_if(rt, text, asked.no_clobber, " no-clobber");
+}
+
+/// The part of a replay, where one is asked for.
+fn put_part(rt: &impl Abort, alloc: Global, text: &mut String, asked: &ReplaySettings<'_>) {
+    if let Some(part) = asked.part {
+        let number = part.number;
+        let of = part.of;
+        let shown = format!(in alloc; " part {number} of {of}").expect(rt, "memory");
+        text.push_str(shown.as_str()).expect(rt, "memory");
+    }
 }
 
 /// Whether a replay has no steering, and the file of its report.
@@ -122,7 +133,7 @@ fn replay_shown(
 }
 
 #[rattlefmt::skip]
-const READ: [(&str, &str); 50] = [
+const READ: [(&str, &str); 53] = [
     ("xlb check a",                             "check a false"),
     ("xlb check --explain a",                   "check a true"),
     ("xlb check a --explain",                   "check a true"),
@@ -168,6 +179,9 @@ const READ: [(&str, &str); 50] = [
     ("xlb replay a b --no-clobber",             "replay a b - - 1 1 65536 251 - no-clobber"),
     ("xlb replay a b --no-clobber --strict --allow-cut --pad-cut --skip-long --exact",
         "replay a b - - 1 1 65536 251 - exact skip-long pad-cut allow-cut strict no-clobber"),
+    ("xlb replay a b --part 0/1",              "replay a b - - 1 1 65536 251 - part 0 of 1"),
+    ("xlb replay --part=3/8 a b --exact",      "replay a b - - 1 1 65536 251 - exact part 3 of 8"),
+    ("xlb replay a b --part +1/4294967295",    "replay a b - - 1 1 65536 251 - part 1 of 4294967295"),
     ("xlb script a b",                          "script a b"),
     ("xlb compare a b",                         "compare a b"),
     ("xlb replay a b --no-journals --workers 4", "replay a b - - 4 1 65536 251 - no-journals"),
@@ -198,7 +212,7 @@ fn reads_commands(rt: HostRuntime) {
 
 /// A command line, the status, and what its text begins with.
 #[rattlefmt::skip]
-const REFUSED: [(&str, u8, &str); 60] = [
+const REFUSED: [(&str, u8, &str); 69] = [
     ("xlb",                                     2, "error: 'xlb' requires a subcommand but one was not provided"),
     ("xlb play a b",                            2, "error: unrecognized subcommand 'play'"),
     ("xlb replay a",                            2, "error: the following required arguments were not provided:\n  <SENT>"),
@@ -216,6 +230,16 @@ const REFUSED: [(&str, u8, &str); 60] = [
     ("xlb replay a b --skip-long=yes",          2, "error: unexpected value 'yes' for '--skip-long' found; no more were expected"),
     ("xlb replay a b --report",                 2, "error: a value is required for '--report <FILE>' but none was supplied"),
     ("xlb run a b --report r",                  2, "error: unexpected argument '--report' found"),
+    ("xlb replay a b --part 4/4",               2, "error: --part takes K/N, where K counts from 0 and is below N, and not 4/4"),
+    ("xlb replay a b --part 0/0",               2, "error: --part takes K/N, where K counts from 0 and is below N, and not 0/0"),
+    ("xlb replay a b --part 1",                 2, "error: --part takes K/N, where K counts from 0 and is below N, and not 1"),
+    ("xlb replay a b --part /2",                2, "error: --part takes K/N, where K counts from 0 and is below N, and not /2"),
+    ("xlb replay a b --part 1/2/3",             2, "error: --part takes K/N, where K counts from 0 and is below N, and not 1/2/3"),
+    ("xlb replay a b --part 0/4294967296",      2, "error: --part takes K/N, where K counts from 0 and is below N, and not 0/4294967296"),
+    ("xlb replay a b --part 2/1 --image i --update 0 7 02", 2,
+        "error: update 1: its key has not two hexadecimal digits for each of at most 32 bytes"),
+    ("xlb replay a b --part",                   2, "error: a value is required for '--part <K/N>' but none was supplied"),
+    ("xlb replay a b --part 0/2 --part 1/2",    2, "error: the argument '--part' cannot be used multiple times"),
     ("xlb help",                                0,
         "Replays captures through eBPF programs; checks, runs, audits, prints and assembles them"),
     ("xlb check",                               2, "error: the following required arguments were not provided:\n  <IMAGE>"),

@@ -11,13 +11,15 @@ use Rattle.journals.specs.JournalsView.{JournalsView}
 use Rattle.command_line.specs.declared.commands.ReplayFiles.{ReplayFiles}
 use Rattle.command_line.specs.Reading.{text_of}
 use Rattle.traffic.specs.declared.readings.Reading.{Reading}
+use Rattle.fleet.specs.declared.part.Part.{Part}
 use Rattle.xlb_commands.specs.declared.fault.Fault.{Fault}
 use Rattle.xlb_commands.specs.declared.report.Report.{Report}
 use Rattle.xlb_commands.specs.Files.{FileBytes, AreKept, AreOthersKept, AreAllButKept}
 use Rattle.xlb_commands.specs.Replays.{IsCaptureOf, IsReplayReport, IsScriptOf}
 use Rattle.xlb_commands.specs.Refused.{AreUnfiled, no_sent_file, no_journals_file, no_report_file}
 use Rattle.xlb_commands.specs.Refused.{IsBrokenOff, no_piece, no_replay_memory}
-use Rattle.xlb_commands.specs.Refused.{IsUnreplayed, no_replay_capture, given_up, broken_off, not_reported, not_written_down}
+use Rattle.xlb_commands.specs.Refused.{IsUnmade, given_up, not_reported, not_written_down}
+use Rattle.xlb_commands.specs.Refused.{IsUnreplayed, no_replay_capture, no_part, broken_off, unmade}
 use Rattle.xlb_commands.proofs.Refusals.{kept_twice, unserved_since, unfiled_since, capture_refusal_before}
 
 -- after calls that changed nothing
@@ -57,46 +59,41 @@ broken_since failed since fault so (no_piece unserved) = no_piece (unserved_sinc
 broken_since failed since fault so (no_replay_memory is) = no_replay_memory is
 
 pub report_before : (a b c : FileBytes) (files : ReplayFiles) (program : Contents) (states : List (Option State)) (script : List Command) (options : Options)
-    (recording : Recording) (ring : ℕ) (exact : Bool) (reading : Reading) (updates : List MapUpdate) (report : Report) → AreKept a b
-    → IsReplayReport b c files program states script options recording ring exact reading updates report
-    → IsReplayReport a c files program states script options recording ring exact reading updates report
-report_before a b c files program states script options recording ring exact reading updates report kept is = (
-  is.0,
-  record {
-    records = is.1.records;
-    capture = capture_before a b kept reading files.capture.now is.1.records is.1.capture;
-    outcome = is.1.outcome;
-    made = is.1.made;
-    headline = is.1.headline;
-    by_rule = is.1.by_rule;
-    readers = is.1.readers;
-    refused_are = is.1.refused_are;
-    sent = is.1.sent;
-    journals = is.1.journals;
-    accepted = is.1.accepted;
-    report = is.1.report;
-    lines = is.1.lines;
-  },
-  is.2,
-  is.3,
-)
+    (recording : Recording) (ring : ℕ) (exact : Bool) (reading : Reading) (part : Option Part) (updates : List MapUpdate) (report : Report) → AreKept a b
+    → IsReplayReport b c files program states script options recording ring exact reading part updates report
+    → IsReplayReport a c files program states script options recording ring exact reading part updates report
+report_before a b c files program states script options recording ring exact reading part updates report kept is = record {
+  captured = is.captured;
+  capture = capture_before a b kept reading files.capture.now is.captured is.capture;
+  of_part = is.of_part;
+}
+
+pub unmade_before : (a b c : FileBytes) (failed since : Type 0) (names : ReplayFiles) (program : Contents) (script : List Command) (options : Options)
+    (recording : Recording) (exact : Bool) (updates : List MapUpdate) (records : List Sent) (fault : Fault) → AreKept a b → (failed → since)
+    → IsUnmade b c failed names program script options recording exact updates records fault
+    → IsUnmade a c since names program script options recording exact updates records fault
+unmade_before a b c failed since names program script options recording exact updates records fault kept so (given_up why still given is) =
+    given_up why (kept_twice a b c kept still) given is
+unmade_before a b c failed since names program script options recording exact updates records fault kept so (not_reported outcome still made lacks) =
+    not_reported outcome (kept_twice a b c kept still) made lacks
+unmade_before a b c failed since names program script options recording exact updates records fault kept so (not_written_down outcome made unfiled) =
+    not_written_down outcome made (unfiled_before a b c failed since names _ outcome.journals fault kept so unfiled)
 
 pub unreplayed_before : (a b c : FileBytes) (failed since : Type 0) (names : ReplayFiles) (program : Contents) (script : List Command) (options : Options)
-    (recording : Recording) (exact : Bool) (reading : Reading) (updates : List MapUpdate) (fault : Fault) → AreKept a b → (failed → since)
-    → IsUnreplayed b c failed names program script options recording exact reading updates fault
-    → IsUnreplayed a c since names program script options recording exact reading updates fault
-unreplayed_before a b c failed since names program script options recording exact reading updates fault kept so (no_replay_capture still refused) =
+    (recording : Recording) (exact : Bool) (reading : Reading) (part : Option Part) (updates : List MapUpdate) (fault : Fault) → AreKept a b
+    → (failed → since)
+    → IsUnreplayed b c failed names program script options recording exact reading part updates fault
+    → IsUnreplayed a c since names program script options recording exact reading part updates fault
+unreplayed_before a b c failed since names program script options recording exact reading part updates fault kept so (no_replay_capture still refused) =
     no_replay_capture (kept_twice a b c kept still) (capture_refusal_before a b failed since reading names.capture.now fault kept so refused)
-unreplayed_before a b c failed since names program script options recording exact reading updates fault kept so (given_up records why still capture given is) =
-    given_up records why (kept_twice a b c kept still) (capture_before a b kept reading names.capture.now records capture) given is
-unreplayed_before a b c failed since names program script options recording exact reading updates fault kept so
-    (broken_off records is_exact all no_report still capture fit broken) =
-    broken_off records is_exact all no_report (kept_twice a b c kept still) (capture_before a b kept reading names.capture.now records capture) fit
-    (broken_since failed since fault so broken)
-unreplayed_before a b c failed since names program script options recording exact reading updates fault kept so
-    (not_reported records outcome still capture made lacks) =
-    not_reported records outcome (kept_twice a b c kept still) (capture_before a b kept reading names.capture.now records capture) made lacks
-unreplayed_before a b c failed since names program script options recording exact reading updates fault kept so
-    (not_written_down records outcome capture made unfiled) =
-    not_written_down records outcome (capture_before a b kept reading names.capture.now records capture) made
-    (unfiled_before a b c failed since names _ outcome.journals fault kept so unfiled)
+unreplayed_before a b c failed since names program script options recording exact reading part updates fault kept so
+    (no_part captured taken still capture some is) =
+    no_part captured taken (kept_twice a b c kept still) (capture_before a b kept reading names.capture.now captured capture) some is
+unreplayed_before a b c failed since names program script options recording exact reading part updates fault kept so
+    (broken_off captured is_exact all whole no_report still capture fit broken) =
+    broken_off captured is_exact all whole no_report (kept_twice a b c kept still)
+    (capture_before a b kept reading names.capture.now captured capture) fit (broken_since failed since fault so broken)
+unreplayed_before a b c failed since names program script options recording exact reading part updates fault kept so
+    (unmade captured capture is) =
+    unmade captured (capture_before a b kept reading names.capture.now captured capture)
+    (unmade_before a b c failed since names program _ options recording exact updates _ fault kept so is)

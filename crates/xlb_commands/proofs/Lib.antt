@@ -3,6 +3,7 @@ pub mod AcceptedJournals
 pub mod Earlier
 pub mod LongImages
 pub mod Outcomes
+pub mod PartScripts
 pub mod PieceLemmas
 pub mod ReaderFiles
 pub mod Refusals

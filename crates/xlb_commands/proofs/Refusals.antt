@@ -41,6 +41,14 @@ kept_twice a b c first second = λ name bytes. (
   (λ has. (first name bytes).1 ((second name bytes).1 has)),
 )
 
+-- and by looking back
+pub kept_back : (a b : FileBytes) → AreKept a b → AreKept b a
+kept_back a b kept = λ name bytes. ((kept name bytes).1, (kept name bytes).0)
+
+-- and by doing nothing
+pub kept_still : (a : FileBytes) → AreKept a a
+kept_still a = λ name bytes. ((λ has. has), (λ has. has))
+
 pub script_refusal_before : (before after : FileBytes) (failed since : Type 0) (name : Option (List ℕ)) (fault : Fault) → AreKept before after → (failed → since)
     → IsScriptRefusal after failed name fault → IsScriptRefusal before since name fault
 script_refusal_before before after failed since None fault kept so is = is

@@ -12,20 +12,32 @@ use Rattle.xlb_commands.specs.declared.fault.Fault.{Fault}
 use Rattle.xlb_commands.specs.declared.replays.Asked.{Asked}
 use Rattle.xlb_commands.specs.declared.report.Report.{Report}
 use Rattle.xlb_commands.specs.Files.{FileBytes, AreAllButKept}
-use Rattle.xlb_commands.specs.Refused.{IsGivenUp, IsUnreplayed}
-use Rattle.xlb_commands.specs.Replays.{IsCaptureOf, IsMade, IsReplayReport, image_of}
+use Rattle.xlb_commands.specs.Refused.{IsGivenUp, IsUnmade, IsUnreplayed}
+use Rattle.xlb_commands.specs.Replays.{IsCaptureOf, IsMade, IsReplayReport, IsReportOf, image_of}
+
+-- it was made of these records, and this is its report
+abbrev pub IsAnsweredOf : FileBytes → Asked → List Sent → Report → Type 0
+IsAnsweredOf after asked records report =
+    IsReportOf after asked.files.now (image_of asked.verified.now) asked.verified.now.states asked.script.now asked.options asked.recording
+    asked.ring asked.exact asked.updates.now records report
+
+-- it was not made of these records, or not written down, and this is why
+abbrev pub IsDeniedOf : FileBytes → FileBytes → Type 0 → Asked → List Sent → Fault → Type 0
+IsDeniedOf before after failed asked records fault =
+    IsUnmade before after failed asked.files.now (image_of asked.verified.now) asked.script.now asked.options asked.recording asked.exact
+    asked.updates.now records fault
 
 -- it was made, and this is its report
 abbrev pub IsAnswered : FileBytes → FileBytes → Asked → Report → Type 0
 IsAnswered before after asked report =
     IsReplayReport before after asked.files.now (image_of asked.verified.now) asked.verified.now.states asked.script.now asked.options
-    asked.recording asked.ring asked.exact asked.reading asked.updates.now report
+    asked.recording asked.ring asked.exact asked.reading asked.part asked.updates.now report
 
 -- it was not made, or not written down, and this is why
 abbrev pub IsDenied : FileBytes → FileBytes → Type 0 → Asked → Fault → Type 0
 IsDenied before after failed asked fault =
     IsUnreplayed before after failed asked.files.now (image_of asked.verified.now) asked.script.now asked.options asked.recording
-    asked.exact asked.reading asked.updates.now fault
+    asked.exact asked.reading asked.part asked.updates.now fault
 
 -- no file changed but those that it is to write
 abbrev pub LeavesOthers : FileBytes → FileBytes → Asked → Type 0

@@ -2,6 +2,7 @@
 pub mod Files
 pub mod Clashes
 pub mod RecordReports
+pub mod Parts
 pub mod Replays
 pub mod Tables
 pub mod Timed

@@ -70,9 +70,11 @@ use Rattle.command_line.specs.declared.commands.Settings.TheVariants.{Script, Co
 use Rattle.timed_scripts.specs.MeantScript.{Explains as MeansNone}
 use Rattle.traffic.specs.Readings.{alters, unaltered}
 use Rattle.traffic.specs.declared.readings.Reading.{Reading}
+use Rattle.fleet.specs.declared.part.Part.{Part}
 use Rattle.xlb_commands.specs.declared.fault.Fault.{Fault}
 use Rattle.xlb_commands.specs.declared.fault.Fault.TheVariants as faults
 use Rattle.xlb_commands.specs.Files.{FileBytes, AreKept, AreOthersKept, IsImageFile, IsJudged}
+use Rattle.xlb_commands.specs.Parts.{records_in, script_in}
 use Rattle.xlb_commands.specs.Clashes.{IsOver, clash_text, IsWrittenAnew, present_text}
 use Rattle.xlb_commands.specs.FaultLines.{fault_line, mistake_text}
 use Rattle.xlb_commands.specs.Replays.{AreWritten, IsProgramOf, IsScriptFile, IsScriptOf, IsCaptureOf, AreCaptureBytes, program_of_replay}
@@ -410,45 +412,59 @@ pub data IsBrokenOff (failed : Type 0) (fault : Fault) : Type 0 where
   no_piece : IsUnserved failed fault → IsBrokenOff failed fault
   no_replay_memory : fault ≡ faults.Replay replays.Memory → IsBrokenOff failed fault
 
--- Of a program that may run and whose maps take the updates, and a script: no capture; a replay that was given up; an exact one that was
--- broken off; one that was made, and memory was refused for its sent frames, its journals, its report or what is printed; until then no
--- file changed; or its files were not written.
-pub data IsUnreplayed (files after : FileBytes) (failed : Type 0) (names : ReplayFiles) (program : Contents) (script : List Command)
-    (options : Options) (recording : Recording) (exact : Bool) (reading : Reading) (updates : List MapUpdate) (fault : Fault) : Type 0 where
-  no_replay_capture : AreKept files after → IsCaptureRefusal files failed reading names.capture.now fault
-      → IsUnreplayed files after failed names program script options recording exact reading updates fault
-  given_up : (records : List Sent) (why : ReplayFault) → AreKept files after → IsCaptureOf files reading names.capture.now records
-      → IsGivenUp exact program.maps updates script options recording why → fault ≡ faults.Replay why
-      → IsUnreplayed files after failed names program script options recording exact reading updates fault
-  broken_off : (records : List Sent) → exact ≡ true → reading ≡ unaltered → text_of names.report ≡ None → AreKept files after
-      → IsCaptureOf files reading names.capture.now records → (¬ AreBadOptions program.maps options script) → IsBrokenOff failed fault
-      → IsUnreplayed files after failed names program script options recording exact reading updates fault
-  not_reported : (records : List Sent) (outcome : Outcome) → AreKept files after → IsCaptureOf files reading names.capture.now records
+-- Of a program that may run and whose maps take the updates, a script and the records of a capture: a replay that was given up; one that was
+-- made, and memory was refused for its sent frames, its journals, its report or what is printed; until then no file changed; or its files
+-- were not written.
+pub data IsUnmade (before after : FileBytes) (failed : Type 0) (names : ReplayFiles) (program : Contents) (script : List Command)
+    (options : Options) (recording : Recording) (exact : Bool) (updates : List MapUpdate) (records : List Sent) (fault : Fault) : Type 0 where
+  given_up : (why : ReplayFault) → AreKept before after → IsGivenUp exact program.maps updates script options recording why
+      → fault ≡ faults.Replay why → IsUnmade before after failed names program script options recording exact updates records fault
+  not_reported : (outcome : Outcome) → AreKept before after
       → IsMade exact (program_of_replay program options) updates script (recorded recording options) records outcome
       → LacksRoom (text_of names.journals) fault
-      → IsUnreplayed files after failed names program script options recording exact reading updates fault
-  not_written_down : (records : List Sent) (outcome : Outcome) → IsCaptureOf files reading names.capture.now records
+      → IsUnmade before after failed names program script options recording exact updates records fault
+  not_written_down : (outcome : Outcome)
       → IsMade exact (program_of_replay program options) updates script (recorded recording options) records outcome
-      → AreUnfiled files after failed names (capture_bytes outcome.sent.items) outcome.journals fault
-      → IsUnreplayed files after failed names program script options recording exact reading updates fault
+      → AreUnfiled before after failed names (capture_bytes outcome.sent.items) outcome.journals fault
+      → IsUnmade before after failed names program script options recording exact updates records fault
+
+-- Of a program that may run and whose maps take the updates, and a script: no capture; one of which a part is replayed, and memory was
+-- refused for the script's commands in it; an exact replay of the whole capture that was broken off; until then no file changed; or no
+-- replay of the part was made and written down.
+pub data IsUnreplayed (files after : FileBytes) (failed : Type 0) (names : ReplayFiles) (program : Contents) (script : List Command)
+    (options : Options) (recording : Recording) (exact : Bool) (reading : Reading) (part : Option Part) (updates : List MapUpdate)
+    (fault : Fault) : Type 0 where
+  no_replay_capture : AreKept files after → IsCaptureRefusal files failed reading names.capture.now fault
+      → IsUnreplayed files after failed names program script options recording exact reading part updates fault
+  no_part : (captured : List Sent) (taken : Part) → AreKept files after → IsCaptureOf files reading names.capture.now captured
+      → part ≡ Some taken → fault ≡ faults.Memory
+      → IsUnreplayed files after failed names program script options recording exact reading part updates fault
+  broken_off : (captured : List Sent) → exact ≡ true → reading ≡ unaltered → part ≡ None → text_of names.report ≡ None
+      → AreKept files after → IsCaptureOf files reading names.capture.now captured → (¬ AreBadOptions program.maps options script)
+      → IsBrokenOff failed fault
+      → IsUnreplayed files after failed names program script options recording exact reading part updates fault
+  unmade : (captured : List Sent) → IsCaptureOf files reading names.capture.now captured
+      → IsUnmade files after failed names program (script_in part captured script) options recording exact updates (records_in part captured)
+      fault
+      → IsUnreplayed files after failed names program script options recording exact reading part updates fault
 
 -- xlb replay: no program that may run; no script; or both, and no replay that was made and written down
 pub data IsReplayRefusal (files after : FileBytes) (failed : Type 0) (names : ReplayFiles) (options : Options) (recording : Recording)
-    (ring : ℕ) (exact : Bool) (reading : Reading) (updates : List MapUpdate) (fault : Fault) : Type 0 where
+    (ring : ℕ) (exact : Bool) (reading : Reading) (part : Option Part) (updates : List MapUpdate) (fault : Fault) : Type 0 where
   no_replay_program : AreKept files after → IsReplayProgramRefusal files failed (text_of names.image) ring fault
-      → IsReplayRefusal files after failed names options recording ring exact reading updates fault
+      → IsReplayRefusal files after failed names options recording ring exact reading part updates fault
   no_replay_script : (program : Contents) → AreKept files after → IsReplayProgram files (text_of names.image) ring program
       → AreFitting program.maps updates → IsScriptRefusal files failed (text_of names.script) fault
-      → IsReplayRefusal files after failed names options recording ring exact reading updates fault
+      → IsReplayRefusal files after failed names options recording ring exact reading part updates fault
   not_replayed : (program : Contents) (script : List Command) → IsReplayProgram files (text_of names.image) ring program
       → AreFitting program.maps updates → IsScriptOf files (text_of names.script) script
-      → IsUnreplayed files after failed names program script options recording exact reading updates fault
-      → IsReplayRefusal files after failed names options recording ring exact reading updates fault
+      → IsUnreplayed files after failed names program script options recording exact reading part updates fault
+      → IsReplayRefusal files after failed names options recording ring exact reading part updates fault
 
 -- the same of what is asked
 abbrev pub IsReplayRefused : FileBytes → FileBytes → Type 0 → ReplaySettings → Fault → Type 0
 IsReplayRefused before after failed asked fault =
-    IsReplayRefusal before after failed asked.files asked.options (recording_in asked) asked.ring asked.exact (reading_in asked)
+    IsReplayRefusal before after failed asked.files asked.options (recording_in asked) asked.ring asked.exact (reading_in asked) asked.part
     asked.updates.items fault
 
 -- ---- commands

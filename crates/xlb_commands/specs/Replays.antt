@@ -43,11 +43,13 @@ use Rattle.steered_replays.specs.Totals.{AreTotals}
 use Rattle.traffic.specs.Readings.{IsAltered, alters}
 use Rattle.traffic.specs.declared.readings.AlteredCapture.{AlteredCapture}
 use Rattle.traffic.specs.declared.readings.Reading.{Reading}
+use Rattle.fleet.specs.declared.part.Part.{Part}
 use Rattle.command_line.specs.declared.commands.ReplayFiles.{ReplayFiles}
 use Rattle.command_line.specs.declared.commands.ReplaySettings.{ReplaySettings}
 use Rattle.command_line.specs.Reading.{text_of}
 use Rattle.xlb_commands.specs.declared.report.Report.{Report}
 use Rattle.xlb_commands.specs.Files.{FileBytes, IsImageFile}
+use Rattle.xlb_commands.specs.Parts.{records_in, script_in}
 use Rattle.xlb_commands.specs.RecordReports.{IsReportFile}
 
 -- ---- what is read
@@ -222,16 +224,14 @@ pub record KeepsHeadline (image : Contents) (script : List Command) (options : O
   pub same :
       subst (λ (one : Contents). IsAccounted (program_of_replay one options) script options records outcome) image_is accounted ≡ made
 
--- Of a program that may run and a script: the capture is read from its file; the replay was made, with these updates; it is one list of
+-- Of a program that may run, a script and the records of a capture: the replay was made, with these updates; it is one list of
 -- events, which keeps the headline; without updates the shipped program follows the steering rule, and one that only reads sends the same for every number of workers;
 -- the sent frames, the journals and the report are written to their files; and what is printed are the counts, and the commands that were
 -- refused. The journals that are written are ones that `xlb audit` accepts. Where no rows of journals are kept, they are known to proofs
 -- alone.
-pub record IsReplayedWith (before after : FileBytes) (files : ReplayFiles) (program : Contents) (states : List (Option State))
-    (script : List Command) (options : Options) (recording : Recording) (ring : ℕ) (exact : Bool) (reading : Reading) (updates : List MapUpdate)
-    (printed : List ℕ) (refused : List Applied) : Type 0 where
-  pub records : List Sent
-  pub capture : IsCaptureOf before reading files.capture.now records
+pub record IsReplayedWith (after : FileBytes) (files : ReplayFiles) (program : Contents) (states : List (Option State))
+    (script : List Command) (options : Options) (recording : Recording) (ring : ℕ) (exact : Bool) (updates : List MapUpdate)
+    (records : List Sent) (printed : List ℕ) (refused : List Applied) : Type 0 where
   pub outcome : Outcome
   pub made : IsMade exact (program_of_replay program options) updates script (recorded recording options) records outcome
   pub headline : KeepsHeadline program script (recorded recording options) records outcome made.accounted
@@ -261,15 +261,25 @@ pub record LeavesNothingOut (script : List Command) (records : List Sent) (outco
   pub in_time : AllByRecursion (IsInTime (length records)) script
 
 -- the report is that of such a replay, and says whether a command was refused, and where nothing was left out
-abbrev pub IsReplayReport : FileBytes → FileBytes → ReplayFiles → Contents → List (Option State) → List Command → Options → Recording
-    → ℕ → Bool → Reading → List MapUpdate → Report → Type 0
-IsReplayReport before after files program states script options recording ring exact reading updates report = (refused : List Applied)
-    × (replayed : IsReplayedWith before after files program states script options recording ring exact reading updates
-    (string_bytes report.text) refused)
+abbrev pub IsReportOf : FileBytes → ReplayFiles → Contents → List (Option State) → List Command → Options → Recording → ℕ → Bool
+    → List MapUpdate → List Sent → Report → Type 0
+IsReportOf after files program states script options recording ring exact updates records report = (refused : List Applied)
+    × (replayed : IsReplayedWith after files program states script options recording ring exact updates records (string_bytes report.text) refused)
     × ((refused ≡ []) ↔ (report.is_refused ≡ false))
-    × (report.leaves_out ≡ false → LeavesNothingOut script replayed.records replayed.outcome)
+    × (report.leaves_out ≡ false → LeavesNothingOut script records replayed.outcome)
 
--- the program may run, the script is read from its file, and the replay was made with both
+-- the capture is read from its file, and the report is that of a replay of this part of it, in which the script's commands have their
+-- numbers in the part
+pub record IsReplayReport (before after : FileBytes) (files : ReplayFiles) (program : Contents) (states : List (Option State))
+    (script : List Command) (options : Options) (recording : Recording) (ring : ℕ) (exact : Bool) (reading : Reading) (part : Option Part)
+    (updates : List MapUpdate) (report : Report) : Type 0 where
+  pub captured : List Sent
+  pub capture : IsCaptureOf before reading files.capture.now captured
+  pub of_part : IsReportOf after files program states (script_in part captured script) options recording ring exact updates
+      (records_in part captured) report
+
+-- the program may run, the script and the capture are read from their files, and the replay was made with all three: of the part that is
+-- asked for, with the script's commands at their numbers in it
 pub record IsReplayed (before after : FileBytes) (asked : ReplaySettings) (printed : List ℕ) (refused : List Applied) : Type 0 where
   pub program : Contents
   pub program_is : IsProgramOf before (text_of asked.files.image) asked.ring program
@@ -278,13 +288,16 @@ pub record IsReplayed (before after : FileBytes) (asked : ReplaySettings) (print
   pub safe : IsSafeImage program.maps program.code
   pub script : List Command
   pub script_is : IsScriptOf before (text_of asked.files.script) script
-  pub replayed : IsReplayedWith before after asked.files program states script asked.options (recording_in asked) asked.ring asked.exact
-      (reading_in asked) asked.updates.items printed refused
+  pub captured : List Sent
+  pub capture : IsCaptureOf before (reading_in asked) asked.files.capture.now captured
+  pub replayed : IsReplayedWith after asked.files program states (script_in asked.part captured script) asked.options (recording_in asked)
+      asked.ring asked.exact asked.updates.items (records_in asked.part captured) printed refused
 
 -- a strict replay left nothing out
 abbrev pub IsStrictlyKept : {before after : FileBytes} (asked : ReplaySettings) {printed : List ℕ} {refused : List Applied}
     → IsReplayed before after asked printed refused → Type 0
-IsStrictlyKept asked is = asked.strict ≡ true → LeavesNothingOut is.script is.replayed.records is.replayed.outcome
+IsStrictlyKept asked is =
+    asked.strict ≡ true → LeavesNothingOut (script_in asked.part is.captured is.script) (records_in asked.part is.captured) is.replayed.outcome
 
 -- and every command of the script was carried out; where the replay is a strict one, nothing was left out
 pub record IsReplayedWhole (before after : FileBytes) (asked : ReplaySettings) (printed : List ℕ) : Type 0 where

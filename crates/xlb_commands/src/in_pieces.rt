@@ -601,6 +601,7 @@ pub(crate) fn replay_in_pieces<D: Folder, P: Progress + Sync>(
     requires failures { D.failure_count folder.old < 2 ^ 64 - 1 }
     requires exact { asked.exact ≡ true }
     requires all { asked.reading ≡ unaltered }
+    requires whole { asked.part ≡ None }
     requires no_report { text_of asked.files.now.report ≡ None }
     requires fit { AreFitting asked.verified.now.maps asked.updates.now }
     requires rows { (file : List ℕ) → text_of asked.files.now.journals ≡ Some file → asked.recording ≡ Rows }

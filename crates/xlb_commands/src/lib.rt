@@ -15,6 +15,7 @@ pub mod laws;
 mod left_out;
 mod notes;
 mod one_run;
+mod parts;
 mod present;
 mod printable;
 mod progress;

@@ -35,6 +35,7 @@ ghost use Rattle.journals.specs.JournalText.{journals_text};
 ghost use Rattle.journals.specs.FileJournals.{ReadBackWhereLegal};
 ghost use Rattle.command_line.specs.Reading.{text_of};
 ghost use Rattle.xlb_commands.specs.AskedReplays.{HasBadOptions, IsAnswered, IsDenied, IsOutcome, IsWhyNone, LeavesOthers};
+ghost use Rattle.xlb_commands.specs.AskedReplays.{IsAnsweredOf, IsDeniedOf};
 ghost use Rattle.xlb_commands.specs.Files.{AreKept, AreAllButKept};
 ghost use Rattle.xlb_commands.specs.Refused.{HasFailed, LacksRoom, AreUnfiled, IsReplayProgramRefusal, IsScriptFileRefusal};
 ghost use Rattle.xlb_commands.specs.Refused.{IsScriptRefusal};
@@ -52,6 +53,7 @@ use crate::in_pieces::replay_in_pieces;
 use crate::left_out::is_left_out;
 use crate::notes::{Altered, Notes};
 use crate::one_run::maps_of;
+use crate::parts::script_of_part;
 use crate::progress::{Progress, Rounds};
 use crate::record_report::report_for;
 use crate::report::{Report, replayed};
@@ -60,6 +62,7 @@ use crate::{hints, records};
 use actors::all_are_captured;
 use command_line::{ReplayFiles, ReplaySettings};
 use control::{Script, commands_fit, parse_script};
+use fleet::Part;
 use folders::Folder;
 use guarantees::headline;
 use guarantees::readers::readers_send_as_at_opening;
@@ -522,15 +525,104 @@ pub(crate) struct Asked<'a> {
     pub summary: bool,
     /// How the bytes of the capture are read.
     pub reading: Reading,
+    /// The part of the capture that is replayed; the whole capture where it is missing.
+    pub part: Option<Part>,
 }
 
 impl Asked<'_> {
     /// Whether the replay may be made in pieces: it is exact, and nothing is asked for that needs all records.
     fn is_in_pieces(self) -> bool
-        ensures { IsTrue result → (self.entry.exact ≡ true) × (self.entry.reading ≡ unaltered)
+        ensures { IsTrue result → (self.entry.exact ≡ true) × (self.entry.reading ≡ unaltered) × (self.entry.part ≡ None)
             × (text_of self.entry.files.now.report ≡ None) }
     {
+        if self.part.is_some() {
+            return false;
+        }
         self.exact && !self.summary && !self.reading.alters() && self.files.report.is_none()
+    }
+}
+
+/// Makes the replay of these records, in memory.
+fn replay_records<R: Threads + Wait + Sync, D: Folder, P: Progress + Sync>(
+    rt: &R,
+    alloc: Global,
+    folder: &mut D,
+    asked: Asked<'_>,
+    capture: &Capture,
+    altered: Altered,
+    progress: &P,
+) -> Result<Report, Refusal>
+    requires failures { D.failure_count folder.old < 2 ^ 64 - 1 }
+    requires fit { AreFitting asked.verified.now.maps asked.updates.now }
+    requires rows { (file : List ℕ) → text_of asked.files.now.journals ≡ Some file → asked.recording ≡ Rows }
+    requires size { text_of asked.files.now.image ≡ None → IsRingSize asked.ring }
+    requires shipped { text_of asked.files.now.image ≡ None → image_of asked.verified.now ≡ shipped_image asked.ring }
+    ensures done { IfOk result (IsAnsweredOf (D.holds folder.new) asked.entry capture.now.records.items) }
+    ensures kept { LeavesOthers (D.holds folder.old) (D.holds folder.new) asked.entry }
+    ensures refused { IfErr result (λ refusal. IsDeniedOf (D.holds folder.old) (D.holds folder.new)
+        (HasFailed (D.failure_count folder.old) (D.failure_count folder.new)) asked.entry capture.now.records.items refusal.fault) }
+{
+    let files = asked.files;
+    let frames = capture.records.len() as u64;
+    let rounds = Rounds::of(
+        progress,
+        asked.verified,
+        &asked.options,
+        asked.exact,
+        frames,
+    );
+    let outcome = match outcome_with(rt, alloc, asked, capture, &rounds) {
+        Ok(outcome) => outcome,
+        Err(fault) => return Err(given_up(alloc, asked.options, asked.verified, fault)),
+    };
+    let notes = Notes::of(asked, altered)
+        .text(alloc, capture, asked.script, &outcome)
+        .ok();
+    let left = left_of(
+        alloc,
+        files,
+        asked.script,
+        capture,
+        &outcome,
+        altered,
+        notes,
+    )?;
+    write_files(alloc, folder, files, &left, &outcome.journals)?;
+    Ok(left.report)
+}
+
+/// Makes the replay of the part that is asked for of a file's capture, in memory.
+fn replay_part<R: Threads + Wait + Sync, D: Folder, P: Progress + Sync>(
+    rt: &R,
+    alloc: Global,
+    folder: &mut D,
+    asked: Asked<'_>,
+    capture: Capture,
+    altered: Altered,
+    progress: &P,
+) -> Result<Report, Refusal>
+    requires failures { D.failure_count folder.old < 2 ^ 64 - 1 }
+    requires captured { IsCaptureOf (D.holds folder.old) asked.reading asked.files.now.capture.now capture.records.items }
+    requires fit { AreFitting asked.verified.now.maps asked.updates.now }
+    requires rows { (file : List ℕ) → text_of asked.files.now.journals ≡ Some file → asked.recording ≡ Rows }
+    requires size { text_of asked.files.now.image ≡ None → IsRingSize asked.ring }
+    requires shipped { text_of asked.files.now.image ≡ None → image_of asked.verified.now ≡ shipped_image asked.ring }
+    ensures done { IfOk result (IsAnswered (D.holds folder.old) (D.holds folder.new) asked.entry) }
+    ensures kept { LeavesOthers (D.holds folder.old) (D.holds folder.new) asked.entry }
+    ensures refused { IfErr result (λ refusal. IsDenied (D.holds folder.old) (D.holds folder.new)
+        (HasFailed (D.failure_count folder.old) (D.failure_count folder.new)) asked.entry refusal.fault) }
+{
+    match asked.part {
+        None => replay_records(rt, alloc, folder, asked, &capture, altered, progress),
+        Some(part) => {
+            let script = script_of_part(alloc, part, &capture.records, asked.script)?;
+            let taken = part.taken_from(capture);
+            let asked_of_part = Asked {
+                script: &script,
+                ..asked
+            };
+            replay_records(rt, alloc, folder, asked_of_part, &taken, altered, progress)
+        }
     }
 }
 
@@ -552,35 +644,15 @@ fn replay_whole<R: Threads + Wait + Sync, D: Folder, P: Progress + Sync>(
     ensures refused { IfErr result (λ refusal. IsDenied (D.holds folder.old) (D.holds folder.new)
         (HasFailed (D.failure_count folder.old) (D.failure_count folder.new)) asked.entry refusal.fault) }
 {
-    let files = asked.files;
     let mut altered = Altered::default();
-    let capture = capture_of(alloc, folder, files.capture, asked.reading, &mut altered)?;
-    let frames = capture.records.len() as u64;
-    let rounds = Rounds::of(
-        progress,
-        asked.verified,
-        &asked.options,
-        asked.exact,
-        frames,
-    );
-    let outcome = match outcome_with(rt, alloc, asked, &capture, &rounds) {
-        Ok(outcome) => outcome,
-        Err(fault) => return Err(given_up(alloc, asked.options, asked.verified, fault)),
-    };
-    let notes = Notes::of(asked, altered)
-        .text(alloc, &capture, asked.script, &outcome)
-        .ok();
-    let left = left_of(
+    let capture = capture_of(
         alloc,
-        files,
-        asked.script,
-        &capture,
-        &outcome,
-        altered,
-        notes,
+        folder,
+        asked.files.capture,
+        asked.reading,
+        &mut altered,
     )?;
-    write_files(alloc, folder, files, &left, &outcome.journals)?;
-    Ok(left.report)
+    replay_part(rt, alloc, folder, asked, capture, altered, progress)
 }
 
 /// Makes the replay in pieces, where it may be made so. None where it may not, or was not, and no file is changed.
@@ -673,6 +745,7 @@ pub fn replay_files<R: Threads + Wait + Sync, D: Folder, P: Progress + Sync>(
             pad_cut: settings.reading.pad_cut,
             allow_cut: settings.reading.allow_cut,
         },
+        part: settings.part,
     };
     let report = replay_once(rt, alloc, folder, asked, progress)?;
     Ok(ReplayAnswer::Made(report.of_strict(settings.strict)))

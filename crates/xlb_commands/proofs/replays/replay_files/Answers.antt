@@ -7,6 +7,7 @@ use Rattle.semantics.specs.Safety.{IsSafeImage}
 use Rattle.semantics.specs.declared.options.Recording.{Recording}
 use Rattle.semantics.specs.declared.options.Recording.TheVariants.{Rows}
 use Rattle.control.specs.declared.command.Command.{Command}
+use Rattle.wire.specs.declared.records.Sent.{Sent}
 use Rattle.actors.specs.declared.outcome.Applied.{Applied}
 use Rattle.command_line.specs.declared.commands.ReplaySettings.{ReplaySettings}
 use Rattle.xlb_commands.specs.declared.report.Report.{Report}
@@ -56,38 +57,36 @@ some_of refused strict is_refused none (inr is) = inr is
 -- the report of a replay with what is asked for, by the same recording and the same updates
 as_asked : (before after : FileBytes) (asked : ReplaySettings) (program : Contents) (states : List (Option State)) (script : List Command)
     (recording : Recording) (updates : List MapUpdate) (report : Report) → recording ≡ recording_in asked → updates ≡ asked.updates.items
-    → IsReplayReport before after asked.files program states script asked.options recording asked.ring asked.exact (reading_in asked) updates
-    report
+    → IsReplayReport before after asked.files program states script asked.options recording asked.ring asked.exact (reading_in asked) asked.part
+    updates report
     → IsReplayReport before after asked.files program states script asked.options (recording_in asked) asked.ring asked.exact
-    (reading_in asked) asked.updates.items report
+    (reading_in asked) asked.part asked.updates.items report
 as_asked before after asked program states script recording updates report recorded same is =
     subst (λ (it : List MapUpdate). IsReplayReport before after asked.files program states script asked.options (recording_in asked) asked.ring
-    asked.exact (reading_in asked) it report) same
+    asked.exact (reading_in asked) asked.part it report) same
     (subst (λ (it : Recording). IsReplayReport before after asked.files program states script asked.options it asked.ring asked.exact
-    (reading_in asked) updates report) recorded is)
+    (reading_in asked) asked.part updates report) recorded is)
 
 -- why a replay with what is asked for was not made
 unmade_as_asked : (before after : FileBytes) (failed : Type 0) (asked : ReplaySettings) (program : Contents) (script : List Command)
     (recording : Recording) (updates : List MapUpdate) (fault : Fault) → recording ≡ recording_in asked → updates ≡ asked.updates.items
-    → IsUnreplayed before after failed asked.files program script asked.options recording asked.exact (reading_in asked) updates fault
-    → IsUnreplayed before after failed asked.files program script asked.options (recording_in asked) asked.exact (reading_in asked)
+    → IsUnreplayed before after failed asked.files program script asked.options recording asked.exact (reading_in asked) asked.part updates fault
+    → IsUnreplayed before after failed asked.files program script asked.options (recording_in asked) asked.exact (reading_in asked) asked.part
     asked.updates.items fault
 unmade_as_asked before after failed asked program script recording updates fault recorded same is =
     subst (λ (it : List MapUpdate). IsUnreplayed before after failed asked.files program script asked.options (recording_in asked) asked.exact
-    (reading_in asked) it fault) same
+    (reading_in asked) asked.part it fault) same
     (subst (λ (it : Recording). IsUnreplayed before after failed asked.files program script asked.options it asked.exact (reading_in asked)
-    updates fault) recorded is)
+    asked.part updates fault) recorded is)
 
 -- the same replay, whose text and refused commands are said otherwise
-as_said : (before after : FileBytes) (asked : ReplaySettings) (program : Contents) (states : List (Option State)) (script : List Command)
-    (printed other : List ℕ) (refused others : List Applied) → other ≡ printed → refused ≡ others
-    → IsReplayedWith before after asked.files program states script asked.options (recording_in asked) asked.ring asked.exact
-    (reading_in asked) asked.updates.items printed refused
-    → IsReplayedWith before after asked.files program states script asked.options (recording_in asked) asked.ring asked.exact
-    (reading_in asked) asked.updates.items other others
-as_said before after asked program states script printed other refused others text same is = record {
-  records = is.records;
-  capture = is.capture;
+as_said : (after : FileBytes) (asked : ReplaySettings) (program : Contents) (states : List (Option State)) (script : List Command)
+    (records : List Sent) (printed other : List ℕ) (refused others : List Applied) → other ≡ printed → refused ≡ others
+    → IsReplayedWith after asked.files program states script asked.options (recording_in asked) asked.ring asked.exact
+    asked.updates.items records printed refused
+    → IsReplayedWith after asked.files program states script asked.options (recording_in asked) asked.ring asked.exact
+    asked.updates.items records other others
+as_said after asked program states script records printed other refused others text same is = record {
   outcome = is.outcome;
   made = is.made;
   headline = is.headline;
@@ -107,7 +106,7 @@ answer_is : (before after : FileBytes) (asked : ReplaySettings) (program : Conte
     → Accepts program.version program.maps program.code states → IsSafeImage program.maps program.code
     → IsScriptOf before (text_of asked.files.script) script
     → IsReplayReport before after asked.files program states script asked.options (recording_in asked) asked.ring asked.exact
-    (reading_in asked) asked.updates.items made
+    (reading_in asked) asked.part asked.updates.items made
     → string_bytes report.text ≡ string_bytes made.text
     → (report.is_refused ≡ false → (made.is_refused ≡ false) × (asked.strict ≡ true → made.leaves_out ≡ false))
     → (report.is_refused ≡ true → (made.is_refused ≡ true) ⊎ (asked.strict ≡ true))
@@ -123,13 +122,15 @@ answer_is before after asked program states script made report program_is accept
       safe = safe;
       script = script;
       script_is = script_is;
-      replayed = as_said before after asked program states script _ _ is.0 [] text (is.2.1 (whole done).0) is.1;
+      captured = is.captured;
+      capture = is.capture;
+      replayed = as_said after asked program states _ _ _ _ is.of_part.0 [] text (is.of_part.2.1 (whole done).0) is.of_part.1;
     };
-    all = λ strict. is.3 ((whole done).1 strict);
+    all = λ strict. is.of_part.3 ((whole done).1 strict);
   }),
   (λ in_part. record {
-    refused = is.0;
-    some = some_of is.0 asked.strict made.is_refused is.2 (part in_part);
+    refused = is.of_part.0;
+    some = some_of is.of_part.0 asked.strict made.is_refused is.of_part.2 (part in_part);
     replayed = record {
       program = program;
       program_is = program_is;
@@ -138,7 +139,9 @@ answer_is before after asked program states script made report program_is accept
       safe = safe;
       script = script;
       script_is = script_is;
-      replayed = as_said before after asked program states script _ _ is.0 is.0 text refl is.1;
+      captured = is.captured;
+      capture = is.capture;
+      replayed = as_said after asked program states _ _ _ _ is.of_part.0 is.of_part.0 text refl is.of_part.1;
     };
   }),
 )
@@ -150,7 +153,7 @@ returns-clause-done g c =
     let states = c.in_ok-verified.verified.states in
     let script = c.in_ok-script.script in
     let report = c.in_ok-report.report in
-    let made = report_before _ _ _ _ _ _ _ _ _ _ _ _ _ report
+    let made = report_before _ _ _ _ _ _ _ _ _ _ _ _ _ _ report
     (kept_twice _ _ _ c.program_of.ensures.kept c.script_of.ensures.kept) c.in_ok-report.ensures.done in
     answer_is (g.D.Folder.holds c.args.folder.now) (g.D.Folder.holds c.replay_once.new.folder) settings program states script report
     c.of_strict.result c.in_ok-verified.ensures.program c.maps_of.ensures.accepted c.in_ok-verified.ensures.safe
@@ -192,6 +195,6 @@ returns-in_err-report-clause-refused g c =
     (unmade_as_asked (g.D.Folder.holds c.args.folder.now) (g.D.Folder.holds c.replay_once.new.folder)
     (HasFailed (g.D.Folder.failure_count c.args.folder.now) (g.D.Folder.failure_count c.replay_once.new.folder)) c.args.settings.now
     (image_of c.in_ok-verified.verified) c.in_ok-script.script _ _ c.in_err-report.field-0.0.fault c.recording_of.ensures c.deref-updates.ensures.value
-    (unreplayed_before _ _ _ _ _ _ _ _ _ _ _ _ _ _ (kept_twice _ _ _ c.program_of.ensures.kept c.script_of.ensures.kept)
+    (unreplayed_before _ _ _ _ _ _ _ _ _ _ _ _ _ _ _ (kept_twice _ _ _ c.program_of.ensures.kept c.script_of.ensures.kept)
     (λ failed. failed_since _ _ _ c.in_ok-verified.ensures.steady (failed_since _ _ _ c.in_ok-script.ensures.steady failed))
     c.in_err-report.ensures.refused)))

@@ -7,7 +7,7 @@ pub returns-in-Ok-None-clause-done : goal.returns-in-Ok-None-clause-done
 returns-in-Ok-None-clause-done g c =
     let none = rw c.in-Ok-None.field-0-is at c.in-Ok-None.ensures.none in
     IfOk-weaker c.replay_whole.result _ _
-    (λ report is. report_before _ _ _ _ _ _ _ _ _ _ _ _ _ report none is)
+    (λ report is. report_before _ _ _ _ _ _ _ _ _ _ _ _ _ _ report none is)
     c.replay_whole.ensures.done
 
 pub returns-in-Ok-None-clause-kept : goal.returns-in-Ok-None-clause-kept
@@ -19,6 +19,6 @@ pub returns-in-Ok-None-clause-refused : goal.returns-in-Ok-None-clause-refused
 returns-in-Ok-None-clause-refused g c =
     let none = rw c.in-Ok-None.field-0-is at c.in-Ok-None.ensures.none in
     IfErr-weaker c.replay_whole.result _ _
-    (λ refusal is. unreplayed_before _ _ _ _ _ _ _ _ _ _ _ _ _ refusal.fault none
+    (λ refusal is. unreplayed_before _ _ _ _ _ _ _ _ _ _ _ _ _ _ refusal.fault none
     (failed_since _ _ _ (rw c.in-Ok-None.field-0-is at c.in-Ok-None.ensures.steady)) is)
     c.replay_whole.ensures.refused

@@ -1,120 +1,30 @@
-use Rattle.std.proofs.Common.{◌≡◌, ◌∙◌, ◌+◌, ℕ, zero, suc, Bool, List, Option, Some, None, ap, refl, subst, sym, length, length-append, add-one}
-use Rattle.std.proofs.lemmas.Result.{err_from_is_err_and}
-use Rattle.semantics.specs.declared.options.Options.{Options}
-use Rattle.semantics.specs.declared.options.Recording.{Recording}
-use mathlib.Core.Path.{subst_refl}
-use Rattle.ebpf_decode.specs.ImageContents.{Contents}
-use Rattle.semantics.specs.ShardPlan.{KeepsRows, room_for, recorded}
-use Rattle.actors.specs.Accounted.{IsAccounted}
-use Rattle.wire.specs.declared.records.Sent.{Sent}
-use Rattle.control.specs.declared.command.Command.{Command}
-use Rattle.actors.specs.Accounts.{ends_of}
-use Rattle.actors.specs.Shares.{frames_of}
-use Rattle.actors.specs.declared.outcome.Outcome.{Outcome}
-use Rattle.actors.specs.declared.runner.Ran.{Ran}
-use Rattle.journals.specs.JournalsView.{JournalsView}
-use Rattle.command_line.specs.Reading.{text_of}
-use Rattle.command_line.specs.declared.commands.ReplayFiles.{ReplayFiles}
-use Rattle.xlb_commands.specs.declared.fault.Fault.{Fault}
-use Rattle.xlb_commands.specs.Files.{FileBytes}
-use Rattle.xlb_commands.specs.RecordReports.{IsReportFile, form_of, report_text}
-use Rattle.xlb_commands.specs.Replays.{HasBytes, image_of, program_of_replay}
-use Rattle.xlb_commands.specs.Refused.{AreUnfiled, no_replay_capture, given_up, not_reported, not_written_down}
-use Rattle.xlb_commands.proofs.AcceptedJournals.{accepted_of}
-use Rattle.xlb_commands.proofs.Earlier.{all_but_kept, unfiled_before}
-use Rattle.xlb_commands.proofs.Refusals.{failed_since}
+use Rattle.std.proofs.lemmas.Result.{err_from_is_err_and, IfErr-weaker, IfOk-weaker}
+use Rattle.xlb_commands.specs.Refused.{no_replay_capture}
+use Rattle.xlb_commands.proofs.Earlier.{all_but_kept, capture_before, report_before, unreplayed_before}
+use Rattle.xlb_commands.proofs.Refusals.{failed_since, kept_back}
 use Rattle.xlb_commands.proofs.replays.replay_whole.Goals as goal
 
--- where a file is named for the report, it has its text
-report_stands : (files : FileBytes) (name : Option (List ℕ)) (is_steering : Bool) (script : List Command) (records : List Sent) (outcome : Outcome)
-    (text : List ℕ)
-    → ((file : List ℕ) → name ≡ Some file → text ≡ report_text (form_of file) is_steering script records outcome.ends.items outcome.sent.items)
-    → HasBytes files name text → IsReportFile files name is_steering script records outcome
-report_stands files None is_steering script records outcome text same has = has
-report_stands files (Some file) is_steering script records outcome text same has = subst (λ (it : List ℕ). files file it) (same file refl) has
-
--- there is an end for each record
-length_ends : (frames : List (List ℕ)) (workers : ℕ) (runs : List (List Ran)) (count : ℕ) → length (ends_of frames workers runs count) ≡ count
-length_ends frames workers runs zero = refl
-length_ends frames workers runs (suc count) =
-    length-append (ends_of frames workers runs count) _ ∙ (ap (λ (n : ℕ). n + 1) (length_ends frames workers runs count) ∙ add-one count)
-
-unfiled_as : (before after : FileBytes) (failed : Type 0) (names : ReplayFiles) (made sent : List ℕ) (journals : JournalsView) (fault : Fault)
-    → made ≡ sent → AreUnfiled before after failed names made journals fault → AreUnfiled before after failed names sent journals fault
-unfiled_as before after failed names made sent journals fault same is =
-    subst (λ (it : List ℕ). AreUnfiled before after failed names it journals fault) same is
-
-pub left_of-requires-clause-ends : goal.left_of-requires-clause-ends
-left_of-requires-clause-ends g c =
-    let account = c.in-Ok.ensures.made.accounted in
-    ap length account.ends ∙ length_ends (frames_of c.in_ok-capture.capture.records.items) c.args.asked.options.workers account.runs (length c.in_ok-capture.capture.records.items)
-
-pub left_of-requires-clause-rows : goal.left_of-requires-clause-rows
-left_of-requires-clause-rows g c = λ file is.
-    subst (λ (o : Options). KeepsRows o.journal) (sym c.in-Ok.ensures.made.accounted.options_are)
-    (subst (λ (r : Recording). KeepsRows (room_for r c.args.asked.options.journal)) (sym (c.requires.rows file is)) c.in-Ok.ensures.served)
-
-pub returns-in_err-write_files-clause-kept : goal.returns-in_err-write_files-clause-kept
-returns-in_err-write_files-clause-kept g c = all_but_kept _ _ _ _ _ _ c.capture_of.ensures.kept c.write_files.ensures.others
-
-pub returns-clause-kept : goal.returns-clause-kept
-returns-clause-kept g c = all_but_kept _ _ _ _ _ _ c.capture_of.ensures.kept c.write_files.ensures.others
+pub replay_part-requires-clause-captured : goal.replay_part-requires-clause-captured
+replay_part-requires-clause-captured g c κs outlives =
+    capture_before _ _ (kept_back _ _ c.capture_of.ensures.kept) _ _ _ c.in_ok-capture.ensures.capture
 
 pub returns-clause-done : goal.returns-clause-done
-returns-clause-done g c = (
-  c.in-Ok.outcome.refused.items,
-  record {
-    records = c.in_ok-capture.capture.records.items;
-    capture = c.in_ok-capture.ensures.capture;
-    outcome = c.in-Ok.outcome;
-    made = c.in-Ok.ensures.made;
-    headline = record {
-      verified = c.args.asked.verified.now;
-      image_is = refl;
-      accounted = c.in-Ok.ensures.made.accounted;
-      kept = c.in-Ok.ensures.headline c.in-Ok.ensures.made.accounted;
-      same = subst_refl (λ (one : Contents). IsAccounted (program_of_replay one (recorded c.args.asked.recording c.args.asked.options)) c.args.asked.script.now
-          (recorded c.args.asked.recording c.args.asked.options) c.in_ok-capture.capture.records.items c.in-Ok.outcome)
-          {x = image_of c.args.asked.verified.now} c.in-Ok.ensures.made.accounted;
-    };
-    by_rule = λ none. c.in-Ok.ensures.steered none c.in-Ok.ensures.made.accounted;
-    readers = c.in-Ok.ensures.readers;
-    refused_are = refl;
-    sent = λ other third.
-        subst (λ (it : List ℕ). g.D.Folder.holds c.write_files.new.folder c.args.asked.files.now.sent.now it) c.in_ok-left.ensures.sent
-        (c.in_ok-write_files.ensures.sent other third);
-    journals = c.in_ok-write_files.ensures.journals;
-    accepted = λ file named. accepted_of _ _ _ _ c.in-Ok.outcome c.in-Ok.ensures.made.accounted (c.in_ok-left.ensures.reads_back file named);
-    report = report_stands (g.D.Folder.holds c.write_files.new.folder) (text_of c.args.asked.files.now.report) c.args.asked.files.now.is_steering
-        c.args.asked.script.now c.in_ok-capture.capture.records.items c.in-Ok.outcome _ c.in_ok-left.ensures.lines
-        c.in_ok-write_files.ensures.report;
-    lines = c.in_ok-left.ensures.text;
-  },
-  c.in_ok-left.ensures.whole,
-  c.in_ok-left.ensures.all,
-)
+returns-clause-done g c =
+    IfOk-weaker c.replay_part.result _ _
+    (λ report is. report_before _ _ _ _ _ _ _ _ _ _ _ _ _ _ report c.capture_of.ensures.kept is)
+    c.replay_part.ensures.done
+
+pub returns-clause-kept : goal.returns-clause-kept
+returns-clause-kept g c = all_but_kept _ _ _ _ _ _ c.capture_of.ensures.kept c.replay_part.ensures.kept
+
+pub returns-clause-refused : goal.returns-clause-refused
+returns-clause-refused g c =
+    IfErr-weaker c.replay_part.result _ _
+    (λ refusal is. unreplayed_before _ _ _ _ _ _ _ _ _ _ _ _ _ _ refusal.fault c.capture_of.ensures.kept
+    (failed_since _ _ _ c.in_ok-capture.ensures.steady) is)
+    c.replay_part.ensures.refused
 
 pub returns-in_err-capture-clause-refused : goal.returns-in_err-capture-clause-refused
 returns-in_err-capture-clause-refused g c =
     let p = err_from_is_err_and c.from_residual.result c.from_residual.ensures.1 in
     rw (p.1, p.2) (no_replay_capture c.capture_of.ensures.kept c.in_err-capture.ensures.refused)
-
-pub returns-in-Err-clause-refused : goal.returns-in-Err-clause-refused
-returns-in-Err-clause-refused g c =
-    given_up c.in_ok-capture.capture.records.items c.in-Err.fault c.capture_of.ensures.kept c.in_ok-capture.ensures.capture
-    c.in-Err.ensures.given_up c.given_up.ensures
-
-pub returns-in_err-left-clause-refused : goal.returns-in_err-left-clause-refused
-returns-in_err-left-clause-refused g c =
-    let p = err_from_is_err_and c.from_residual-in_err-left.result c.from_residual-in_err-left.ensures.1 in
-    rw (p.1, p.2)
-    (not_reported c.in_ok-capture.capture.records.items c.in-Ok.outcome c.capture_of.ensures.kept c.in_ok-capture.ensures.capture
-    c.in-Ok.ensures.made c.in_err-left.ensures.refused)
-
-pub returns-in_err-write_files-clause-refused : goal.returns-in_err-write_files-clause-refused
-returns-in_err-write_files-clause-refused g c =
-    let p = err_from_is_err_and c.from_residual-in_err-write_files.result c.from_residual-in_err-write_files.ensures.1 in
-    rw (p.1, p.2)
-    (not_written_down c.in_ok-capture.capture.records.items c.in-Ok.outcome c.in_ok-capture.ensures.capture c.in-Ok.ensures.made
-    (unfiled_before _ _ _ _ _ _ _ _ _ c.capture_of.ensures.kept (failed_since _ _ _ c.in_ok-capture.ensures.steady)
-    (unfiled_as _ _ _ _ _ _ _ _ c.in_ok-left.ensures.sent c.in_err-write_files.ensures.refused)))
