@@ -193,9 +193,10 @@ replay."
 fn after_explain<'a>() -> &'a str {
     "\
 Prints what the fault means, what mostly leads to it, and an example. FAULT is
-its number or its name. If several faults have the name (Memory, JournalFull),
-the one with the least number is explained. A number or a name that no fault
-has is a mistake of the command line."
+its number or its name. If several faults have the name (BadLine, Memory and
+others), the one with the least number is explained, and the numbers of the
+others are printed below. A number or a name that no fault has is a mistake of
+the command line."
 }
 
 fn after_shipped<'a>() -> &'a str {
@@ -245,14 +246,17 @@ capture, the number sent to each address, how many of these were sent to
 another address than the frame of their flow before, how many are for each
 service of the script, why others were not sent, how many slots of the lookup
 table each backend has at the end, and the first ten records that went to
-another address. A frame that was cut within its packet when it
-was captured is passed, as malformed (tcpdump -s 0 keeps frames whole).
+another address; of --image and --program, whose reasons are their own, how many
+frames the program passed, dropped, aborted and sent. A frame that was cut within
+its packet when it was captured is passed, as malformed (tcpdump -s 0 keeps
+frames whole).
 With --report one line for each record of the capture is written to the file:
   number,moment,worker,verdict,steps,case,backend,address,
   source,source_port,destination,destination_port,protocol
 as CSV, or as a JSON object if the file's name ends in .json or .jsonl, in upper
-or lower case. The case is that of the steering rule; backend and address are
-where the frame was sent; the last five are its flow.
+or lower case. The case is that of the steering rule, and empty with --image and
+--program; backend and address are where the frame was sent; the last five are
+its flow.
 A capture with a record of more than 2048 bytes is refused; with --skip-long
 such records are skipped, and a line on the standard error gives their number.
 With --pad-cut a record that was cut when it was captured has zeros up to the
@@ -283,10 +287,10 @@ is named on the standard error."
 fn after_compare<'a>() -> &'a str {
     "\
 FIRST and SECOND were written by replay --report, of one capture. Prints how many
-records they have, how many of these differ in verdict, case, backend or address,
-from what to what and how often, and the first ten of them. The status is 0 where
-none differs, 1 where one does, and 2 where the files cannot be compared: one is
-no CSV, or they are not of the same records."
+records they have, how many of these differ in verdict, case (where both have
+one), backend or address, from what to what and how often, and the first ten of
+them. The status is 0 where none differs, 1 where one does, and 2 where the files
+cannot be compared: one is no CSV, or they are not of the same records."
 }
 
 /// A file, or another word, that has to be given.
