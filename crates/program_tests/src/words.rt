@@ -239,7 +239,7 @@ const REFUSED: [(&str, u8, &str); 69] = [
     ("xlb replay a b --part 2/1 --image i --update 0 7 02", 2,
         "error: update 1: its key has not two hexadecimal digits for each of at most 32 bytes"),
     ("xlb replay a b --part",                   2, "error: a value is required for '--part <K/N>' but none was supplied"),
-    ("xlb replay a b --part 0/2 --part 1/2",    2, "error: the argument '--part' cannot be used multiple times"),
+    ("xlb replay a b --part 0/2 --part 1/2",    2, "error: the argument '--part <K/N>' cannot be used multiple times"),
     ("xlb help",                                0,
         "Replays captures through eBPF programs; checks, runs, audits, prints and assembles them"),
     ("xlb check",                               2, "error: the following required arguments were not provided:\n  <IMAGE>"),
