@@ -372,7 +372,7 @@ fn least_moves_are_what_shares_gain(rt: HostRuntime) {
 fn shares_are_counted_by_word(rt: HostRuntime) {
     let shares = shares_of(rt.alloc(), &[2, 1, 2, 0, 9, 2], 4).expect(&rt, "shares");
     let found = shares.as_slice();
-    holds_of(&rt, "shares", "of 0 to 3", found == &[1, 1, 3, 0]);
+    holds_of(&rt, "shares", "of 0 to 3", found == [1, 1, 3, 0].as_slice());
 }
 
 /// Two services; a frame is for the first one.
