@@ -1,9 +1,10 @@
 -- The report of a replay: a line for each record, in the capture's order, of what the replay says of it.
 use Rattle.std.specs.Prelude.{◌≡◌, ℕ, zero, suc, ◌+◌, ◌*◌, ◌++◌, ◌∷◌, ◌||◌, Bool, true, false, List, [], Option, Some, None, codes, fold}
-use Rattle.std.specs.Prelude.{length, map}
+use Rattle.std.specs.Prelude.{is_none, length, map}
 use Rattle.std.specs.Char.{to_ascii_lowercase}
 use Rattle.std.specs.Prelude.{if◌then◌else◌, slice_get, slice_index_or}
 use Rattle.wire.specs.declared.records.Sent.{Sent}
+use Rattle.command_line.specs.declared.commands.ReplayFiles.{ReplayFiles}
 use Rattle.semantics.specs.declared.verdict.Verdict.{Verdict}
 use Rattle.semantics.specs.declared.verdict.Verdict.TheVariants as verdicts
 use Rattle.control.specs.declared.command.Action.{Action}
@@ -67,7 +68,11 @@ is_tx other = false
 abbrev pub is_sent : RecordEnd → Bool
 is_sent end = is_tx (verdict_in end)
 
--- by which case of the steering rule, if the program is one of steering
+-- the replay runs the shipped program: no image is named. Of another program nobody knows by which rule it decides
+abbrev pub runs_shipped : ReplayFiles → Bool
+runs_shipped files = is_none files.image
+
+-- by which case of the steering rule, if the program is the shipped one
 abbrev pub case_in : Bool → List ℕ → RecordEnd → List ℕ
 case_in true frame end = case_word (kind_of frame) (verdict_in end)
 case_in false frame end = []
@@ -109,9 +114,9 @@ backend_at backends (Some address) = only_number (holder_among address backends)
 -- the line of a record, counted from 0: its number, counted from 1, its moment in microseconds, its worker, its verdict, its steps, the
 -- case, the backend and the address, and the flow of its frame
 abbrev pub line_text : ReportForm → Bool → List (ℕ × ℕ) → ℕ → Sent → RecordEnd → Option Sent → List ℕ
-line_text form is_steering backends number captured end sent =
+line_text form is_shipped backends number captured end sent =
     (front_text form (number + 1) (captured.seconds * 1000000 + captured.micros) (worker_in end) (verdict_in end)
-    ++ back_text form (steps_in end) (case_in is_steering captured.bytes.items end) (backend_at backends (address_in end sent))
+    ++ back_text form (steps_in end) (case_in is_shipped captured.bytes.items end) (backend_at backends (address_in end sent))
     (address_in end sent)) ++ flow_text form captured.bytes.items
 
 -- what became of the record of this number
@@ -125,24 +130,24 @@ sent_before ends (suc number) = sent_before ends number + one_if (is_sent (end_o
 
 -- the line of the record of this number, if there is one
 abbrev pub line_of : ReportForm → Bool → List (ℕ × ℕ) → List RecordEnd → List Sent → ℕ → Option Sent → List ℕ
-line_of form is_steering backends ends sent number None = []
-line_of form is_steering backends ends sent number (Some captured) =
-    line_text form is_steering backends number captured (end_of ends number) (slice_get sent (sent_before ends number))
+line_of form is_shipped backends ends sent number None = []
+line_of form is_shipped backends ends sent number (Some captured) =
+    line_text form is_shipped backends number captured (end_of ends number) (slice_get sent (sent_before ends number))
 
 -- the lines of the first N records
 abbrev pub lines_until : ReportForm → Bool → List (ℕ × ℕ) → List Sent → List RecordEnd → List Sent → ℕ → List ℕ
-lines_until form is_steering backends records ends sent zero = []
-lines_until form is_steering backends records ends sent (suc number) =
-    lines_until form is_steering backends records ends sent number
-    ++ line_of form is_steering backends ends sent number (slice_get records number)
+lines_until form is_shipped backends records ends sent zero = []
+lines_until form is_shipped backends records ends sent (suc number) =
+    lines_until form is_shipped backends records ends sent number
+    ++ line_of form is_shipped backends ends sent number (slice_get records number)
 
 -- the head, and the lines of all records
 abbrev pub report_text : ReportForm → Bool → List Command → List Sent → List RecordEnd → List Sent → List ℕ
-report_text form is_steering script records ends sent =
-    head_of form ++ lines_until form is_steering (backends_in script) records ends sent (length records)
+report_text form is_shipped script records ends sent =
+    head_of form ++ lines_until form is_shipped (backends_in script) records ends sent (length records)
 
 -- where a file is named for it, it has the report
 abbrev pub IsReportFile : FileBytes → Option (List ℕ) → Bool → List Command → List Sent → Outcome → Type 0
-IsReportFile files None is_steering script records outcome = Unit {0}
-IsReportFile files (Some name) is_steering script records outcome =
-    files name (report_text (form_of name) is_steering script records outcome.ends.items outcome.sent.items)
+IsReportFile files None is_shipped script records outcome = Unit {0}
+IsReportFile files (Some name) is_shipped script records outcome =
+    files name (report_text (form_of name) is_shipped script records outcome.ends.items outcome.sent.items)

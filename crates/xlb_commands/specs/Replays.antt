@@ -50,7 +50,7 @@ use Rattle.command_line.specs.Reading.{text_of}
 use Rattle.xlb_commands.specs.declared.report.Report.{Report}
 use Rattle.xlb_commands.specs.Files.{FileBytes, IsImageFile}
 use Rattle.xlb_commands.specs.Parts.{records_in, script_in}
-use Rattle.xlb_commands.specs.RecordReports.{IsReportFile}
+use Rattle.xlb_commands.specs.RecordReports.{IsReportFile, runs_shipped}
 
 -- ---- what is read
 
@@ -248,7 +248,7 @@ pub record IsReplayedWith (after : FileBytes) (files : ReplayFiles) (program : C
       after files.sent.now (capture_bytes outcome.sent.items)
   pub journals : text_of files.report ≢ text_of files.journals → AreWritten after (text_of files.journals) outcome.journals
   pub accepted : (file : List ℕ) → text_of files.journals ≡ Some file → AreAccepted program.maps outcome.journals
-  pub report : IsReportFile after (text_of files.report) files.is_steering script records outcome
+  pub report : IsReportFile after (text_of files.report) (runs_shipped files) script records outcome
   pub lines : printed ≡ counts_text outcome.counts ++ refusals_text refused
 
 -- the command takes effect before a record of so many, or before all

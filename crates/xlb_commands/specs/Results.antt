@@ -26,7 +26,7 @@ use Rattle.guarantees.specs.RunsAlone.{IsAloneInSystem}
 use Rattle.journals.specs.JournalsView.{JournalsView}
 use Rattle.journals.specs.JournalReading.{IsJournalsFile}
 use Rattle.journals.specs.LegalJournals.{AreLegal}
-use Rattle.faults.specs.Explanations.{explanation_text}
+use Rattle.mistakes.specs.Namesakes.{explained_text}
 use Rattle.faults.specs.Refusals.{AreNotes}
 use Rattle.reasons.specs.Explanations.{IsExplanation}
 use Rattle.command_line.specs.Reading.{text_of}
@@ -215,7 +215,7 @@ IsDone before after (Run files now worker updates) printed = IsRun before after 
 IsDone before after (Disasm image false) printed = IsDisassembled before image.now printed
 IsDone before after (Disasm image true) printed = IsSourceShown before image.now printed
 IsDone before after (Audit image journals) printed = IsAudited before image.now journals.now printed
-IsDone before after (Explain about) printed = printed ≡ explanation_text about
+IsDone before after (Explain about) printed = printed ≡ explained_text about
 IsDone before after (Asm text out false) printed = IsAssembled before after text.now out.now × (printed ≡ [])
 IsDone before after (Asm text out true) printed = IsSourceAssembled before after text.now out.now × (printed ≡ [])
 IsDone before after (Shipped out ring) printed = IsShippedFile after out.now ring × (printed ≡ [])

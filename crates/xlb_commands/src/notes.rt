@@ -9,7 +9,7 @@ use journals::Journals;
 use replay::{Applied, Counts, Outcome, RecordEnd};
 use std::alloc::{AllocError, Global};
 use text_lines::cut;
-use traffic::{LineVerdict, Refused, moved_places, services};
+use traffic::{LineVerdict, Refused, by_program, moved_places, services};
 use wire::Capture;
 
 /// The room that a full journal may still have: no run enters a shard without room for its Leave.
@@ -108,8 +108,8 @@ impl Notes<'_> {
         Ok(text)
     }
 
-    /// What the capture has, where its frames went, why others were not sent, and which frames went elsewhere than the frame of their flow
-    /// before.
+    /// What the capture has, where its frames went, why others were not sent, or of another program than the shipped one what it did with
+    /// frames, and which frames went elsewhere than the frame of their flow before.
     fn put_summary(
         &self,
         alloc: Global,
@@ -119,9 +119,13 @@ impl Notes<'_> {
         outcome: &Outcome,
     ) -> Result<(), AllocError> {
         text.push_str(&traffic::summary(alloc, &capture.records, &outcome.sent)?)?;
+        let verdicts = verdicts_of(alloc, &outcome.ends)?;
+        let lines = match self.image {
+            None => services(alloc, &capture.records, script, &verdicts)?,
+            Some(_) => by_program(alloc, &capture.records, script, &verdicts)?,
+        };
+        text.push_str(lines.as_str())?;
         if self.is_steering {
-            let verdicts = verdicts_of(alloc, &outcome.ends)?;
-            text.push_str(&services(alloc, &capture.records, script, &verdicts)?)?;
             put_shares(alloc, text, &outcome.journals)?;
         }
         put_moved(alloc, text, outcome)

@@ -92,11 +92,11 @@ pub(crate) fn is_tx(verdict: LineVerdict) -> bool
     }
 }
 
-/// The case of the steering rule, if the program is one of steering.
-fn case_in(is_steering: bool, frame: &[u8], end: RecordEnd) -> &'static str
-    ensures { result.now ≡ case_in is_steering frame.now end }
+/// The case of the steering rule, if the program is the shipped one, which follows it.
+fn case_in(is_shipped: bool, frame: &[u8], end: RecordEnd) -> &'static str
+    ensures { result.now ≡ case_in is_shipped frame.now end }
 {
-    if is_steering {
+    if is_shipped {
         case_word(FrameKind::of(frame), verdict_in(end))
     } else {
         ""
@@ -163,8 +163,8 @@ fn backend_at(table: &Backends, script: &Script, address: Option<u32>) -> Option
 #[derive(Clone, Copy)]
 struct Lines<'a> {
     form: ReportForm,
-    /// Whether the program is one of steering.
-    is_steering: bool,
+    /// Whether the program is the shipped one.
+    is_shipped: bool,
     script: &'a Script,
     /// The backends that the script names.
     table: &'a Backends,
@@ -185,7 +185,7 @@ impl Lines<'_> {
         requires named { HasNamed self.now.table.now (backends_in self.now.script.now) }
         requires number { number < 2 ^ 64 - 1 }
         ensures { IfOk result
-            (λ text. string_bytes text ≡ line_text self.now.form self.now.is_steering (backends_in self.now.script.now) number
+            (λ text. string_bytes text ≡ line_text self.now.form self.now.is_shipped (backends_in self.now.script.now) number
             captured.now end (slice_get self.now.sent.now place)) }
     {
         let address = address_in(end, self.sent, place);
@@ -195,7 +195,7 @@ impl Lines<'_> {
             worker: worker_in(end),
             verdict: verdict_in(end),
             steps: steps_in(end),
-            case_of: case_in(self.is_steering, &captured.bytes, end),
+            case_of: case_in(self.is_shipped, &captured.bytes, end),
             backend: backend_at(self.table, self.script, address),
             address,
         };
@@ -212,7 +212,7 @@ impl Lines<'_> {
     ) -> Result<(), AllocError>
         requires named { HasNamed self.now.table.now (backends_in self.now.script.now) }
         requires ends { length ends.now ≡ length records.now }
-        ensures { OnOk result (string_bytes text.new ≡ string_bytes text.old ++ lines_until self.now.form self.now.is_steering
+        ensures { OnOk result (string_bytes text.new ≡ string_bytes text.old ++ lines_until self.now.form self.now.is_shipped
             (backends_in self.now.script.now) records.now ends.now self.now.sent.now (length records.now)) }
     {
         let mut place = 0;
@@ -232,20 +232,20 @@ impl Lines<'_> {
 fn report_text(
     alloc: Global,
     form: ReportForm,
-    is_steering: bool,
+    is_shipped: bool,
     script: &Script,
     capture: &Capture,
     outcome: &Outcome,
 ) -> Result<String, AllocError>
     requires { length outcome.now.ends.items ≡ length capture.now.records.items }
     ensures { IfOk result
-        (λ text. string_bytes text ≡ report_text form is_steering script.now capture.now.records.items outcome.now.ends.items
+        (λ text. string_bytes text ≡ report_text form is_shipped script.now capture.now.records.items outcome.now.ends.items
         outcome.now.sent.items) }
 {
     let table = backends_in(alloc, script.commands())?;
     let lines = Lines {
         form,
-        is_steering,
+        is_shipped,
         script,
         table: &table,
         sent: &outcome.sent,
@@ -259,21 +259,21 @@ fn report_text(
 pub(crate) fn report_for(
     alloc: Global,
     name: Option<&str>,
-    is_steering: bool,
+    is_shipped: bool,
     script: &Script,
     capture: &Capture,
     outcome: &Outcome,
 ) -> Result<String, Refusal>
     requires { length outcome.now.ends.items ≡ length capture.now.records.items }
     ensures text { IfOk result (λ text. (file : List ℕ) → text_of name.entry ≡ Some file →
-        string_bytes text ≡ report_text (form_of file) is_steering
+        string_bytes text ≡ report_text (form_of file) is_shipped
         script.now capture.now.records.items outcome.now.ends.items outcome.now.sent.items) }
     ensures refused { IfErr result (λ refusal. refusal.fault ≡ Memory) }
 {
     match name {
         Some(name) => {
             let form = form_of(alloc, name)?;
-            Ok(report_text(alloc, form, is_steering, script, capture, outcome)?)
+            Ok(report_text(alloc, form, is_shipped, script, capture, outcome)?)
         }
         None => Ok(String::new(alloc)),
     }

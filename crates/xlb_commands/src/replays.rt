@@ -44,7 +44,7 @@ ghost use Rattle.xlb_commands.specs.Replays.{LeavesNothingOut, image_of};
 ghost use Rattle.traffic.specs.Readings.{alters, unaltered};
 ghost use Rattle.xlb_commands.specs.Replays.{IsProgramOf, IsScriptOf, IsScriptFile, IsCaptureIn, IsCaptureOf, HasBytes};
 ghost use Rattle.xlb_commands.specs.Replays.{FollowsRule, SendsAlike, recording_of, counts_text, refusals_text, AreWritten};
-ghost use Rattle.xlb_commands.specs.RecordReports.{form_of, report_text};
+ghost use Rattle.xlb_commands.specs.RecordReports.{form_of, report_text, runs_shipped};
 
 use crate::commands::judged_of;
 use crate::fault::{Fault, Refusal};
@@ -435,7 +435,7 @@ fn left_of(
     ensures reads_back { IfOk result (λ left. (file : List ℕ) → text_of files.now.journals ≡ Some file →
         ReadBackWhereLegal outcome.now.journals) }
     ensures lines { IfOk result (λ left. (file : List ℕ) → text_of files.now.report ≡ Some file →
-        string_bytes left.lines ≡ report_text (form_of file) files.now.is_steering script.now capture.now.records.items
+        string_bytes left.lines ≡ report_text (form_of file) (runs_shipped files.now) script.now capture.now.records.items
         outcome.now.ends.items
         outcome.now.sent.items) }
     ensures text { IfOk result
@@ -450,7 +450,7 @@ fn left_of(
     let lines = report_for(
         alloc,
         files.report,
-        files.is_steering,
+        files.image.is_none(),
         script,
         capture,
         outcome,

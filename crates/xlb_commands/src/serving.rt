@@ -31,6 +31,7 @@ use command_line::Settings;
 use faults::refusal_text;
 use folders::Folder;
 use map_updates::Misfit;
+use mistakes::explained;
 use std::alloc::{AllocError, Global};
 use std::sync::Wait;
 use std::thread::Threads;
@@ -118,7 +119,7 @@ fn answer<R: Threads + Wait + Sync, D: Folder, P: Progress + Sync>(
         Settings::Audit { image, journals } => {
             Ok(CommandAnswer::reported(audit_file(alloc, folder, image, journals)?))
         }
-        Settings::Explain { about } => Ok(CommandAnswer::reported(about.text(alloc)?)),
+        Settings::Explain { about } => Ok(CommandAnswer::reported(explained(alloc, about)?)),
         Settings::Asm { text, out, source } => {
             if *source {
                 Ok(CommandAnswer::reported(assemble_source_file(alloc, folder, text, out)?))

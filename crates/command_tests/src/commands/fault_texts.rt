@@ -17,6 +17,7 @@ use ipip::IpipFault;
 use journals::FileFault;
 use machine::Stop;
 use maglev::RingFault;
+use mistakes::explained;
 use replay::ReplayFault;
 use runs::RunFault;
 use semantics::JournalFull;
@@ -273,6 +274,60 @@ The last instruction goes on past the end.
 Usual causes: The program does not end with `exit`.
 For example: `mov r0, 2` as the whole program.
 ";
+
+/// Faults, and the line below their paragraphs: the numbers of the others that have the name.
+#[rattlefmt::skip]
+static NAMESAKES: [(u32, &str); 8] = [
+    (8,  "Other faults of this name: 20 23 48 52 74 95\n"),
+    (14, "Other faults of this name: 81\n"),
+    (21, "Other faults of this name: 90\n"),
+    (33, ""),
+    (50, "Other faults of this name: 60 94\n"),
+    (60, "Other faults of this name: 50 94\n"),
+    (90, "Other faults of this name: 21\n"),
+    (95, "Other faults of this name: 8 20 23 48 52 74\n"),
+];
+
+/// Compares what is printed of a fault.
+fn compare_namesakes(rt: &impl Abort, alloc: Global, number: u32, line: &str) {
+    let row = Explanation::of(number).expect(rt, "a row");
+    let mut wanted = row.text(alloc).expect(rt, "memory");
+    wanted.push_str(line).expect(rt, "memory");
+    let text = explained(alloc, &row).expect(rt, "memory");
+    same_text(rt, row.name, text.as_str(), wanted.as_str());
+}
+
+#[test]
+fn other_faults_of_a_name_are_named(rt: HostRuntime) {
+    for (number, line) in &NAMESAKES {
+        compare_namesakes(&rt, rt.alloc(), *number, *line);
+    }
+}
+
+const TWO_TOO_LONG: &str = "fault 14 TooLong
+The program has more than 4096 slots.
+Usual causes: A loop was unrolled too often.
+For example: 4096 times `mov r0, 1`, and `exit`.
+Other faults of this name: 81
+";
+
+#[test]
+fn explains_a_name_of_two_faults(rt: HostRuntime) {
+    let wanted = Wanted {
+        status: 0,
+        out: TWO_TOO_LONG,
+        err: "",
+    };
+    let folder = MemoryFolder::new(rt.alloc());
+    compare(
+        &rt,
+        rt.alloc(),
+        "TooLong",
+        folder,
+        "xlb explain TooLong",
+        wanted,
+    );
+}
 
 #[test]
 fn explains_a_fault(rt: HostRuntime) {

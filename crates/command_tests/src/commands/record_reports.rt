@@ -76,14 +76,14 @@ type Row = (
 #[rattlefmt::skip]
 static ROWS: [Row; 17] = [
     ("13 bytes are short", SENDS, "", ZEROS_13, "--image image", "report.csv", &["1,1.000002,,SHORT,,#,,,,,,,\n"]),
-    ("the same for a program of steering", SENDS, "", ZEROS_13, "--program image", "report", &["1,1.000002,,SHORT,,short,#,,,,,,\n"]),
+    ("the same for another program of steering", SENDS, "", ZEROS_13, "--program image", "report", &["1,1.000002,,SHORT,,#,,,,,,,\n"]),
     ("the same in JSON", SENDS, "", ZEROS_13, "--image image", "report.JSON",
         &["{\"number\":1,\"moment\":\"1.000002\",\"worker\":null,\"verdict\":\"SHORT\",\"steps\":null,#\
            \"case\":null,\"backend\":null,\"address\":null,\"source\":null,\"source_port\":null,\"destination\":null,\
            \"destination_port\":null,\"protocol\":null}\n"]),
     ("a frame that is in no tunnel", SENDS, "", LAST_MOMENT, "--image image", "report.jsonx", &["1,4294967295.999999,0,TX,2,#,,,,,,,\n"]),
-    ("the same for a program of steering", SENDS, "", LAST_MOMENT, "--program image", "json",
-        &["1,4294967295.999999,0,TX,2,sent#,,,,,,,\n"]),
+    ("the same for another program of steering", SENDS, "", LAST_MOMENT, "--program image", "json",
+        &["1,4294967295.999999,0,TX,2,#,,,,,,,\n"]),
     ("a datagram that is sent as it is", SENDS, "", DATAGRAM, "--image image", "report", &["1,1.000002,0,TX,2,#,,,198.51.100.7,40000,203.0.113.1,80,udp\n"]),
     ("no verdict", ABORTS, "", LAST_MOMENT, "--program image", "report", &["1,4294967295.999999,0,ABORTED,2,#,,,,,,,\n"]),
     ("a full journal stops the last run", READS_ONE, "", FIVE_ZEROS, "--image image --journal 16", "report",

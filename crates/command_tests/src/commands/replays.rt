@@ -102,7 +102,7 @@ pub(super) const NOT_TO_LIVE: &str = "\
     02000000000102000000000208004500001c0001000000111494c6336407cb0071019c40005000080000";
 
 /// A capture of the datagram twice.
-const TWO_DATAGRAMS: &str = "\
+pub(super) const TWO_DATAGRAMS: &str = "\
     d4c3b2a1020004000000000000000000ffff000001000000\
     01000000020000002a0000002a000000\
     02000000000102000000000208004500001c0001000040111494c6336407cb0071019c40005000080000\
@@ -118,7 +118,7 @@ const IN_BOTH_TUNNELS: &str = "\
     02000000000b02000000000a0800450000300000400040046ebf0a000009c00002024500001c0001000040111494c6336407cb0071019c40005000080000";
 
 /// Its backend goes down behind the first frame, and another one comes up.
-const MOVES: &str =
+pub(super) const MOVES: &str =
     "0 gateway 10.0.0.9 02:00:00:00:00:0a 02:00:00:00:00:0b\n0 vip 203.0.113.1 80 udp\n0 up 0 192.0.2.1\n1 down 0\n1 up 1 192.0.2.2\n";
 
 /// A flow that moves, in a summary.
@@ -238,7 +238,7 @@ const ROWS: [Row; 18] = [
 
 /// Frames that the shipped program steers.
 #[rattlefmt::skip]
-const STEERED: [Row; 7] = [
+const STEERED: [Row; 8] = [
     ("no backend",               "", NO_BACKEND, DATAGRAM, "--script script --ring 7", 0, ONE_DROP, "", HEAD),
     ("a summary of one frame", "", SERVICE, DATAGRAM, "--script script --summary", 0, ONE_TX,
         "  1 frame of TCP or UDP that fit into a tunnel\n  1 frame sent to 192.0.2.1\n  1 frame for 203.0.113.1 port 80 udp\n  \
@@ -247,6 +247,8 @@ const STEERED: [Row; 7] = [
     ("a summary of one that has expired", "", SERVICE, NOT_TO_LIVE, "--script script --summary", 0, ONE_DROP,
         "  1 frame of TCP or UDP with a time to live of 0\n  1 frame for 203.0.113.1 port 80 udp\n  1 frame dropped, with a time to live of 0\n  \
          251 of 251 slots of the lookup table for backend 0, 192.0.2.1, at the end\n", HEAD),
+    ("a summary of another program", SENDS, "", DATAGRAM, "--image image --summary", 0, ONE_TX,
+        "  1 frame of TCP or UDP that fit into a tunnel\n  1 frame sent, by the program\n", DATAGRAM),
     ("a summary of two shares in two shards", "", TWO_BACKENDS, HEAD, "--script script --ring 7 --shards 2 --summary", 0, NO_FRAME,
         "  with 2 backends up, each has 3 or 4 of the lookup table's 7 slots: a larger --ring N, at most 65537, is more even\n  \
          4 of 7 slots of the lookup table for backend 2, 192.0.2.3, at the end\n  \

@@ -6,7 +6,7 @@ use Rattle.command_line.specs.Reading.{text_of}
 use Rattle.semantics.specs.ShardPlan.{recorded}
 use Rattle.traffic.specs.Readings.{unaltered}
 use Rattle.traffic.specs.declared.readings.Reading.{Reading}
-use Rattle.xlb_commands.specs.RecordReports.{IsReportFile}
+use Rattle.xlb_commands.specs.RecordReports.{IsReportFile, runs_shipped}
 use Rattle.xlb_commands.specs.declared.fault.Fault.{Fault}
 use Rattle.xlb_commands.specs.declared.replays.Asked.{Asked}
 use Rattle.xlb_commands.specs.declared.report.Report.{Report}
@@ -115,7 +115,7 @@ returns-in_ok-write_pieces-in-Ok-Some-clause-done g c =
         journals = λ apart. written_down (g.D.Folder.holds c.write_pieces.new.folder) (text_of asked.files.now.journals) _ made_of.whole.journals
             made_of.journals_are c.in_ok-write_pieces-in-Ok-Some.ensures.journals;
         accepted = made_of.accepted;
-        report = subst (λ (name : Option (List ℕ)). IsReportFile (g.D.Folder.holds c.write_pieces.new.folder) name asked.files.now.is_steering
+        report = subst (λ (name : Option (List ℕ)). IsReportFile (g.D.Folder.holds c.write_pieces.new.folder) name (runs_shipped asked.files.now)
             asked.script.now left.records made_of.whole) (sym c.requires.no_report) tt;
         lines = made_of.text;
       },

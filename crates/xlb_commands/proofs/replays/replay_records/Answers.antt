@@ -17,7 +17,7 @@ use Rattle.command_line.specs.Reading.{text_of}
 use Rattle.command_line.specs.declared.commands.ReplayFiles.{ReplayFiles}
 use Rattle.xlb_commands.specs.declared.fault.Fault.{Fault}
 use Rattle.xlb_commands.specs.Files.{FileBytes}
-use Rattle.xlb_commands.specs.RecordReports.{IsReportFile, form_of, report_text}
+use Rattle.xlb_commands.specs.RecordReports.{IsReportFile, form_of, report_text, runs_shipped}
 use Rattle.xlb_commands.specs.Replays.{HasBytes, image_of, program_of_replay}
 use Rattle.xlb_commands.specs.Refused.{AreUnfiled, given_up, not_reported, not_written_down}
 use Rattle.xlb_commands.proofs.AcceptedJournals.{accepted_of}
@@ -76,7 +76,7 @@ returns-clause-done g c = (
         (c.in_ok-write_files.ensures.sent other third);
     journals = c.in_ok-write_files.ensures.journals;
     accepted = λ file named. accepted_of _ _ _ _ c.in-Ok.outcome c.in-Ok.ensures.made.accounted (c.in_ok-left.ensures.reads_back file named);
-    report = report_stands (g.D.Folder.holds c.write_files.new.folder) (text_of c.args.asked.files.now.report) c.args.asked.files.now.is_steering
+    report = report_stands (g.D.Folder.holds c.write_files.new.folder) (text_of c.args.asked.files.now.report) (runs_shipped c.args.asked.files.now)
         c.args.asked.script.now c.args.capture.now.records.items c.in-Ok.outcome _ c.in_ok-left.ensures.lines
         c.in_ok-write_files.ensures.report;
     lines = c.in_ok-left.ensures.text;

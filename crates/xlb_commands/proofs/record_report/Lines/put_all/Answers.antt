@@ -19,21 +19,21 @@ same_inside [] place d e inside = absurd (omega arith)
 same_inside (y ∷ ys) zero d e inside = refl
 same_inside (y ∷ ys) (suc place) d e inside = same_inside ys place d e (omega arith)
 
-module _ (form : ReportForm) (is_steering : Bool) (backends : List (ℕ × ℕ)) (records : List Sent) (ends : List RecordEnd) (sent : List Sent) where
+module _ (form : ReportForm) (is_shipped : Bool) (backends : List (ℕ × ℕ)) (records : List Sent) (ends : List RecordEnd) (sent : List Sent) where
   -- a text with the lines so far, and one more
   one_line : (number place : ℕ) (captured : Sent) (end : RecordEnd) (old before line after : List ℕ) → slice_get records number ≡ Some captured
-      → end ≡ end_of ends number → place ≡ sent_before ends number → before ≡ old ++ lines_until form is_steering backends records ends sent number
-      → line ≡ line_text form is_steering backends number captured end (slice_get sent place) → after ≡ before ++ line
-      → after ≡ old ++ lines_until form is_steering backends records ends sent (number + 1)
+      → end ≡ end_of ends number → place ≡ sent_before ends number → before ≡ old ++ lines_until form is_shipped backends records ends sent number
+      → line ≡ line_text form is_shipped backends number captured end (slice_get sent place) → after ≡ before ++ line
+      → after ≡ old ++ lines_until form is_shipped backends records ends sent (number + 1)
   one_line number place captured end old before line after found end_is place_is were is_line put =
-      let same : line ≡ line_of form is_steering backends ends sent number (slice_get records number) =
+      let same : line ≡ line_of form is_shipped backends ends sent number (slice_get records number) =
       is_line
-      ∙ (ap (λ (it : RecordEnd). line_text form is_steering backends number captured it (slice_get sent place)) end_is
-      ∙ (ap (λ (it : ℕ). line_text form is_steering backends number captured (end_of ends number) (slice_get sent it)) place_is
-      ∙ ap (λ (it : _). line_of form is_steering backends ends sent number it) (sym found))) in
+      ∙ (ap (λ (it : RecordEnd). line_text form is_shipped backends number captured it (slice_get sent place)) end_is
+      ∙ (ap (λ (it : ℕ). line_text form is_shipped backends number captured (end_of ends number) (slice_get sent it)) place_is
+      ∙ ap (λ (it : _). line_of form is_shipped backends ends sent number it) (sym found))) in
       put ∙ (ap₂ (◌++◌) were same
-      ∙ (append_assoc old (lines_until form is_steering backends records ends sent number) _
-      ∙ ap (λ (n : ℕ). old ++ lines_until form is_steering backends records ends sent n) (sym (add-one number))))
+      ∙ (append_assoc old (lines_until form is_shipped backends records ends sent number) _
+      ∙ ap (λ (n : ℕ). old ++ lines_until form is_shipped backends records ends sent n) (sym (add-one number))))
 
 -- one more is sent, or none
 one_place : (ends : List RecordEnd) (number place next : ℕ) (sent : Bool) → place ≡ sent_before ends number → sent ≡ is_sent (end_of ends number)
@@ -55,7 +55,7 @@ records-preserved c =
       | then-is_tx w ↦ omega (arith, w.place-is, c.records.invariant.2)
       | else-is_tx w ↦ omega (arith, w.place-is, c.records.invariant.2)
     ] in (
-      one_line c.args.self.now.form c.args.self.now.is_steering (backends_in c.args.self.now.script.now) c.args.records.now c.args.ends.now
+      one_line c.args.self.now.form c.args.self.now.is_shipped (backends_in c.args.self.now.script.now) c.args.records.now c.args.ends.now
           c.args.self.now.sent.now c.records.number c.records.place c.index-records-number.result _ (string_bytes c.args.text.now)
           (string_bytes c.records.text) c.as_str.result.now (string_bytes c.push_str.new.self)
           (member_at c.args.records.now c.records.number c.index-records-number.result inside c.index-records-number.is)
