@@ -224,11 +224,11 @@ pub record KeepsHeadline (image : Contents) (script : List Command) (options : O
   pub same :
       subst (λ (one : Contents). IsAccounted (program_of_replay one options) script options records outcome) image_is accounted ≡ made
 
--- Of a program that may run, a script and the records of a capture: the replay was made, with these updates; it is one list of
--- events, which keeps the headline; without updates the shipped program follows the steering rule, and one that only reads sends the same for every number of workers;
--- the sent frames, the journals and the report are written to their files; and what is printed are the counts, and the commands that were
--- refused. The journals that are written are ones that `xlb audit` accepts. Where no rows of journals are kept, they are known to proofs
--- alone.
+-- Of a program that may run, a script and the records of a capture: the replay was made, with these updates; it is one list of events, which
+-- keeps the headline; without updates the shipped program follows the steering rule, and one that only reads sends the same for every number
+-- of workers; the sent frames, the journals and the report are written to their files; and what is printed are the counts, and the commands
+-- that were refused. The journals that are written are ones that `xlb audit` accepts. Where no rows of journals are kept, they are known to
+-- proofs alone.
 pub record IsReplayedWith (after : FileBytes) (files : ReplayFiles) (program : Contents) (states : List (Option State))
     (script : List Command) (options : Options) (recording : Recording) (ring : ℕ) (exact : Bool) (updates : List MapUpdate)
     (records : List Sent) (printed : List ℕ) (refused : List Applied) : Type 0 where
