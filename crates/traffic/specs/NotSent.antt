@@ -1,12 +1,10 @@
 -- Why frames of flows were not sent, and how many frames are for a service; of another program than the shipped one, what became of frames.
 use Rattle.std.specs.Prelude.{ℕ, zero, suc, ◌+◌, ◌==◌, ◌&&◌, ◌++◌, not, nat_lt, Bool, true, false, List, [], ◌∷◌, Option, Some, None, codes}
 use Rattle.std.specs.Prelude.{decimal}
-use Rattle.std.specs.Prelude.{length, filter, slice_get, slice_index, if◌then◌else◌}
+use Rattle.std.specs.Prelude.{length, filter, slice_get, slice_index}
 use Rattle.std.specs.List.{flat_map}
 use Rattle.wire.specs.BigEndian.{be_word_at}
 use Rattle.wire.specs.FlowBytes.{protocol_number}
-use Rattle.wire.specs.declared.flow.Transport.{Transport}
-use Rattle.wire.specs.declared.flow.Transport.TheVariants.{Tcp, Udp}
 use Rattle.wire.specs.declared.records.Sent.{Sent}
 use Rattle.conntrack.specs.declared.keys.Service.{Service}
 use Rattle.control.specs.declared.command.Action.{Action}

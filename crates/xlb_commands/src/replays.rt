@@ -655,31 +655,6 @@ fn replay_whole<R: Threads + Wait + Sync, D: Folder, P: Progress + Sync>(
     replay_part(rt, alloc, folder, asked, capture, altered, progress)
 }
 
-/// Makes the replay in pieces, where it may be made so. None where it may not, or was not, and no file is changed.
-fn pieces_if_asked<D: Folder, P: Progress + Sync>(
-    alloc: Global,
-    folder: &mut D,
-    asked: Asked<'_>,
-    progress: &P,
-) -> Result<Option<Report>, Refusal>
-    requires failures { D.failure_count folder.old < 2 ^ 64 - 1 }
-    requires fit { AreFitting asked.verified.now.maps asked.updates.now }
-    requires rows { (file : List ℕ) → text_of asked.files.now.journals ≡ Some file → asked.recording ≡ Rows }
-    requires size { text_of asked.files.now.image ≡ None → IsRingSize asked.ring }
-    requires shipped { text_of asked.files.now.image ≡ None → image_of asked.verified.now ≡ shipped_image asked.ring }
-    ensures done { IfOk result (λ found. IfSome found (IsAnswered (D.holds folder.old) (D.holds folder.new) asked.entry)) }
-    ensures none { IfOk result (λ found. IfNone found (AreKept (D.holds folder.old) (D.holds folder.new))) }
-    ensures steady { IfOk result (λ found. IfNone found (D.failure_count folder.new ≡ D.failure_count folder.old)) }
-    ensures kept { LeavesOthers (D.holds folder.old) (D.holds folder.new) asked.entry }
-    ensures refused { IfErr result (λ refusal. IsDenied (D.holds folder.old) (D.holds folder.new)
-        (HasFailed (D.failure_count folder.old) (D.failure_count folder.new)) asked.entry refusal.fault) }
-{
-    if !asked.is_in_pieces() {
-        return Ok(None);
-    }
-    replay_in_pieces(alloc, folder, asked, progress)
-}
-
 /// Makes the replay, in pieces where that is possible, else with the whole capture in memory.
 fn replay_once<R: Threads + Wait + Sync, D: Folder, P: Progress + Sync>(
     rt: &R,
@@ -698,7 +673,10 @@ fn replay_once<R: Threads + Wait + Sync, D: Folder, P: Progress + Sync>(
     ensures refused { IfErr result (λ refusal. IsDenied (D.holds folder.old) (D.holds folder.new)
         (HasFailed (D.failure_count folder.old) (D.failure_count folder.new)) asked.entry refusal.fault) }
 {
-    match pieces_if_asked(alloc, folder, asked, progress) {
+    if !asked.is_in_pieces() {
+        return replay_whole(rt, alloc, folder, asked, progress);
+    }
+    match replay_in_pieces(alloc, folder, asked, progress) {
         Ok(Some(report)) => Ok(report),
         Ok(None) => replay_whole(rt, alloc, folder, asked, progress),
         Err(refusal) => Err(refusal),

@@ -1,5 +1,5 @@
-use Rattle.std.proofs.Common.{◌≡◌, ◌+◌, ◌<◌, ◌≤◌, ℕ, List, arith, get_or, length, subst, take, take_all}
-use Rattle.traffic.specs.Shares.{AreShares, word_at}
+use Rattle.std.proofs.Common.{ℕ, List, arith, get_or, subst, take_all}
+use Rattle.traffic.specs.Shares.{AreShares}
 use Rattle.traffic.proofs.ShareLemmas.{few_counted, none_counted, one_counted}
 use Rattle.traffic.proofs.shares.shares_of.Goals as goal
 
