@@ -25,3 +25,7 @@ pub drop-written_buffer : {Z : Type 0} (buffer : Vec ℕ Z) (start at : ℕ) (it
 drop-written_buffer buffer start at items fits =
     ap (drop start) (with_items_is buffer _ (length-put_mid_inside (start + at) items buffer.items fits ∙ sym buffer.ok.0))
     ∙ drop-put_mid_inside start at items buffer.items fits
+
+-- what is appended to the first bytes of a buffer comes behind them
+pub behind_front : (start : ℕ) (items buffer : List ℕ) → start ≤ length buffer → drop start (take start buffer ++ items) ≡ items
+behind_front start items buffer fits = grind (arith, common_steps)

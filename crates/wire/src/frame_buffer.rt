@@ -1,6 +1,6 @@
 //! An Ethernet frame in a buffer with free bytes before it.
 
-ghost use Rattle.std.specs.Prelude.{◌≡◌, ℕ, ◌+◌, ◌-◌, ◌<◌, ◌≤◌, ◌↔◌, List, ◌∷◌, [], length, All, IfOk, IsOk, IsErrOf, true};
+ghost use Rattle.std.specs.Prelude.{◌≡◌, ℕ, ◌+◌, ◌-◌, ◌<◌, ◌≤◌, ◌↔◌, List, ◌∷◌, [], length, All, IfOk, IsOk, OnOk, OnErr, IsErrOf, true};
 ghost use Rattle.wire.specs.FrameView.{FrameView, with_byte_at, with_bytes_at, grown_front, shrunk_front};
 
 use std::alloc::{AllocError, Global};
@@ -103,6 +103,34 @@ impl Frame {
             buffer,
             start: HEADROOM,
         })
+    }
+
+    /// Makes it a frame of these bytes, with a headroom of 256, in the memory that it has, and in more where they don't fit there.
+    ///
+    /// Refused as [`Frame::of`] refuses; then the frame is as it was.
+    pub fn refill(&mut self, bytes: &[u8]) -> Result<(), FrameFault>
+        ensures frame { OnOk result (self.new ≡ record { bytes = bytes.now; headroom = 256 }) }
+        ensures unchanged { OnErr result (self.new ≡ self.old) }
+        ensures size { IsOk result → (14 ≤ length bytes.now) × (length bytes.now ≤ 2048) }
+        ensures too_long { IsErrOf result FrameFault.FrameTooLong ↔ (2048 < length bytes.now) }
+        ensures short { IsErrOf result FrameFault.ShortFrame ↔ (length bytes.now < 14) }
+    {
+        if bytes.len() > MAX_FRAME {
+            return Err(FrameFault::FrameTooLong);
+        }
+        if bytes.len() < MIN_FRAME {
+            return Err(FrameFault::ShortFrame);
+        }
+        let more = (HEADROOM + bytes.len()).saturating_sub(self.buffer.len());
+        if self.buffer.reserve(more).is_err() {
+            return Err(FrameFault::Memory);
+        }
+        self.buffer.truncate(HEADROOM);
+        if self.buffer.extend_from_slice(bytes).is_err() {
+            unreachable!();
+        }
+        self.start = HEADROOM;
+        Ok(())
     }
 
     /// The bytes of the frame.
