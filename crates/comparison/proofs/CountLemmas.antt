@@ -1,6 +1,6 @@
 -- What one more record does to the counts of changes.
 use Rattle.std.proofs.Common.{◌≡◌, ℕ, ◌+◌, ◌<◌, ◌≤◌, Bool, true, false, cond, List, [], ◌∷◌, length, take, Some, String, BTreeMap, sym, refl, ap, ◌∙◌, subst, arith, get_or, unwrap_or, add-one}
-use Rattle.std.specs.BTreeMap.{IsEmpty, get_by_text}
+use Rattle.std.specs.BTreeMap.{get_by_text}
 use Rattle.std.specs.Map.{update}
 use Rattle.std.specs.Str.{bytes_eq}
 use Rattle.std.specs.Cmp.Lexicographic.{bytes_decides, nat_list_eq_equiv}

@@ -1,5 +1,5 @@
 -- Two reports compared.
-use Rattle.std.specs.Prelude.{◌≡◌, ◌≢◌, ℕ, ◌+◌, ◌<◌, ◌⊎◌, ◌∷◌, not, ◌==◌, Bool, List, String, length}
+use Rattle.std.specs.Prelude.{◌≡◌, ℕ, ◌+◌, ◌<◌, ◌⊎◌, not, ◌==◌, Bool, List, String, length}
 use Rattle.comparison.specs.declared.fault.Unlike.{Unlike}
 use Rattle.comparison.specs.declared.fault.Unlike.TheVariants as unlikes
 use Rattle.comparison.specs.declared.fault.Which.TheVariants.{First, Second}
@@ -40,9 +40,10 @@ pub record AreCompared (first second text : List ℕ) (differs : Bool) : Type 0 
   pub second_report : IsReport second second_rows
   pub alike : AreAlike first_rows second_rows text differs
 
--- why two files are not compared: one was not read; or their rows are not of the same records, or memory was refused
+-- why two files are not compared: the first was not read; the first is a report, and the second was not read; or their rows are not of the
+-- same records, or memory was refused
 pub data IsUnlike (first second : List ℕ) (unlike : Unlike) : Type 0 where
   first_unread : IsUnread First first unlike → IsUnlike first second unlike
-  second_unread : IsUnread Second second unlike → IsUnlike first second unlike
+  second_unread : (first_rows : List (List ℕ)) → IsReport first first_rows → IsUnread Second second unlike → IsUnlike first second unlike
   not_alike : (first_rows second_rows : List (List ℕ)) → IsReport first first_rows → IsReport second second_rows
       → AreOthers first_rows second_rows unlike → IsUnlike first second unlike

@@ -1,5 +1,5 @@
 -- The text of a comparison, for people.
-use Rattle.std.specs.Prelude.{ℕ, ◌+◌, ◌-◌, ◌==◌, ◌++◌, ◌∷◌, List, [], String, codes, decimal, if◌then◌else◌, string_bytes, length, take}
+use Rattle.std.specs.Prelude.{ℕ, ◌-◌, ◌==◌, ◌++◌, List, [], String, codes, decimal, if◌then◌else◌, string_bytes, length, take}
 use Rattle.std.specs.List.{flat_map}
 use Rattle.comparison.specs.Rows.{field, row_at}
 use Rattle.comparison.specs.Changes.{change_at}

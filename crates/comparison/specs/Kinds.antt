@@ -1,5 +1,5 @@
 -- Kinds of changes, and how many records there are of each.
-use Rattle.std.specs.Prelude.{◌≡◌, ℕ, ◌+◌, ◌-◌, ◌^◌, ◌<◌, List, String, count_by, if◌then◌else◌, map, unwrap_or, IsPermutation}
+use Rattle.std.specs.Prelude.{◌≡◌, ℕ, ◌+◌, ◌-◌, ◌^◌, ◌<◌, List, String, count_by, if◌then◌else◌, unwrap_or, IsPermutation}
 use Rattle.std.specs.BTreeMap.{BTreeMap, IsOrdered, get_by_text}
 use Rattle.std.specs.String.{string_cmp}
 use Rattle.std.specs.Str.{bytes_eq}

@@ -88,5 +88,5 @@ BeginsAsJson bytes = (rest : List ℕ) × (bytes ≡ 123 ∷ rest)
 -- why the rows of a file were not read: it has JSON lines; it is no report; or memory was refused
 pub data IsUnread (which : Which) (bytes : List ℕ) (unlike : Unlike) : Type 0 where
   is_json : BeginsAsJson bytes → unlike ≡ unlikes.JsonLines which → IsUnread which bytes unlike
-  is_no_report : (line : ℕ) → IsNoReport bytes line → unlike ≡ unlikes.NoReport which line → IsUnread which bytes unlike
+  is_no_report : (line : ℕ) → ¬ BeginsAsJson bytes → IsNoReport bytes line → unlike ≡ unlikes.NoReport which line → IsUnread which bytes unlike
   no_memory : unlike ≡ unlikes.Memory → IsUnread which bytes unlike

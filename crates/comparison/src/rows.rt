@@ -1,7 +1,7 @@
 //! The rows of a report.
 
-ghost use Rattle.std.specs.Prelude.{◌≡◌, ◌≢◌, ◌<◌, ◌++◌, ℕ, List, IfErr, IfNone, IfOk, IfSome, map};
-ghost use Rattle.comparison.specs.Rows.{IsReport, IsRowCount, IsUnread, field, fields_from, first_field, head_line, is_row};
+ghost use Rattle.std.specs.Prelude.{◌≡◌, ◌≢◌, ◌<◌, ◌++◌, ℕ, List, IfErr, IfNone, IfOk, IfSome, false, map, true};
+ghost use Rattle.comparison.specs.Rows.{BeginsAsJson, IsReport, IsRowCount, IsUnread, field, fields_from, first_field, head_line, is_row};
 ghost use Rattle.comparison.specs.Rows.{ended_lines, last_line, later_fields, parts_at, row_at};
 
 use crate::fault::{Unlike, Which};
@@ -127,12 +127,20 @@ fn after_head(text: &str) -> Option<&str>
     text.strip_prefix(HEAD)
 }
 
+/// Whether the bytes begin as JSON lines do.
+fn begins_as_json(bytes: &[u8]) -> bool
+    ensures so { result ≡ true → BeginsAsJson bytes.now }
+    ensures otherwise { result ≡ false → ¬ BeginsAsJson bytes.now }
+{
+    !bytes.is_empty() && bytes[0] == b'['
+}
+
 /// The rows of a report. Refused where the bytes are none, with the first line that shows it, and where memory is refused.
 pub(crate) fn rows_in(alloc: Global, bytes: &[u8], which: Which) -> Result<Vec<&str>, Unlike>
     ensures rows { IfOk result (λ rows. IsReport bytes.now (map (λ row. row.now) rows.items)) }
     ensures refused { IfErr result (λ unlike. IsUnread which bytes.now unlike) }
 {
-    if !bytes.is_empty() && bytes[0] == b'{' {
+    if begins_as_json(bytes) {
         return Err(Unlike::JsonLines { which });
     }
     match text_or_line(bytes) {

@@ -41,4 +41,4 @@ returns-in_err-first_rows-clause-refused c =
 pub returns-in_err-second_rows-clause-refused : goal.returns-in_err-second_rows-clause-refused
 returns-in_err-second_rows-clause-refused c =
     under_err (λ (it : Unlike). IsUnread Second c.args.second.now it) (λ (it : Unlike). IsUnlike c.args.first.now c.args.second.now it)
-    (λ it unread. second_unread unread) c.from_residual-in_err-second_rows.result (search rules)
+    (λ it unread. second_unread _ c.in_ok-first_rows.ensures.rows unread) c.from_residual-in_err-second_rows.result (search rules)

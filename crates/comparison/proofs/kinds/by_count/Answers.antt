@@ -1,4 +1,4 @@
-use Rattle.std.proofs.Common.{rules, ◌≡◌, ◌-◌, ◌^◌, ℕ, List, String, Global, subst}
+use Rattle.std.proofs.Common.{rules, ◌-◌, ◌^◌, ℕ, List, String, Global, subst}
 use Rattle.std.specs.Prelude.{IsPermutation}
 use Rattle.std.proofs.lemmas.List.Sorted.{IsNonDecreasingBy-from_sort_by_key}
 use Rattle.comparison.proofs.kinds.by_count.Goals as goal

@@ -1,4 +1,4 @@
-use Rattle.std.proofs.Common.{arith, ◌≡◌, ◌∙◌, map, sym, ap}
+use Rattle.std.proofs.Common.{arith, ◌∙◌, map, sym, ap}
 use Rattle.comparison.specs.Rows.{is_row, row_at}
 use Rattle.comparison.proofs.RowLemmas.{one_further}
 use Rattle.comparison.proofs.rows.row_count.Goals as goal

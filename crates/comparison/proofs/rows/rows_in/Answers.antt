@@ -1,11 +1,11 @@
-use Rattle.std.proofs.Common.{◌≡◌, ◌∙◌, ℕ, List, IfErr, refl, subst, sym}
+use Rattle.std.proofs.Common.{◌∙◌, ℕ, List, IfErr, refl, subst, sym}
 use Rattle.comparison.specs.Rows.{IsUnread}
 use Rattle.comparison.specs.Rows.IsNoReport.{no_head, no_text}
 use Rattle.comparison.specs.Rows.IsUnread.{is_no_report}
 use Rattle.comparison.proofs.rows.rows_in.Goals as goal
 
 pub returns-in-Err-clause-refused : goal.returns-in-Err-clause-refused
-returns-in-Err-clause-refused c = is_no_report c.in-Err.line (no_text c.in-Err.ensures.no_text) refl
+returns-in-Err-clause-refused c = is_no_report c.in-Err.line (c.begins_as_json.ensures.otherwise c.if-begins_as_json.false) (no_text c.in-Err.ensures.no_text) refl
 
 pub returns-in-Some-clause-refused : goal.returns-in-Some-clause-refused
 returns-in-Some-clause-refused c =
@@ -14,4 +14,4 @@ returns-in-Some-clause-refused c =
 
 pub returns-in-None-clause-refused : goal.returns-in-None-clause-refused
 returns-in-None-clause-refused c =
-    is_no_report 1 (no_head (λ rest is. c.in-None.ensures.none rest (c.in-Ok.ensures.text.0 ∙ is)) refl) refl
+    is_no_report 1 (c.begins_as_json.ensures.otherwise c.if-begins_as_json.false) (no_head (λ rest is. c.in-None.ensures.none rest (c.in-Ok.ensures.text.0 ∙ is)) refl) refl

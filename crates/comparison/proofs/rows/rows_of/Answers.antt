@@ -3,6 +3,7 @@ use Rattle.std.proofs.lemmas.List.{length-map}
 use Rattle.comparison.specs.Rows.{IsRowCount, ended_lines, last_line, lines_of}
 use Rattle.comparison.specs.Rows.IsNoReport.{no_row}
 use Rattle.comparison.specs.Rows.IsUnread.{is_no_report}
+use Rattle.comparison.proofs.RowLemmas.{head_is_no_json}
 use Rattle.comparison.proofs.rows.rows_of.Goals.{else-behind-eq0-via-then-behind-eq0+else-count-len, else-behind-eq0-via-else-behind-eq0}
 use Rattle.comparison.proofs.rows.rows_of.Goals as goal
 
@@ -17,7 +18,7 @@ returns-clause-refused c =
     let last_is : c.last_line-behind.result.now ≡ last_line (lines_of c.args.rest.now) =
     c.last_line-behind.ensures
     ∙ (ap (λ (it : List (Bor (List ℕ))). last_line (map now it)) c.deref.ensures.value ∙ ap last_line c.in_ok-lines.ensures) in
-    is_no_report _ (no_row c.args.rest.now c.row_count-count.result refl counted (λ at_end empty.
+    is_no_report _ (head_is_no_json c.args.rest.now) (no_row c.args.rest.now c.row_count-count.result refl counted (λ at_end empty.
     elim c.else-behind-eq0.branch [
       | else-behind-eq0-via-then-behind-eq0+else-count-len w ↦ omega (
         arith,
