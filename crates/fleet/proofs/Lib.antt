@@ -1,4 +1,6 @@
 pub mod shared
 mod KeyLemmas
+mod LossLemmas
 mod Totals
 mod NumberLemmas
+mod RetainLemmas

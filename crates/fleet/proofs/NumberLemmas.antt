@@ -1,12 +1,13 @@
 -- Numbers of commands in a part, while the capture is read.
-use Rattle.std.proofs.Common.{◌≡◌, ℕ, zero, suc, ◌+◌, ◌-◌, ◌<◌, ◌≤◌, List, [], ◌∷◌, ◌++◌, length, take, get_or, map, refl, sym, ap, ◌∙◌, arith, append_assoc, length-append}
+use Rattle.std.proofs.Common.{◌≡◌, ℕ, zero, suc, ◌+◌, ◌-◌, ◌<◌, ◌≤◌, List, [], ◌∷◌, ◌++◌, Option, length, take, get_or, map, refl, sym, ap, ◌∙◌, arith, append_assoc, length-append}
 use Rattle.std.specs.Prelude.{slice_index}
 use Rattle.std.specs.List.{AllByRecursion}
 use Rattle.std.proofs.lemmas.List.{get_or-append_right, length-map, map-append, take_at, take_more}
 use Rattle.wire.specs.declared.records.Sent.{Sent}
 use Rattle.fleet.specs.declared.numbering.Numbering.{Numbering}
+use Rattle.fleet.specs.declared.part.Loss.{Loss}
 use Rattle.fleet.specs.declared.part.Part.{Part}
-use Rattle.fleet.specs.Parts.{is_in_part, number_in_part, records_of_part}
+use Rattle.fleet.specs.Parts.{is_in_part, number_in_part, records_behind, records_of_part}
 use Rattle.fleet.specs.Numbers.{AreNumbered, NeverFall}
 use Rattle.fleet.proofs.shared.PartLemmas.{fewer, number_before, number_behind, part_of_pieces}
 
@@ -19,7 +20,7 @@ next_is done left frames count parts long =
     ap (λ (xs : List ℕ). get_or xs count 0) parts ∙ get_or-append_right done left (length done) count 0 refl (omega (arith, long)) ∙ ap (λ i. get_or left i 0) none
 
 as_many : (frames : List ℕ) (past : List Sent) (n : Numbering) (are : AreNumbered frames past n) → length n.numbers.items ≡ length are.done
-as_many frames past n are = ap length are.numbers ∙ length-map are.done (number_in_part n.part.of n.part.number past)
+as_many frames past n are = ap length are.numbers ∙ length-map are.done (number_in_part n.part.of n.part.lost n.part.number past)
 
 lengths : (frames : List ℕ) (past : List Sent) (n : Numbering) (are : AreNumbered frames past n) → length frames ≡ length n.numbers.items + length are.left
 lengths frames past n are =
@@ -30,7 +31,7 @@ lengths frames past n are =
 -- no more records are in the part than there are
 pub taken_few : (frames : List ℕ) (past : List Sent) (n : Numbering) → AreNumbered frames past n → n.taken ≤ n.passed
 taken_few frames past n are =
-    let few = fewer (is_in_part n.part.of n.part.number) past in
+    let few = fewer (is_in_part n.part.of n.part.lost n.part.number) past in
     let taken = are.taken in
     let passed = are.passed in
     omega (arith, few, taken, passed)
@@ -55,12 +56,12 @@ raised : (least higher : ℕ) (left : List ℕ) → NeverFall least left → (0 
 raised least higher [] never late = tt
 raised least higher (frame ∷ left) never late = (late (omega arith), never.1)
 
-same_numbers : (of number : ℕ) (past more : List Sent) (done : List ℕ) → AllByRecursion (λ frame. frame ≤ length past) done
-    → map (number_in_part of number past) done ≡ map (number_in_part of number (past ++ more)) done
-same_numbers of number past more [] early = refl
-same_numbers of number past more (frame ∷ done) early =
-    ap (λ n. n ∷ map (number_in_part of number past) done) (sym (number_before of number past more frame early.0))
-    ∙ ap (λ ns. number_in_part of number (past ++ more) frame ∷ ns) (same_numbers of number past more done early.1)
+same_numbers : (of : ℕ) (lost : Option Loss) (number : ℕ) (past more : List Sent) (done : List ℕ) → AllByRecursion (λ frame. frame ≤ length past) done
+    → map (number_in_part of lost number past) done ≡ map (number_in_part of lost number (past ++ more)) done
+same_numbers of lost number past more [] early = refl
+same_numbers of lost number past more (frame ∷ done) early =
+    ap (λ n. n ∷ map (number_in_part of lost number past) done) (sym (number_before of lost number past more frame early.0))
+    ∙ ap (λ ns. number_in_part of lost number (past ++ more) frame ∷ ns) (same_numbers of lost number past more done early.1)
 
 still_early : (past more : List Sent) (done : List ℕ) → AllByRecursion (λ frame. frame ≤ length past) done
     → AllByRecursion (λ frame. frame ≤ length (past ++ more)) done
@@ -73,13 +74,13 @@ still_early past more (frame ∷ done) early =
 pub gone_past : (frames : List ℕ) (past more : List Sent) (n m : Numbering) → AreNumbered frames past n
     → (length n.numbers.items < length frames → n.passed + length more ≤ slice_index frames (length n.numbers.items))
     → m.part ≡ n.part → m.numbers.items ≡ n.numbers.items → m.passed ≡ n.passed + length more
-    → m.taken ≡ n.taken + length (records_of_part n.part.of n.part.number more) → AreNumbered frames (past ++ more) m
+    → m.taken ≡ n.taken + length (records_behind n.part.of n.part.lost n.part.number n.passed more) → AreNumbered frames (past ++ more) m
 gone_past frames past more n m are late part numbers passed taken = record {
   done = are.done;
   left = are.left;
   frames_are = are.frames_are;
-  numbers = numbers ∙ are.numbers ∙ same_numbers n.part.of n.part.number past more are.done are.early
-      ∙ ap (λ (p : Part). map (number_in_part p.of p.number (past ++ more)) are.done) (sym part);
+  numbers = numbers ∙ are.numbers ∙ same_numbers n.part.of n.part.lost n.part.number past more are.done are.early
+      ∙ ap (λ (p : Part). map (number_in_part p.of p.lost p.number (past ++ more)) are.done) (sym part);
   later = raised (length past) (length (past ++ more)) are.left are.later
       (λ some.
       let long = lengths frames past n are in
@@ -89,10 +90,12 @@ gone_past frames past more n m are late part numbers passed taken = record {
       let were = are.passed in
       omega (arith, at, behind, both, were));
   passed = (let both = length-append past more in let were = are.passed in omega (arith, passed, both, were));
-  taken = taken ∙ ap (λ k. k + length (records_of_part n.part.of n.part.number more)) are.taken
-      ∙ sym (length-append (records_of_part n.part.of n.part.number past) (records_of_part n.part.of n.part.number more))
-      ∙ ap length (sym (part_of_pieces n.part.of n.part.number past more))
-      ∙ ap (λ (p : Part). length (records_of_part p.of p.number (past ++ more))) (sym part);
+  taken = taken ∙ ap (λ k. k + length (records_behind n.part.of n.part.lost n.part.number n.passed more)) are.taken
+      ∙ ap (λ k. length (records_of_part n.part.of n.part.lost n.part.number past) + length (records_behind n.part.of n.part.lost n.part.number k more)) are.passed
+      ∙ sym (length-append (records_of_part n.part.of n.part.lost n.part.number past)
+      (records_behind n.part.of n.part.lost n.part.number (length past) more))
+      ∙ ap length (sym (part_of_pieces n.part.of n.part.lost n.part.number past more))
+      ∙ ap (λ (p : Part). length (records_of_part p.of p.lost p.number (past ++ more))) (sym part);
   early = still_early past more are.done are.early;
 }
 
@@ -119,13 +122,13 @@ noted frames past n m are within due part numbers passed taken =
       frames_are = parts ∙ sym (append_assoc are.done (frame ∷ []) left);
       numbers = numbers
           ∙ ap (λ ns. ns ++ n.taken ∷ []) are.numbers
-          ∙ ap (λ k. map (number_in_part n.part.of n.part.number past) are.done ++ k ∷ [])
-          (are.taken ∙ sym (number_behind n.part.of n.part.number past frame (omega (arith, here))))
-          ∙ sym (map-append (number_in_part n.part.of n.part.number past) are.done (frame ∷ []))
-          ∙ ap (λ (p : Part). map (number_in_part p.of p.number past) (are.done ++ frame ∷ [])) (sym part);
+          ∙ ap (λ k. map (number_in_part n.part.of n.part.lost n.part.number past) are.done ++ k ∷ [])
+          (are.taken ∙ sym (number_behind n.part.of n.part.lost n.part.number past frame (omega (arith, here))))
+          ∙ sym (map-append (number_in_part n.part.of n.part.lost n.part.number past) are.done (frame ∷ []))
+          ∙ ap (λ (p : Part). map (number_in_part p.of p.lost p.number past) (are.done ++ frame ∷ [])) (sym part);
       later = raised frame (length past) left later.1 (λ more. let first = first_late frame left later.1 more in omega (arith, here, first));
       passed = passed ∙ are.passed;
-      taken = taken ∙ are.taken ∙ ap (λ (p : Part). length (records_of_part p.of p.number past)) (sym part);
+      taken = taken ∙ are.taken ∙ ap (λ (p : Part). length (records_of_part p.of p.lost p.number past)) (sym part);
       early = early_more past are.done frame are.early (omega (arith, here));
     }
 
@@ -152,20 +155,20 @@ left_late frames past n place are from within =
 
 -- the numbers so far
 pub numbers_so_far : (frames : List ℕ) (past : List Sent) (n : Numbering) → AreNumbered frames past n
-    → n.numbers.items ≡ map (number_in_part n.part.of n.part.number past) (take (length n.numbers.items) frames)
+    → n.numbers.items ≡ map (number_in_part n.part.of n.part.lost n.part.number past) (take (length n.numbers.items) frames)
 numbers_so_far frames past n are =
     are.numbers
-    ∙ ap (map (number_in_part n.part.of n.part.number past)) (sym (ap (take (length n.numbers.items)) are.frames_are
+    ∙ ap (map (number_in_part n.part.of n.part.lost n.part.number past)) (sym (ap (take (length n.numbers.items)) are.frames_are
     ∙ take_at are.done are.left (length n.numbers.items) (sym (as_many frames past n are))))
 
 -- and one more behind all records
-pub one_behind : (of number : ℕ) (frames : List ℕ) (past : List Sent) (place : ℕ) → place < length frames → length past ≤ slice_index frames place
-    → map (number_in_part of number past) (take (place + 1) frames)
-    ≡ map (number_in_part of number past) (take place frames) ++ length (records_of_part of number past) ∷ []
-one_behind of number frames past place within late =
-    ap (map (number_in_part of number past)) (take_more frames place 0 within)
-    ∙ map-append (number_in_part of number past) (take place frames) (slice_index frames place ∷ [])
-    ∙ ap (λ k. map (number_in_part of number past) (take place frames) ++ k ∷ []) (number_behind of number past (slice_index frames place) late)
+pub one_behind : (of : ℕ) (lost : Option Loss) (number : ℕ) (frames : List ℕ) (past : List Sent) (place : ℕ) → place < length frames → length past ≤ slice_index frames place
+    → map (number_in_part of lost number past) (take (place + 1) frames)
+    ≡ map (number_in_part of lost number past) (take place frames) ++ length (records_of_part of lost number past) ∷ []
+one_behind of lost number frames past place within late =
+    ap (map (number_in_part of lost number past)) (take_more frames place 0 within)
+    ∙ map-append (number_in_part of lost number past) (take place frames) (slice_index frames place ∷ [])
+    ∙ ap (λ k. map (number_in_part of lost number past) (take place frames) ++ k ∷ []) (number_behind of lost number past (slice_index frames place) late)
 
 -- the next command is due behind the records that were passed
 pub next_here : (frames these those : List ℕ) (passed went : ℕ) → length these ≡ length those → slice_index frames (length those) ≡ passed

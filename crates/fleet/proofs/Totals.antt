@@ -1,9 +1,10 @@
 -- Sums over the parts of a capture.
 use Rattle.std.proofs.Common.{◌≡◌, ℕ, zero, suc, ◌+◌, ◌<◌, ◌≤◌, Bool, true, false, cond, List, [], ◌∷◌, length, refl, sym, ap, ◌∙◌, arith}
-use Rattle.std.specs.Prelude.{◌==◌, filter, sum_by}
+use Rattle.std.specs.Prelude.{◌==◌, sum_by}
 use Rattle.std.proofs.lemmas.Bool.{cases_eq, eq-eqb, ne_eqb}
 use Rattle.std.proofs.lemmas.List.Sums.{sum_by-cons}
-use mathlib.Core.Logic.{◌⊎◌, inl, inr, ⊎_elim}
+use mathlib.Core.Logic.{⊎_elim}
+use Rattle.fleet.specs.Parts.{filter_at}
 use Rattle.fleet.specs.PartLaws.{sum_over_parts}
 
 over_none : (parts : ℕ) → sum_over_parts (λ number. 0) parts ≡ 0
@@ -52,16 +53,18 @@ module _ {X : Type 0} (figure : X → ℕ) where
   by false x xs = omega arith
 
   -- the sum over all is that of the sums over those with one label each
-  pub over_labels : (label : X → ℕ) (parts : ℕ) → ((x : X) → label x < parts) → (xs : List X)
-      → sum_over_parts (λ number. sum_by figure (filter (λ x. label x == number) xs)) parts ≡ sum_by figure xs
+  pub over_labels : (label : ℕ → X → ℕ) (parts : ℕ) → ((place : ℕ) (x : X) → label place x < parts) → (xs : List X)
+      → sum_over_parts (λ number. sum_by figure (filter_at (λ place x. label place x == number) xs)) parts ≡ sum_by figure xs
   over_labels label parts below [] = over_none parts
   over_labels label parts below (x ∷ xs) =
-      over_same (λ number. sum_by figure (filter (λ y. label y == number) (x ∷ xs)))
-      (λ number. cond (label x == number) (figure x) 0 + sum_by figure (filter (λ y. label y == number) xs)) parts
-      (λ number. by (label x == number) x (filter (λ y. label y == number) xs))
-      ∙ over_both (λ number. cond (label x == number) (figure x) 0) (λ number. sum_by figure (filter (λ y. label y == number) xs)) parts
-      ∙ ap (λ n. n + sum_over_parts (λ number. sum_by figure (filter (λ y. label y == number) xs)) parts) (over_one (label x) (figure x) parts (below x))
-      ∙ ap (λ n. figure x + n) (over_labels label parts below xs)
+      over_same (λ number. sum_by figure (filter_at (λ place y. label place y == number) (x ∷ xs)))
+      (λ number. cond (label 0 x == number) (figure x) 0 + sum_by figure (filter_at (λ place y. label (suc place) y == number) xs)) parts
+      (λ number. by (label 0 x == number) x (filter_at (λ place y. label (suc place) y == number) xs))
+      ∙ over_both (λ number. cond (label 0 x == number) (figure x) 0) (λ number. sum_by figure (filter_at (λ place y. label (suc place) y == number) xs))
+      parts
+      ∙ ap (λ n. n + sum_over_parts (λ number. sum_by figure (filter_at (λ place y. label (suc place) y == number) xs)) parts)
+      (over_one (label 0 x) (figure x) parts (below 0 x))
+      ∙ ap (λ n. figure x + n) (over_labels (λ place. label (suc place)) parts (λ place. below (suc place)) xs)
       ∙ sym (sum_by-cons figure x xs)
 
 -- a length is a sum
@@ -69,10 +72,11 @@ length_is_sum : {X : Type 0} (xs : List X) → length xs ≡ sum_by (λ x. 1) xs
 length_is_sum [] = refl
 length_is_sum (x ∷ xs) = let rest = length_is_sum xs in let one = sum_by-cons (λ y. 1) x xs in omega (arith, rest, one)
 
-pub over_lengths : {X : Type 0} (label : X → ℕ) (parts : ℕ) → ((x : X) → label x < parts) → (xs : List X)
-    → sum_over_parts (λ number. length (filter (λ x. label x == number) xs)) parts ≡ length xs
+pub over_lengths : {X : Type 0} (label : ℕ → X → ℕ) (parts : ℕ) → ((place : ℕ) (x : X) → label place x < parts) → (xs : List X)
+    → sum_over_parts (λ number. length (filter_at (λ place x. label place x == number) xs)) parts ≡ length xs
 over_lengths label parts below xs =
-    over_same (λ number. length (filter (λ x. label x == number) xs)) (λ number. sum_by (λ x. 1) (filter (λ x. label x == number) xs)) parts
-    (λ number. length_is_sum (filter (λ x. label x == number) xs))
+    over_same (λ number. length (filter_at (λ place x. label place x == number) xs))
+    (λ number. sum_by (λ x. 1) (filter_at (λ place x. label place x == number) xs)) parts
+    (λ number. length_is_sum (filter_at (λ place x. label place x == number) xs))
     ∙ over_labels (λ x. 1) label parts below xs
     ∙ sym (length_is_sum xs)

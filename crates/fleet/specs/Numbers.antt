@@ -15,10 +15,10 @@ pub record AreNumbered (frames : List ℕ) (past : List Sent) (numbering : Numbe
   pub done : List ℕ
   pub left : List ℕ
   pub frames_are : frames ≡ done ++ left
-  pub numbers : numbering.numbers.items ≡ map (number_in_part numbering.part.of numbering.part.number past) done
+  pub numbers : numbering.numbers.items ≡ map (number_in_part numbering.part.of numbering.part.lost numbering.part.number past) done
   pub later : NeverFall (length past) left
   pub passed : numbering.passed ≡ length past
-  pub taken : numbering.taken ≡ length (records_of_part numbering.part.of numbering.part.number past)
+  pub taken : numbering.taken ≡ length (records_of_part numbering.part.of numbering.part.lost numbering.part.number past)
   -- the numbers are those in every capture that begins so
   pub early : AllByRecursion (λ frame. frame ≤ length past) done
 

@@ -1,7 +1,7 @@
 //! What holds of the parts of every capture, as contracts of functions that do nothing.
 
 ghost use Rattle.fleet.specs.PartLaws.{CommandsKeepTheirSide, FlowsAreInOnePart, LengthsAddUp, NumbersNeverFall, PartsAreAPartition};
-ghost use Rattle.fleet.specs.PartLaws.{TotalsAddUp};
+ghost use Rattle.fleet.specs.PartLaws.{FlowsMoveOnlyAtTheLoss, OnlyTheLostPartMoves, OthersAreNamed, TotalsAddUp};
 
 /// Each record of a capture is in one part, in the capture's order: merged by their places the parts are the capture.
 pub fn parts_are_a_partition()
@@ -11,6 +11,21 @@ pub fn parts_are_a_partition()
 /// No flow is in two parts.
 pub fn flows_are_in_one_part()
     ensures { FlowsAreInOnePart }
+{}
+
+/// With a loss: a flow's records before it are in one part, and so are those behind it.
+pub fn flows_move_only_at_the_loss()
+    ensures { FlowsMoveOnlyAtTheLoss }
+{}
+
+/// A loss moves no record before it and none of another part, and leaves none behind it in the lost part.
+pub fn only_the_lost_part_moves()
+    ensures { OnlyTheLostPartMoves }
+{}
+
+/// The second hash can name each of the other parts, and no other.
+pub fn others_are_named()
+    ensures { OthersAreNamed }
 {}
 
 /// What is a sum over the records of a capture is the sum of those of its parts.

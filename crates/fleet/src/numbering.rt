@@ -65,7 +65,7 @@ impl Numbering {
         ensures passed { self.new.passed ≡ self.old.passed + length records.now }
         ensures numbers { self.new.numbers.items ≡ self.old.numbers.items }
     {
-        self.taken += self.part.count_in(records);
+        self.taken += self.part.count_in(self.passed, records);
         self.passed += records.len();
     }
 
@@ -107,7 +107,7 @@ impl Numbering {
     pub fn finish(self, frames: &[u32]) -> Result<Vec<u32>, AllocError>
         requires { IsNumbering frames.now self }
         ensures { IfOk result (λ numbers. (past : List Record) → AreNumbered frames.now past self →
-            numbers.items ≡ map (number_in_part self.part.of self.part.number past) frames.now) }
+            numbers.items ≡ map (number_in_part self.part.of self.part.lost self.part.number past) frames.now) }
     {
         let taken = self.taken;
         let mut numbers = self.numbers;
@@ -135,7 +135,7 @@ pub fn numbers_in_part(
     frames: &[u32],
 ) -> Result<Vec<u32>, AllocError>
     requires { NeverFall 0 frames.now }
-    ensures { IfOk result (λ numbers. numbers.items ≡ map (number_in_part part.of part.number records.now) frames.now) }
+    ensures { IfOk result (λ numbers. numbers.items ≡ map (number_in_part part.of part.lost part.number records.now) frames.now) }
 {
     let mut numbering = Numbering::new(alloc, part);
     numbering.pass(frames, records)?;

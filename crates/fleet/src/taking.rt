@@ -1,8 +1,9 @@
 //! Which records are in a part.
 
-ghost use Rattle.std.specs.Prelude.{◌≡◌, ◌<◌, length};
+ghost use Rattle.std.specs.Prelude.{◌≡◌, ◌+◌, ◌-◌, ◌<◌, ℕ, length};
 ghost use Rattle.wire.specs.FlowBytes.{flow_key_bytes};
-ghost use Rattle.fleet.specs.Parts.{is_in_part, part_of_frame, part_of_key, part_of_record, records_of_part};
+ghost use Rattle.fleet.specs.Parts.{heir_of_frame, heir_place, is_in_part, part_behind, part_by, part_of_frame, records_behind, records_left};
+ghost use Rattle.fleet.specs.Parts.{records_of_part};
 
 use crate::part::Part;
 use wire::{Capture, FlowKey, Sent, flow_of, fnv1a64};
@@ -10,13 +11,16 @@ use wire::{Capture, FlowKey, Sent, flow_of, fnv1a64};
 /// The byte behind a flow's key, in what is hashed.
 const SALT: u8 = 0x70;
 
-/// The part of the flow with this key.
-fn part_of_key(key: &FlowKey, of: u32) -> u32
+/// The one in its place, where the flow's part is lost.
+const SECOND_SALT: u8 = 0x6c;
+
+/// A part of so many, by the hash of a flow's key and one byte more.
+fn part_by(key: &FlowKey, byte: u8, of: u32) -> u32
     requires { 0 < of }
-    ensures { result ≡ part_of_key of (flow_key_bytes key.now) }
+    ensures { result ≡ part_by byte of (flow_key_bytes key.now) }
 {
     let [a, b, c, d, e, f, g, h, i, j, k, l, m, n, o, p] = key.bytes();
-    let hash = fnv1a64(&[a, b, c, d, e, f, g, h, i, j, k, l, m, n, o, p, SALT]);
+    let hash = fnv1a64(&[a, b, c, d, e, f, g, h, i, j, k, l, m, n, o, p, byte]);
     (hash >> 32) as u32 % of
 }
 
@@ -27,32 +31,104 @@ pub fn part_of(frame: &[u8], of: u32) -> u32
     ensures below { result < of }
 {
     match flow_of(frame) {
-        Some(key) => part_of_key(&key, of),
+        Some(key) => part_by(&key, SALT, of),
         None => 0,
     }
 }
 
+/// The place, among the other parts, of the one that has a frame of the lost part.
+fn heir_place(frame: &[u8], others: u32) -> u32
+    requires { 0 < others }
+    ensures place { result ≡ heir_place others frame.now }
+    ensures below { result < others }
+{
+    match flow_of(frame) {
+        Some(key) => part_by(&key, SECOND_SALT, others),
+        None => 0,
+    }
+}
+
+/// Which part a frame is in that was in part `lost`: another one, by a second hash of the flow's key; the first of the others where it has
+/// no flow.
+fn heir_of(frame: &[u8], of: u32, lost: u32) -> u32
+    requires { 1 < of }
+    ensures { result ≡ heir_of_frame of lost frame.now }
+{
+    let place = heir_place(frame, of - 1);
+    if place < lost { place } else { place + 1 }
+}
+
+/// Which part a frame is in behind the loss of part `lost`.
+pub fn part_behind(frame: &[u8], of: u32, lost: u32) -> u32
+    requires { 1 < of }
+    ensures { result ≡ part_behind of lost frame.now }
+{
+    let part = part_of(frame, of);
+    if part == lost {
+        heir_of(frame, of, lost)
+    } else {
+        part
+    }
+}
+
 impl Part {
-    /// Whether a record is in the part.
-    pub fn has(self, sent: &Sent) -> bool
-        ensures { result ≡ is_in_part self.of self.number sent.now }
+    /// How many records of the capture come before the loss, behind the first `past`; none where there is no loss.
+    fn left_behind(self, past: usize) -> usize
+        ensures { result ≡ records_left self.lost past }
     {
-        part_of(&sent.bytes, self.of) == self.number
+        match self.lost {
+            Some(loss) => (loss.from as usize).saturating_sub(past),
+            None => 0,
+        }
     }
 
-    /// How many of the records are in the part.
-    pub fn count_in(self, records: &[Sent]) -> usize
-        ensures count { result ≡ length (records_of_part self.of self.number records.now) }
+    /// Whether a record is in the part, where `left` records, this one too, come before the loss.
+    fn has(self, left: usize, sent: &Sent) -> bool
+        ensures { (place : ℕ) → left ≡ records_left self.lost place → result ≡ is_in_part self.of self.lost self.number place sent.now }
     {
-        records.iter().filter(|sent| self.has(sent)).count()
+        let part = match self.lost {
+            Some(loss) => if left == 0 {
+                part_behind(&sent.bytes, self.of, loss.part)
+            } else {
+                part_of(&sent.bytes, self.of)
+            },
+            None => part_of(&sent.bytes, self.of),
+        };
+        part == self.number
+    }
+
+    /// How many of the next records of the capture are in the part, behind the first `past`.
+    pub fn count_in(self, past: usize, records: &[Sent]) -> usize
+        ensures count { result ≡ length (records_behind self.of self.lost self.number past records.now) }
+    {
+        let mut left = self.left_behind(past);
+        let mut count = 0;
+        'records: for place in 0..records.len() {
+            if self.has(left, &records[place]) {
+                count += 1;
+            }
+            left = left.saturating_sub(1);
+        }
+        count
     }
 
     /// The part of a capture: its records that are in the part, in order.
     pub fn taken_from(self, capture: Capture) -> Capture
-        ensures { result.records.items ≡ records_of_part self.of self.number capture.records.items }
+        ensures { result.records.items ≡ records_of_part self.of self.lost self.number capture.records.items }
     {
         let mut records = capture.records;
-        records.retain(|sent| self.has(sent));
+        let mut left = self.left_behind(0);
+        records.retain(
+            move |sent: &Sent| -> bool
+                ensures has { (place : ℕ) → left.entry ≡ records_left self.lost place →
+                    result ≡ is_in_part self.of self.lost self.number place sent.now }
+                ensures left { left.exit ≡ left.entry - 1 }
+            {
+                let has = self.has(left, sent);
+                left = left.saturating_sub(1);
+                has
+            },
+        );
         Capture { records }
     }
 }

@@ -1,6 +1,8 @@
 //! Parts of frames and numbers of commands, worked out elsewhere.
 
-use crate::{Part, numbers_in_part, part_of};
+ghost use Rattle.std.specs.Prelude.{◌<◌};
+
+use crate::{Loss, Part, numbers_in_part, part_behind, part_of};
 use std::alloc::{AllocError, Global};
 use std::test::Fail;
 use wire::Sent;
@@ -52,6 +54,38 @@ fn frames_without_a_flow_are_of_the_first_part(rt: HostRuntime) {
     assert_eq!(rt; part_of(&[], 4), 0);
 }
 
+/// The same rows, each with the lost part, and the frame's part behind the loss.
+#[rattlefmt::skip]
+static LOST_ROWS: [(u8, u8, u32, u32, u32); 12] = [
+    (1, 0,    2,   0,   1),
+    (1, 0,    3,   2,   0),
+    (2, 0,    3,   1,   0),
+    (4, 0,    3,   1,   2),
+    (3, 0,    3,   0,   1),
+    (1, 0,    4,   2,   1),
+    (2, 0,    4,   0,   2),
+    (4, 0,    4,   1,   3),
+    (1, 2,    4,   3,   1),
+    (1, 0,    4,   3,   2),
+    (1, 1, 1024, 394, 731),
+    (1, 0, 1024, 830,  16),
+];
+
+#[test]
+fn flows_of_a_lost_part_are_spread(rt: HostRuntime) {
+    for (address, port, of, lost, part) in &LOST_ROWS {
+        if *of > 1 {
+            assert_eq!(rt; part_behind(&query(*address, *port), *of, *lost), *part);
+        }
+    }
+}
+
+#[test]
+fn frames_without_a_flow_go_to_the_first_part_that_is_left(rt: HostRuntime) {
+    assert_eq!(rt; part_behind(&[], 4, 0), 1);
+    assert_eq!(rt; part_behind(&[], 4, 1), 0);
+}
+
 /// The queries of several addresses, one after the other.
 fn queries(alloc: Global, addresses: &[u8]) -> Result<Vec<Sent>, AllocError> {
     let mut records = Vec::new(alloc);
@@ -65,15 +99,51 @@ fn queries(alloc: Global, addresses: &[u8]) -> Result<Vec<Sent>, AllocError> {
     Ok(records)
 }
 
+/// A part of three.
+fn part(number: u32) -> Part
+    requires { number < 3 }
+{
+    Part {
+        number,
+        of: 3,
+        lost: None,
+    }
+}
+
+/// The same, where the second part is lost behind three records.
+fn part_with_loss(number: u32) -> Part
+    requires { number < 3 }
+{
+    let loss = Loss { part: 1, from: 3 };
+    Part {
+        number,
+        of: 3,
+        lost: Some(loss),
+    }
+}
+
 #[test]
 fn commands_come_before_the_same_records(rt: HostRuntime) -> Result<(), Fail> {
     let records = queries(rt.alloc(), &[1, 2, 3, 4, 5, 1, 2, 3])?;
     let frames = [0, 3, 3, 8, 100];
-    let first = numbers_in_part(rt.alloc(), Part { number: 0, of: 3 }, &records, &frames)?;
-    let second = numbers_in_part(rt.alloc(), Part { number: 1, of: 3 }, &records, &frames)?;
-    let third = numbers_in_part(rt.alloc(), Part { number: 2, of: 3 }, &records, &frames)?;
+    let first = numbers_in_part(rt.alloc(), part(0), &records, &frames)?;
+    let second = numbers_in_part(rt.alloc(), part(1), &records, &frames)?;
+    let third = numbers_in_part(rt.alloc(), part(2), &records, &frames)?;
     assert!(rt; first.as_slice() == [0, 1, 1, 2, 2].as_slice());
     assert!(rt; second.as_slice() == [0, 1, 1, 4, 4].as_slice());
     assert!(rt; third.as_slice() == [0, 1, 1, 2, 2].as_slice());
+    Ok(())
+}
+
+#[test]
+fn commands_come_before_the_same_records_with_a_loss(rt: HostRuntime) -> Result<(), Fail> {
+    let records = queries(rt.alloc(), &[1, 2, 3, 4, 5, 1, 2, 3])?;
+    let frames = [0, 3, 3, 8, 100];
+    let first = numbers_in_part(rt.alloc(), part_with_loss(0), &records, &frames)?;
+    let second = numbers_in_part(rt.alloc(), part_with_loss(1), &records, &frames)?;
+    let third = numbers_in_part(rt.alloc(), part_with_loss(2), &records, &frames)?;
+    assert!(rt; first.as_slice() == [0, 1, 1, 3, 3].as_slice());
+    assert!(rt; second.as_slice() == [0, 1, 1, 1, 1].as_slice());
+    assert!(rt; third.as_slice() == [0, 1, 1, 4, 4].as_slice());
     Ok(())
 }

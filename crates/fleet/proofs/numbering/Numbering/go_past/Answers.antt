@@ -6,7 +6,8 @@ use Rattle.fleet.proofs.numbering.Numbering.go_past.Goals as goal
 
 pub overflow_add-self : goal.overflow_add-self
 overflow_add-self c =
-    let few = fewer (is_in_part c.args.self.now.part.of c.args.self.now.part.number) c.args.records.now in
+    let self = c.args.self.now in
+    let few = fewer (λ place. is_in_part self.part.of self.part.lost self.part.number (place + self.passed)) c.args.records.now in
     let count = c.count_in.ensures.count in
     let fits = c.requires.fits in
     let before = c.requires.few in

@@ -1,6 +1,5 @@
-use Rattle.std.proofs.Common.{◌≡◌, ◌+◌, ◌≤◌, ◌<◌, ◌∙◌, ◌++◌, List, ap, append_assoc, arith, length, length-append, subst, sym}
+use Rattle.std.proofs.Common.{◌∙◌, ◌++◌, List, ap, append_assoc, arith, length, length-append, subst, sym}
 use Rattle.wire.specs.declared.records.Sent.{Sent}
-use Rattle.std.specs.Prelude.{slice_index}
 use Rattle.fleet.specs.Numbers.{AreNumbered}
 use Rattle.fleet.proofs.NumberLemmas.{next_here, taken_few}
 use Rattle.fleet.proofs.numbering.Numbering.pass.Goals as goal
