@@ -132,7 +132,7 @@ fn begins_as_json(bytes: &[u8]) -> bool
     ensures so { result ≡ true → BeginsAsJson bytes.now }
     ensures otherwise { result ≡ false → ¬ BeginsAsJson bytes.now }
 {
-    !bytes.is_empty() && bytes[0] == b'['
+    !bytes.is_empty() && bytes[0] == b'{'
 }
 
 /// The rows of a report. Refused where the bytes are none, with the first line that shows it, and where memory is refused.

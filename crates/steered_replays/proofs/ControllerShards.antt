@@ -24,7 +24,7 @@ use Rattle.steered_replays.proofs.ResultCounts.{all_both}
 -- ---- which updates are made
 
 -- the update is one that a command asks
-abbrev IsOfChange : AnsweredUpdate → Type 0
+abbrev pub IsOfChange : AnsweredUpdate → Type 0
 IsOfChange made = (change : Change) × (made.update ≡ map_update change)
 
 done_changes : (changes : List Change) → AllByRecursion IsOfChange (all_done changes)
@@ -47,7 +47,7 @@ made_by (Some Memory) state one state' done = nothing_made state one state' done
 made_by (Some BadSize) state one state' done = absurd done
 made_by (Some (BadLine line)) state one state' done = absurd done
 
-all_made : (state : ControllerState) (done : List CommandDone) (state' : ControllerState) → AreDone state done state' → AllByRecursion IsOfChange (made_in done)
+pub all_made : (state : ControllerState) (done : List CommandDone) (state' : ControllerState) → AreDone state done state' → AllByRecursion IsOfChange (made_in done)
 all_made state [] state' are = tt
 all_made state (one ∷ later) state' are =
     all_both IsOfChange one.made (made_in later) (made_by one.fault state one are.0 are.1.did) (all_made are.0 later state' are.2)

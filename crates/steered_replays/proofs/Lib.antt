@@ -10,6 +10,12 @@ mod RunSums
 mod ControllerShards
 mod TotalLemmas
 mod ReplayLemmas
+-- tables
+mod QuietRuns
+mod ArrayShards
+mod CommandTables
+mod TableLemmas
+mod FleetLemmas
 -- flows that stay with their backends
 mod NoteLemmas
 mod StickyRuns

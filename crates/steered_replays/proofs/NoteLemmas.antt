@@ -25,7 +25,7 @@ use Rattle.steered_replays.specs.StickyFlows.{Evicts, LeavesNote, AllLeaveNote, 
 
 -- ---- keys that are present: their cells fall, so no two have one cell
 
-abbrev Falls : ℕ → List PresentKey → Type 0
+abbrev pub Falls : ℕ → List PresentKey → Type 0
 Falls bound [] = Unit {0}
 Falls bound (one ∷ rest) = (one.cell < bound) × Falls one.cell rest
 
@@ -44,7 +44,7 @@ falls_filter test n (one ∷ rest) falls = by (falls_filter test one.cell rest f
 abbrev found_cell : List ℕ → Bool → PresentKey → List PresentKey → Option ℕ
 found_cell key this one rest = option_map (λ (found : PresentKey). found.cell) (cond this (Some one) (find (λ (other : PresentKey). bytes_eq other.key key) rest))
 
-cell_below : (n : ℕ) (present : List PresentKey) (key : List ℕ) (cell : ℕ) → Falls n present → cell_of_present present key ≡ Some cell → cell < n
+pub cell_below : (n : ℕ) (present : List PresentKey) (key : List ℕ) (cell : ℕ) → Falls n present → cell_of_present present key ≡ Some cell → cell < n
 cell_below n [] key cell falls found = absurd cc
 cell_below n (one ∷ rest) key cell falls found = by (cell_below one.cell rest key cell falls.1) (bytes_eq one.key key) found
   where
@@ -60,7 +60,7 @@ find_below test n (one ∷ rest) gone falls found = by (find_below test one.cell
     by later true is = let same : one ≡ gone = cc is in subst (λ (g : PresentKey). g.cell < n) same falls.0
     by later false is = let below : gone.cell < one.cell = later is in let at = falls.0 in omega (arith, below, at)
 
-find_holds : (test : PresentKey → Bool) (present : List PresentKey) (gone : PresentKey) → find test present ≡ Some gone → test gone ≡ true
+pub find_holds : (test : PresentKey → Bool) (present : List PresentKey) (gone : PresentKey) → find test present ≡ Some gone → test gone ≡ true
 find_holds test [] gone found = absurd cc
 find_holds test (one ∷ rest) gone found = by (find_holds test rest gone) (test one) refl found
   where
@@ -69,7 +69,7 @@ find_holds test (one ∷ rest) gone found = by (find_holds test rest gone) (test
     by later false holds is = later is
 
 -- another key has another cell
-apart : (test : PresentKey → Bool) (n : ℕ) (present : List PresentKey) (key : List ℕ) (cell : ℕ) (gone : PresentKey) → Falls n present →
+pub apart : (test : PresentKey → Bool) (n : ℕ) (present : List PresentKey) (key : List ℕ) (cell : ℕ) (gone : PresentKey) → Falls n present →
     cell_of_present present key ≡ Some cell → find test present ≡ Some gone → bytes_eq gone.key key ≡ false → gone.cell ≢ cell
 apart test n [] key cell gone falls found other not_key = absurd cc
 apart test n (one ∷ rest) key cell gone falls found other not_key =
@@ -103,7 +103,7 @@ still_found gone (one ∷ rest) key cell found other =
 
 -- ---- in every history of a shard they fall from the number of its cells on
 
-abbrev Fall : SequentialShard → Type 0
+abbrev pub Fall : SequentialShard → Type 0
 Fall shard = Falls (length shard.cells) shard.present
 
 fall_set : (shard : SequentialShard) (cell : ℕ) (bytes : List ℕ) → Fall shard → Falls (length (slice_set shard.cells cell bytes)) shard.present
@@ -139,7 +139,7 @@ fall_after plan history shard (Delete number key) falls =
     (fall_without shard (length history) (present_key shard key) falls) falls
 fall_after plan history shard (Reclaim number) falls = falls
 
-all_fall : (plan : ShardPlan) (history : List Entry) → Fall (shard_after plan history)
+pub all_fall : (plan : ShardPlan) (history : List Entry) → Fall (shard_after plan history)
 all_fall plan [] = tt
 all_fall plan (entry ∷ older) = fall_after plan older (shard_after plan older) entry.call (all_fall plan older)
 
@@ -173,13 +173,13 @@ has_new shard key value asked its cell falls other has = record {
 }
 
 -- a found cell is one of a key
-key_of_cell : (found : Option PresentKey) (cell : ℕ) → option_map (λ (one : PresentKey). one.cell) found ≡ Some cell →
+pub key_of_cell : (found : Option PresentKey) (cell : ℕ) → option_map (λ (one : PresentKey). one.cell) found ≡ Some cell →
     (one : PresentKey) × (found ≡ Some one) × (one.cell ≡ cell)
 key_of_cell None cell is = absurd cc
 key_of_cell (Some one) cell is = (one, refl, let same : one.cell ≡ cell = cc is in same)
 
 -- what is found under another key has another key
-other_key : (one : PresentKey) (asked key : List ℕ) → bytes_eq one.key asked ≡ true → bytes_eq asked key ≡ false → bytes_eq one.key key ≡ false
+pub other_key : (one : PresentKey) (asked key : List ℕ) → bytes_eq one.key asked ≡ true → bytes_eq asked key ≡ false → bytes_eq one.key key ≡ false
 other_key one asked key is other = ap (λ (k : List ℕ). bytes_eq k key) ((bytes_eq-Decides one.key asked).0 is) ∙ other
 
 no_key : (one key : List ℕ) (test : Bool) → bytes_eq one key ≡ test → (one ≡ key → ⊥) → bytes_eq one key ≡ false

@@ -18,12 +18,12 @@ use Rattle.steered_replays.proofs.ResultCounts.{all_both, all_parts, raised_on, 
 -- ---- lists
 
 module _ {A : Type 0} where
-  all_reverse : (P : A → Type 0) (xs : List A) → AllByRecursion P xs → AllByRecursion P (reverse xs)
+  pub all_reverse : (P : A → Type 0) (xs : List A) → AllByRecursion P xs → AllByRecursion P (reverse xs)
   all_reverse P [] all = tt
   all_reverse P (x ∷ xs) all =
       subst (λ (l : List A). AllByRecursion P l) (sym (reverse-append (x ∷ []) xs)) (all_both P (reverse xs) (x ∷ []) (all_reverse P xs all.1) (all.0, tt))
 
-  all_reversed : (P : A → Type 0) (xs : List A) → AllByRecursion P (reverse xs) → AllByRecursion P xs
+  pub all_reversed : (P : A → Type 0) (xs : List A) → AllByRecursion P (reverse xs) → AllByRecursion P xs
   all_reversed P [] all = tt
   all_reversed P (x ∷ xs) all =
       let parts = all_parts P (reverse xs) (x ∷ []) (subst (λ (l : List A). AllByRecursion P l) (reverse-append (x ∷ []) xs) all) in
@@ -69,13 +69,13 @@ session_raises count worker exchanges before after sessions number cell within =
 
 -- ---- what holds of entries, and of exchanges
 
-all_session : (P : Entry → Type 0) (worker number : ℕ) (entries : List Entry) → P (enter_by worker number) → P (leave_by worker number) →
+pub all_session : (P : Entry → Type 0) (worker number : ℕ) (entries : List Entry) → P (enter_by worker number) → P (leave_by worker number) →
     AllByRecursion P entries → AllByRecursion P (session worker number entries)
 all_session P worker number [] enters leaves all = tt
 all_session P worker number (first ∷ later) enters leaves all =
     (enters, (all.0, all_both P later (leave_by worker number ∷ []) all.1 (leaves, tt)))
 
-in_session : (P : Entry → Type 0) (worker number : ℕ) (entries : List Entry) → AllByRecursion P (session worker number entries) →
+pub in_session : (P : Entry → Type 0) (worker number : ℕ) (entries : List Entry) → AllByRecursion P (session worker number entries) →
     AllByRecursion P entries
 in_session P worker number [] all = tt
 in_session P worker number (first ∷ later) all = (all.1.0, (all_parts P later (leave_by worker number ∷ []) all.1.1).0)
@@ -93,7 +93,7 @@ first_at P worker exchange rest false is all = absurd cc
 same_test : (a : ℕ) → (a == a) ≡ true
 same_test a = grind (arith, nat_tests)
 
-each_exchange : (P : Entry → Type 0) (count worker : ℕ) (exchanges : List Exchange) → AreCallsWithin count exchanges →
+pub each_exchange : (P : Entry → Type 0) (count worker : ℕ) (exchanges : List Exchange) → AreCallsWithin count exchanges →
     ((number : ℕ) → number < count → AllByRecursion P (exchange_entries worker number exchanges)) →
     AllByRecursion (λ (exchange : Exchange). P (exchange_entry worker exchange)) exchanges
 each_exchange P count worker [] within all = tt

@@ -2,6 +2,8 @@
 pub mod Counting
 pub mod SteeredRuns
 pub mod Totals
+pub mod TablesAtEnd
+pub mod Fleets
 pub mod StickyFlows
 pub mod StickyReplays
 pub mod StickyRow

@@ -18,6 +18,8 @@ ghost use Rattle.actors.specs.Captured.{IsCaptured};
 ghost use Rattle.steered_replays.specs.StickyFlows.{NotesAreFound, NotedFlowsStick};
 ghost use Rattle.steered_replays.specs.StickyReplays.{FlowsStayInReplays};
 ghost use Rattle.steered_replays.specs.StickyRow.{StickyRow};
+ghost use Rattle.steered_replays.specs.TablesAtEnd.{TablesFollow, TablesAreLeft, MetNoFullJournal, AreTables, carried_out, maps_at_end};
+ghost use Rattle.steered_replays.specs.Fleets.{SameTables, OwnersAreSentTo, SomeAreSentTo, StrangersAgree, StrangersMove};
 ghost use Rattle.steered_replays.specs.Totals.{AreTotals, TotalsAreExact};
 
 use conntrack::laws::{finished_runs_are_results, flows_stick};
@@ -58,7 +60,39 @@ pub fn totals_are_exact()
     replays_are_steered();
 }
 
-/// What the two laws above say of every replay of an image that is the shipped one for a lookup table of `size` slots, however it was made.
+/// At each moment of a replay of the shipped program in which no command met a full journal, its lookup table and its backends are those
+/// that the commands so far have left, whatever frames came: each slot names the owner that it has by the population of the backends that
+/// are up, and each backend's record is what the last command of it put there. At the end they are those that the script has left.
+pub fn tables_follow()
+    ensures moments { TablesFollow }
+    ensures end { TablesAreLeft }
+{
+    replays_are_steered();
+}
+
+/// Two machines on which the same backends are up have the same tables: at moments of any two replays, of any captures, on any numbers of
+/// workers and shards, when the commands carried out so far leave the same backends up, the slots of the lookup tables and the records of
+/// these backends are the same.
+pub fn same_tables()
+    ensures { SameTables }
+{}
+
+/// So a frame that is sent by no note goes to the same backend on both: to the owner of its flow's slot, which is up while any backend is.
+/// That is each frame of a service without tracking, and of another service each whose flow has no note, or one of a backend that is down.
+pub fn strangers_agree()
+    ensures owners { OwnersAreSentTo }
+    ensures some { SomeAreSentTo }
+    ensures agree { StrangersAgree }
+{}
+
+/// What moves when a backend goes down: of the frames that are sent by no note exactly those whose flow's slot has another owner than before
+/// the command. One with a note goes where it went, by `flows_stay_in_replays`, as long as that backend is up.
+pub fn strangers_move()
+    ensures { StrangersMove }
+{}
+
+/// What the laws on replays above say of every replay of an image that is the shipped one for a lookup table of `size` slots, however it was
+/// made.
 pub fn shipped_replays_are_steered(verified: &Verified, size: u32)
     requires size { IsRingSize size }
     requires image { record { version = verified.now.version; maps = verified.now.maps; code = verified.now.code } ≡ shipped_image size }
@@ -70,11 +104,17 @@ pub fn shipped_replays_are_steered(verified: &Verified, size: u32)
         AreOptions verified.now.maps options → AllByRecursion IsCaptured records →
         IsAccounted (program_of verified.now options.shards) script options records outcome →
         outcome.updates.items ≡ [] → outcome.counts.stopped ≡ 0 → AreTotals outcome }
+    ensures tables { (script : List Command) (options : Options) (records : List Sent) (outcome : Outcome) →
+        AreOptions verified.now.maps options → AllByRecursion IsCaptured records →
+        IsAccounted (program_of verified.now options.shards) script options records outcome →
+        outcome.updates.items ≡ [] → MetNoFullJournal outcome.refused.items →
+        AreTables size (carried_out outcome.refused.items 0 script) (maps_at_end outcome.journals) }
 {
     let _ = size;
     let _ = verified.image();
     replays_are_steered();
     totals_are_exact();
+    tables_follow();
 }
 
 /// A flow stays with the backend that was noted for it. In a legal history of the flows' shard, as long as after the Update that noted a

@@ -22,3 +22,15 @@ returns-clause-totals c = λ script options records outcome fit captured account
     c.totals_are_exact.ensures c.args.size c.requires.size script options records outcome
     (subst (λ (maps : List MapDef). AreOptions maps options) shipped.maps fit) captured
     (of_shipped c.args.verified.now c.args.size script options records outcome shipped accounted) none unstopped
+
+pub returns-clause-tables : goal.returns-clause-tables
+returns-clause-tables c = λ script options records outcome fit captured accounted none met.
+    let shipped = shipped_of c.args.verified.now c.args.size c.requires.image in
+    c.tables_follow.ensures.end c.args.size c.requires.size script options records outcome
+    (record {
+      fit = subst (λ (maps : List MapDef). AreOptions maps options) shipped.maps fit;
+      captured = captured;
+      accounted = of_shipped c.args.verified.now c.args.size script options records outcome shipped accounted;
+      none_set = none;
+      none_full = met;
+    })

@@ -1,0 +1,719 @@
+-- The lookup table and the backends after a replay are those that the script left.
+use Rattle.std.proofs.Common.{◌≡◌, ◌≢◌, ◌⊎◌, inl, inr, ℕ, zero, suc, ◌+◌, ◌*◌, ◌%◌, ◌/◌, ◌^◌, ◌<◌, ◌≤◌, ◌==◌, ◌&&◌, ◌||◌, Bool, true, false, List, [], ◌∷◌, ◌++◌, length, replicate, refl, sym, ◌∙◌, ap, subst, arith}
+use Rattle.std.specs.Prelude.{Option, Some, None, option_map, reverse, slice_get, if◌then◌else◌, is_some, nat_lt, take}
+use Rattle.std.specs.List.{AllByRecursion, filter, list_any}
+use Rattle.std.proofs.Math.Nat.{mod-lt, div-add-mod}
+use Rattle.std.proofs.lemmas.Bool.{lt-ltb, eqb-true, eqb-false}
+use Rattle.std.proofs.lemmas.Bool.Decides.{nat_tests}
+use Rattle.std.proofs.lemmas.List.Elements.{All-from_recursion, All-contains}
+use Rattle.std.proofs.lemmas.List.{take_all, length-replicate, length-append}
+use Rattle.std.proofs.lemmas.Nat.{div-mul-add, mod-mul-add}
+use Rattle.ebpf_decode.specs.declared.map.MapDef.{MapDef}
+use Rattle.ebpf_decode.specs.declared.map.MapKind.{MapKind}
+use Rattle.ebpf_decode.specs.declared.map.MapKind.TheVariants.{Array}
+use Rattle.wire.specs.Fnv.{fnv1a64_of}
+use Rattle.wire.specs.declared.records.Sent.{Sent}
+use Rattle.semantics.specs.declared.call.Call.{Call}
+use Rattle.semantics.specs.declared.call.Call.TheVariants.{Enter, Leave, Lookup, Load, Store, Atomic, Update, Delete, Reclaim}
+use Rattle.semantics.specs.declared.call.Caller.TheVariants.{Worker, Controller, Reclaimer}
+use Rattle.semantics.specs.declared.call.Entry.{Entry}
+use Rattle.semantics.specs.declared.options.Options.{Options}
+use Rattle.semantics.specs.declared.plan.ShardPlan.{ShardPlan}
+use Rattle.semantics.specs.CallerLaws.{own_entries}
+use Rattle.semantics.specs.History.{IsLegalHistory}
+use Rattle.semantics.specs.LittleEndian.{number_of_bytes, bytes_of_number}
+use Rattle.semantics.specs.SequentialShard.{SequentialShard, shard_after, cell_bytes, cell_of_key, cell_of_kind}
+use Rattle.semantics.specs.ShardPlan.{plan_at, plan_for_map, AreOptions, capacity}
+use Rattle.journals.specs.JournalsView.{entries_at}
+use Rattle.maglev.specs.RingSize.{IsRingSize, ring_sizes}
+use Rattle.maglev.specs.declared.backend.Backend.{Backend as Server}
+use Rattle.conntrack.specs.declared.records.BackendRecord.{BackendRecord}
+use Rattle.conntrack.specs.declared.steering_maps.SteeringMap.TheVariants as maps
+use Rattle.conntrack.specs.Layouts.{flag_number, service_key, ring_bytes, backend_bytes}
+use Rattle.conntrack.specs.SteeringMaps.{steering_maps, defined, ring_entries}
+use Rattle.conntrack.specs.Steering.{SteeringSizes}
+use Rattle.steer.specs.SteeringLaws.{of_size, shipped_program}
+use Rattle.shards.specs.CallerView.{CallerView}
+use Rattle.shards.specs.Passes.{PassView, own_at}
+use Rattle.control.specs.declared.command.Action.{Action}
+use Rattle.control.specs.declared.command.Command.{Command}
+use Rattle.control.specs.declared.fault.ControlFault.{ControlFault}
+use Rattle.control.specs.declared.fault.ControlFault.TheVariants.{JournalFull}
+use Rattle.control.specs.declared.update.Update.{Update as Change}
+use Rattle.control.specs.declared.update.Update.TheVariants.{Vip, Ring, Backend, Tunnel}
+use Rattle.control.specs.Controlling.{ControllerState, IsTable, opened_controller}
+use Rattle.control.specs.MapUpdates.{UpdateBytes, map_update}
+use Rattle.actors.specs.declared.outcome.Applied.{Applied}
+use Rattle.actors.specs.declared.outcome.Outcome.{Outcome}
+use Rattle.actors.specs.Accounted.{IsAccounted}
+use Rattle.actors.specs.Accounts.{runs_at}
+use Rattle.actors.specs.Actors.{numbers_from}
+use Rattle.actors.specs.Commands.{AnsweredUpdate, CommandDone, AreDone, AreNotedOf, IsNotedOf, ServesScript, all_set, made_in, with_updates, with_update, update_entry}
+use Rattle.actors.specs.Parts.{numbers_of, refused_of, round_count}
+use Rattle.actors.specs.Rounds.{IsReclaimedBy}
+use Rattle.actors.specs.SharedUpdates.{shard_of}
+use Rattle.map_updates.specs.declared.update.MapUpdate.{MapUpdate}
+use Rattle.steered_replays.specs.Counting.{IsQuiet}
+use Rattle.steered_replays.specs.SteeredRuns.{IsSteeredReplay}
+use Rattle.steered_replays.specs.TablesAtEnd.{value_in_shard, value_at, last_histories, maps_at_end, IsRecordedUp, is_refused, carried_out, MetNoFullJournal, up_left, no_record, record_left, AreTables, IsPlainReplay, IsMoment}
+use Rattle.steered_replays.proofs.ArrayShards.{is_success, IsSetting, IsControlled, cell_after, own_puts, last_put, last_sized, put_made, is_in_cell, updates_put, same_put}
+use Rattle.steered_replays.proofs.CallerSums.{all_of_callers, all_own}
+use Rattle.steered_replays.proofs.CommandTables.{is_at, IsNoStop, done_actions, and_action, HaveRecords, slot_done, table_done, up_done, size_done, records_done, take_done, take_unstopped}
+use Rattle.steered_replays.proofs.ControllerShards.{IsOfChange, all_made}
+use Rattle.steered_replays.proofs.NoteLemmas.{legal_before}
+use Rattle.steered_replays.proofs.ResultCounts.{all_parts}
+use Rattle.steered_replays.proofs.QuietRuns.{NamesOwnAt, IsChanged, all_name_own, chain_quiet}
+
+-- ---- the size of the table
+
+abbrev third_entries : List MapDef → ℕ
+third_entries (first ∷ second ∷ third ∷ rest) = third.max_entries
+third_entries _ = 0
+
+abbrev IsSizeOf : ℕ → ℕ → Type 0
+IsSizeOf size other = ring_entries size ≡ ring_entries other → size ≡ other
+
+of_each : (size : ℕ) → IsSizeOf size 7 → IsSizeOf size 251 → IsSizeOf size 4093 → IsSizeOf size 65537 → (other : ℕ) → IsRingSize other → IsSizeOf size other
+of_each size one two three four other is =
+    All-contains (IsSizeOf size) ring_sizes other (All-from_recursion (IsSizeOf size) ring_sizes (one, (two, (three, (four, tt))))) is
+
+one_size : (size other : ℕ) → IsRingSize size → IsRingSize other → ring_entries size ≡ ring_entries other → size ≡ other
+one_size size other is other_is =
+    All-contains (λ n. (m : ℕ) → IsRingSize m → IsSizeOf n m) ring_sizes size
+    (All-from_recursion (λ n. (m : ℕ) → IsRingSize m → IsSizeOf n m) ring_sizes (
+      of_each 7 (λ e. refl) (λ e. absurd (omega (arith, e))) (λ e. absurd (omega (arith, e))) (λ e. absurd (omega (arith, e))),
+      (
+        of_each 251 (λ e. absurd (omega (arith, e))) (λ e. refl) (λ e. absurd (omega (arith, e))) (λ e. absurd (omega (arith, e))),
+        (
+          of_each 4093 (λ e. absurd (omega (arith, e))) (λ e. absurd (omega (arith, e))) (λ e. refl) (λ e. absurd (omega (arith, e))),
+          (
+            of_each 65537 (λ e. absurd (omega (arith, e))) (λ e. absurd (omega (arith, e))) (λ e. absurd (omega (arith, e))) (λ e. refl),
+            tt,
+          ),
+        ),
+      ),
+    )) is other other_is
+
+small_size : (size : ℕ) → IsRingSize size → size ≤ 65538
+small_size size is = All-contains (λ n. n ≤ 65538) ring_sizes size (All-from_recursion (λ n. n ≤ 65538) ring_sizes (omega arith, (omega arith, (omega arith, (omega arith, tt))))) is
+
+-- ---- the commands that were carried out
+
+none_done : (script : List Command) (noted : List Applied) (done : List CommandDone) → numbers_of noted ≡ [] → AreNotedOf script noted done → done ≡ []
+none_done script [] [] none are = refl
+none_done script [] (one ∷ later) none are = absurd are
+none_done script (first ∷ more) done none are = absurd cc
+
+no_stops : (script : List Command) (noted : List Applied) (done : List CommandDone) → AreNotedOf script noted done → MetNoFullJournal (refused_of noted) →
+    AllByRecursion IsNoStop done
+no_stops script [] [] are met = tt
+no_stops script [] (one ∷ later) are met = absurd are
+no_stops script (first ∷ more) [] are met = absurd are
+no_stops script (first ∷ more) (one ∷ later) are met = by (λ rest. no_stops script more later are.1 rest) first.fault refl met
+  where
+    by : (MetNoFullJournal (refused_of more) → AllByRecursion IsNoStop later) → (fault : Option ControlFault) → first.fault ≡ fault →
+        MetNoFullJournal (if is_some fault then first ∷ refused_of more else refused_of more) → AllByRecursion IsNoStop (one ∷ later)
+    by onward None is rest = (λ full. absurd (let same : None ≡ Some JournalFull = sym is ∙ sym are.0.fault ∙ full in cc), onward rest)
+    by onward (Some fault) is rest = (λ full. rest.0 (sym are.0.fault ∙ full), onward rest.1)
+
+-- none of a list of later numbers is an earlier one
+not_later : (noted : List Applied) (first number count : ℕ) → numbers_of noted ≡ numbers_from first count → number < first → is_refused (refused_of noted) number ≡ false
+not_later [] first number count are below = refl
+not_later (one ∷ more) first number zero are below = absurd cc
+not_later (one ∷ more) first number (suc count) are below =
+    let at : one.command ≡ first = cc are in
+    let rest : numbers_of more ≡ numbers_from (first + 1) count = cc are in
+    let other : (one.command == number) ≡ false = grind (arith, nat_tests) in
+    by (is_some one.fault) other (not_later more (first + 1) number count rest (omega (arith, below)))
+  where
+    by : (test : Bool) → (one.command == number) ≡ false → is_refused (refused_of more) number ≡ false →
+        is_refused (if test then one ∷ refused_of more else refused_of more) number ≡ false
+    by true other rest = rw (other, rest) refl
+    by false other rest = rest
+
+same_command : (a : ℕ) → (a == a) ≡ true
+same_command a = grind (arith, nat_tests)
+
+other_command : (a b : ℕ) → a < b → (a == b) ≡ false
+other_command a b less = grind (arith, nat_tests)
+
+-- one that is noted before them does not matter to later ones
+later_commands : (one : Applied) (more : List Applied) (number : ℕ) (script : List Command) → one.command < number →
+    carried_out (refused_of (one ∷ more)) number script ≡ carried_out (refused_of more) number script
+later_commands one more number [] below = refl
+later_commands one more number (command ∷ later) below =
+    let rest : carried_out (refused_of (one ∷ more)) (number + 1) later ≡ carried_out (refused_of more) (number + 1) later =
+    later_commands one more (number + 1) later (omega (arith, below)) in
+    let test : is_refused (refused_of (one ∷ more)) number ≡ is_refused (refused_of more) number = by (is_some one.fault) (other_command one.command number below) in
+    ap (λ (t : Bool). if t then carried_out (refused_of (one ∷ more)) (number + 1) later
+    else command.action ∷ carried_out (refused_of (one ∷ more)) (number + 1) later) test
+    ∙ ap (λ (l : List Action). if is_refused (refused_of more) number then l else command.action ∷ l) rest
+  where
+    by : (test : Bool) → (one.command == number) ≡ false → is_refused (if test then one ∷ refused_of more else refused_of more) number ≡ is_refused (refused_of more) number
+    by true other = rw other refl
+    by false other = refl
+
+carried : (script : List Command) (noted : List Applied) (done : List CommandDone) (first : ℕ) (rest : List Command) (count : ℕ) →
+    ((k : ℕ) → slice_get script (first + k) ≡ slice_get rest k) → numbers_of noted ≡ numbers_from first (length rest) → AreNotedOf script noted done →
+    carried_out (refused_of noted) first (take count rest) ≡ done_actions (take count done)
+carried script noted done first rest zero there numbers are = refl
+carried script [] [] first [] (suc count) there numbers are = refl
+carried script [] [] first (command ∷ later) (suc count) there numbers are = absurd cc
+carried script [] (one ∷ more) first rest (suc count) there numbers are = absurd are
+carried script (noted ∷ more) [] first rest (suc count) there numbers are = absurd are
+carried script (noted ∷ more) (one ∷ others) first [] (suc count) there numbers are = absurd cc
+carried script (noted ∷ more) (one ∷ others) first (command ∷ later) (suc count) there numbers are =
+    let at : noted.command ≡ first = cc numbers in
+    let own : numbers_of more ≡ numbers_from (first + 1) (length later) = cc numbers in
+    let tail : carried_out (refused_of more) (first + 1) (take count later) ≡ done_actions (take count others) =
+    carried script more others (first + 1) later count (λ k. ap (slice_get script) (shifted first k) ∙ there (suc k)) own are.1 in
+    let same_rest : carried_out (refused_of (noted ∷ more)) (first + 1) (take count later) ≡ done_actions (take count others) =
+    later_commands noted more (first + 1) (take count later) (omega (arith, at)) ∙ tail in
+    let known : slice_get script first ≡ Some command = ap (slice_get script) (plain first) ∙ there 0 in
+    let same : are.0.command ≡ command = cc (sym are.0.known ∙ ap (slice_get script) at ∙ known) in
+    let action : command.action ≡ one.action = ap (λ (c : Command). c.action) (sym same) ∙ sym are.0.action in
+    ap (λ (l : List Action). if is_refused (refused_of (noted ∷ more)) first then l else command.action ∷ l) same_rest
+    ∙ by noted.fault refl at own action
+    ∙ ap (λ (f : Option ControlFault). and_action f one.action (done_actions (take count others))) (sym are.0.fault)
+  where
+    shifted : (n k : ℕ) → (n + 1) + k ≡ n + suc k
+    shifted n k = omega arith
+
+    plain : (n : ℕ) → n ≡ n + 0
+    plain n = omega arith
+
+    by : (fault : Option ControlFault) → noted.fault ≡ fault → noted.command ≡ first → numbers_of more ≡ numbers_from (first + 1) (length later) → command.action ≡ one.action →
+        (if is_refused (if is_some noted.fault then noted ∷ refused_of more else refused_of more) first then done_actions (take count others)
+        else command.action ∷ done_actions (take count others))
+        ≡ and_action noted.fault one.action (done_actions (take count others))
+    by None is at own action =
+        let later_none : is_refused (refused_of more) first ≡ false = not_later more (first + 1) first (length later) own (omega arith) in
+        rw (is, later_none, action) refl
+    by (Some fault) is at own action = let here : (noted.command == first) ≡ true = ap (λ n. n == first) at ∙ same_command first in rw (is, here) refl
+
+-- each command was done
+all_taken : (script : List Command) (noted : List Applied) (done : List CommandDone) (first : ℕ) (rest : List Command) → numbers_of noted ≡ numbers_from first (length rest) →
+    AreNotedOf script noted done → take (length rest) done ≡ done
+all_taken script [] [] first [] numbers are = refl
+all_taken script [] [] first (command ∷ later) numbers are = absurd cc
+all_taken script [] (one ∷ more) first rest numbers are = absurd are
+all_taken script (noted ∷ more) [] first rest numbers are = absurd are
+all_taken script (noted ∷ more) (one ∷ others) first [] numbers are = absurd cc
+all_taken script (noted ∷ more) (one ∷ others) first (command ∷ later) numbers are =
+    ap (λ l. one ∷ l) (all_taken script more others (first + 1) later (let own : numbers_of more ≡ numbers_from (first + 1) (length later) = cc numbers in own) are.1)
+
+-- ---- where an update goes
+
+part_place : (shards place part : ℕ) → part < shards → (place * shards + part) / shards ≡ place
+part_place shards place part few = div-mul-add place shards part few
+
+module _ (shards : ℕ) (some : 0 < shards) where
+  other_place : (place at part rest : ℕ) → part < shards → rest < shards → at ≢ place → (at * shards + part == place * shards + rest) ≡ false
+  other_place place at part rest few less other = by (at * shards + part == place * shards + rest) refl
+    where
+      by : (test : Bool) → (at * shards + part == place * shards + rest) ≡ test → test ≡ false
+      by false is = refl
+      by true is =
+          let same : at * shards + part ≡ place * shards + rest = eqb-true (at * shards + part) (place * shards + rest) is in
+          absurd (other (sym (part_place shards at part few) ∙ ap (λ n. n / shards) same ∙ part_place shards place rest less))
+
+  -- an update of another map is in another shard
+  aside_of : (place at part number : ℕ) (x y : Bool) → part < shards → at ≢ place →
+      ((at * shards + part == place * shards + number % shards) && x) ≡ ((at == place) && y)
+  aside_of place at part number x y few other =
+      ap (λ (t : Bool). t && x) (other_place place at part (number % shards) few (mod-lt number some) other) ∙ by (at == place) refl
+    where
+      by : (test : Bool) → (at == place) ≡ test → false ≡ (test && y)
+      by true is = absurd (other (eqb-true at place is))
+      by false is = refl
+
+  -- of the same map it is in the cell if it is of the key
+  same_place : (place at number : ℕ) (x : Bool) →
+      ((place * shards + at % shards == place * shards + number % shards) && (x && (at / shards == number / shards))) ≡ ((place == place) && (x && (at == number)))
+  same_place place at number x = by (at == number) refl ∙ ap (λ (t : Bool). t && (x && (at == number))) (sym (same_command place))
+    where
+      differs : at ≢ number → (one : Bool) → (place * shards + at % shards == place * shards + number % shards) ≡ one → (two : Bool) → (at / shards == number / shards) ≡ two →
+          (three : Bool) → (one && (three && two)) ≡ (three && false)
+      differs other true is true also three =
+          let sums : place * shards + at % shards ≡ place * shards + number % shards = eqb-true (place * shards + at % shards) (place * shards + number % shards) is in
+          let rest : at % shards ≡ number % shards =
+          sym (mod-mul-add place shards (at % shards) (mod-lt at some)) ∙ ap (λ n. n % shards) sums ∙ mod-mul-add place shards (number % shards) (mod-lt number some) in
+          let parts : at / shards ≡ number / shards = eqb-true (at / shards) (number / shards) also in
+          absurd (other (sym (div-add-mod at shards) ∙ ap (λ n. shards * n + at % shards) parts ∙ ap (λ n. shards * (number / shards) + n) rest ∙ div-add-mod number shards))
+      differs other true is false also three = refl
+      differs other false is two also true = refl
+      differs other false is two also false = refl
+
+      by : (test : Bool) → (at == number) ≡ test →
+          ((place * shards + at % shards == place * shards + number % shards) && (x && (at / shards == number / shards))) ≡ (x && (at == number))
+      by true is =
+          let same : at ≡ number = eqb-true at number is in
+          ap (λ n. (place * shards + n % shards == place * shards + number % shards) && (x && (n / shards == number / shards))) same
+          ∙ ap (λ (t : Bool). t && (x && (number / shards == number / shards))) (same_command (place * shards + number % shards))
+          ∙ ap (λ (t : Bool). x && t) (same_command (number / shards) ∙ sym is)
+      by false is =
+          differs (eqb-false at number is) (place * shards + at % shards == place * shards + number % shards) refl (at / shards == number / shards) refl x
+          ∙ ap (λ (t : Bool). x && t) (sym is)
+
+module _ (size : ℕ) (options : Options) (some : 0 < options.shards) where
+  -- of the lookup table
+  ring_place : (made : AnsweredUpdate) → IsOfChange made → (number : ℕ) →
+      is_in_cell (steering_maps size) options (2 * options.shards + number % options.shards) options.shards (number / options.shards) made ≡ is_at 2 number made
+  ring_place made (change, is) number =
+      ap (λ (u : UpdateBytes). is_in_cell (steering_maps size) options (2 * options.shards + number % options.shards) options.shards (number / options.shards) (record { update = u; answer = made.answer })) is
+      ∙ by change
+      ∙ ap (λ (u : UpdateBytes). is_at 2 number (record { update = u; answer = made.answer })) (sym is)
+    where
+      by : (change : Change) →
+          is_in_cell (steering_maps size) options (2 * options.shards + number % options.shards) options.shards (number / options.shards) (record { update = map_update change; answer = made.answer })
+          ≡ is_at 2 number (record { update = map_update change; answer = made.answer })
+      by (Vip service vip) = aside_of options.shards some 2 0 (fnv1a64_of (service_key service) % options.shards) number
+          (is_success made.answer && (number_of_bytes (service_key service) / options.shards == number / options.shards))
+          (is_success made.answer && (number_of_bytes (service_key service) == number))
+          (mod-lt (fnv1a64_of (service_key service)) some) (λ e. absurd (omega (arith, e)))
+      by (Ring slot ring) = same_place options.shards some 2 (number_of_bytes (bytes_of_number 4 slot)) number (is_success made.answer)
+      by (Backend other backend) = aside_of options.shards some 2 3 (number_of_bytes (bytes_of_number 4 other) % options.shards) number
+          (is_success made.answer && (number_of_bytes (bytes_of_number 4 other) / options.shards == number / options.shards))
+          (is_success made.answer && (number_of_bytes (bytes_of_number 4 other) == number))
+          (mod-lt (number_of_bytes (bytes_of_number 4 other)) some) (λ e. absurd (omega (arith, e)))
+      by (Tunnel tunnel) = aside_of options.shards some 2 4 (number_of_bytes (bytes_of_number 4 0) % options.shards) number
+          (is_success made.answer && (number_of_bytes (bytes_of_number 4 0) / options.shards == number / options.shards))
+          (is_success made.answer && (number_of_bytes (bytes_of_number 4 0) == number))
+          (mod-lt (number_of_bytes (bytes_of_number 4 0)) some) (λ e. absurd (omega (arith, e)))
+
+  -- and of the backends
+  backend_place : (made : AnsweredUpdate) → IsOfChange made → (number : ℕ) →
+      is_in_cell (steering_maps size) options (3 * options.shards + number % options.shards) options.shards (number / options.shards) made ≡ is_at 3 number made
+  backend_place made (change, is) number =
+      ap (λ (u : UpdateBytes). is_in_cell (steering_maps size) options (3 * options.shards + number % options.shards) options.shards (number / options.shards) (record { update = u; answer = made.answer })) is
+      ∙ by change
+      ∙ ap (λ (u : UpdateBytes). is_at 3 number (record { update = u; answer = made.answer })) (sym is)
+    where
+      by : (change : Change) →
+          is_in_cell (steering_maps size) options (3 * options.shards + number % options.shards) options.shards (number / options.shards) (record { update = map_update change; answer = made.answer })
+          ≡ is_at 3 number (record { update = map_update change; answer = made.answer })
+      by (Vip service vip) = aside_of options.shards some 3 0 (fnv1a64_of (service_key service) % options.shards) number
+          (is_success made.answer && (number_of_bytes (service_key service) / options.shards == number / options.shards))
+          (is_success made.answer && (number_of_bytes (service_key service) == number))
+          (mod-lt (fnv1a64_of (service_key service)) some) (λ e. absurd (omega (arith, e)))
+      by (Ring slot ring) = aside_of options.shards some 3 2 (number_of_bytes (bytes_of_number 4 slot) % options.shards) number
+          (is_success made.answer && (number_of_bytes (bytes_of_number 4 slot) / options.shards == number / options.shards))
+          (is_success made.answer && (number_of_bytes (bytes_of_number 4 slot) == number))
+          (mod-lt (number_of_bytes (bytes_of_number 4 slot)) some) (λ e. absurd (omega (arith, e)))
+      by (Backend other backend) = same_place options.shards some 3 (number_of_bytes (bytes_of_number 4 other)) number (is_success made.answer)
+      by (Tunnel tunnel) = aside_of options.shards some 3 4 (number_of_bytes (bytes_of_number 4 0) % options.shards) number
+          (is_success made.answer && (number_of_bytes (bytes_of_number 4 0) / options.shards == number / options.shards))
+          (is_success made.answer && (number_of_bytes (bytes_of_number 4 0) == number))
+          (mod-lt (number_of_bytes (bytes_of_number 4 0)) some) (λ e. absurd (omega (arith, e)))
+
+all_places : (at other : AnsweredUpdate → Bool) → ((made : AnsweredUpdate) → IsOfChange made → at made ≡ other made) → (made : List AnsweredUpdate) →
+    AllByRecursion IsOfChange made → AllByRecursion (λ (one : AnsweredUpdate). at one ≡ other one) made
+all_places at other each [] all = tt
+all_places at other each (one ∷ made) all = (each one all.0, all_places at other each made all.1)
+
+-- ---- the entries of such a shard
+
+-- a call that changes nothing, or an update of the controller
+abbrev IsKnown : Entry → Type 0
+IsKnown entry = IsQuiet entry.call ⊎ ((entry.who ≡ Controller) × IsSetting entry.call)
+
+quiet_sets : (call : Call) → IsQuiet call → IsSetting call
+quiet_sets (Enter number) quiet = tt
+quiet_sets (Leave number) quiet = tt
+quiet_sets (Lookup number key) quiet = tt
+quiet_sets (Load ref offset size) quiet = tt
+quiet_sets _ quiet = absurd quiet
+
+known_sets : (history : List Entry) → AllByRecursion IsKnown history → AllByRecursion (λ (entry : Entry). IsSetting entry.call) history
+known_sets [] all = tt
+known_sets (entry ∷ older) all = (by all.0, known_sets older all.1)
+  where
+    by : IsKnown entry → IsSetting entry.call
+    by (inl quiet) = quiet_sets entry.call quiet
+    by (inr own) = own.1
+
+known_controlled : (history : List Entry) → AllByRecursion IsKnown history → AllByRecursion IsControlled history
+known_controlled [] all = tt
+known_controlled (entry ∷ older) all = (by all.0, known_controlled older all.1)
+  where
+    by : IsKnown entry → IsControlled entry
+    by (inl quiet) = inl quiet
+    by (inr own) = inr own.0
+
+quiet_known : (history : List Entry) → AllByRecursion (λ (entry : Entry). IsQuiet entry.call) history → AllByRecursion IsKnown history
+quiet_known [] all = tt
+quiet_known (entry ∷ older) all = (inl all.0, quiet_known older all.1)
+
+updates_known : (maps : List MapDef) (options : Options) (number : ℕ) (made : List AnsweredUpdate) (history : List Entry) → AllByRecursion IsKnown history →
+    AllByRecursion IsKnown (with_updates maps options number made history)
+updates_known maps options number [] history all = all
+updates_known maps options number (one ∷ made) history all =
+    updates_known maps options number made (with_update maps options number one history) (by (shard_of maps options one.update == number))
+  where
+    by : (test : Bool) → AllByRecursion IsKnown (if test then update_entry number one ∷ history else history)
+    by true = (inr (refl, tt), all)
+    by false = all
+
+rounds_none : (kind : MapKind) → kind ≡ Array → (plan : ShardPlan) (number rounds : ℕ) (own seen : List Entry) → IsReclaimedBy kind plan number rounds own seen → own ≡ []
+rounds_none kind array plan number rounds own seen made = subst (λ (k : MapKind). IsReclaimedBy k plan number rounds own seen) array made
+
+-- ---- the plan of a shard
+
+record IsPlanOf (options : Options) (definition : MapDef) (plan : ShardPlan) : Type 0 where
+  parts_are : plan.parts ≡ options.shards
+  definition_is : plan.definition ≡ definition
+  workers_are : plan.workers ≡ options.workers
+
+planned_of : (options : Options) (number : ℕ) (definition : MapDef) (plan : ShardPlan) → plan_for_map options number (Some definition) ≡ Some plan → IsPlanOf options definition plan
+planned_of options number definition plan is =
+    let same : record {
+      number = number;
+      part = number % options.shards;
+      parts = options.shards;
+      definition = definition;
+      workers = options.workers;
+      reserve = options.journal;
+    } ≡ plan = cc is in
+    record {
+      parts_are = ap (λ (p : ShardPlan). p.parts) (sym same);
+      definition_is = ap (λ (p : ShardPlan). p.definition) (sym same);
+      workers_are = ap (λ (p : ShardPlan). p.workers) (sym same);
+    }
+
+abbrev IsShards : ℕ → Type 0
+IsShards shards = (shards ≡ 1) ⊎ (shards ≡ 2) ⊎ (shards ≡ 4) ⊎ (shards ≡ 8)
+
+some_shard : (shards : ℕ) → IsShards shards → 0 < shards
+some_shard shards (inl is) = omega (arith, is)
+some_shard shards (inr (inl is)) = omega (arith, is)
+some_shard shards (inr (inr (inl is))) = omega (arith, is)
+some_shard shards (inr (inr (inr is))) = omega (arith, is)
+
+in_ring : (shards : ℕ) → IsShards shards → (size slot : ℕ) → slot < size → slot / shards < (size + 7) / 8 * 8 / shards
+in_ring shards (inl is) size slot within = subst (λ (s : ℕ). slot / s < (size + 7) / 8 * 8 / s) (sym is) (omega (arith, within))
+in_ring shards (inr (inl is)) size slot within = subst (λ (s : ℕ). slot / s < (size + 7) / 8 * 8 / s) (sym is) (omega (arith, within))
+in_ring shards (inr (inr (inl is))) size slot within = subst (λ (s : ℕ). slot / s < (size + 7) / 8 * 8 / s) (sym is) (omega (arith, within))
+in_ring shards (inr (inr (inr is))) size slot within = subst (λ (s : ℕ). slot / s < (size + 7) / 8 * 8 / s) (sym is) (omega (arith, within))
+
+rounded_up : (size slot : ℕ) → slot < size → slot < (size + 7) / 8 * 8
+rounded_up size slot within = omega (arith, within)
+
+below_all : (n shards count : ℕ) → n < 5 * shards → count ≡ 6 * shards → n < count
+below_all n shards count below is = omega (arith, below, is)
+
+in_backends : (shards : ℕ) → IsShards shards → (number : ℕ) → number < 256 → number / shards < 256 / shards
+in_backends shards (inl is) number few = subst (λ (s : ℕ). number / s < 256 / s) (sym is) (omega (arith, few))
+in_backends shards (inr (inl is)) number few = subst (λ (s : ℕ). number / s < 256 / s) (sym is) (omega (arith, few))
+in_backends shards (inr (inr (inl is))) number few = subst (λ (s : ℕ). number / s < 256 / s) (sym is) (omega (arith, few))
+in_backends shards (inr (inr (inr is))) number few = subst (λ (s : ℕ). number / s < 256 / s) (sym is) (omega (arith, few))
+
+last_known : (newer older : List Entry) → AllByRecursion IsKnown (newer ++ older) → AllByRecursion IsKnown older
+last_known newer older all = (all_parts IsKnown newer older all).1
+
+-- ---- the whole
+
+module _ (size : ℕ) (is_size : IsRingSize size) (script : List Command) (options : Options) (records : List Sent) (outcome : Outcome)
+    (plain : IsPlainReplay size script options records outcome)
+    (replayed : IsSteeredReplay size (shipped_program (of_size options.shards size)) script options records outcome plain.accounted) where
+  abbrev accounted : IsAccounted (shipped_program (of_size options.shards size)) script options records outcome
+  accounted = plain.accounted
+
+  abbrev sizes : SteeringSizes
+  sizes = of_size options.shards size
+
+  abbrev whole : ℕ → List Entry
+  whole number = last_histories outcome.journals number
+
+  abbrev all_done : List CommandDone
+  all_done = accounted.commands.done
+
+  some : 0 < options.shards
+  some = some_shard options.shards plain.fit.power_of_two
+
+  unstopped_all : AllByRecursion IsNoStop all_done
+  unstopped_all = no_stops script accounted.commands.noted all_done accounted.commands.are_noted (subst MetNoFullJournal accounted.commands.refused_are plain.none_full)
+
+  -- the controller's last state, for a table of this size
+  ended_all : (state : ControllerState) × AreDone (opened_controller size) all_done state
+  ended_all = by accounted.commands.serves
+    where
+      by : ServesScript (steering_maps size) accounted.commands.size script → (state : ControllerState) × AreDone (opened_controller size) all_done state
+      by (inl empty) =
+          let none : all_done ≡ [] =
+          none_done script accounted.commands.noted all_done (accounted.commands.each_once ∙ ap (λ (l : List Command). numbers_from 0 (length l)) empty) accounted.commands.are_noted in
+          (opened_controller size, subst (λ (l : List CommandDone). AreDone (opened_controller size) l (opened_controller size)) (sym none) refl)
+      by (inr same) =
+          let one : accounted.commands.size ≡ size = sym (one_size size accounted.commands.size is_size accounted.commands.size_is_served (ap third_entries same)) in
+          (accounted.commands.state, subst (λ (n : ℕ). AreDone (opened_controller n) all_done accounted.commands.state) one accounted.commands.are_done)
+
+  -- one shard of an array that the program only reads
+  module _ (number : ℕ) (within : number < accounted.count) (low : 2 * options.shards ≤ number) (high : number < 5 * options.shards)
+      (array : (accounted.plan number).definition.kind ≡ Array) (workers : (accounted.plan number).workers ≡ options.workers) where
+    still : IsChanged sizes number → ⊥
+    still (inl flows) = absurd (let below = flows.1 in omega (arith, below, low))
+    still (inr counts) = absurd (omega (arith, counts, high))
+
+    nothing_yet : (worker : ℕ) (below : worker < options.workers) → own_at (replayed.work worker below).handled.before number ≡ []
+    nothing_yet worker below = ap (λ (view : CallerView). view.own) ((replayed.work worker below).handled.is_new.nothing number)
+
+    worker_named : (worker : ℕ) (below : worker < options.workers) (other : ℕ) → other < accounted.count →
+        AllByRecursion NamesOwnAt (own_at (replayed.work worker below).after other)
+    worker_named worker below other inside =
+        subst (λ (own : List Entry). AllByRecursion NamesOwnAt own) (sym ((replayed.work worker below).own other inside))
+        (all_own NamesOwnAt (Worker worker) (whole other) (all_name_own (accounted.plan other) (whole other) (accounted.legal other inside)))
+
+    worker_quiet : (worker : ℕ) → worker < options.workers → AllByRecursion IsKnown (own_entries (Worker worker) (whole number))
+    worker_quiet worker below =
+        let work = replayed.work worker below in
+        quiet_known (own_entries (Worker worker) (whole number))
+        (subst (λ (own : List Entry). AllByRecursion (λ (entry : Entry). IsQuiet entry.call) own) (work.own number within)
+        (chain_quiet accounted.plan accounted.count sizes some worker records work.handled.before (runs_at accounted.runs worker) work.after work.handled.chain
+        (worker_named worker below) number within still
+        (subst (λ (own : List Entry). AllByRecursion (λ (entry : Entry). IsQuiet entry.call) own) (sym (nothing_yet worker below)) tt)))
+
+    controller_own : own_entries Controller (whole number) ≡ with_updates (steering_maps size) options number (made_in all_done) []
+    controller_own =
+        accounted.commands.own number within
+        ∙ ap (λ (updates : List MapUpdate). with_updates (steering_maps size) options number (all_set updates ++ made_in all_done) []) plain.none_set
+
+    reclaimer_none : own_entries Reclaimer (whole number) ≡ []
+    reclaimer_none =
+        rounds_none (accounted.plan number).definition.kind array (accounted.plan number) number (round_count (length records)) (own_entries Reclaimer (whole number)) (whole number)
+        (accounted.rounds.each number within)
+
+    all_known : AllByRecursion IsKnown (whole number)
+    all_known =
+        all_of_callers IsKnown (accounted.plan number) (whole number) (accounted.legal number within)
+        (record {
+          of_workers = λ worker below. worker_quiet worker (subst (λ (n : ℕ). worker < n) workers below);
+          of_controller = subst (λ (own : List Entry). AllByRecursion IsKnown own) (sym controller_own)
+              (updates_known (steering_maps size) options number (made_in all_done) [] tt);
+          of_reclaimer = subst (λ (own : List Entry). AllByRecursion IsKnown own) (sym reclaimer_none) tt;
+        })
+
+    -- at any moment, by what the controller has then made
+    cell_holds : (newer older : List Entry) → whole number ≡ newer ++ older → (made : List AnsweredUpdate) →
+        own_entries Controller older ≡ with_updates (steering_maps size) options number made [] → (cell : ℕ) → cell < capacity (accounted.plan number) →
+        cell_bytes (shard_after (accounted.plan number) older) cell
+        ≡ put_made (is_in_cell (steering_maps size) options number (accounted.plan number).parts cell) made (replicate (accounted.plan number).definition.value_size 0)
+    cell_holds newer older is made own cell inside =
+        let first : List ℕ = replicate (accounted.plan number).definition.value_size 0 in
+        let parts : ℕ = (accounted.plan number).parts in
+        let known : AllByRecursion IsKnown older = last_known newer older (subst (λ (h : List Entry). AllByRecursion IsKnown h) is all_known) in
+        cell_after (accounted.plan number) older cell array inside
+        (legal_before (accounted.plan number) newer older (subst (λ (h : List Entry). IsLegalHistory (accounted.plan number) h) is (accounted.legal number within)))
+        (known_sets older known)
+        ∙ own_puts parts cell first older (known_controlled older known)
+        ∙ ap (λ (l : List Entry). last_put parts cell first l) own
+        ∙ updates_put (steering_maps size) options number parts cell first made []
+
+    -- and so much has each cell
+    cell_sized : (newer older : List Entry) → whole number ≡ newer ++ older → (made : List AnsweredUpdate) →
+        own_entries Controller older ≡ with_updates (steering_maps size) options number made [] → (cell : ℕ) →
+        length (put_made (is_in_cell (steering_maps size) options number (accounted.plan number).parts cell) made (replicate (accounted.plan number).definition.value_size 0))
+        ≡ (accounted.plan number).definition.value_size
+    cell_sized newer older is made own cell =
+        let first : List ℕ = replicate (accounted.plan number).definition.value_size 0 in
+        let parts : ℕ = (accounted.plan number).parts in
+        let known : AllByRecursion IsKnown older = last_known newer older (subst (λ (h : List Entry). AllByRecursion IsKnown h) is all_known) in
+        ap (λ (l : List ℕ). length l) (sym (own_puts parts cell first older (known_controlled older known) ∙ ap (λ (l : List Entry). last_put parts cell first l) own
+        ∙ updates_put (steering_maps size) options number parts cell first made []))
+        ∙ last_sized (accounted.plan number) cell first (length-replicate (accounted.plan number).definition.value_size 0) older
+        (legal_before (accounted.plan number) newer older (subst (λ (h : List Entry). IsLegalHistory (accounted.plan number) h) is (accounted.legal number within)))
+
+  -- a moment
+  module _ (commands : ℕ) (histories : ℕ → List Entry) (moment : IsMoment size script options records outcome plain commands histories) where
+    abbrev done : List CommandDone
+    done = take commands all_done
+
+    unstopped : AllByRecursion IsNoStop done
+    unstopped = take_unstopped all_done commands unstopped_all
+
+    ended : (state : ControllerState) × AreDone (opened_controller size) done state
+    ended = take_done (opened_controller size) all_done ended_all.0 commands ended_all.1
+
+    abbrev state : ControllerState
+    state = ended.0
+
+    changes : AllByRecursion IsOfChange (made_in done)
+    changes =
+        let first = take_done (opened_controller accounted.commands.size) all_done accounted.commands.state commands accounted.commands.are_done in
+        all_made (opened_controller accounted.commands.size) done first.0 first.1
+
+    are_carried : carried_out outcome.refused.items 0 (take commands script) ≡ done_actions done
+    are_carried =
+        ap (λ (l : List Applied). carried_out l 0 (take commands script)) accounted.commands.refused_are
+        ∙ carried script accounted.commands.noted all_done 0 script commands (λ k. ap (slice_get script) (from_zero k)) accounted.commands.each_once accounted.commands.are_noted
+      where
+        from_zero : (k : ℕ) → 0 + k ≡ k
+        from_zero k = omega arith
+
+    -- a key of an array in such a place
+    module _ (place entries : ℕ) (known : slice_get (steering_maps size) place ≡ Some (defined Array 4 8 entries)) (index : ℕ)
+        (low : 2 * options.shards ≤ place * options.shards + index % options.shards) (high : place * options.shards + index % options.shards < 5 * options.shards)
+        (small : index < 2 ^ 32) (inside : index < entries) (in_part : index / options.shards < entries / options.shards)
+        (same : (made : AnsweredUpdate) → IsOfChange made →
+        is_in_cell (steering_maps size) options (place * options.shards + index % options.shards) options.shards (index / options.shards) made ≡ is_at place index made) where
+      abbrev key : List ℕ
+      key = bytes_of_number 4 index
+
+      back : number_of_bytes key ≡ index
+      back = omega (arith, small)
+
+      abbrev number : ℕ
+      number = place * options.shards + index % options.shards
+
+      abbrev cell : ℕ
+      cell = index / options.shards
+
+      within : number < accounted.count
+      within = below_all number options.shards accounted.count high accounted.plans.count_is
+
+      abbrev plan : ShardPlan
+      plan = accounted.plan number
+
+      is_plan : IsPlanOf options (defined Array 4 8 entries) plan
+      is_plan =
+          planned_of options number (defined Array 4 8 entries) plan
+          (sym (ap (plan_for_map options number) (ap (slice_get (steering_maps size)) (part_place options.shards place (index % options.shards) (mod-lt index some)) ∙ known))
+          ∙ accounted.plans.each number within)
+
+      array : plan.definition.kind ≡ Array
+      array = ap (λ (d : MapDef). d.kind) is_plan.definition_is
+
+      inside_plan : cell < capacity plan
+      inside_plan =
+          subst (λ (p : ℕ). cell < plan.definition.max_entries / p) (sym is_plan.parts_are)
+          (subst (λ (d : MapDef). cell < d.max_entries / options.shards) (sym is_plan.definition_is) in_part)
+
+      abbrev shard : SequentialShard
+      shard = shard_after plan (histories number)
+
+      holds : cell_bytes shard cell ≡ put_made (is_at place index) (made_in done) (replicate 8 0)
+      holds =
+          cell_holds number within low high array is_plan.workers_are (moment.newer number) (histories number) (moment.oldest number within) (made_in done)
+          (moment.controlled number within) cell inside_plan
+          ∙ ap (λ (parts : ℕ). put_made (is_in_cell (steering_maps size) options number parts cell) (made_in done) (replicate plan.definition.value_size 0)) is_plan.parts_are
+          ∙ ap (λ (d : MapDef). put_made (is_in_cell (steering_maps size) options number options.shards cell) (made_in done) (replicate d.value_size 0)) is_plan.definition_is
+          ∙ same_put (is_in_cell (steering_maps size) options number options.shards cell) (is_at place index) (made_in done) (replicate 8 0)
+          (all_places (is_in_cell (steering_maps size) options number options.shards cell) (is_at place index) same (made_in done) changes)
+
+      sized : length (put_made (is_at place index) (made_in done) (replicate 8 0)) ≡ 8
+      sized =
+          ap (λ (l : List ℕ). length l) (sym (
+          ap (λ (parts : ℕ). put_made (is_in_cell (steering_maps size) options number parts cell) (made_in done) (replicate plan.definition.value_size 0)) is_plan.parts_are
+          ∙ ap (λ (d : MapDef). put_made (is_in_cell (steering_maps size) options number options.shards cell) (made_in done) (replicate d.value_size 0)) is_plan.definition_is
+          ∙ same_put (is_in_cell (steering_maps size) options number options.shards cell) (is_at place index) (made_in done) (replicate 8 0)
+          (all_places (is_in_cell (steering_maps size) options number options.shards cell) (is_at place index) same (made_in done) changes)))
+          ∙ cell_sized number within low high array is_plan.workers_are (moment.newer number) (histories number) (moment.oldest number within) (made_in done)
+          (moment.controlled number within) cell
+          ∙ ap (λ (d : MapDef). d.value_size) is_plan.definition_is
+
+      found : cell_of_key plan shard key ≡ Some cell
+      found =
+          let entries_are : plan.definition.max_entries ≡ entries = ap (λ (d : MapDef). d.max_entries) is_plan.definition_is in
+          let back_is = back in
+          let below : number_of_bytes key < plan.definition.max_entries = omega (arith, entries_are, back_is, inside) in
+          ap (λ (kind : MapKind). cell_of_kind kind plan shard key) array
+          ∙ ap (λ (t : Bool). if t then Some (number_of_bytes key / plan.parts) else None) (lt-ltb (number_of_bytes key) plan.definition.max_entries below)
+          ∙ ap (λ (n : ℕ). Some (n / plan.parts)) back
+          ∙ ap (λ (n : ℕ). Some (index / n)) is_plan.parts_are
+
+      has_value : value_in_shard (histories (place * outcome.journals.options.shards + number_of_bytes key % outcome.journals.options.shards))
+          (plan_at outcome.journals.maps outcome.journals.options (place * outcome.journals.options.shards + number_of_bytes key % outcome.journals.options.shards)) key
+          ≡ Some (put_made (is_at place index) (made_in done) (replicate 8 0))
+      has_value =
+          ap (λ (o : Options). value_in_shard (histories (place * o.shards + number_of_bytes key % o.shards))
+          (plan_at outcome.journals.maps o (place * o.shards + number_of_bytes key % o.shards)) key) accounted.options_are
+          ∙ ap (λ (maps : List MapDef). value_in_shard (histories (place * options.shards + number_of_bytes key % options.shards))
+          (plan_at maps options (place * options.shards + number_of_bytes key % options.shards)) key) accounted.maps
+          ∙ ap (λ (n : ℕ). value_in_shard (histories (place * options.shards + n % options.shards))
+          (plan_at (steering_maps size) options (place * options.shards + n % options.shards)) key) back
+          ∙ ap (λ (p : Option ShardPlan). value_in_shard (histories number) p key) (accounted.plans.each number within)
+          ∙ ap (option_map (cell_bytes shard)) found
+          ∙ ap Some holds
+
+    low_two : (n : ℕ) → 2 * options.shards ≤ 2 * options.shards + n
+    low_two n = omega arith
+
+    high_two : (n : ℕ) → 2 * options.shards + n % options.shards < 5 * options.shards
+    high_two n = (let part : n % options.shards < options.shards = mod-lt n some in omega (arith, part))
+
+    low_three : (n : ℕ) → 2 * options.shards ≤ 3 * options.shards + n
+    low_three n = omega arith
+
+    high_three : (n : ℕ) → 3 * options.shards + n % options.shards < 5 * options.shards
+    high_three n = (let part : n % options.shards < options.shards = mod-lt n some in omega (arith, part))
+
+    ring_holds : (slot : ℕ) → slot < size →
+        value_at (record { journals = outcome.journals; histories = histories }) maps.Ring (bytes_of_number 4 slot) ≡ Some (ring_bytes (record { owner = slice_get state.owners slot }))
+    ring_holds slot within =
+        let few : size ≤ 65538 = small_size size is_size in
+        has_value 2 (ring_entries size) refl slot (low_two (slot % options.shards)) (high_two slot) (omega (arith, few, within)) (rounded_up size slot within)
+        (in_ring options.shards plain.fit.power_of_two size slot within) (λ made of. ring_place size options some made of slot)
+        ∙ ap Some (slot_done slot (opened_controller size) done state ended.1 unstopped few within)
+
+    abbrev left : ℕ → BackendRecord
+    left number = record_left number no_record (done_actions done)
+
+    recorded : ((number : ℕ) → put_made (is_at 3 number) (made_in done) (backend_bytes no_record) ≡ backend_bytes (left number)) × HaveRecords left state.up
+    recorded = records_done (λ number. no_record) (opened_controller size) done state ended.1 unstopped tt
+
+    backend_holds : (number : ℕ) → number < 256 →
+        value_at (record { journals = outcome.journals; histories = histories }) maps.Backends (bytes_of_number 4 number) ≡ Some (backend_bytes (left number))
+    backend_holds number few =
+        has_value 3 256 refl number (low_three (number % options.shards)) (high_three number) (omega (arith, few)) few
+        (in_backends options.shards plain.fit.power_of_two number few) (λ made of. backend_place size options some made of number)
+        ∙ ap Some (recorded.0 number)
+
+    -- and an address of four bytes
+    four_bytes : (number : ℕ) → number < 256 → length (left number).address.0 ≡ 4
+    four_bytes number few =
+        let whole_is : length (backend_bytes (left number)) ≡ 8 =
+        ap (λ (l : List ℕ). length l) (sym (recorded.0 number))
+        ∙ sized 3 256 refl number (low_three (number % options.shards)) (high_three number) (omega (arith, few)) few
+        (in_backends options.shards plain.fit.power_of_two number few) (λ made of. backend_place size options some made of number) in
+        let both : length (backend_bytes (left number)) ≡ length (left number).address.0 + 4 = length-append (left number).address.0 (bytes_of_number 4 (flag_number (left number).is_up)) in
+        omega (arith, whole_is, both)
+
+    up_recorded : (up : List Server) → HaveRecords left up → AllByRecursion (IsRecordedUp (done_actions done)) up
+    up_recorded [] have = tt
+    up_recorded (server ∷ up) have = (
+      record {
+        few = have.0.0;
+        address = ap (λ (r : BackendRecord). length r.address.0) (sym have.0.1) ∙ four_bytes server.number have.0.0;
+        recorded = have.0.1;
+      },
+      up_recorded up have.1,
+    )
+
+    same_up : state.up ≡ up_left [] (done_actions done)
+    same_up = up_done (opened_controller size) done state ended.1 unstopped
+
+    pub are_tables : AreTables size (carried_out outcome.refused.items 0 (take commands script)) (record { journals = outcome.journals; histories = histories })
+    are_tables = subst (λ (acts : List Action). AreTables size acts (record { journals = outcome.journals; histories = histories })) (sym are_carried) (record {
+      owners = state.owners;
+      table = subst (λ (up : List Server). IsTable size up state.owners) same_up
+          (subst (λ (n : ℕ). IsTable n state.up state.owners) (size_done (opened_controller size) done state ended.1 unstopped)
+          (table_done (opened_controller size) done state ended.1 unstopped refl));
+      ring = ring_holds;
+      backends = backend_holds;
+      up = subst (λ (up : List Server). AllByRecursion (IsRecordedUp (done_actions done)) up) same_up (up_recorded state.up recorded.1);
+    })
+
+  -- the end is the moment after all commands
+  at_the_end : IsMoment size script options records outcome plain (length script) (last_histories outcome.journals)
+  at_the_end = record {
+    newer = λ number. [];
+    oldest = λ number within. refl;
+    controlled = λ number within.
+        accounted.commands.own number within
+        ∙ ap (λ (updates : List MapUpdate). with_updates (steering_maps size) options number (all_set updates ++ made_in all_done) []) plain.none_set
+        ∙ ap (λ (l : List CommandDone). with_updates (steering_maps size) options number (made_in l) [])
+        (sym (all_taken script accounted.commands.noted all_done 0 script accounted.commands.each_once accounted.commands.are_noted));
+  }
+
+  pub are_left : AreTables size (carried_out outcome.refused.items 0 script) (maps_at_end outcome.journals)
+  are_left =
+      subst (λ (l : List Command). AreTables size (carried_out outcome.refused.items 0 l) (maps_at_end outcome.journals)) (take_all (length script) script (omega arith))
+      (are_tables (length script) (last_histories outcome.journals) at_the_end)
