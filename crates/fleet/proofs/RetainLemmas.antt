@@ -1,8 +1,8 @@
 -- What a closure leaves that is called at each record, and counts down the records before a loss.
 use Rattle.std.proofs.Common.{◌≡◌, ℕ, zero, suc, ◌+◌, ◌-◌, ◌<◌, Bool, true, false, cond, List, [], ◌∷◌, Option, Some, None, length, take, refl, sym, ap, ◌∙◌, arith}
 use Rattle.std.specs.Prelude.{slice_index_or}
-use Rattle.core.specs.List.{items_where_true}
-use Rattle.core.specs.List.Retain.{ReturnsInTurn, IsFiltered}
+use Rattle.std.specs.List.{items_where_true}
+use Rattle.std.specs.List.Retain.{ReturnsInTurn, IsFiltered}
 use Rattle.fleet.specs.declared.part.Loss.{Loss}
 use Rattle.fleet.specs.Parts.{filter_at, records_left}
 
