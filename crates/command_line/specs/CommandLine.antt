@@ -110,14 +110,16 @@ replay_noted =
     (with_rule (with_rule replay_opened (number_rule (codes "ring") 4294967295 (codes "251"))) (switch_rule (codes "exact")))
     (switch_rule (codes "summary"))
 
--- and how the records of the capture are read, and which part of them
+-- and how the records of the capture are read, which part of them, and which part is lost
 abbrev pub replay_read : App
 replay_read =
     with_rule
     (with_rule
+    (with_rule
     (with_rule (with_rule replay_noted (switch_rule (codes "skip-long"))) (switch_rule (codes "pad-cut")))
     (switch_rule (codes "allow-cut")))
-    (option_rule (codes "part"))
+    (option_rule (codes "part")))
+    (option_rule (codes "lost"))
 
 -- and whether no rows of journals are kept, nothing may be left out, and no file is written over
 abbrev pub replay_command : App

@@ -1,6 +1,6 @@
 -- What the settings are of a command and what was found for its arguments.
 use Rattle.std.specs.Prelude.{◌≡◌, ◌<◌, ◌^◌, ◌*◌, ◌+◌, ◌/◌, ℕ, Bool, List, [], ◌∷◌, ◌++◌, length, true, false, ◌&&◌, Option, Some, None, option_map}
-use Rattle.std.specs.Prelude.{◌⊎◌}
+use Rattle.std.specs.Prelude.{◌⊎◌, IfSome}
 use Rattle.std.specs.Prelude.{IsTrue, IsFalse, ◌||◌, codes, is_none, is_some, unwrap_or, slice_get, slice_index_or}
 use Rattle.std.specs.Borrow.{Bor}
 use Rattle.std.specs.Str.{bytes_eq}
@@ -10,6 +10,7 @@ use Rattle.clap.specs.Values.{kind_of}
 use Rattle.clap.specs.declared.error.kind.ErrorKind.{ErrorKind}
 use Rattle.clap.specs.declared.error.kind.ErrorKind.TheVariants.{ArgumentConflict, OutOfMemory, ValueValidation}
 use Rattle.semantics.specs.declared.options.Options.{Options}
+use Rattle.fleet.specs.declared.part.Loss.{Loss}
 use Rattle.fleet.specs.declared.part.Part.{Part}
 use Rattle.command_line.specs.declared.commands.Reading.{Reading}
 use Rattle.command_line.specs.declared.commands.ReplayFiles.{ReplayFiles}
@@ -19,7 +20,7 @@ use Rattle.command_line.specs.declared.commands.Settings.TheVariants.{Check, Run
 use Rattle.command_line.specs.declared.commands.Settings.TheVariants.{Script, Compare}
 use Rattle.command_line.specs.declared.words.WordsFault.{WordsFault}
 use Rattle.command_line.specs.declared.words.WordsFault.TheVariants.{Parser, UnknownFault, Both, TwoImages, UpdatesAlone, JournalsOfNone}
-use Rattle.command_line.specs.declared.words.WordsFault.TheVariants.{Update, NoPart}
+use Rattle.command_line.specs.declared.words.WordsFault.TheVariants.{Update, NoPart, LostAlone, NoLoss}
 use Rattle.command_line.specs.declared.words.AskedWords.{AskedWords}
 use Rattle.command_line.specs.declared.words.AskedWords.TheVariants as asks
 use Rattle.command_line.specs.declared.words.AskedWords.TheVariants.{Command, NoSuchFault, ImageAndScript, ImageAndProgram, NoUpdate}
@@ -186,6 +187,52 @@ abbrev pub IsPartAsked : Option Text → Option Part → Type 0
 IsPartAsked None part = part ≡ None
 IsPartAsked (Some word) part = SaysPart word part
 
+-- the word is J@RECORD, with an at sign between two numbers: part J, one of at least two, is lost behind so many records
+pub record IsLossWord (word : Text) (of : ℕ) (loss : Loss) : Type 0 where
+  pub before : Text
+  pub after : Text
+  pub split : word ≡ before ++ 0x40 ∷ after
+  pub first : Writes before loss.part
+  pub second : Writes after loss.from
+  pub within : loss.part < of
+  pub others : 1 < of
+  pub fits : loss.from < 2 ^ 32
+
+-- the word is that of no loss of one of so many parts
+abbrev pub IsNoLossWord : Text → ℕ → Type 0
+IsNoLossWord word of = (loss : Loss) → ¬ IsLossWord word of loss
+
+-- the part has the loss that a word says
+pub record HasLoss (word : Text) (part : Part) : Type 0 where
+  pub said : Loss
+  pub loss_is : part.lost ≡ Some said
+  pub spelled : IsLossWord word part.of said
+
+-- the part that is replayed
+pub record LosesPart (word : Text) (part : Option Part) : Type 0 where
+  pub losing : Part
+  pub part_is : part ≡ Some losing
+  pub with_loss : HasLoss word losing
+
+-- the loss that is asked for, where one is: of a part that is asked for
+abbrev pub IsLossAsked : Option Text → Option Part → Type 0
+IsLossAsked None part = IfSome part (λ whole. whole.lost ≡ None)
+IsLossAsked (Some word) part = LosesPart word part
+
+-- a loss is asked for, and no part
+abbrev pub is_lost_alone : List Row → Bool
+is_lost_alone rows = is_some (first_of (codes "lost") rows) && is_none (first_of (codes "part") rows)
+
+-- a loss is asked for with a part, and the word is that of none
+pub record AsksNoLoss (asked lost : Option Text) (word : Text) : Type 0 where
+  pub part_word : Text
+  pub number : ℕ
+  pub of : ℕ
+  pub part_given : asked ≡ Some part_word
+  pub part_spelled : IsPartWord part_word number of
+  pub given : lost ≡ Some word
+  pub none : IsNoLossWord word of
+
 -- a part is asked for, and the word is that of none
 pub record AsksNoPart (asked : Option Text) (word : Text) : Type 0 where
   pub given : asked ≡ Some word
@@ -257,6 +304,7 @@ IsReadFrom name rows (Replay asked) = is_named name (codes "replay")
     × IsSwitchOf (codes "summary") rows asked.summary
     × IsReadingOf rows asked.reading
     × IsPartAsked (first_of (codes "part") rows) asked.part
+    × IsLossAsked (first_of (codes "lost") rows) asked.part
     × IsSwitchOf (codes "no-journals") rows asked.no_journals
     × IsSwitchOf (codes "strict") rows asked.strict
     × IsSwitchOf (codes "no-clobber") rows asked.no_clobber
@@ -289,9 +337,20 @@ IsAsked name rows (asks.NoPart word) = is_named name (codes "replay")
     × NamesKeptRows rows
     × AreSomeUpdates rows
     × AsksNoPart (first_of (codes "part") rows) word.now
+IsAsked name rows asks.LostAlone = is_named name (codes "replay")
+    × IsOfOneProgram rows
+    × NamesKeptRows rows
+    × AreSomeUpdates rows
+    × IsTrue (is_lost_alone rows)
+IsAsked name rows (asks.NoLoss word) = is_named name (codes "replay")
+    × IsOfOneProgram rows
+    × NamesKeptRows rows
+    × AreSomeUpdates rows
+    × AsksNoLoss (first_of (codes "part") rows) (first_of (codes "lost") rows) word.now
 
 -- the words ask for what there is not: what a word means that is no fault, a replay of both an image and a script or of two images, one
--- with updates and without an image, one with a file for journals that keep no rows, a malformed update, or a replay of no part
+-- with updates and without an image, one with a file for journals that keep no rows, a malformed update, a replay of no part, one with a loss
+-- and no part, or one with no loss of a part
 abbrev pub AsksInVain : Text → List Row → WordsFault → Type 0
 AsksInVain name rows (UnknownFault word) = IsAsked name rows (NoSuchFault word)
 AsksInVain name rows Both = IsAsked name rows ImageAndScript
@@ -300,6 +359,8 @@ AsksInVain name rows UpdatesAlone = IsAsked name rows asks.UpdatesAlone
 AsksInVain name rows JournalsOfNone = IsAsked name rows asks.JournalsOfNone
 AsksInVain name rows (Update place mistake) = IsAsked name rows (NoUpdate place mistake)
 AsksInVain name rows (NoPart word) = IsAsked name rows (asks.NoPart word)
+AsksInVain name rows LostAlone = IsAsked name rows asks.LostAlone
+AsksInVain name rows (NoLoss word) = IsAsked name rows (asks.NoLoss word)
 AsksInVain name rows (Parser error) = ⊥
 
 -- the parser's word for what the user asked for, or got wrong
@@ -316,3 +377,5 @@ kind_in UpdatesAlone = ArgumentConflict
 kind_in JournalsOfNone = ArgumentConflict
 kind_in (Update place mistake) = kind_of_mistake mistake
 kind_in (NoPart word) = ValueValidation
+kind_in LostAlone = ArgumentConflict
+kind_in (NoLoss word) = ValueValidation

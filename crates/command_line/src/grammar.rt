@@ -69,6 +69,9 @@ pub const ALLOW_CUT: &str = "allow-cut";
 /// The part of a capture that a replay takes.
 pub const PART: &str = "part";
 
+/// The part that is lost within the capture.
+pub const LOST: &str = "lost";
+
 /// Whether a replay that leaves something out is done in part.
 pub const STRICT: &str = "strict";
 
@@ -264,7 +267,10 @@ length of its frame; with --allow-cut the end of a capture may be missing.
 With --part the frames of some of the flows are replayed, so that N replays, of
 the parts 0 to N - 1, share a capture: a flow is in one part, by a hash of its
 key, and a frame without a flow is in part 0. The numbers of the script's
-commands still count the frames of the whole capture.
+commands still count the frames of the whole capture. With --lost J@RECORD the
+machine of part J is lost when so many records of the capture have passed: from
+there on its flows are spread over the other parts by a second hash, its frames
+without a flow are in the first of these, and the flows of others stay.
 With --strict the status is 1 where a run was stopped, a record was skipped, cut
 or filled up, or a command comes behind the last record. With --no-clobber a
 file that is to be written and is there already is a mistake, with status 2.
@@ -326,6 +332,18 @@ fn part<'a>(alloc: Global) -> Arg<'a>
         .action(ArgAction::Set)
         .value_name("K/N")
         .help("Replays part K of N, counted from 0: the frames of some of the flows")
+}
+
+/// The loss of a part, which may be given.
+fn lost<'a>(alloc: Global) -> Arg<'a>
+    ensures rule { rule_of result ≡ line.option_rule (codes "lost") }
+    ensures local { result.global ≡ false }
+{
+    Arg::new(alloc, LOST)
+        .long(LOST)
+        .action(ArgAction::Set)
+        .value_name("J@RECORD")
+        .help("Loses part J behind so many records: the other parts have its flows then")
 }
 
 /// An option of three words that may be given any number of times.
@@ -654,7 +672,8 @@ fn replay_read<'a>(alloc: Global) -> Result<Command<'a>, AllocError>
         .arg(skip_long)?
         .arg(pad_cut)?
         .arg(allow_cut)?
-        .arg(part(alloc))
+        .arg(part(alloc))?
+        .arg(lost(alloc))
 }
 
 fn replay<'a>(alloc: Global) -> Result<Command<'a>, AllocError>

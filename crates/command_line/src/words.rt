@@ -1,7 +1,7 @@
 //! The command line, read.
 
-ghost use Rattle.std.specs.Prelude.{◌&&◌, ℕ, ◌≡◌, ◌≢◌, ◌⊎◌, true, MatchOption, ◌<◌, ◌+◌, ◌*◌, ◌/◌, List, [], Some};
-ghost use Rattle.std.specs.Prelude.{IfOk, IfErr, IsFalse, length, map, codes};
+ghost use Rattle.std.specs.Prelude.{◌&&◌, ℕ, ◌≡◌, ◌≢◌, ◌⊎◌, true, MatchOption, ◌<◌, ◌+◌, ◌*◌, ◌/◌, List, [], None, Some};
+ghost use Rattle.std.specs.Prelude.{IfOk, IfErr, IfSome, IsFalse, length, map, codes};
 ghost use Rattle.std.specs.Str.{bytes_eq};
 ghost use Rattle.faults.specs.Explanations.{is_fault};
 ghost use Rattle.faults.specs.FaultTable.{IsRowOf};
@@ -14,17 +14,17 @@ ghost use Rattle.command_line.specs.Reading.{IsReadFrom, IsAsked, IsBadUpdate, I
 ghost use Rattle.command_line.specs.Reading.{IsFirstName, IsName, Says, SaysNone, Writes};
 ghost use Rattle.command_line.specs.Reading.{AreReplayFiles, AreReplayOptions, AsksInVain, IsNumberOf, IsOfOneProgram, IsReadingOf};
 ghost use Rattle.command_line.specs.Reading.{are_both_given, are_updates_alone, either, has_journals, has_updates, kind_in, text_of, word_at};
-ghost use Rattle.command_line.specs.Reading.{word_of, words_of, AsksNoPart, IsPartAsked};
+ghost use Rattle.command_line.specs.Reading.{word_of, words_of, AsksNoPart, IsLossAsked, IsPartAsked};
 ghost use Rattle.clap.specs.declared.error.kind.ErrorKind.TheVariants.{DisplayHelp, DisplayVersion, OutOfMemory};
 
 use crate::commands::{DEFAULT_RING, Reading, ReplayFiles, ReplaySettings, RunFiles, Settings};
 use crate::grammar::{
     ALLOW_CUT, CAPTURE, EXACT, EXPLAIN, FAULT, FIRST, FRAME, IMAGE, JOURNAL, JOURNALS,
-    JOURNALS_OUT, NO_CLOBBER, NO_JOURNALS, NOW, OUT, PAD_CUT, PART, PROGRAM, REPLAY_IMAGE, REPORT,
-    RING, SCRIPT, SECOND, SENT, SHARDS, SKIP_LONG, SOURCE, STRICT, SUMMARY, TABLE_SCRIPT, TEXT,
-    TIMED, UPDATE, WORKER, WORKERS, program,
+    JOURNALS_OUT, LOST, NO_CLOBBER, NO_JOURNALS, NOW, OUT, PAD_CUT, PART, PROGRAM, REPLAY_IMAGE,
+    REPORT, RING, SCRIPT, SECOND, SENT, SHARDS, SKIP_LONG, SOURCE, STRICT, SUMMARY, TABLE_SCRIPT,
+    TEXT, TIMED, UPDATE, WORKER, WORKERS, program,
 };
-use crate::part_word::part_said;
+use crate::part_word::{part_losing, part_said};
 use clap::{ArgMatches, Error};
 use faults::Explanation;
 use fleet::Part;
@@ -46,6 +46,9 @@ const NO_ROWS: &str = "error: the options --journals and --no-journals cannot be
 /// What is printed for a replay with updates that has no `--image`.
 const NO_IMAGE: &str = "error: the option --update cannot be used without --image";
 
+/// What is printed for a replay with a loss that is of no part.
+const NO_PART: &str = "error: the option --lost cannot be used without --part";
+
 /// Why words are no command, or which text they ask for: help or the version.
 #[derive(Debug, Drop)]
 pub enum WordsFault<'a> {
@@ -65,6 +68,10 @@ pub enum WordsFault<'a> {
     Update { place: usize, mistake: Mistake },
     /// A replay has a part whose word is not K/N, with K below N.
     NoPart(&'a str),
+    /// A replay has a loss and no `--part`.
+    LostAlone,
+    /// A replay of part K/N has a loss whose word is not J@RECORD, with J below N and N at least 2.
+    NoLoss(&'a str),
 }
 
 /// What words ask for that the parser finds no fault in.
@@ -86,6 +93,10 @@ enum AskedWords<'a> {
     NoUpdate { place: usize, mistake: Mistake },
     /// A replay of a part whose word is that of none.
     NoPart(&'a str),
+    /// A replay with `--lost` and without `--part`.
+    LostAlone,
+    /// A replay of a part with a loss whose word is that of none.
+    NoLoss(&'a str),
 }
 
 impl WordsFault<'_> {
@@ -103,6 +114,8 @@ impl WordsFault<'_> {
             WordsFault::JournalsOfNone => 2,
             WordsFault::Update { .. } => 2,
             WordsFault::NoPart(_) => 2,
+            WordsFault::LostAlone => 2,
+            WordsFault::NoLoss(_) => 2,
         }
     }
 
@@ -134,6 +147,13 @@ impl fmt::Display for WordsFault<'_> {
                     "error: --part takes K/N, where K counts from 0 and is below N, and not {word}"
                 )
             }
+            WordsFault::LostAlone => write!(f, "{NO_PART}"),
+            WordsFault::NoLoss(word) => {
+                write!(
+                    f,
+                    "error: --lost takes J@RECORD, where J counts from 0 and is below the N of --part, which is at least 2, and not {word}"
+                )
+            }
         }
     }
 }
@@ -142,8 +162,8 @@ impl fmt::Display for WordsFault<'_> {
 ///
 /// There is one exactly where the parser finds no fault in the words, and they don't ask what a word means that is no fault, for a
 /// replay of both an image and a script or of two images, for one with updates and without `--image`, for one with a file for journals that
-/// keep no rows, for a run or a replay with a malformed update, or for a replay of a part that is not K/N. Of several of these the first in
-/// this order is the fault. A fault is of the first kind that the parser finds, or one of these, or memory was refused.
+/// keep no rows, for a run or a replay with a malformed update, for a replay of a part that is not K/N, for one with a loss and no part, or
+/// with one that is not J@RECORD. Of several of these the first in this order is the fault. A fault is of the first kind that the parser finds, or one of these, or memory was refused.
 pub fn settings<'a, S: AsStr>(alloc: Global, words: &'a [S]) -> Result<Settings<'a>, WordsFault<'a>>
     ensures found { IfOk result (λ settings. (name : Text) × (rows : List Row)
         × (subcommand_of program (map S.text words.entry.now) ≡ Some (name, rows)) × IsReadFrom name rows settings) }
@@ -162,6 +182,8 @@ pub fn settings<'a, S: AsStr>(alloc: Global, words: &'a [S]) -> Result<Settings<
         Ok(AskedWords::JournalsOfNone) => Err(WordsFault::JournalsOfNone),
         Ok(AskedWords::NoUpdate { place, mistake }) => Err(WordsFault::Update { place, mistake }),
         Ok(AskedWords::NoPart(word)) => Err(WordsFault::NoPart(word)),
+        Ok(AskedWords::LostAlone) => Err(WordsFault::LostAlone),
+        Ok(AskedWords::NoLoss(word)) => Err(WordsFault::NoLoss(word)),
         Err(error) => Err(WordsFault::Parser(error)),
     }
 }
@@ -306,14 +328,63 @@ fn replay_of_part<'a>(
     ensures { IsAsked (codes "replay") (rows_of (found_of found.now)) result }
 {
     match part_found(found) {
-        Ok(part) => AskedWords::Command(replay_with(found, no_journals, updates, part)),
+        Ok(part) => replay_of_loss(found, no_journals, updates, part),
         Err(word) => AskedWords::NoPart(word),
+    }
+}
+
+/// What is asked of a replay with these updates, with rows of journals or without, of this part of its capture, before a loss is looked for.
+fn replay_of_loss<'a>(
+    found: &ArgMatches<'a>,
+    no_journals: bool,
+    updates: Vec<MapUpdate>,
+    part: Option<Part>,
+) -> AskedWords<'a>
+    requires program { IsOfOneProgram (rows_of (found_of found.now)) }
+    requires journals { IsSwitchOf (codes "no-journals") (rows_of (found_of found.now)) no_journals }
+    requires rows { IsFalse (no_journals && has_journals (rows_of (found_of found.now))) }
+    requires updates { AreUpdates (words_of (codes "update") (rows_of (found_of found.now))) updates.items }
+    requires part { IsPartAsked (first_of (codes "part") (rows_of (found_of found.now))) part }
+    requires whole { IfSome part (λ whole. whole.lost ≡ None) }
+    ensures { IsAsked (codes "replay") (rows_of (found_of found.now)) result }
+{
+    match option(found, LOST) {
+        Some(word) => match part {
+            Some(part) => replay_losing(found, no_journals, updates, part, word),
+            None => AskedWords::LostAlone,
+        },
+        None => AskedWords::Command(replay_with(found, no_journals, updates, part)),
+    }
+}
+
+/// What is asked of a replay of this part of its capture, with the loss that a word says.
+fn replay_losing<'a>(
+    found: &ArgMatches<'a>,
+    no_journals: bool,
+    updates: Vec<MapUpdate>,
+    part: Part,
+    word: &'a str,
+) -> AskedWords<'a>
+    requires program { IsOfOneProgram (rows_of (found_of found.now)) }
+    requires journals { IsSwitchOf (codes "no-journals") (rows_of (found_of found.now)) no_journals }
+    requires rows { IsFalse (no_journals && has_journals (rows_of (found_of found.now))) }
+    requires updates { AreUpdates (words_of (codes "update") (rows_of (found_of found.now))) updates.items }
+    requires part { IsPartAsked (first_of (codes "part") (rows_of (found_of found.now))) (Some part) }
+    requires lost { first_of (codes "lost") (rows_of (found_of found.now)) ≡ Some word.now }
+    ensures { IsAsked (codes "replay") (rows_of (found_of found.now)) result }
+{
+    match part_losing(part, word) {
+        Some(losing) => {
+            AskedWords::Command(replay_with(found, no_journals, updates, Some(losing)))
+        }
+        None => AskedWords::NoLoss(word),
     }
 }
 
 /// The part that is asked for, where one is; or the word that is that of none.
 fn part_found<'a>(found: &ArgMatches<'a>) -> Result<Option<Part>, &'a str>
     ensures asked { IfOk result (IsPartAsked (first_of (codes "part") (rows_of (found_of found.now)))) }
+    ensures whole { IfOk result (λ part. IfSome part (λ whole. whole.lost ≡ None)) }
     ensures none { IfErr result (λ word. AsksNoPart (first_of (codes "part") (rows_of (found_of found.now))) word.now) }
 {
     match option(found, PART) {
@@ -337,6 +408,7 @@ fn replay_with<'a>(
     requires rows { IsFalse (no_journals && has_journals (rows_of (found_of found.now))) }
     requires updates { AreUpdates (words_of (codes "update") (rows_of (found_of found.now))) updates.items }
     requires part { IsPartAsked (first_of (codes "part") (rows_of (found_of found.now))) part }
+    requires lost { IsLossAsked (first_of (codes "lost") (rows_of (found_of found.now))) part }
     ensures { IsReadFrom (codes "replay") (rows_of (found_of found.now)) result }
 {
     Settings::Replay(ReplaySettings {

@@ -18,14 +18,14 @@ frames_fall least (command ∷ script) falls = (falls.0, frames_fall command.fra
 
 -- so they never fall in the part
 pub numbers_fall : (part : Part) (records : List Sent) (least : ℕ) (script : List Command) → NeverFalls least script
-    → NeverFalls (number_in_part part.of part.number records least) (at_frames (numbers_of_part part records script) script)
+    → NeverFalls (number_in_part part.of part.lost part.number records least) (at_frames (numbers_of_part part records script) script)
 numbers_fall part records least [] falls = tt
 numbers_fall part records least (command ∷ script) falls = (
-  never_fewer (is_in_part part.of part.number) records least command.frame falls.0,
+  never_fewer (is_in_part part.of part.lost part.number) records least command.frame falls.0,
   numbers_fall part records command.frame script falls.1,
 )
 
 -- there is a number for each command
 pub as_many : (part : Part) (records : List Sent) (script : List Command) → length (numbers_of_part part records script) ≡ length script
 as_many part records script =
-    length-map (command_frames script) (number_in_part part.of part.number records) ∙ length-map script (λ (command : Command). command.frame)
+    length-map (command_frames script) (number_in_part part.of part.lost part.number records) ∙ length-map script (λ (command : Command). command.frame)

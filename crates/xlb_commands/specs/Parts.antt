@@ -12,11 +12,11 @@ command_frames script = map (λ (command : Command). command.frame) script
 
 -- the numbers that the commands have in a part of these records
 abbrev pub numbers_of_part : Part → List Sent → List Command → List ℕ
-numbers_of_part part records script = map (number_in_part part.of part.number records) (command_frames script)
+numbers_of_part part records script = map (number_in_part part.of part.lost part.number records) (command_frames script)
 
 -- the records that are replayed: those of the part, or where none is named all of them
 abbrev pub records_in : Option Part → List Sent → List Sent
-records_in (Some part) records = records_of_part part.of part.number records
+records_in (Some part) records = records_of_part part.of part.lost part.number records
 records_in None records = records
 
 -- the script that is carried out: its commands at their numbers in the part, or where none is named as they are

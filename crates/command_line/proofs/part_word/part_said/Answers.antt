@@ -1,6 +1,6 @@
 use Rattle.std.proofs.Common.{arith}
 use Rattle.std.proofs.lemmas.Str.Pattern.{split_after, split_parts}
-use Rattle.command_line.proofs.PartWords.{number_lacks, word_said}
+use Rattle.command_line.proofs.PartWords.{number_lacks, slash_apart, word_said}
 use Rattle.command_line.proofs.part_word.part_said.Goals as goal
 
 pub returns-in-Some : goal.returns-in-Some
@@ -14,4 +14,4 @@ returns-in-Some c =
 pub returns-in-None : goal.returns-in-None
 returns-in-None c = λ number of is.
     rw c.in-None.is at (split_after 47 c.args.word.now is.before is.after c.split_once.result c.split_once.ensures.cases (omega arith) is.split
-    (number_lacks is.before number is.first))
+    (number_lacks 47 slash_apart is.before number is.first))
