@@ -1,10 +1,9 @@
 -- What the updates of a script's commands come to: the lookup table of the backends that are up, and each backend's record.
-use Rattle.std.proofs.Common.{◌≡◌, ◌≢◌, ◌⊎◌, inl, inr, ℕ, zero, suc, ◌+◌, ◌*◌, ◌%◌, ◌/◌, ◌^◌, ◌<◌, ◌≤◌, ◌==◌, ◌&&◌, ◌||◌, not, Bool, true, false, List, [], ◌∷◌, ◌++◌, length, refl, sym, ◌∙◌, ap, subst, arith}
-use Rattle.std.specs.Prelude.{ℤ, pos, negsuc, Option, Some, None, if◌then◌else◌, slice_get, nat_lt, is_some, map, IfSome, take}
+use Rattle.std.proofs.Common.{◌≡◌, ◌≢◌, ◌⊎◌, inl, inr, ℕ, zero, suc, ◌+◌, ◌^◌, ◌<◌, ◌≤◌, ◌==◌, ◌&&◌, ◌||◌, not, Bool, true, false, List, [], ◌∷◌, ◌++◌, refl, sym, ◌∙◌, ap, subst, arith}
+use Rattle.std.specs.Prelude.{ℤ, pos, negsuc, Option, Some, None, if◌then◌else◌, slice_get, nat_lt, map, take}
 use Rattle.std.specs.List.{AllByRecursion, filter, find, list_any}
 use Rattle.std.proofs.lemmas.Bool.{eqb-true, eqb-false}
 use Rattle.std.proofs.lemmas.Bool.Decides.{nat_tests}
-use Rattle.std.proofs.lemmas.List.{map-append}
 use Rattle.semantics.specs.LittleEndian.{number_of_bytes, bytes_of_number}
 use Rattle.semantics.specs.Linux.{success}
 use Rattle.conntrack.specs.declared.records.BackendRecord.{BackendRecord}
@@ -17,11 +16,10 @@ use Rattle.control.specs.declared.fault.ControlFault.{ControlFault}
 use Rattle.control.specs.declared.fault.ControlFault.TheVariants.{BadSize, BadLine, UnknownBackend, BackendTwice, Refused, JournalFull, Memory}
 use Rattle.control.specs.declared.ring_changes.Slot.{Slot}
 use Rattle.control.specs.declared.update.Update.{Update as Change}
-use Rattle.control.specs.declared.update.Update.TheVariants.{Vip, Ring, Backend, Tunnel}
-use Rattle.control.specs.Controlling.{ControllerState, IsTable, has_number, has_address, with_backend, without_backend, up_after, up_refusal, down_refusal, action_refusal, refusal_of, down_update, first_updates, updates_of}
-use Rattle.control.specs.MapUpdates.{UpdateBytes, map_update}
+use Rattle.control.specs.declared.update.Update.TheVariants.{Vip, Backend}
+use Rattle.control.specs.Controlling.{ControllerState, IsTable, has_number, has_address, up_after, up_refusal, down_refusal, action_refusal, refusal_of, down_update, first_updates}
 use Rattle.control.specs.RingChanges.{is_same_owner, change_at, changes_below, slot_update, slot_updates}
-use Rattle.actors.specs.Commands.{AnsweredUpdate, CommandDone, AreDone, IsDone, IsDoneBy, IsNothing, IsCarriedOut, IsTurnedDown, done_update, all_done, made_in}
+use Rattle.actors.specs.Commands.{AnsweredUpdate, CommandDone, AreDone, IsDoneBy, IsNothing, IsCarriedOut, IsTurnedDown, done_update, all_done, made_in}
 use Rattle.steered_replays.specs.TablesAtEnd.{up_left, record_after, record_left}
 use Rattle.steered_replays.proofs.ArrayShards.{is_success, put_made, put_both, none_put}
 
@@ -39,7 +37,7 @@ other_map place at rest other = by (at == place) refl
     by true is = absurd (other (eqb-true at place is))
     by false is = refl
 
-all_done_both : (changes more : List Change) → all_done (changes ++ more) ≡ all_done changes ++ all_done more
+pub all_done_both : (changes more : List Change) → all_done (changes ++ more) ≡ all_done changes ++ all_done more
 all_done_both [] more = refl
 all_done_both (change ∷ changes) more = ap (λ l. done_update change ∷ l) (all_done_both changes more)
 
@@ -145,11 +143,11 @@ done_actions [] = []
 done_actions (one ∷ later) = and_action one.fault one.action (done_actions later)
 
 -- a command that was refused: nothing was put anywhere
-record IsKept (state : ControllerState) (one : CommandDone) (fault : Option ControlFault) (state' : ControllerState) : Type 0 where
-  why : ControlFault
-  fault_is : fault ≡ Some why
-  state_is : state' ≡ state
-  aside : (place number : ℕ) → AllByRecursion (λ (made : AnsweredUpdate). is_at place number made ≡ false) one.made
+pub record IsKept (state : ControllerState) (one : CommandDone) (fault : Option ControlFault) (state' : ControllerState) : Type 0 where
+  pub why : ControlFault
+  pub fault_is : fault ≡ Some why
+  pub state_is : state' ≡ state
+  pub aside : AllByRecursion (λ (made : AnsweredUpdate). is_success made.answer ≡ false) one.made
 
 no_success : (answer : ℤ) → answer ≢ success → is_success answer ≡ false
 no_success (pos n) other = by (n == 0) refl
@@ -159,17 +157,23 @@ no_success (pos n) other = by (n == 0) refl
     by false is = refl
 no_success (negsuc n) other = refl
 
-neither : (a b c : Bool) → b ≡ false → (a && (b && c)) ≡ false
+pub neither : (a b c : Bool) → b ≡ false → (a && (b && c)) ≡ false
 neither true true c is = absurd cc
 neither true false c is = refl
 neither false b c is = refl
+
+refused_aside : (place number : ℕ) (made : List AnsweredUpdate) → AllByRecursion (λ (one : AnsweredUpdate). is_success one.answer ≡ false) made →
+    AllByRecursion (λ (one : AnsweredUpdate). is_at place number one ≡ false) made
+refused_aside place number [] all = tt
+refused_aside place number (one ∷ made) all =
+    (neither (one.update.map == place) (is_success one.answer) (number_of_bytes one.update.key == number) all.0, refused_aside place number made all.1)
 
 kept_nothing : (state : ControllerState) (one : CommandDone) (why : ControlFault) (state' : ControllerState) → IsNothing state one state' → IsKept state one (Some why) state'
 kept_nothing state one why state' nothing = record {
   why = why;
   fault_is = refl;
   state_is = nothing.state_is;
-  aside = λ place number. subst (λ (l : List AnsweredUpdate). AllByRecursion (λ (made : AnsweredUpdate). is_at place number made ≡ false) l) (sym nothing.made) tt;
+  aside = subst (λ (l : List AnsweredUpdate). AllByRecursion (λ (made : AnsweredUpdate). is_success made.answer ≡ false) l) (sym nothing.made) tt;
 }
 
 kept_down : (state : ControllerState) (one : CommandDone) (answer : ℤ) (why : ControlFault) (state' : ControllerState) → IsTurnedDown state one answer state' → IsKept state one (Some why) state'
@@ -177,11 +181,11 @@ kept_down state one answer why state' turned = record {
   why = why;
   fault_is = refl;
   state_is = turned.state_is;
-  aside = λ place number. subst (λ (l : List AnsweredUpdate). AllByRecursion (λ (made : AnsweredUpdate). is_at place number made ≡ false) l) (sym turned.made)
-      (neither ((map_update turned.change).map == place) (is_success answer) (number_of_bytes (map_update turned.change).key == number) (no_success answer turned.not_done), tt);
+  aside = subst (λ (l : List AnsweredUpdate). AllByRecursion (λ (made : AnsweredUpdate). is_success made.answer ≡ false) l) (sym turned.made)
+      (no_success answer turned.not_done, tt);
 }
 
-step_of : (state : ControllerState) (one : CommandDone) (state' : ControllerState) (fault : Option ControlFault) → IsDoneBy fault state one state' → fault ≢ Some JournalFull →
+pub step_of : (state : ControllerState) (one : CommandDone) (state' : ControllerState) (fault : Option ControlFault) → IsDoneBy fault state one state' → fault ≢ Some JournalFull →
     ((fault ≡ None) × IsCarriedOut state one state') ⊎ IsKept state one fault state'
 step_of state one state' None did free = inl (refl, did)
 step_of state one state' (Some UnknownBackend) did free = inr (kept_nothing state one UnknownBackend state' did.0)
@@ -192,7 +196,7 @@ step_of state one state' (Some Memory) did free = inr (kept_nothing state one Me
 step_of state one state' (Some BadSize) did free = absurd did
 step_of state one state' (Some (BadLine line)) did free = absurd did
 
-abbrev IsStep : ControllerState → CommandDone → ControllerState → Type 0
+abbrev pub IsStep : ControllerState → CommandDone → ControllerState → Type 0
 IsStep state one state' = ((one.fault ≡ None) × IsCarriedOut state one state') ⊎ IsKept state one one.fault state'
 
 -- ---- the lookup table
@@ -218,7 +222,7 @@ still_up state one state' (inr kept) later =
 slot_step : (state : ControllerState) (one : CommandDone) (state' : ControllerState) → IsStep state one state' → (slot : ℕ) → state.size ≤ 65538 → slot < state.size →
     put_made (is_at 2 slot) one.made (owned (slice_get state.owners slot)) ≡ owned (slice_get state'.owners slot)
 slot_step state one state' (inr kept) slot few within =
-    none_put (is_at 2 slot) one.made (owned (slice_get state.owners slot)) (kept.aside 2 slot)
+    none_put (is_at 2 slot) one.made (owned (slice_get state.owners slot)) (refused_aside 2 slot one.made kept.aside)
     ∙ ap (λ (s : ControllerState). owned (slice_get s.owners slot)) (sym kept.state_is)
 slot_step state one state' (inl (none, carried)) slot few within =
     let firsts : List Change = first_updates state.up one.action in
@@ -418,7 +422,7 @@ record_step known state one state' first (inl (none, carried)) have =
 record_step known state one state' first (inr kept) have =
     subst (λ (f : Option ControlFault). AreRecorded known (λ number. record_left number (known number) (and_action f one.action [])) one.made state'.up) (sym kept.fault_is)
     (record {
-      puts = λ number. none_put (is_at 3 number) one.made (backend_bytes (known number)) (kept.aside 3 number);
+      puts = λ number. none_put (is_at 3 number) one.made (backend_bytes (known number)) (refused_aside 3 number one.made kept.aside);
       have = subst (λ (s : ControllerState). HaveRecords known s.up) (sym kept.state_is) have;
     })
 

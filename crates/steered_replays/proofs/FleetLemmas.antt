@@ -1,25 +1,27 @@
 -- Two machines with the same backends up have the same tables, and send frames without a note to the same backends.
-use Rattle.std.proofs.Common.{◌≡◌, ◌≢◌, ◌⊎◌, inl, inr, ℕ, zero, suc, ◌+◌, ◌*◌, ◌%◌, ◌/◌, ◌^◌, ◌<◌, ◌≤◌, ◌==◌, ◌&&◌, ◌||◌, not, Bool, true, false, List, [], ◌∷◌, ◌++◌, length, refl, sym, ◌∙◌, ap, subst, arith}
-use Rattle.std.specs.Prelude.{◌↔◌, Option, Some, None, option_map, slice_get, slice_set, slice_index, slice_index_or, if◌then◌else◌, take, drop, map, is_some}
+use Rattle.std.proofs.Common.{◌≡◌, ◌≢◌, ℕ, zero, suc, ◌+◌, ◌%◌, ◌^◌, ◌<◌, ◌==◌, ◌||◌, not, Bool, true, false, List, [], ◌∷◌, ◌++◌, length, refl, sym, ◌∙◌, ap, subst, arith}
+use Rattle.std.specs.Prelude.{Option, Some, None, option_map, slice_get, slice_set, slice_index, slice_index_or, if◌then◌else◌, take, drop}
 use Rattle.std.specs.Option.{unwrap_or}
-use Rattle.std.specs.List.{AllByRecursion, filter, find, list_any}
+use Rattle.std.specs.List.{AllByRecursion, find, list_any}
 use Rattle.std.proofs.Math.Nat.{mod-lt}
 use Rattle.std.proofs.lemmas.Bool.{eqb-true, eqb-false}
 use Rattle.std.proofs.lemmas.Bool.Decides.{nat_tests}
 use Rattle.std.proofs.lemmas.List.{length-set}
 use Rattle.std.proofs.Math.Seq.{take-append_seam, drop-append_seam}
 use Rattle.wire.specs.declared.ethernet.Ipv4Address.{Ipv4Address}
-use Rattle.wire.specs.FlowForm.{HasFlow, flow_bytes_of}
+use Rattle.wire.specs.FlowForm.{flow_bytes_of}
 use Rattle.wire.specs.Fnv.{fnv1a64_of}
 use Rattle.semantics.specs.LittleEndian.{number_of_bytes, bytes_of_number}
 use Rattle.maglev.specs.declared.backend.Backend.{Backend as Server}
 use Rattle.maglev.specs.declared.preference.Preference.{Preference}
-use Rattle.maglev.specs.Hashing.{hashed_preference, hashed_preferences}
+use Rattle.maglev.specs.Hashing.{hashed_preferences}
 use Rattle.maglev.specs.Population.{IsPopulation, IsOnlyPopulation, backend_of_turn, no_backend}
 use Rattle.conntrack.specs.declared.choosing.Assigned.{Assigned}
 use Rattle.conntrack.specs.declared.choosing.Choice.{Choice}
 use Rattle.conntrack.specs.declared.choosing.Choice.TheVariants.{Drop, Tx}
+use Rattle.conntrack.specs.declared.choosing.Records.{Records}
 use Rattle.conntrack.specs.declared.records.BackendRecord.{BackendRecord}
+use Rattle.conntrack.specs.declared.records.TunnelRecord.{TunnelRecord}
 use Rattle.conntrack.specs.declared.records.VipRecord.{VipRecord}
 use Rattle.conntrack.specs.declared.steering_maps.SteeringMap.TheVariants.{Ring, Backends}
 use Rattle.conntrack.specs.Layouts.{owner_of, ring_bytes, ring_of, backend_bytes, backend_of}
@@ -28,7 +30,7 @@ use Rattle.control.specs.declared.command.Action.{Action}
 use Rattle.control.specs.declared.command.Action.TheVariants.{Down}
 use Rattle.control.specs.Controlling.{IsTable, has_number, without_backend, up_after}
 use Rattle.steered_replays.specs.TablesAtEnd.{MapsAt, value_at, up_left, no_record, record_left, AreTables, IsRecordedUp}
-use Rattle.steered_replays.specs.Fleets.{HaveSameTables, SameTables, slot_of_flow, owner_in, assigned_in, owner_of_flow, IsSentByTable, sent_to, server_of, OwnersAreSentTo, SomeAreSentTo, StrangersAgree, StrangersMove}
+use Rattle.steered_replays.specs.Fleets.{SameTables, slot_of_flow, owner_in, assigned_in, owner_of_flow, IsSentByTable, sent_to, server_of, OwnersAreSentTo, SomeAreSentTo, FramesAreSent, StrangersAgree, StrangersMove}
 
 -- ---- the same tables
 
@@ -271,6 +273,31 @@ some_owner size (first ∷ up) owners table some slot within =
 
 pub some_are_sent_to : SomeAreSentTo
 some_are_sent_to size done now tables some slot within = some_owner size (up_left [] done) tables.owners tables.table some slot within
+
+no_note : (vip : VipRecord) (records : Records) → records.tracked ≡ None → tracked_choice vip records ≡ None
+no_note vip records none = by vip.is_notrack
+  where
+    by : (test : Bool) → (if test then None else choice_of false records.tracked) ≡ None
+    by true = refl
+    by false = ap (choice_of false) none
+
+abbrev records_of : ℕ → MapsAt → List ℕ → VipRecord → TunnelRecord → Records
+records_of size now frame vip tunnel = record { vip = Some vip; tunnel = Some tunnel; tracked = None; slot = owner_of_flow size now frame }
+
+pub frames_are_sent : FramesAreSent
+frames_are_sent size now frame vip tunnel has fits ready = (
+  choice_for_service (fits_tunnel frame) (records_of size now frame vip tunnel) (Some vip),
+  record {
+    records = records_of size now frame vip tunnel;
+    steered = record { without_flow = λ none. absurd (none has); with_flow = λ flow. refl };
+    has_flow = has;
+    fits = fits;
+    service = refl;
+    set_up = ready;
+    no_note = no_note vip (records_of size now frame vip tunnel) refl;
+    slot_read = refl;
+  },
+)
 
 pub strangers_agree : StrangersAgree
 strangers_agree size done others one other some tables its same frame vip choice choice' sent also =

@@ -13,8 +13,12 @@ mod ReplayLemmas
 -- tables
 mod QuietRuns
 mod ArrayShards
+mod HashShards
 mod CommandTables
+mod PlaceLemmas
+mod ServiceTables
 mod TableLemmas
+mod ServiceLemmas
 mod FleetLemmas
 -- flows that stay with their backends
 mod NoteLemmas

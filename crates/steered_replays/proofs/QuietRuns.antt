@@ -40,7 +40,7 @@ use Rattle.conntrack.specs.Steering.{SteeringSizes, has_flow, service_bytes_of, 
 use Rattle.conntrack.specs.SteeringRule.{flow_update, verdict_of_choice, frame_after, fits_tunnel, tracked_choice}
 use Rattle.shards.specs.Passes.{PassView, own_at}
 use Rattle.shard_port.specs.Asking.{enter_by, leave_by}
-use Rattle.shard_port.specs.PassSessions.{HasSessions, HasRefusedSessions, AreCallsWithin, IsVisitedAt, session_at}
+use Rattle.shard_port.specs.PassSessions.{AreCallsWithin, IsVisitedAt, session_at}
 use Rattle.shard_port.specs.Sessions.{exchange_entry, is_asked_of, exchange_entries}
 use Rattle.actors.specs.declared.runner.Ran.{Ran}
 use Rattle.actors.specs.declared.runner.RunEnd.{RunEnd}

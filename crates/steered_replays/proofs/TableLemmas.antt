@@ -1,20 +1,19 @@
 -- The lookup table and the backends after a replay are those that the script left.
-use Rattle.std.proofs.Common.{◌≡◌, ◌≢◌, ◌⊎◌, inl, inr, ℕ, zero, suc, ◌+◌, ◌*◌, ◌%◌, ◌/◌, ◌^◌, ◌<◌, ◌≤◌, ◌==◌, ◌&&◌, ◌||◌, Bool, true, false, List, [], ◌∷◌, ◌++◌, length, replicate, refl, sym, ◌∙◌, ap, subst, arith}
-use Rattle.std.specs.Prelude.{Option, Some, None, option_map, reverse, slice_get, if◌then◌else◌, is_some, nat_lt, take}
-use Rattle.std.specs.List.{AllByRecursion, filter, list_any}
-use Rattle.std.proofs.Math.Nat.{mod-lt, div-add-mod}
-use Rattle.std.proofs.lemmas.Bool.{lt-ltb, eqb-true, eqb-false}
+use Rattle.std.proofs.Common.{◌≡◌, ◌⊎◌, inl, inr, ℕ, zero, suc, ◌+◌, ◌*◌, ◌%◌, ◌/◌, ◌^◌, ◌<◌, ◌≤◌, ◌==◌, ◌&&◌, Bool, true, false, List, [], ◌∷◌, ◌++◌, length, replicate, refl, sym, ◌∙◌, ap, subst, arith}
+use Rattle.std.specs.Prelude.{Option, Some, None, option_map, slice_get, if◌then◌else◌, is_some, take}
+use Rattle.std.specs.List.{AllByRecursion}
+use Rattle.std.proofs.Math.Nat.{mod-lt}
+use Rattle.std.proofs.lemmas.Bool.{lt-ltb}
 use Rattle.std.proofs.lemmas.Bool.Decides.{nat_tests}
 use Rattle.std.proofs.lemmas.List.Elements.{All-from_recursion, All-contains}
 use Rattle.std.proofs.lemmas.List.{take_all, length-replicate, length-append}
-use Rattle.std.proofs.lemmas.Nat.{div-mul-add, mod-mul-add}
 use Rattle.ebpf_decode.specs.declared.map.MapDef.{MapDef}
 use Rattle.ebpf_decode.specs.declared.map.MapKind.{MapKind}
 use Rattle.ebpf_decode.specs.declared.map.MapKind.TheVariants.{Array}
 use Rattle.wire.specs.Fnv.{fnv1a64_of}
 use Rattle.wire.specs.declared.records.Sent.{Sent}
 use Rattle.semantics.specs.declared.call.Call.{Call}
-use Rattle.semantics.specs.declared.call.Call.TheVariants.{Enter, Leave, Lookup, Load, Store, Atomic, Update, Delete, Reclaim}
+use Rattle.semantics.specs.declared.call.Call.TheVariants.{Enter, Leave, Lookup, Load}
 use Rattle.semantics.specs.declared.call.Caller.TheVariants.{Worker, Controller, Reclaimer}
 use Rattle.semantics.specs.declared.call.Entry.{Entry}
 use Rattle.semantics.specs.declared.options.Options.{Options}
@@ -23,8 +22,7 @@ use Rattle.semantics.specs.CallerLaws.{own_entries}
 use Rattle.semantics.specs.History.{IsLegalHistory}
 use Rattle.semantics.specs.LittleEndian.{number_of_bytes, bytes_of_number}
 use Rattle.semantics.specs.SequentialShard.{SequentialShard, shard_after, cell_bytes, cell_of_key, cell_of_kind}
-use Rattle.semantics.specs.ShardPlan.{plan_at, plan_for_map, AreOptions, capacity}
-use Rattle.journals.specs.JournalsView.{entries_at}
+use Rattle.semantics.specs.ShardPlan.{plan_at, plan_for_map, capacity}
 use Rattle.maglev.specs.RingSize.{IsRingSize, ring_sizes}
 use Rattle.maglev.specs.declared.backend.Backend.{Backend as Server}
 use Rattle.conntrack.specs.declared.records.BackendRecord.{BackendRecord}
@@ -34,7 +32,7 @@ use Rattle.conntrack.specs.SteeringMaps.{steering_maps, defined, ring_entries}
 use Rattle.conntrack.specs.Steering.{SteeringSizes}
 use Rattle.steer.specs.SteeringLaws.{of_size, shipped_program}
 use Rattle.shards.specs.CallerView.{CallerView}
-use Rattle.shards.specs.Passes.{PassView, own_at}
+use Rattle.shards.specs.Passes.{own_at}
 use Rattle.control.specs.declared.command.Action.{Action}
 use Rattle.control.specs.declared.command.Command.{Command}
 use Rattle.control.specs.declared.fault.ControlFault.{ControlFault}
@@ -48,7 +46,7 @@ use Rattle.actors.specs.declared.outcome.Outcome.{Outcome}
 use Rattle.actors.specs.Accounted.{IsAccounted}
 use Rattle.actors.specs.Accounts.{runs_at}
 use Rattle.actors.specs.Actors.{numbers_from}
-use Rattle.actors.specs.Commands.{AnsweredUpdate, CommandDone, AreDone, AreNotedOf, IsNotedOf, ServesScript, all_set, made_in, with_updates, with_update, update_entry}
+use Rattle.actors.specs.Commands.{AnsweredUpdate, CommandDone, AreDone, AreNotedOf, ServesScript, all_set, made_in, with_updates, with_update, update_entry}
 use Rattle.actors.specs.Parts.{numbers_of, refused_of, round_count}
 use Rattle.actors.specs.Rounds.{IsReclaimedBy}
 use Rattle.actors.specs.SharedUpdates.{shard_of}
@@ -62,6 +60,7 @@ use Rattle.steered_replays.proofs.CommandTables.{is_at, IsNoStop, done_actions, 
 use Rattle.steered_replays.proofs.ControllerShards.{IsOfChange, all_made}
 use Rattle.steered_replays.proofs.NoteLemmas.{legal_before}
 use Rattle.steered_replays.proofs.ResultCounts.{all_parts}
+use Rattle.steered_replays.proofs.PlaceLemmas.{same_command, part_place, aside_of, same_place}
 use Rattle.steered_replays.proofs.QuietRuns.{NamesOwnAt, IsChanged, all_name_own, chain_quiet}
 
 -- ---- the size of the table
@@ -130,9 +129,6 @@ not_later (one ∷ more) first number (suc count) are below =
         is_refused (if test then one ∷ refused_of more else refused_of more) number ≡ false
     by true other rest = rw (other, rest) refl
     by false other rest = rest
-
-same_command : (a : ℕ) → (a == a) ≡ true
-same_command a = grind (arith, nat_tests)
 
 other_command : (a b : ℕ) → a < b → (a == b) ≡ false
 other_command a b less = grind (arith, nat_tests)
@@ -204,57 +200,6 @@ all_taken script (noted ∷ more) (one ∷ others) first (command ∷ later) num
 
 -- ---- where an update goes
 
-part_place : (shards place part : ℕ) → part < shards → (place * shards + part) / shards ≡ place
-part_place shards place part few = div-mul-add place shards part few
-
-module _ (shards : ℕ) (some : 0 < shards) where
-  other_place : (place at part rest : ℕ) → part < shards → rest < shards → at ≢ place → (at * shards + part == place * shards + rest) ≡ false
-  other_place place at part rest few less other = by (at * shards + part == place * shards + rest) refl
-    where
-      by : (test : Bool) → (at * shards + part == place * shards + rest) ≡ test → test ≡ false
-      by false is = refl
-      by true is =
-          let same : at * shards + part ≡ place * shards + rest = eqb-true (at * shards + part) (place * shards + rest) is in
-          absurd (other (sym (part_place shards at part few) ∙ ap (λ n. n / shards) same ∙ part_place shards place rest less))
-
-  -- an update of another map is in another shard
-  aside_of : (place at part number : ℕ) (x y : Bool) → part < shards → at ≢ place →
-      ((at * shards + part == place * shards + number % shards) && x) ≡ ((at == place) && y)
-  aside_of place at part number x y few other =
-      ap (λ (t : Bool). t && x) (other_place place at part (number % shards) few (mod-lt number some) other) ∙ by (at == place) refl
-    where
-      by : (test : Bool) → (at == place) ≡ test → false ≡ (test && y)
-      by true is = absurd (other (eqb-true at place is))
-      by false is = refl
-
-  -- of the same map it is in the cell if it is of the key
-  same_place : (place at number : ℕ) (x : Bool) →
-      ((place * shards + at % shards == place * shards + number % shards) && (x && (at / shards == number / shards))) ≡ ((place == place) && (x && (at == number)))
-  same_place place at number x = by (at == number) refl ∙ ap (λ (t : Bool). t && (x && (at == number))) (sym (same_command place))
-    where
-      differs : at ≢ number → (one : Bool) → (place * shards + at % shards == place * shards + number % shards) ≡ one → (two : Bool) → (at / shards == number / shards) ≡ two →
-          (three : Bool) → (one && (three && two)) ≡ (three && false)
-      differs other true is true also three =
-          let sums : place * shards + at % shards ≡ place * shards + number % shards = eqb-true (place * shards + at % shards) (place * shards + number % shards) is in
-          let rest : at % shards ≡ number % shards =
-          sym (mod-mul-add place shards (at % shards) (mod-lt at some)) ∙ ap (λ n. n % shards) sums ∙ mod-mul-add place shards (number % shards) (mod-lt number some) in
-          let parts : at / shards ≡ number / shards = eqb-true (at / shards) (number / shards) also in
-          absurd (other (sym (div-add-mod at shards) ∙ ap (λ n. shards * n + at % shards) parts ∙ ap (λ n. shards * (number / shards) + n) rest ∙ div-add-mod number shards))
-      differs other true is false also three = refl
-      differs other false is two also true = refl
-      differs other false is two also false = refl
-
-      by : (test : Bool) → (at == number) ≡ test →
-          ((place * shards + at % shards == place * shards + number % shards) && (x && (at / shards == number / shards))) ≡ (x && (at == number))
-      by true is =
-          let same : at ≡ number = eqb-true at number is in
-          ap (λ n. (place * shards + n % shards == place * shards + number % shards) && (x && (n / shards == number / shards))) same
-          ∙ ap (λ (t : Bool). t && (x && (number / shards == number / shards))) (same_command (place * shards + number % shards))
-          ∙ ap (λ (t : Bool). x && t) (same_command (number / shards) ∙ sym is)
-      by false is =
-          differs (eqb-false at number is) (place * shards + at % shards == place * shards + number % shards) refl (at / shards == number / shards) refl x
-          ∙ ap (λ (t : Bool). x && t) (sym is)
-
 module _ (size : ℕ) (options : Options) (some : 0 < options.shards) where
   -- of the lookup table
   ring_place : (made : AnsweredUpdate) → IsOfChange made → (number : ℕ) →
@@ -306,7 +251,7 @@ module _ (size : ℕ) (options : Options) (some : 0 < options.shards) where
           (is_success made.answer && (number_of_bytes (bytes_of_number 4 0) == number))
           (mod-lt (number_of_bytes (bytes_of_number 4 0)) some) (λ e. absurd (omega (arith, e)))
 
-all_places : (at other : AnsweredUpdate → Bool) → ((made : AnsweredUpdate) → IsOfChange made → at made ≡ other made) → (made : List AnsweredUpdate) →
+pub all_places : (at other : AnsweredUpdate → Bool) → ((made : AnsweredUpdate) → IsOfChange made → at made ≡ other made) → (made : List AnsweredUpdate) →
     AllByRecursion IsOfChange made → AllByRecursion (λ (one : AnsweredUpdate). at one ≡ other one) made
 all_places at other each [] all = tt
 all_places at other each (one ∷ made) all = (each one all.0, all_places at other each made all.1)
@@ -359,12 +304,12 @@ rounds_none kind array plan number rounds own seen made = subst (λ (k : MapKind
 
 -- ---- the plan of a shard
 
-record IsPlanOf (options : Options) (definition : MapDef) (plan : ShardPlan) : Type 0 where
-  parts_are : plan.parts ≡ options.shards
-  definition_is : plan.definition ≡ definition
-  workers_are : plan.workers ≡ options.workers
+pub record IsPlanOf (options : Options) (definition : MapDef) (plan : ShardPlan) : Type 0 where
+  pub parts_are : plan.parts ≡ options.shards
+  pub definition_is : plan.definition ≡ definition
+  pub workers_are : plan.workers ≡ options.workers
 
-planned_of : (options : Options) (number : ℕ) (definition : MapDef) (plan : ShardPlan) → plan_for_map options number (Some definition) ≡ Some plan → IsPlanOf options definition plan
+pub planned_of : (options : Options) (number : ℕ) (definition : MapDef) (plan : ShardPlan) → plan_for_map options number (Some definition) ≡ Some plan → IsPlanOf options definition plan
 planned_of options number definition plan is =
     let same : record {
       number = number;
@@ -383,7 +328,7 @@ planned_of options number definition plan is =
 abbrev IsShards : ℕ → Type 0
 IsShards shards = (shards ≡ 1) ⊎ (shards ≡ 2) ⊎ (shards ≡ 4) ⊎ (shards ≡ 8)
 
-some_shard : (shards : ℕ) → IsShards shards → 0 < shards
+pub some_shard : (shards : ℕ) → IsShards shards → 0 < shards
 some_shard shards (inl is) = omega (arith, is)
 some_shard shards (inr (inl is)) = omega (arith, is)
 some_shard shards (inr (inr (inl is))) = omega (arith, is)
@@ -446,13 +391,8 @@ module _ (size : ℕ) (is_size : IsRingSize size) (script : List Command) (optio
           let one : accounted.commands.size ≡ size = sym (one_size size accounted.commands.size is_size accounted.commands.size_is_served (ap third_entries same)) in
           (accounted.commands.state, subst (λ (n : ℕ). AreDone (opened_controller n) all_done accounted.commands.state) one accounted.commands.are_done)
 
-  -- one shard of an array that the program only reads
-  module _ (number : ℕ) (within : number < accounted.count) (low : 2 * options.shards ≤ number) (high : number < 5 * options.shards)
-      (array : (accounted.plan number).definition.kind ≡ Array) (workers : (accounted.plan number).workers ≡ options.workers) where
-    still : IsChanged sizes number → ⊥
-    still (inl flows) = absurd (let below = flows.1 in omega (arith, below, low))
-    still (inr counts) = absurd (omega (arith, counts, high))
-
+  -- one shard in which runs change nothing
+  module _ (number : ℕ) (within : number < accounted.count) (still : IsChanged sizes number → ⊥) where
     nothing_yet : (worker : ℕ) (below : worker < options.workers) → own_at (replayed.work worker below).handled.before number ≡ []
     nothing_yet worker below = ap (λ (view : CallerView). view.own) ((replayed.work worker below).handled.is_new.nothing number)
 
@@ -462,19 +402,25 @@ module _ (size : ℕ) (is_size : IsRingSize size) (script : List Command) (optio
         subst (λ (own : List Entry). AllByRecursion NamesOwnAt own) (sym ((replayed.work worker below).own other inside))
         (all_own NamesOwnAt (Worker worker) (whole other) (all_name_own (accounted.plan other) (whole other) (accounted.legal other inside)))
 
-    worker_quiet : (worker : ℕ) → worker < options.workers → AllByRecursion IsKnown (own_entries (Worker worker) (whole number))
+    pub worker_quiet : (worker : ℕ) → worker < options.workers → AllByRecursion (λ (entry : Entry). IsQuiet entry.call) (own_entries (Worker worker) (whole number))
     worker_quiet worker below =
         let work = replayed.work worker below in
-        quiet_known (own_entries (Worker worker) (whole number))
-        (subst (λ (own : List Entry). AllByRecursion (λ (entry : Entry). IsQuiet entry.call) own) (work.own number within)
+        subst (λ (own : List Entry). AllByRecursion (λ (entry : Entry). IsQuiet entry.call) own) (work.own number within)
         (chain_quiet accounted.plan accounted.count sizes some worker records work.handled.before (runs_at accounted.runs worker) work.after work.handled.chain
         (worker_named worker below) number within still
-        (subst (λ (own : List Entry). AllByRecursion (λ (entry : Entry). IsQuiet entry.call) own) (sym (nothing_yet worker below)) tt)))
+        (subst (λ (own : List Entry). AllByRecursion (λ (entry : Entry). IsQuiet entry.call) own) (sym (nothing_yet worker below)) tt))
 
-    controller_own : own_entries Controller (whole number) ≡ with_updates (steering_maps size) options number (made_in all_done) []
+    pub controller_own : own_entries Controller (whole number) ≡ with_updates (steering_maps size) options number (made_in all_done) []
     controller_own =
         accounted.commands.own number within
         ∙ ap (λ (updates : List MapUpdate). with_updates (steering_maps size) options number (all_set updates ++ made_in all_done) []) plain.none_set
+
+  -- one shard of an array that the program only reads
+  module _ (number : ℕ) (within : number < accounted.count) (low : 2 * options.shards ≤ number) (high : number < 5 * options.shards)
+      (array : (accounted.plan number).definition.kind ≡ Array) (workers : (accounted.plan number).workers ≡ options.workers) where
+    still : IsChanged sizes number → ⊥
+    still (inl flows) = absurd (let below = flows.1 in omega (arith, below, low))
+    still (inr counts) = absurd (omega (arith, counts, high))
 
     reclaimer_none : own_entries Reclaimer (whole number) ≡ []
     reclaimer_none =
@@ -485,8 +431,8 @@ module _ (size : ℕ) (is_size : IsRingSize size) (script : List Command) (optio
     all_known =
         all_of_callers IsKnown (accounted.plan number) (whole number) (accounted.legal number within)
         (record {
-          of_workers = λ worker below. worker_quiet worker (subst (λ (n : ℕ). worker < n) workers below);
-          of_controller = subst (λ (own : List Entry). AllByRecursion IsKnown own) (sym controller_own)
+          of_workers = λ worker below. quiet_known (own_entries (Worker worker) (whole number)) (worker_quiet number within still worker (subst (λ (n : ℕ). worker < n) workers below));
+          of_controller = subst (λ (own : List Entry). AllByRecursion IsKnown own) (sym (controller_own number within still))
               (updates_known (steering_maps size) options number (made_in all_done) [] tt);
           of_reclaimer = subst (λ (own : List Entry). AllByRecursion IsKnown own) (sym reclaimer_none) tt;
         })
@@ -526,21 +472,21 @@ module _ (size : ℕ) (is_size : IsRingSize size) (script : List Command) (optio
     abbrev done : List CommandDone
     done = take commands all_done
 
-    unstopped : AllByRecursion IsNoStop done
+    pub unstopped : AllByRecursion IsNoStop done
     unstopped = take_unstopped all_done commands unstopped_all
 
-    ended : (state : ControllerState) × AreDone (opened_controller size) done state
+    pub ended : (state : ControllerState) × AreDone (opened_controller size) done state
     ended = take_done (opened_controller size) all_done ended_all.0 commands ended_all.1
 
     abbrev state : ControllerState
     state = ended.0
 
-    changes : AllByRecursion IsOfChange (made_in done)
+    pub changes : AllByRecursion IsOfChange (made_in done)
     changes =
         let first = take_done (opened_controller accounted.commands.size) all_done accounted.commands.state commands accounted.commands.are_done in
         all_made (opened_controller accounted.commands.size) done first.0 first.1
 
-    are_carried : carried_out outcome.refused.items 0 (take commands script) ≡ done_actions done
+    pub are_carried : carried_out outcome.refused.items 0 (take commands script) ≡ done_actions done
     are_carried =
         ap (λ (l : List Applied). carried_out l 0 (take commands script)) accounted.commands.refused_are
         ∙ carried script accounted.commands.noted all_done 0 script commands (λ k. ap (slice_get script) (from_zero k)) accounted.commands.each_once accounted.commands.are_noted
@@ -702,7 +648,7 @@ module _ (size : ℕ) (is_size : IsRingSize size) (script : List Command) (optio
     })
 
   -- the end is the moment after all commands
-  at_the_end : IsMoment size script options records outcome plain (length script) (last_histories outcome.journals)
+  pub at_the_end : IsMoment size script options records outcome plain (length script) (last_histories outcome.journals)
   at_the_end = record {
     newer = λ number. [];
     oldest = λ number within. refl;

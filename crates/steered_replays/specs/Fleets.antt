@@ -11,6 +11,7 @@ use Rattle.conntrack.specs.declared.choosing.Assigned.{Assigned}
 use Rattle.conntrack.specs.declared.choosing.Choice.{Choice}
 use Rattle.conntrack.specs.declared.choosing.Choice.TheVariants.{Drop, Tx}
 use Rattle.conntrack.specs.declared.choosing.Records.{Records}
+use Rattle.conntrack.specs.declared.records.TunnelRecord.{TunnelRecord}
 use Rattle.conntrack.specs.declared.records.VipRecord.{VipRecord}
 use Rattle.conntrack.specs.declared.steering_maps.SteeringMap.TheVariants.{Ring, Backends}
 use Rattle.conntrack.specs.Layouts.{ring_of, backend_of}
@@ -86,6 +87,12 @@ abbrev pub SomeAreSentTo : Type 0
 SomeAreSentTo =
     (size : ℕ) (done : List Action) (now : MapsAt) (tables : AreTables size done now) → up_left [] done ≢ [] → (slot : ℕ) → slot < size →
     (server : Server) × (server_of (up_left [] done) (slice_get tables.owners slot) ≡ Some server)
+
+-- there are such frames: any with a flow that fits, for any service, once the tunnel is set up and as long as no backend is noted
+abbrev pub FramesAreSent : Type 0
+FramesAreSent =
+    (size : ℕ) (now : MapsAt) (frame : List ℕ) (vip : VipRecord) (tunnel : TunnelRecord) → HasFlow frame → fits_tunnel frame ≡ true →
+    tunnel.is_ready ≡ true → (choice : Choice) × IsSentByTable size now frame vip choice
 
 -- so on both machines to the same backend
 abbrev pub StrangersAgree : Type 0

@@ -1,6 +1,7 @@
--- The maps of the shipped program at a moment of a replay in which no command met a full journal: the lookup table and the backends are
--- those that the commands carried out so far have left, whatever frames came. So it is of the end of the replay.
-use Rattle.std.specs.Prelude.{◌≡◌, ◌≢◌, ℕ, ◌+◌, ◌<◌, ◌==◌, Bool, false, true, List, [], ◌∷◌, ◌++◌, Option, Some, None, option_map, reverse, take, length}
+-- The maps of the shipped program at a moment of a replay in which no command met a full journal: the lookup table, the backends and the
+-- services are those that the commands carried out so far have left, whatever frames came. So it is of the end of the replay.
+use Rattle.std.specs.Prelude.{◌≡◌, ◌≢◌, ℕ, ◌+◌, ◌<◌, ◌==◌, Bool, false, true, List, [], ◌∷◌, ◌++◌, Option, Some, None, option_map, reverse}
+use Rattle.std.specs.Prelude.{take, length, bytes_eq}
 use Rattle.std.specs.Prelude.{slice_get, if◌then◌else◌}
 use Rattle.std.specs.List.{AllByRecursion, list_any}
 use Rattle.wire.specs.declared.records.Sent.{Sent}
@@ -17,9 +18,10 @@ use Rattle.journals.specs.JournalsView.{JournalsView, entries_at}
 use Rattle.maglev.specs.declared.backend.Backend.{Backend as Server}
 use Rattle.maglev.specs.RingSize.{IsRingSize}
 use Rattle.conntrack.specs.declared.records.BackendRecord.{BackendRecord}
+use Rattle.conntrack.specs.declared.records.VipRecord.{VipRecord}
 use Rattle.conntrack.specs.declared.steering_maps.SteeringMap.{SteeringMap}
-use Rattle.conntrack.specs.declared.steering_maps.SteeringMap.TheVariants.{Ring, Backends}
-use Rattle.conntrack.specs.Layouts.{ring_bytes, backend_bytes}
+use Rattle.conntrack.specs.declared.steering_maps.SteeringMap.TheVariants.{Vips, Ring, Backends}
+use Rattle.conntrack.specs.Layouts.{service_key, vip_bytes, ring_bytes, backend_bytes}
 use Rattle.conntrack.specs.SteeringMaps.{map_place, map_kind, steering_maps}
 use Rattle.steer.specs.SteeringLaws.{of_size, shipped_program}
 use Rattle.control.specs.declared.command.Action.{Action}
@@ -101,6 +103,18 @@ abbrev pub record_left : ℕ → BackendRecord → List Action → BackendRecord
 record_left number before [] = before
 record_left number before (action ∷ later) = record_left number (record_after number before action) later
 
+-- the record of the service of this key after a command, if there is one
+abbrev pub service_after : List ℕ → Option VipRecord → Action → Option VipRecord
+service_after key before (actions.Vip service is_notrack) =
+    if bytes_eq (service_key service) key then Some (record { is_notrack = is_notrack }) else before
+service_after key before (actions.Up number address) = before
+service_after key before (actions.Down number) = before
+service_after key before (actions.Gateway source source_mac destination_mac) = before
+
+abbrev pub service_left : List ℕ → Option VipRecord → List Action → Option VipRecord
+service_left key before [] = before
+service_left key before (action ∷ later) = service_left key (service_after key before action) later
+
 -- ---- the tables
 
 -- a backend that is up: its number is one of the map's, its address has four bytes, and its record is the address and a 1
@@ -119,6 +133,10 @@ pub record AreTables (size : ℕ) (done : List Action) (now : MapsAt) : Type 0 w
   pub backends : (number : ℕ) → number < 256 →
       value_at now Backends (bytes_of_number 4 number) ≡ Some (backend_bytes (record_left number no_record done))
   pub up : AllByRecursion (IsRecordedUp done) (up_left [] done)
+
+-- of the services those are there that a command named, each with its last flags
+abbrev pub AreServices : List Action → MapsAt → Type 0
+AreServices done now = (key : List ℕ) → value_at now Vips key ≡ option_map vip_bytes (service_left key None done)
 
 -- ---- replays
 
@@ -155,3 +173,17 @@ TablesAreLeft =
     (size : ℕ) → IsRingSize size → (script : List Command) (options : Options) (records : List Sent) (outcome : Outcome) →
     IsPlainReplay size script options records outcome →
     AreTables size (carried_out outcome.refused.items 0 script) (maps_at_end outcome.journals)
+
+-- so it is of the services
+abbrev pub ServicesFollow : Type 0
+ServicesFollow =
+    (size : ℕ) → IsRingSize size → (script : List Command) (options : Options) (records : List Sent) (outcome : Outcome)
+    (plain : IsPlainReplay size script options records outcome) (commands : ℕ) (histories : ℕ → List Entry) →
+    IsMoment size script options records outcome plain commands histories →
+    AreServices (carried_out outcome.refused.items 0 (take commands script)) (record { journals = outcome.journals; histories = histories })
+
+abbrev pub ServicesAreLeft : Type 0
+ServicesAreLeft =
+    (size : ℕ) → IsRingSize size → (script : List Command) (options : Options) (records : List Sent) (outcome : Outcome) →
+    IsPlainReplay size script options records outcome →
+    AreServices (carried_out outcome.refused.items 0 script) (maps_at_end outcome.journals)

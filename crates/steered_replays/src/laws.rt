@@ -18,8 +18,9 @@ ghost use Rattle.actors.specs.Captured.{IsCaptured};
 ghost use Rattle.steered_replays.specs.StickyFlows.{NotesAreFound, NotedFlowsStick};
 ghost use Rattle.steered_replays.specs.StickyReplays.{FlowsStayInReplays};
 ghost use Rattle.steered_replays.specs.StickyRow.{StickyRow};
-ghost use Rattle.steered_replays.specs.TablesAtEnd.{TablesFollow, TablesAreLeft, MetNoFullJournal, AreTables, carried_out, maps_at_end};
-ghost use Rattle.steered_replays.specs.Fleets.{SameTables, OwnersAreSentTo, SomeAreSentTo, StrangersAgree, StrangersMove};
+ghost use Rattle.steered_replays.specs.TablesAtEnd.{TablesFollow, TablesAreLeft, ServicesFollow, ServicesAreLeft};
+ghost use Rattle.steered_replays.specs.TablesAtEnd.{MetNoFullJournal, AreTables, carried_out, maps_at_end};
+ghost use Rattle.steered_replays.specs.Fleets.{SameTables, OwnersAreSentTo, SomeAreSentTo, FramesAreSent, StrangersAgree, StrangersMove};
 ghost use Rattle.steered_replays.specs.Totals.{AreTotals, TotalsAreExact};
 
 use conntrack::laws::{finished_runs_are_results, flows_stick};
@@ -70,6 +71,14 @@ pub fn tables_follow()
     replays_are_steered();
 }
 
+/// And its services are those that the commands so far have named, each with its last flags; there is no other.
+pub fn services_follow()
+    ensures moments { ServicesFollow }
+    ensures end { ServicesAreLeft }
+{
+    replays_are_steered();
+}
+
 /// Two machines on which the same backends are up have the same tables: at moments of any two replays, of any captures, on any numbers of
 /// workers and shards, when the commands carried out so far leave the same backends up, the slots of the lookup tables and the records of
 /// these backends are the same.
@@ -82,6 +91,7 @@ pub fn same_tables()
 pub fn strangers_agree()
     ensures owners { OwnersAreSentTo }
     ensures some { SomeAreSentTo }
+    ensures frames { FramesAreSent }
     ensures agree { StrangersAgree }
 {}
 

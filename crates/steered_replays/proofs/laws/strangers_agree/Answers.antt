@@ -9,3 +9,6 @@ returns-clause-some c = fleet.some_are_sent_to
 
 pub returns-clause-agree : goal.returns-clause-agree
 returns-clause-agree c = fleet.strangers_agree
+
+pub returns-clause-frames : goal.returns-clause-frames
+returns-clause-frames c = fleet.frames_are_sent
