@@ -71,8 +71,9 @@ fn opened_over(
         IsUnderway program script.now options updates [] [] [] replay) }
 {
     let starts = starts_of(alloc, script)?;
+    let turns = Turns::over(alloc, all, size)?;
     Ok(PieceReplay {
-        turns: Turns::over(alloc, all, size),
+        turns,
         starts,
         next: 0,
         taken: 0,

@@ -20,6 +20,7 @@ ghost use Rattle.actors.specs.declared.outcome.RecordEnd.{RecordEnd as End};
 ghost use Rattle.actors.specs.Accounted.{IsAccounted};
 ghost use Rattle.actors.specs.Accounts.{frames_in, no_counts, counted};
 ghost use Rattle.actors.specs.Commands.{ServesScript};
+ghost use Rattle.actors.specs.Shares.{worker_of_frame};
 ghost use Rattle.replay.specs.ExactReplays.{IsInTurn, HasBegun, starts_in};
 ghost use Rattle.replay.specs.TurnOrder.{IsExact};
 ghost use Rattle.actors.specs.UpdateFaults.{OfUpdate};
@@ -54,7 +55,7 @@ use shard_port::Gate;
 use std::alloc::{AllocError, Global};
 use std::mem;
 use verifier::Verified;
-use wire::{Capture, Frame, Sent};
+use wire::{Capture, Frame, MAX_FRAME, Sent};
 
 /// A replay between two turns. What was sent and the ends are those that were not handed out yet.
 #[derive(Drop)]
@@ -65,14 +66,25 @@ pub(crate) struct Turns {
     pub counts: Counts,
     pub sent: Vec<Sent>,
     pub ends: Vec<RecordEnd>,
+    /// The buffer of all runs, one after the other.
+    pub frame: Frame,
 }
 
-/// Runs the program on a record's frame, as a worker. None where memory was refused, or the record has no Ethernet header.
+/// A frame that is filled again for each run. It has all the memory that the runs need.
+fn frame_of_runs(alloc: Global) -> Result<Frame, AllocError> {
+    match Frame::of(alloc, &[0; MAX_FRAME]) {
+        Ok(frame) => Ok(frame),
+        Err(_) => Err(AllocError),
+    }
+}
+
+/// Runs the program on a record's frame, as a worker, in this buffer. None where memory was refused, or the record has no Ethernet header.
 #[tactic(auto, using(crate::proofs::TurnLemmas::run_of_exit))]
 fn run_record(
     alloc: Global,
     verified: &Verified,
     all: &mut TurnShards,
+    frame: &mut Frame,
     worker: u8,
     sent: &Sent,
 ) -> Option<RunEnd>
@@ -84,12 +96,12 @@ fn run_record(
     ensures maps { all.new.maps ≡ all.old.maps }
     ensures options { all.new.options ≡ all.old.options }
 {
-    let Ok(mut frame) = Frame::of(alloc, &sent.bytes) else {
+    if frame.refill(&sent.bytes).is_err() {
         return None;
-    };
+    }
     let moment = moment_of(sent, worker);
-    match all.run(verified, &moment, &mut frame) {
-        Ok(exit) => end_of(alloc, sent, exit, &frame).ok(),
+    match all.run(verified, &moment, frame) {
+        Ok(exit) => end_of(alloc, sent, exit, frame).ok(),
         Err(_) => Some(RunEnd::Stopped),
     }
 }
@@ -100,9 +112,13 @@ fn handle(
     alloc: Global,
     verified: &Verified,
     all: &mut TurnShards,
+    frame: &mut Frame,
+    worker: usize,
     sent: &Sent,
 ) -> Result<Option<RunEnd>, AllocError>
     requires maps { all.old.maps ≡ verified.now.maps }
+    requires worker { worker ≡ worker_of_frame sent.now.bytes.items all.old.options.workers }
+    requires among { worker < all.old.options.workers }
     ensures handled { IfOk result (λ end. IsHandledInTurn (program_of verified.now all.old.options.shards) all.old.options.workers sent.now
         all.old.shards end all.new.shards) }
     ensures maps { all.new.maps ≡ all.old.maps }
@@ -111,8 +127,8 @@ fn handle(
     if is_short(sent) {
         return Ok(None);
     }
-    let worker = worker_of(&sent.bytes, all.workers());
-    match run_record(alloc, verified, all, worker as u8, sent) {
+    let _ = all.workers();
+    match run_record(alloc, verified, all, frame, worker as u8, sent) {
         Some(end) => Ok(Some(end)),
         None => Err(AllocError),
     }
@@ -139,24 +155,26 @@ fn apply_to(
 }
 
 impl Turns {
-    /// Before the first turn.
-    pub(crate) fn over(alloc: Global, all: TurnShards, size: u32) -> Turns
+    /// Before the first turn. Takes the memory of the frame of each run; fails only for lack of it.
+    pub(crate) fn over(alloc: Global, all: TurnShards, size: u32) -> Result<Turns, AllocError>
         requires { IsRingSize size }
-        ensures { state_in result ≡
-            record { all = all; controller = opened_controller size; noted = []; counts = no_counts; sent = []; ends = [] } }
+        ensures { IfOk result (λ turns. state_in turns ≡
+            record { all = all; controller = opened_controller size; noted = []; counts = no_counts; sent = []; ends = [] }) }
     {
+        let frame = frame_of_runs(alloc)?;
         let controller = match Controller::open(alloc, size) {
             Ok(controller) => controller,
             Err(_) => unreachable!(),
         };
-        Turns {
+        Ok(Turns {
             all,
             controller,
             noted: Vec::new(alloc),
             counts: Counts::none(),
             sent: Vec::new(alloc),
             ends: Vec::new(alloc),
-        }
+            frame,
+        })
     }
 
     /// The turn of the record at a place of a piece, whichever number it has in the capture. Fails only for lack of memory; then the replay
@@ -180,7 +198,14 @@ impl Turns {
     {
         let sent = &piece.records[place];
         let worker = worker_of(&sent.bytes, self.all.workers());
-        let end = handle(alloc, verified, &mut self.all, sent)?;
+        let end = handle(
+            alloc,
+            verified,
+            &mut self.all,
+            &mut self.frame,
+            worker,
+            sent,
+        )?;
         self.counts.count(&end);
         self.ends.push(record_end(worker as u8, &end))?;
         send(&mut self.sent, end)?;

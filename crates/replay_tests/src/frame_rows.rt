@@ -126,6 +126,40 @@ fn frame_sizes(rt: HostRuntime) -> Result<(), Fail> {
     Ok(())
 }
 
+/// Fills a frame of 34 bytes with this many, and compares it, or why it stays as it was.
+fn is_refilled(
+    rt: &impl Abort,
+    alloc: Global,
+    size: usize,
+    want: Option<FrameFault>,
+) -> Result<(), Fail> {
+    let bytes = vec![in alloc; 7; size]?;
+    let mut frame = Frame::of(alloc, &UDP_FRAME)?;
+    frame.shrink_front(8);
+    match frame.refill(&bytes) {
+        Ok(()) => {
+            same_at(rt, "refilled size", size as u64, &None, &want);
+            same(rt, "refilled length", &frame.len(), &size);
+            same_bytes(rt, "refilled bytes", frame.bytes(), &bytes);
+            same(rt, "refilled room", &frame.room(), &256);
+        }
+        Err(fault) => {
+            same_at(rt, "refilled size", size as u64, &Some(fault), &want);
+            same(rt, "kept room", &frame.room(), &264);
+            same_bytes(rt, "kept bytes", frame.bytes(), &UDP_FRAME[8..]);
+        }
+    }
+    Ok(())
+}
+
+#[test]
+fn refilled_sizes(rt: HostRuntime) -> Result<(), Fail> {
+    for (size, fault) in &FRAME_SIZES {
+        is_refilled(&rt, rt.alloc(), *size, *fault)?;
+    }
+    Ok(())
+}
+
 #[test]
 fn moving_heads(rt: HostRuntime) -> Result<(), Fail> {
     let mut frame = Frame::of(rt.alloc(), &UDP_FRAME)?;
