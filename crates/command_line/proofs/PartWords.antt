@@ -7,7 +7,8 @@ use Rattle.std.proofs.lemmas.Str.Parse.{digit_at, without_leading_plus_none, wit
 use mathlib.Core.Logic.{◌⊎◌, inl, inr, ⊎_elim}
 use Rattle.fleet.specs.declared.part.Loss.{Loss}
 use Rattle.fleet.specs.declared.part.Part.{Part}
-use Rattle.command_line.specs.Reading.{IsLossWord, IsNoLossWord, IsNoPartWord, IsPartWord, Writes}
+use Rattle.std.proofs.lemmas.Option.{none-some, same_Some}
+use Rattle.command_line.specs.Reading.{AsksNoLoss, HasLoss, IsLossAsked, IsLossWord, IsNoLossWord, IsNoPartWord, IsPartAsked, IsPartWord, Writes}
 
 -- no byte of the text is the sign
 abbrev pub Lacks : ℕ → List ℕ → Type 0
@@ -120,3 +121,39 @@ loss_word_said word before after of (Some loss) cut same is = record {
   others = is.3;
   fits = is.4;
 }
+
+-- ---- what is asked
+
+-- the same part with a loss is asked for by the part's word
+pub still_asked : (asked : Option (List ℕ)) (part losing : Part) → losing.number ≡ part.number → losing.of ≡ part.of
+    → IsPartAsked asked (Some part) → IsPartAsked asked (Some losing)
+still_asked None part losing number of is = absurd (none-some part (sym is))
+still_asked (Some word) part losing number of says =
+    let same : part ≡ says.said = same_Some part says.said says.part_is in
+    record {
+      said = losing;
+      part_is = refl;
+      spelled = subst (λ (n : ℕ). IsPartWord word n losing.of) (ap (λ (p : Part). p.number) (sym same) ∙ sym number)
+          (subst (λ (n : ℕ). IsPartWord word says.said.number n) (ap (λ (p : Part). p.of) (sym same) ∙ sym of) says.spelled);
+    }
+
+-- and the loss by its own
+pub loss_asked : (lost : Option (List ℕ)) (word : List ℕ) (losing : Part) → lost ≡ Some word → HasLoss word losing → IsLossAsked lost (Some losing)
+loss_asked lost word losing is has =
+    subst (λ (it : Option (List ℕ)). IsLossAsked it (Some losing)) (sym is) (record { losing = losing; part_is = refl; with_loss = has })
+
+-- a word that is that of no loss of the part that is asked for
+pub no_loss_asked : (asked lost : Option (List ℕ)) (word : List ℕ) (part : Part) → lost ≡ Some word → IsPartAsked asked (Some part)
+    → IsNoLossWord word part.of → AsksNoLoss asked lost word
+no_loss_asked None lost word part given is none = absurd (none-some part (sym is))
+no_loss_asked (Some part_word) lost word part given says none =
+    let same : part ≡ says.said = same_Some part says.said says.part_is in
+    record {
+      part_word = part_word;
+      number = says.said.number;
+      of = says.said.of;
+      part_given = refl;
+      part_spelled = says.spelled;
+      given = given;
+      none = subst (IsNoLossWord word) (ap (λ (p : Part). p.of) same) none;
+    }

@@ -110,22 +110,22 @@ replay_noted =
     (with_rule (with_rule replay_opened (number_rule (codes "ring") 4294967295 (codes "251"))) (switch_rule (codes "exact")))
     (switch_rule (codes "summary"))
 
--- and how the records of the capture are read, which part of them, and which part is lost
+-- and how the records of the capture are read
 abbrev pub replay_read : App
 replay_read =
     with_rule
-    (with_rule
-    (with_rule
     (with_rule (with_rule replay_noted (switch_rule (codes "skip-long"))) (switch_rule (codes "pad-cut")))
-    (switch_rule (codes "allow-cut")))
-    (option_rule (codes "part")))
-    (option_rule (codes "lost"))
+    (switch_rule (codes "allow-cut"))
+
+-- and which part of them, and which part is lost
+abbrev pub replay_parted : App
+replay_parted = with_rule (with_rule replay_read (option_rule (codes "part"))) (option_rule (codes "lost"))
 
 -- and whether no rows of journals are kept, nothing may be left out, and no file is written over
 abbrev pub replay_command : App
 replay_command =
     with_rule
-    (with_rule (with_rule replay_read (switch_rule (codes "no-journals"))) (switch_rule (codes "strict")))
+    (with_rule (with_rule replay_parted (switch_rule (codes "no-journals"))) (switch_rule (codes "strict")))
     (switch_rule (codes "no-clobber"))
 
 abbrev pub script_command : App

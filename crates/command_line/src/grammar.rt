@@ -648,7 +648,7 @@ fn replay_noted<'a>(alloc: Global) -> Result<Command<'a>, AllocError>
         .arg(summary)
 }
 
-/// The same with how the capture's records are read, and which of them.
+/// The same with how the capture's records are read.
 fn replay_read<'a>(alloc: Global) -> Result<Command<'a>, AllocError>
     ensures app { IfOk result (λ command. app_of command ≡ line.replay_read) }
     ensures local { IfOk result (λ command. (out-Command command).has_globals ≡ false) }
@@ -671,9 +671,15 @@ fn replay_read<'a>(alloc: Global) -> Result<Command<'a>, AllocError>
     replay_noted(alloc)?
         .arg(skip_long)?
         .arg(pad_cut)?
-        .arg(allow_cut)?
-        .arg(part(alloc))?
-        .arg(lost(alloc))
+        .arg(allow_cut)
+}
+
+/// The same with which part of the records is replayed, and which part is lost.
+fn replay_parted<'a>(alloc: Global) -> Result<Command<'a>, AllocError>
+    ensures app { IfOk result (λ command. app_of command ≡ line.replay_parted) }
+    ensures local { IfOk result (λ command. (out-Command command).has_globals ≡ false) }
+{
+    replay_read(alloc)?.arg(part(alloc))?.arg(lost(alloc))
 }
 
 fn replay<'a>(alloc: Global) -> Result<Command<'a>, AllocError>
@@ -695,7 +701,7 @@ fn replay<'a>(alloc: Global) -> Result<Command<'a>, AllocError>
         NO_CLOBBER,
         "Refuses to write a file that is there already",
     );
-    replay_read(alloc)?
+    replay_parted(alloc)?
         .arg(no_journals)?
         .arg(strict)?
         .arg(no_clobber)
