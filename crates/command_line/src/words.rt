@@ -163,7 +163,8 @@ impl fmt::Display for WordsFault<'_> {
 /// There is one exactly where the parser finds no fault in the words, and they don't ask what a word means that is no fault, for a
 /// replay of both an image and a script or of two images, for one with updates and without `--image`, for one with a file for journals that
 /// keep no rows, for a run or a replay with a malformed update, for a replay of a part that is not K/N, for one with a loss and no part, or
-/// with one that is not J@RECORD. Of several of these the first in this order is the fault. A fault is of the first kind that the parser finds, or one of these, or memory was refused.
+/// with one that is not J@RECORD. Of several of these the first in this order is the fault. A fault is of the first kind that the parser
+/// finds, or one of these, or memory was refused.
 pub fn settings<'a, S: AsStr>(alloc: Global, words: &'a [S]) -> Result<Settings<'a>, WordsFault<'a>>
     ensures found { IfOk result (λ settings. (name : Text) × (rows : List Row)
         × (subcommand_of program (map S.text words.entry.now) ≡ Some (name, rows)) × IsReadFrom name rows settings) }
