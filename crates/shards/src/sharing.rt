@@ -100,6 +100,7 @@ pub struct Shards<B: Naming> {
 }
 
 impl<B: Naming> Model for Shards<B> {
+    ghost use Rattle.std.specs.Prelude.{◌+◌};
     ghost use Rattle.shards.specs.OrderRule.{IsOrderOf};
     ghost use Rattle.shards.specs.SharedMaps.{SharedMaps, AreShared};
 
@@ -109,7 +110,7 @@ impl<B: Naming> Model for Shards<B> {
 
     ghost invariant = { λ shards. AreShared B.table B.plan B.order B.count shards.locks.items
         shards.maps.items shards.options
-        × IsOrderOf B.order B.plan B.count shards.order };
+        × IsOrderOf B.order B.plan B.count (shards.options.workers + 2) shards.order };
 }
 
 impl<B: Naming> Shards<B> {
