@@ -8,6 +8,7 @@ pub mod Accounts
 pub mod PartLemmas
 pub mod TurnLemmas
 pub mod TurnBeginnings
+pub mod WhyInTurn
 pub mod TurnUpdates
 pub mod TurnDeeds
 pub mod TurnRuns

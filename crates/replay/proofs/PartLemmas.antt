@@ -196,7 +196,7 @@ begun_with plan maps options updates script start starts first deeds is_maps is_
       ∙ (λ i. first_deeds (is_maps i) (is_options i) (is_updates i) account.done);
 }
 
-within_of : (maps : List MapDef) (map parts : ℕ) (key : List ℕ) (found : Option MapDef) → 0 < parts → slice_get maps map ≡ found →
+pub within_of : (maps : List MapDef) (map parts : ℕ) (key : List ℕ) (found : Option MapDef) → 0 < parts → slice_get maps map ≡ found →
     IsTrue (is_some found) → shard_in_map found parts map key < length maps * parts
 within_of maps map parts key None some is there = absurd cc
 within_of maps map parts key (Some definition) some is there =

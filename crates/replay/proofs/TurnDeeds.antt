@@ -89,7 +89,7 @@ pub made_here : (number : ℕ) (entry : Entry) (order : List Deed) → shard_of_
 made_here number entry order here =
     ap (λ (test : Bool). cond test (entry ∷ made_on number order) (made_on number order)) (eq-eqb (shard_of_call entry.call) number here)
 
-one_else : (number : ℕ) (deed : Deed) (order : List Deed) → shard_of_deed deed ≢ number → made_on number (deed ∷ order) ≡ made_on number order
+pub one_else : (number : ℕ) (deed : Deed) (order : List Deed) → shard_of_deed deed ≢ number → made_on number (deed ∷ order) ≡ made_on number order
 one_else number (Wrote entry) order apart =
     ap (λ (test : Bool). cond test (entry ∷ made_on number order) (made_on number order)) (ne_eqb (shard_of_call entry.call) number apart)
 one_else number (MetFull who call) order apart = refl
