@@ -13,6 +13,7 @@ pub mod TurnUpdates
 pub mod TurnDeeds
 pub mod TurnRuns
 pub mod TurnLeaving
+pub mod TurnBegun
 pub mod TurnCommands
 pub mod TurnRounds
 pub mod TurnFates

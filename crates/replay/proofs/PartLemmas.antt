@@ -165,13 +165,13 @@ script_run_behind plan maps options updates script size start noted pass deeds r
 
 -- ---- the commands before the first record
 
-noted_as_many : (script : List Command) (noted : List Applied) (done : List CommandDone) → AreNotedOf script noted done → length done ≡ length (numbers_of noted)
+pub noted_as_many : (script : List Command) (noted : List Applied) (done : List CommandDone) → AreNotedOf script noted done → length done ≡ length (numbers_of noted)
 noted_as_many script [] [] are = refl
 noted_as_many script [] (one ∷ later) are = absurd are
 noted_as_many script (noted ∷ more) [] are = absurd are
 noted_as_many script (noted ∷ more) (one ∷ later) are = ap suc (noted_as_many script more later are.1)
 
-numbers_count : (first count : ℕ) → length (numbers_from first count) ≡ count
+pub numbers_count : (first count : ℕ) → length (numbers_from first count) ≡ count
 numbers_count first zero = refl
 numbers_count first (suc count) = ap suc (numbers_count (first + 1) count)
 
