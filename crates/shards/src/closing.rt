@@ -40,12 +40,7 @@ impl<B: Naming> Shards<B> {
     }
 
     /// The same, where it is known what was done before all else: the one order of all deeds begins with it.
-    pub fn close_behind(
-        self,
-        rt: &impl Wait,
-        mut passes: Vec<Pass<B>>,
-        first: First<B>,
-    ) -> Journals
+    pub fn close_behind(self, rt: &impl Wait, mut passes: Vec<Pass<B>>, first: First<B>) -> Journals
         ensures maps { result.maps ≡ self.maps }
         ensures options { result.options ≡ self.options }
         ensures count { length result.shards ≡ B.count }
