@@ -27,6 +27,8 @@ pub struct Working<B: Naming> {
     pub pass: Pass<B>,
     /// How many replies its runs have had.
     pub replies: u64,
+    /// The buffer of its runs, one after the other.
+    pub frame: Frame,
 }
 
 /// Runs an accepted program over shared shards of its maps, by the workers' passes; each reply goes through a gate.
@@ -106,21 +108,21 @@ impl<'a, B: Naming, R: Wait, G: Gate> Runner<Working<B>> for ShardRunner<'a, B, 
         sent: &Sent,
         state: &mut Working<B>,
     ) -> Option<RunEnd> {
-        let Ok(mut frame) = Frame::of(alloc, &sent.bytes) else {
+        if state.frame.refill(&sent.bytes).is_err() {
             return None;
-        };
+        }
         let moment = moment_of(sent, worker);
         match run_frame(
             self.rt,
             self.verified,
-            &mut frame,
+            &mut state.frame,
             &moment,
             self.shards,
             &mut state.pass,
             self.gate,
             &mut state.replies,
         ) {
-            Ok(exit) => end_of(alloc, sent, exit, &frame).ok(),
+            Ok(exit) => end_of(alloc, sent, exit, &state.frame).ok(),
             Err(_) => Some(RunEnd::Stopped),
         }
     }

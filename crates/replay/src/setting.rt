@@ -40,6 +40,7 @@ use shards::{Dealer, First, Naming, Pass, Shards};
 use std::alloc::{AllocError, Global};
 use std::sync::Wait;
 use std::thread::Threads;
+use wire::{Frame, MAX_FRAME};
 
 /// The smallest lookup table: that of a replay without commands, which has none.
 const SMALLEST: u32 = 7;
@@ -82,7 +83,15 @@ fn apply_first<B: Naming, W: Wait, G: Gate>(
     Ok(first)
 }
 
-/// What each worker begins with: its pass, and no reply yet.
+/// A frame that is filled again for each run. It has all the memory that the runs need.
+pub(crate) fn frame_of_runs(alloc: Global) -> Result<Frame, AllocError> {
+    match Frame::of(alloc, &[0; MAX_FRAME]) {
+        Ok(frame) => Ok(frame),
+        Err(_) => Err(AllocError),
+    }
+}
+
+/// What each worker begins with: its pass, no reply yet, and a frame.
 pub(crate) fn new_workers<B: Naming>(
     alloc: Global,
     dealer: &mut Dealer<B>,
@@ -97,8 +106,13 @@ pub(crate) fn new_workers<B: Naming>(
         let caller = Caller::Worker {
             number: worker as u8,
         };
+        let frame = frame_of_runs(alloc)?;
         match dealer.pass(alloc, caller) {
-            Ok(pass) => all.push_reserved(Working { pass, replies: 0 }),
+            Ok(pass) => all.push_reserved(Working {
+                pass,
+                replies: 0,
+                frame,
+            }),
             Err(_) => return Err(AllocError),
         }
     }

@@ -39,6 +39,7 @@ use crate::closing::refused;
 use crate::in_pieces::PieceReplay;
 use crate::laws::turns_are_accounted;
 use crate::replaying::fault_of;
+use crate::setting::frame_of_runs;
 use crate::turn_shards::TurnShards;
 use actors::account::{Counts, record_end, send};
 use actors::controller::command_at;
@@ -55,7 +56,7 @@ use shard_port::Gate;
 use std::alloc::{AllocError, Global};
 use std::mem;
 use verifier::Verified;
-use wire::{Capture, Frame, MAX_FRAME, Sent};
+use wire::{Capture, Frame, Sent};
 
 /// A replay between two turns. What was sent and the ends are those that were not handed out yet.
 #[derive(Drop)]
@@ -68,14 +69,6 @@ pub(crate) struct Turns {
     pub ends: Vec<RecordEnd>,
     /// The buffer of all runs, one after the other.
     pub frame: Frame,
-}
-
-/// A frame that is filled again for each run. It has all the memory that the runs need.
-fn frame_of_runs(alloc: Global) -> Result<Frame, AllocError> {
-    match Frame::of(alloc, &[0; MAX_FRAME]) {
-        Ok(frame) => Ok(frame),
-        Err(_) => Err(AllocError),
-    }
 }
 
 /// Runs the program on a record's frame, as a worker, in this buffer. None where memory was refused, or the record has no Ethernet header.

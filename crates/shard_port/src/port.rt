@@ -84,11 +84,22 @@ impl<'a, B: Naming, W: Wait, G: Gate> ShardPort<'a, B, W, G> {
         ensures told { OnOk result (self.new.tally.count ≡ next_count self.old.tally.count) }
         ensures untold { OnErr result (self.new.tally.count ≡ self.old.tally.count) }
     {
-        let asked = ask_at(self.rt, self.shards, self.pass, shard, ask);
-        if asked.is_ok() {
-            self.tally.replied();
+        self.shards.planned();
+        if self.pass.is_inside(shard) {
+            let asked = self.shards.ask(self.rt, self.pass, shard, ask);
+            if asked.is_ok() {
+                self.tally.replied();
+            }
+            return asked;
         }
-        asked
+        match self.shards.enter_then(self.rt, self.pass, shard, ask) {
+            Ok(answer) => {
+                self.tally.replied();
+                Ok(answer)
+            }
+            Err(Stopped::AtEnter { full }) => Err(full),
+            Err(Stopped::AtCall { full }) => Err(full),
+        }
     }
 
     /// The worker leaves all shards that it is inside of, the lowest number first. A Leave is never refused. Returns how many replies the
@@ -261,34 +272,6 @@ fn handle_of_found(shard: u32, found: Option<u64>) -> u64
     match found {
         Some(id) => u64::from(shard) * 0x1_0000_0000 + id + 1,
         None => 0,
-    }
-}
-
-/// Makes the worker's call of a shard, which enters first if it is not inside.
-fn ask_at<B: Naming, C: Ask>(
-    rt: &impl Wait,
-    shards: &Shards<B>,
-    pass: &mut Pass<B>,
-    shard: u32,
-    ask: C,
-) -> Result<C::Answer, JournalFull>
-    requires shard { shard < B.count }
-    requires worker { IsTrue (is_worker_below shards.now.options.workers pass.old.who) }
-    requires met { MayAskOnceInside (B.plan shard) shard pass.old (C.asks ask shard) }
-    ensures elsewhere { IsElsewhereSame shard pass.old pass.new }
-    ensures answered { IfOk result
-        (λ answer. IsAskedBy (B.plan shard) shard pass.old pass.new (C.asks ask shard) (C.replies shard answer)) }
-    ensures turned_away { OnErr result (IsTurnedAwayBy (B.plan shard) shard pass.old pass.new (C.asks ask shard)) }
-    ensures names_the_shard { IfErr result (λ fault. fault.shard ≡ shard) }
-{
-    shards.planned();
-    if pass.is_inside(shard) {
-        return shards.ask(rt, pass, shard, ask);
-    }
-    match shards.enter_then(rt, pass, shard, ask) {
-        Ok(answer) => Ok(answer),
-        Err(Stopped::AtEnter { full }) => Err(full),
-        Err(Stopped::AtCall { full }) => Err(full),
     }
 }
 

@@ -4,6 +4,7 @@ mod PlanLemmas
 pub mod Callers
 pub mod Holding
 pub mod AddLemmas
+pub mod CallLemmas
 pub mod RoomLemmas
 pub mod PartLemmas
 pub mod ShardPassLemmas

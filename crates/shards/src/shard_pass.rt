@@ -90,34 +90,6 @@ impl ShardPass {
         who.worker().is_some() && (self.inside && self.held.has(id))
     }
 
-    /// Makes a call that the caller may make: takes the shard, and gives it back.
-    pub(crate) fn call<C: Ask>(
-        &mut self,
-        rt: &impl Wait,
-        lock: &Lock,
-        order: &Order,
-        mine: &mut OrderSeat,
-        who: Caller,
-        ask: C,
-    ) -> Result<C::Answer, JournalFull>
-        requires ready { IsCallerAt false self.old who lock.now order.now mine.old }
-        requires met { Meets self.old.key.plan self.old.view.own who (C.asks ask self.old.key.plan.number) }
-        ensures same { IsSameShard self.old self.new }
-        ensures ready { IsCallerAt false self.new who lock.now order.now mine.new }
-        ensures own { self.new.view.own ≡ own_entries who self.new.view.seen }
-        ensures served { IfOk result (λ answer. ViewIsServed self.old.key.plan self.old.view self.new.view
-            (entry_of who (C.asks ask self.old.key.plan.number) (C.replies self.old.key.plan.number answer))) }
-        ensures refused { OnErr result (ViewIsRefused self.old.key.plan self.old.view self.new.view (C.asks ask self.old.key.plan.number)) }
-        ensures names_the_shard { IfErr result (λ fault. fault.shard ≡ self.old.key.plan.number) }
-        ensures did { account_deeds mine.new.me.0 ≡
-            deed_by who (C.asks ask self.old.key.plan.number) (C.replies self.old.key.plan.number) result ∷ account_deeds mine.old.me.0 }
-    {
-        self.take(rt, lock);
-        let answer = self.ask(lock, order, mine, who, ask);
-        self.give(lock);
-        answer
-    }
-
     /// Enters, and makes a call that the caller may make then: takes the shard once, and gives it back with both entries at once.
     pub(crate) fn enter_then<C: Ask>(
         &mut self,
@@ -195,7 +167,7 @@ impl ShardPass {
     }
 
     /// Takes the shard.
-    fn take(&mut self, rt: &impl Wait, lock: &Lock)
+    pub(crate) fn take(&mut self, rt: &impl Wait, lock: &Lock)
         requires lock { IsLockOf self.old.table self.old.key lock.now }
         requires alone { self.old.has_it ≡ false }
         ensures same { IsSameShard self.old self.new }
@@ -206,7 +178,7 @@ impl ShardPass {
     }
 
     /// Gives the shard back.
-    fn give(&mut self, lock: &Lock)
+    pub(crate) fn give(&mut self, lock: &Lock)
         requires lock { IsLockOf self.old.table self.old.key lock.now }
         requires taken { self.old.has_it ≡ true }
         ensures same { IsSameShard self.old self.new }
@@ -218,7 +190,7 @@ impl ShardPass {
     }
 
     /// Makes a call on the shard that it has.
-    fn ask<C: Ask>(
+    pub(crate) fn ask<C: Ask>(
         &mut self,
         lock: &Lock,
         order: &Order,

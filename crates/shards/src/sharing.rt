@@ -167,14 +167,14 @@ impl<B: Naming> Shards<B> {
         ensures names_the_shard { IfErr result (λ fault. fault.shard ≡ shard) }
         ensures did { pass.new.deeds ≡ deed_by pass.old.who (C.asks ask shard) (C.replies shard) result ∷ pass.old.deeds }
     {
-        pass.parts[shard as usize].call(
-            rt,
-            self.lock(shard),
-            self.order_at(shard),
-            &mut pass.seat,
-            pass.who,
-            ask,
-        )
+        let lock = self.lock(shard);
+        let order = self.order_at(shard);
+        let who = pass.who;
+        let part = &mut pass.parts[shard as usize];
+        part.take(rt, lock);
+        let answer = part.ask(lock, order, &mut pass.seat, who, ask);
+        part.give(lock);
+        answer
     }
 
     /// Enters the shard, and makes a call there at once: two steps and two entries, next to each other, under one hold of the lock. Takes

@@ -8,7 +8,7 @@ use Rattle.replay.proofs.setting.new_workers.Goals as goal
 pub workers-preserved : goal.workers-preserved
 workers-preserved g c =
     let i = c.workers.invariant in
-    let one : Working g.row.B.Denot = record { pass = c.in-Ok.pass; replies = 0 } in
+    let one : Working g.row.B.Denot = record { pass = c.in-Ok.pass; replies = 0; frame = c.in_ok-frame.frame } in
     let is : IsNewAt c.workers.worker one = record { who = c.in-Ok.ensures.who; nothing = c.in-Ok.ensures.nothing; idle = c.in-Ok.ensures.idle } in
     record {
       counted = ap (λ xs. length xs) c.push_reserved.ensures.items ∙ length-append c.workers.all.items (one ∷ []) ∙ ap (λ n. n + 1) i.counted;
