@@ -13,7 +13,7 @@ returns-clause-refused g c =
     let one = did.one in
     let why = c.requires.why in
     why_as_only_caller g.B.Naming.plan c.args.shards.maps c.args.shards.options g.B.Naming.count c.args.updates.now why.0 c.args.unset.pass c.args.unset.fault one.deeds
-    c.planned.ensures.plans c.planned.ensures.options why.1.0 why.1.1.1
+    c.planned.ensures.plans c.planned.ensures.options why.1 why.3
     (λ number below. subst (IsLegalHistory (g.B.Naming.plan number))
     (ap (λ (journal : List Entry). reverse journal) (one.journals_are number below) ∙ reverse-reverse (made_on number one.deeds)) (c.close_behind.ensures.legal number below))
     one.met (subst (λ (first : List Deed). AreFirst first one.deeds) c.first-first.ensures.first did.begins)
