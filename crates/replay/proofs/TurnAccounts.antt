@@ -1,5 +1,5 @@
 -- The account of a replay on one thread.
-use Rattle.std.proofs.Common.{◌≡◌, ℕ, zero, suc, false, ◌/◌, ◌<◌, List, [], ◌∷◌, length, replicate, reverse, get_or, refl, sym, ap, ◌∙◌, subst, arith}
+use Rattle.std.proofs.Common.{◌≡◌, ℕ, zero, suc, false, ◌/◌, ◌<◌, ◌≤◌, List, [], ◌∷◌, length, take, drop, replicate, reverse, get_or, refl, sym, ap, ◌∙◌, subst, arith}
 use Rattle.std.specs.Prelude.{Option, Some, None, slice_get, option_map}
 use Rattle.std.proofs.lemmas.List.{append-nil, length-map, length-replicate, reverse-reverse}
 use Rattle.wire.specs.declared.records.Sent.{Sent}
@@ -30,8 +30,9 @@ use Rattle.actors.specs.declared.runner.Ran.{Ran}
 use Rattle.actors.specs.Accounts.{runs_at, sent_frames}
 use Rattle.actors.specs.Accounted.{IsWorkOf, IsAccounted}
 use Rattle.actors.specs.Actors.{IsUnused, numbers_from}
-use Rattle.actors.specs.Commands.{all_set, IsMoved}
-use Rattle.actors.specs.Parts.{IsScriptRun, round_count}
+use Rattle.control.specs.Controlling.{opened_controller}
+use Rattle.actors.specs.Commands.{CommandDone, IsScriptAccount, all_set, IsMoved}
+use Rattle.actors.specs.Parts.{IsScriptRunBehind, round_count, first_commands, first_deeds}
 use Rattle.actors.specs.RunJobs.{records_of}
 use Rattle.actors.specs.RunsInOrder.{IsRunAt, IsChainOfRuns}
 use Rattle.actors.specs.RunsOverShards.{IsRunOf, IsRunIn}
@@ -43,7 +44,8 @@ use Rattle.replay.specs.TurnOrder.{AreDeedsBy, IsInTurnOrder, IsExact}
 use Rattle.replay.specs.TurnsAccounted.{TurnsAreAccounted}
 use Rattle.replay.proofs.Accounts.{IsOwnIn, chain_stands}
 use Rattle.actors.proofs.shared.CommandAccounts.{account_of_nothing}
-use Rattle.replay.proofs.PartLemmas.{script_stands, rounds_stand}
+use Rattle.replay.proofs.PartLemmas.{IsScriptBegun, script_begins, rounds_stand, noted_as_many, numbers_count}
+use Rattle.replay.proofs.TurnBegun.{AreControllers, begins_now, take_count, take_and_drop, due_few}
 use Rattle.actors.proofs.shared.RoundLemmas.{no_round}
 use Rattle.actors.proofs.shared.SetLemmas.{moved_by_set, has_set}
 use Rattle.replay.proofs.TurnCommands.{by_pass, AreSetByPass, set_steps}
@@ -236,7 +238,7 @@ module _ (program : Program) (script : List Command) (options : Options) (record
       }
 
   first_within : first_commands script ≤ length (starts_in script)
-  first_within = due_within program updates script options records turns.size plan count writes writes_refused are.some_worker numbered staffed (starts_in script) 0
+  first_within = due_few (starts_in script) 0
 
   abbrev done : List CommandDone
   done = ended.begun.account.done

@@ -1,6 +1,6 @@
 -- The account of the controller's commands in turn, with what the one order of all deeds begins with.
-use Rattle.std.proofs.Common.{◌≡◌, ◌⊎◌, ⊎_elim, ℕ, zero, suc, ◌+◌, ◌<◌, ◌≤◌, Bool, cond, List, [], ◌∷◌, ◌++◌, length, length-append, take, drop, refl, sym, ap, ◌∙◌, subst, append_assoc, append-nil, arith}
-use Rattle.std.specs.Prelude.{slice_get, Some}
+use Rattle.std.proofs.Common.{◌≡◌, ◌⊎◌, ⊎_elim, ℕ, zero, suc, ◌+◌, ◌<◌, ◌≤◌, Bool, true, false, cond, List, [], ◌∷◌, ◌++◌, length, length-append, take, drop, refl, sym, ap, ◌∙◌, subst, append_assoc, append-nil, arith}
+use Rattle.std.specs.Prelude.{slice_get, Some, nat_lt, if◌then◌else◌}
 use Rattle.std.specs.List.{AllByRecursion}
 use Rattle.std.proofs.lemmas.Bool.{cases_eq}
 use Rattle.ebpf_decode.specs.declared.map.MapDef.{MapDef}
@@ -17,6 +17,7 @@ use Rattle.shards.specs.Passes.{PassView}
 use Rattle.control.specs.declared.command.Command.{Command}
 use Rattle.control.specs.Controlling.{ControllerState}
 use Rattle.actors.specs.declared.outcome.Applied.{Applied}
+use Rattle.actors.specs.Actors.{due_to}
 use Rattle.actors.specs.Commands.{CommandDone, HasEffect, IsScriptAccount}
 use Rattle.actors.specs.Parts.{first_commands, first_deeds}
 use Rattle.actors.specs.SharedUpdates.{UpdatesView}
@@ -26,15 +27,15 @@ use Rattle.replay.proofs.TurnDeeds.{IsMoreBy, is_own}
 -- ---- the first commands of several
 
 pub take_less : {A : Type 0} (n : ℕ) (xs ys : List A) → n ≤ length xs → take n (xs ++ ys) ≡ take n xs
-take_less zero xs ys few = refl
-take_less (suc n) [] ys few = absurd (omega (arith, few))
-take_less (suc n) (x ∷ xs) ys few = ap (λ (list : List _). x ∷ list) (take_less n xs ys (omega (arith, few)))
+take_less {A} zero xs ys few = refl
+take_less {A} (suc n) [] ys few = absurd (omega (arith, few))
+take_less {A} (suc n) (x ∷ xs) ys few = ap (λ (list : List A). x ∷ list) (take_less n xs ys (omega (arith, few)))
 
 pub take_whole : {A : Type 0} (n : ℕ) (xs : List A) → n ≡ length xs → take n xs ≡ xs
-take_whole zero [] is = refl
-take_whole zero (x ∷ xs) is = absurd (omega (arith, is))
-take_whole (suc n) [] is = absurd (omega (arith, is))
-take_whole (suc n) (x ∷ xs) is = ap (λ (list : List _). x ∷ list) (take_whole n xs (omega (arith, is)))
+take_whole {A} zero [] is = refl
+take_whole {A} zero (x ∷ xs) is = absurd (omega (arith, is))
+take_whole {A} (suc n) [] is = absurd (omega (arith, is))
+take_whole {A} (suc n) (x ∷ xs) is = ap (λ (list : List A). x ∷ list) (take_whole n xs (omega (arith, is)))
 
 pub take_count : {A : Type 0} (n : ℕ) (xs : List A) → n ≤ length xs → length (take n xs) ≡ n
 take_count zero xs few = refl
@@ -42,9 +43,18 @@ take_count (suc n) [] few = absurd (omega (arith, few))
 take_count (suc n) (x ∷ xs) few = ap suc (take_count n xs (omega (arith, few)))
 
 pub take_and_drop : {A : Type 0} (n : ℕ) (xs : List A) → xs ≡ take n xs ++ drop n xs
-take_and_drop zero xs = refl
-take_and_drop (suc n) [] = refl
-take_and_drop (suc n) (x ∷ xs) = ap (λ (list : List _). x ∷ list) (take_and_drop n xs)
+take_and_drop {A} zero xs = refl
+take_and_drop {A} (suc n) [] = refl
+take_and_drop {A} (suc n) (x ∷ xs) = ap (λ (list : List A). x ∷ list) (take_and_drop n xs)
+
+-- no more are due than there are
+pub due_few : (starts : List ℕ) (number : ℕ) → due_to starts number ≤ length starts
+due_few [] number = omega arith
+due_few (start ∷ later) number = by_test (nat_lt number start) (due_few later number)
+  where
+    by_test : (early : Bool) → due_to later number ≤ length later → (if early then 0 else suc (due_to later number)) ≤ length (start ∷ later)
+    by_test true rest = omega arith
+    by_test false rest = omega (arith, rest)
 
 -- ---- deeds of the controller alone
 
