@@ -1,5 +1,5 @@
 -- The controller's part and the reclaimer's.
-use Rattle.std.proofs.Common.{◌≡◌, ℕ, zero, suc, ◌+◌, ◌*◌, ◌<◌, ◌≤◌, Bool, List, [], ◌∷◌, ◌++◌, length, take, length-append, refl, sym, ap, ◌∙◌, subst, arith}
+use Rattle.std.proofs.Common.{◌≡◌, ℕ, zero, suc, ◌+◌, ◌*◌, ◌<◌, ◌≤◌, Bool, true, false, nat_lt, List, [], ◌∷◌, ◌++◌, length, take, length-append, refl, sym, ap, ◌∙◌, subst, arith}
 use Rattle.std.specs.Prelude.{Option, Some, None, IfSome, IsTrue, is_some, slice_get, map, replicate, reverse, slice_index, if◌then◌else◌}
 use Rattle.std.proofs.lemmas.Bool.Decides.{nat_tests}
 use Rattle.std.proofs.lemmas.Option.{slice_get_within}
@@ -179,9 +179,13 @@ due_is : (starts : List ℕ) (end : ℕ) → end ≤ length starts → ((place :
     (end < length starts → 0 < slice_index starts end) → due_to starts 0 ≡ end
 due_is [] end within due early = omega (arith, within)
 due_is (start ∷ later) zero within due early =
-    ap (λ (test : Bool). if test then 0 else suc (due_to later 0)) (let some = early (omega arith) in grind (arith, nat_tests, some))
+    let some : 0 < start = early (omega arith) in
+    let is : nat_lt 0 start ≡ true = grind (arith, nat_tests, some) in
+    ap (λ (test : Bool). if test then 0 else suc (due_to later 0)) is
 due_is (start ∷ later) (suc end) within due early =
-    ap (λ (test : Bool). if test then 0 else suc (due_to later 0)) (let none = due 0 (omega arith) in grind (arith, nat_tests, none))
+    let none : start ≤ 0 = due 0 (omega arith) in
+    let is : nat_lt 0 start ≡ false = grind (arith, nat_tests, none) in
+    ap (λ (test : Bool). if test then 0 else suc (due_to later 0)) is
     ∙ ap suc (due_is later end (omega (arith, within)) (λ place below. due (suc place) (omega (arith, below))) (λ below. early (omega (arith, below))))
 
 pub begun_with : (plan : ℕ → ShardPlan) (maps : List MapDef) (options : Options) (updates : List MapUpdate) (script : List Command) (start : CommanderView)
