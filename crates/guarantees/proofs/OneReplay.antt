@@ -171,10 +171,11 @@ no_share frames workers worker (suc count) some past =
 
 all_chosen : (test : Deed → Bool) (deeds : List Deed) → AllByRecursion (λ (deed : Deed). test deed ≡ true) (filter test deeds)
 all_chosen test [] = tt
-all_chosen test (deed ∷ deeds) = by_test (test deed) refl where
-  by_test : (is : Bool) → test deed ≡ is → AllByRecursion (λ (one : Deed). test one ≡ true) (cond is (deed ∷ filter test deeds) (filter test deeds))
-  by_test true is = (is, all_chosen test deeds)
-  by_test false is = all_chosen test deeds
+all_chosen test (deed ∷ deeds) = by_test (test deed) refl (all_chosen test deeds) where
+  by_test : (is : Bool) → test deed ≡ is → AllByRecursion (λ (one : Deed). test one ≡ true) (filter test deeds) →
+      AllByRecursion (λ (one : Deed). test one ≡ true) (cond is (deed ∷ filter test deeds) (filter test deeds))
+  by_test true is rest = (is, rest)
+  by_test false is rest = rest
 
 all_left : (P : Deed → Type 0) (first later : List Deed) → AllByRecursion P (first ++ later) → AllByRecursion P first
 all_left P [] later all = tt

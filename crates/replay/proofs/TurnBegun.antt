@@ -21,7 +21,7 @@ use Rattle.actors.specs.Actors.{due_to}
 use Rattle.actors.specs.Commands.{CommandDone, HasEffect, IsScriptAccount}
 use Rattle.actors.specs.Parts.{first_commands, first_deeds}
 use Rattle.actors.specs.SharedUpdates.{UpdatesView}
-use Rattle.actors.proofs.shared.CommandAccounts.{account_more}
+use Rattle.actors.proofs.shared.CommandAccounts.{account_more, account_done}
 use Rattle.replay.proofs.TurnDeeds.{IsMoreBy, is_own}
 
 -- ---- the first commands of several
@@ -107,22 +107,23 @@ pub begun_more : (plan : ℕ → ShardPlan) (updates : List MapUpdate) (script :
     HasEffect plan state command.action last.fault state' before after → length was.account.done ≡ next → IsMoreBy Controller order order' →
     (next < first_commands script → AreControllers order') → after.pass.deeds ≡ deeds_of (ByCaller Controller) order' →
     IsBegunAccount plan after.maps after.options updates script size (noted ++ last ∷ []) state' after.pass (next + 1) order'
-unfolding account_more
 begun_more plan updates script size noted state state' before after command last next order order' was known effect many more alone did =
     let account : IsScriptAccount plan after.maps after.options updates script size (noted ++ last ∷ []) state' after.pass =
     account_more plan updates script size noted state state' before after command last was.account known effect in
+    let is : account.done ≡ was.account.done ++ effect.one ∷ [] =
+    account_done plan updates script size noted state state' before after command last was.account known effect in
     let n : ℕ = first_commands script in record {
       account = account;
       late = λ up. ⊎_elim
           (λ (now : n ≡ next + 1). begins_now plan after.maps after.options updates script size (noted ++ last ∷ []) state' after.pass order' account
-          (let long = length-append was.account.done (effect.one ∷ []) in omega (arith, now, many, long)) (alone (omega (arith, now))) did)
+          (let long = ap (λ (done : List CommandDone). length done) is ∙ length-append was.account.done (effect.one ∷ []) in omega (arith, now, many, long)) (alone (omega (arith, now))) did)
           (λ earlier.
           let few : n ≤ next = omega (arith, earlier, up) in
           subst (λ (first : List Deed). AreFirst first order')
           (ap (λ (m : List MapDef). first_deeds m before.options updates (take n was.account.done)) (sym effect.moved.maps)
           ∙ ap (λ (o : Options). first_deeds after.maps o updates (take n was.account.done)) (sym effect.moved.options)
           ∙ ap (λ (done : List CommandDone). first_deeds after.maps after.options updates done)
-          (sym (take_less n was.account.done (effect.one ∷ []) (omega (arith, few, many)))))
+          (sym (ap (λ (done : List CommandDone). take n done) is ∙ take_less n was.account.done (effect.one ∷ []) (omega (arith, few, many)))))
           (grown_first Controller (first_deeds before.maps before.options updates (take n was.account.done)) order order' more (was.late few)))
           (cases_eq n (next + 1));
     }

@@ -47,18 +47,18 @@ belongs_to deed place is = ap (λ (who : Caller). is_caller who (caller_of_deed 
 only_controllers : (callers : ℕ) (all : List Deed) → AreByCallers callers all →
     ((place : ℕ) → 0 < place → place < callers → deeds_of (ByCaller (caller_at place)) all ≡ []) → deeds_of (ByCaller Controller) all ≡ all
 only_controllers callers [] by none = refl
-only_controllers callers (deed ∷ earlier) by none = first (caller_place (caller_of_deed deed)) refl where
-  rest : deeds_of (ByCaller Controller) earlier ≡ earlier
-  rest = only_controllers callers earlier by.1
-      (λ place some below. (none_earlier (ByCaller (caller_at place)) deed earlier (is_deed_of (ByCaller (caller_at place)) deed) refl (none place some below)).1)
-
-  first : (place : ℕ) → caller_place (caller_of_deed deed) ≡ place → deeds_of (ByCaller Controller) (deed ∷ earlier) ≡ deed ∷ earlier
-  first zero is =
-      ap (λ (mine : Bool). cond mine (deed ∷ deeds_of (ByCaller Controller) earlier) (deeds_of (ByCaller Controller) earlier)) (belongs_to deed 0 is)
-      ∙ ap (λ (l : List Deed). deed ∷ l) rest
-  first (suc k) is =
-      let below : suc k < callers = (let within = by.0 in omega (arith, within, is)) in
-      absurd (true≢false (none_earlier (ByCaller (caller_at (suc k))) deed earlier true (belongs_to deed (suc k) is) (none (suc k) (omega arith) below)).0)
+only_controllers callers (deed ∷ earlier) by none =
+    first (caller_place (caller_of_deed deed)) refl (only_controllers callers earlier by.1
+    (λ place past below. (none_earlier (ByCaller (caller_at place)) deed earlier (is_deed_of (ByCaller (caller_at place)) deed) refl (none place past below)).1))
+  where
+    first : (place : ℕ) → caller_place (caller_of_deed deed) ≡ place → deeds_of (ByCaller Controller) earlier ≡ earlier →
+        deeds_of (ByCaller Controller) (deed ∷ earlier) ≡ deed ∷ earlier
+    first zero is rest =
+        ap (λ (mine : Bool). cond mine (deed ∷ deeds_of (ByCaller Controller) earlier) (deeds_of (ByCaller Controller) earlier)) (belongs_to deed 0 is)
+        ∙ ap (λ (l : List Deed). deed ∷ l) rest
+    first (suc k) is rest =
+        let below : suc k < callers = (let within = by.0 in omega (arith, within, is)) in
+        absurd (true≢false (none_earlier (ByCaller (caller_at (suc k))) deed earlier true (belongs_to deed (suc k) is) (none (suc k) (omega arith) below)).0)
 
 -- ---- the accounts of all callers
 
@@ -74,10 +74,10 @@ down_controller callers owner all id (suc count) deeds are = down_controller cal
 
 down_others : (callers : ℕ) (owner : ℕ → ℕ) (all : List Deed) (id count : ℕ) (deeds : List Deed) → AreAccounts callers owner all id (callers_down count deeds) →
     (place : ℕ) → 0 < place → place ≤ count → deeds_of (ByCaller (caller_at place)) all ≡ []
-down_others callers owner all id zero deeds are place some few = absurd (omega (arith, some, few))
-down_others callers owner all id (suc count) deeds are place some few = ⊎_elim
+down_others callers owner all id zero deeds are place past few = absurd (omega (arith, past, few))
+down_others callers owner all id (suc count) deeds are place past few = ⊎_elim
     (λ (here : place ≡ suc count). ap (λ (n : ℕ). deeds_of (ByCaller (caller_at n)) all) here ∙ sym are.0.kept)
-    (λ (apart : place ≢ suc count). down_others callers owner all id count deeds are.1 place some (omega (arith, few, apart)))
+    (λ (apart : place ≢ suc count). down_others callers owner all id count deeds are.1 place past (omega (arith, few, apart)))
     (same_or_other place (suc count))
 
 sees : {S : Type 0} (plans : List ShardPlan) (callers id word count : ℕ) (deeds : List Deed) → callers ≡ suc count → (s : State S (List Account)) →
@@ -87,7 +87,7 @@ sees : {S : Type 0} (plans : List ShardPlan) (callers id word count : ℕ) (deed
 sees plans callers id word count deeds many s h at =
     let are = h.fits id (callers_down count deeds) at in
     let whole : h.all ≡ last_deeds (callers_down count deeds) =
-    sym (only_controllers callers h.all h.by (λ place some below. down_others callers h.owner h.all id count deeds are place some (omega (arith, below, many))))
+    sym (only_controllers callers h.all h.by (λ place past below. down_others callers h.owner h.all id count deeds are place past (omega (arith, below, many))))
     ∙ sym (down_controller callers h.owner h.all id count deeds are) ∙ sym (last_down count deeds) in record {
       all = h.all;
       owner = h.owner;
@@ -102,7 +102,7 @@ pub sees_first : {S : Type 0} (plans : List ShardPlan) (callers slots id word : 
 sees_first {S} plans callers slots id word me count deeds is many =
     subst (λ (m : Me S (List Account)). Allows {S = S} (IsOrderRuleKept plans callers) slots id m word (λ n. n) (λ n w. SeesFirst m w)) (sym is)
     (λ s h l at fits.
-    (account AtFirst (last_deeds (callers_down count deeds)) ∷ callers_down count deeds, keeps, tt, sees {S} plans callers id word count deeds many s h at, refl))
+    (account AtFirst (last_deeds (callers_down count deeds)) ∷ callers_down count deeds, keeps, tt, sees {S = S} plans callers id word count deeds many s h at, refl))
 
 -- the seat, and what it learned
 pub after_look : {S : Type 0} (before after : Me S (List Account)) (count : ℕ) (deeds : List Deed) → before ≡ (callers_down count deeds, []) → SeesFirst before after →
@@ -115,14 +115,15 @@ after_look {S} before after count deeds is saw =
 
 pub taken_more : {S : Type 0} (place : ℕ) (deeds : List Deed) (before after other : Me S (List Account)) → 0 < place → HasAllOf place deeds before →
     after ≡ (with_first before.0 other.0, before.1) → other.0 ≡ account (ByCaller (caller_at place)) [] ∷ [] → HasAllOf (place + 1) deeds after
-taken_more zero deeds before after other some was both there others is = absurd (omega (arith, some))
-taken_more {S} (suc count) deeds before after other some was both there others is =
+taken_more zero deeds before after other past was both there others is = absurd (omega (arith, past))
+taken_more {S} (suc count) deeds before after other past was both there others is =
+    let same : suc count ≡ others = omega (arith, is) in
     both ∙ ap (λ (m : Me S (List Account)). (with_first m.0 other.0, m.1)) (was count refl)
     ∙ ap (λ (l : List Account). (with_first (callers_down count deeds) l, [])) there
-    ∙ ap (λ (n : ℕ). (callers_down n deeds, [])) (omega (arith, is))
+    ∙ ap (λ (n : ℕ). (callers_down n deeds, [])) same
 
 -- and one after the other is dealt again: N are left
-pub IsLeftOf : {S : Type 0} → ℕ → ℕ → List Deed → Me S (List Account) → Type 0
+abbrev pub IsLeftOf : {S : Type 0} → ℕ → ℕ → List Deed → Me S (List Account) → Type 0
 IsLeftOf callers done deeds me = (others : ℕ) → callers ≡ others + done → me ≡ (callers_down others deeds, [])
 
 -- ---- the places
@@ -148,8 +149,8 @@ place_dealt table callers done places place badge there within fresh were k late
 pub waits_there : (table : TableId) (callers : ℕ) (old now : List (Badge (List Account))) (place : ℕ) (badge taken : Badge (List Account)) → AreWaiting table callers old →
     order_place_at now place ≡ order_place_at old place → 0 < place → place < callers → place < length now → badge ≡ slice_index_or now place badge → taken ≡ badge →
     IsFresh table (ByCaller (caller_at place)) taken
-waits_there table callers old now place badge taken waiting same some below within found took =
-    subst (IsFresh table (ByCaller (caller_at place))) (sym (took ∙ found ∙ or_within now badge no_order_place place within ∙ same)) (waiting place some below).1
+waits_there table callers old now place badge taken waiting same past below within found took =
+    subst (IsFresh table (ByCaller (caller_at place))) (sym (took ∙ found ∙ or_within now badge no_order_place place within ∙ same)) (waiting place past below).1
 
 pub seat_from : {S : Type 0} (table : TableId) (part : OrderPart) (badge : Badge (List Account)) (seat : Seat S (List Account)) → IsFresh table part badge →
     seat.table_id ≡ badge.table_id → badge.views ≡ seat.me.0 ∷ [] → seat.me.1 ≡ [] → IsSeatFor table part seat × (seat.me.0 ≡ account part [] ∷ [])
@@ -194,10 +195,10 @@ module _ (callers : ℕ) (dealt : List Bool) (alone : dealt ≡ slice_set (repli
   alone_count = ap (λ (l : List Bool). length l) alone ∙ set_count (replicate callers false) 0 true ∙ length-replicate callers false
 
   behind_first : (place : ℕ) → 0 < place → is_dealt_at dealt place ≡ is_dealt_at (replicate callers false) place
-  behind_first place some = ap (λ (l : List Bool). is_dealt_at l place) alone ∙ or_set_else (replicate callers false) 0 place true true (λ here. omega (arith, here, some))
+  behind_first place past = ap (λ (l : List Bool). is_dealt_at l place) alone ∙ or_set_else (replicate callers false) 0 place true true (λ here. omega (arith, here, past))
 
   pub alone_waiting : (order : TableId) (places : List (Badge (List Account))) → AreAtOrder order dealt places → AreWaiting order callers places
-  alone_waiting order places at place some below = at place (behind_first place some ∙ waits_still callers place below)
+  alone_waiting order places at place past below = at place (behind_first place past ∙ waits_still callers place below)
 
   pub alone_at_order : (order : TableId) (places : List (Badge (List Account))) → AreWaiting order callers places → AreAtOrder order dealt places
   alone_at_order order places waiting zero waits =

@@ -97,6 +97,7 @@ pub one_order_behind : (plan : ℕ → ShardPlan) (count : ℕ) (plans : List Sh
     IsEnd plans (account AtFirst first ∷ accounts) → length plans ≡ count → ((number : ℕ) → number < count → plan_in plans number ≡ plan number) →
     ((number : ℕ) → number < count → HasShard number (entries_at journals number) accounts) →
     ((place : ℕ) → place < length passes → IsOneOfAccounts (account_of (pass_at passes place)) accounts) → IsOneOrderBehind plan count first journals passes
+unfolding one_order
 one_order_behind plan count plans journals passes first accounts end sized alike shards callers = record {
   one = one_order plan count plans journals passes accounts (record { all = end.all; within = end.within; met = end.met; each = λ one has. end.each one (inr has) })
       sized alike shards callers;

@@ -153,13 +153,13 @@ deals_beginning plans callers id deeds v s h at =
 
 deals_part : {S : Type 0} (plans : List ShardPlan) (callers id : ℕ) (part : OrderPart) (deeds : List Deed) (v : List Account) → AreOther (part_code part) v →
     Splits {S = S} (IsOrderRuleKept plans callers) id (account part deeds ∷ v) v (account part deeds ∷ [])
-deals_part {S} plans callers id (OnShard number) deeds v apart = deals_numbered {S} plans callers id (OnShard number) deeds v (shard_numbered number) apart
-deals_part {S} plans callers id (ByCaller who) deeds v apart = deals_numbered {S} plans callers id (ByCaller who) deeds v (caller_numbered who) apart
-deals_part {S} plans callers id AtFirst deeds v apart = deals_beginning {S} plans callers id deeds v
+deals_part {S} plans callers id (OnShard number) deeds v apart = deals_numbered {S = S} plans callers id (OnShard number) deeds v (shard_numbered number) apart
+deals_part {S} plans callers id (ByCaller who) deeds v apart = deals_numbered {S = S} plans callers id (ByCaller who) deeds v (caller_numbered who) apart
+deals_part {S} plans callers id AtFirst deeds v apart = deals_beginning {S = S} plans callers id deeds v
 
 pub deals_first : {S : Type 0} (plans : List ShardPlan) (callers id : ℕ) (one : Account) (v : List Account) → AreOther (part_code one.part) v →
     Splits {S = S} (IsOrderRuleKept plans callers) id (one ∷ v) v (one ∷ [])
-deals_first {S} plans callers id one v apart = deals_part {S} plans callers id one.part one.deeds v apart
+deals_first {S} plans callers id one v apart = deals_part {S = S} plans callers id one.part one.deeds v apart
 
 -- a seat with nothing comes
 pub order_comes : {S : Type 0} (plans : List ShardPlan) (callers slots : ℕ) →
@@ -236,13 +236,13 @@ takes_beginning plans callers id v other deeds s h at apart there =
 
 takes_part : {S : Type 0} (plans : List ShardPlan) (callers id : ℕ) (v : List Account) (other : ℕ) (part : OrderPart) (deeds : List Deed) →
     Joins {S = S} (IsOrderRuleKept plans callers) id v other (account part deeds ∷ []) (account part deeds ∷ v) []
-takes_part {S} plans callers id v other (OnShard number) deeds = takes_numbered {S} plans callers id v other (OnShard number) deeds (shard_numbered number)
-takes_part {S} plans callers id v other (ByCaller who) deeds = takes_numbered {S} plans callers id v other (ByCaller who) deeds (caller_numbered who)
-takes_part {S} plans callers id v other AtFirst deeds = takes_beginning {S} plans callers id v other deeds
+takes_part {S} plans callers id v other (OnShard number) deeds = takes_numbered {S = S} plans callers id v other (OnShard number) deeds (shard_numbered number)
+takes_part {S} plans callers id v other (ByCaller who) deeds = takes_numbered {S = S} plans callers id v other (ByCaller who) deeds (caller_numbered who)
+takes_part {S} plans callers id v other AtFirst deeds = takes_beginning {S = S} plans callers id v other deeds
 
 pub takes_first : {S : Type 0} (plans : List ShardPlan) (callers id : ℕ) (v : List Account) (other : ℕ) (one : Account) →
     Joins {S = S} (IsOrderRuleKept plans callers) id v other (one ∷ []) (one ∷ v) []
-takes_first {S} plans callers id v other one = takes_part {S} plans callers id v other one.part one.deeds
+takes_first {S} plans callers id v other one = takes_part {S = S} plans callers id v other one.part one.deeds
 
 -- ---- a deed more
 
@@ -325,12 +325,12 @@ adds_deed plans callers slots id word deed there by below met s h at =
 pub takes_one : {S : Type 0} (plans : List ShardPlan) (callers id : ℕ) (v : List Account) (other : ℕ) (w : List Account) (one : Account) → w ≡ one ∷ [] →
     Joins {S = S} (IsOrderRuleKept plans callers) id v other w (with_first v w) []
 takes_one {S} plans callers id v other w one is =
-    subst (λ (u : List Account). Joins {S = S} (IsOrderRuleKept plans callers) id v other u (with_first v u) []) (sym is) (takes_first {S} plans callers id v other one)
+    subst (λ (u : List Account). Joins {S = S} (IsOrderRuleKept plans callers) id v other u (with_first v u) []) (sym is) (takes_first {S = S} plans callers id v other one)
 
 pub deals_one : {S : Type 0} (plans : List ShardPlan) (callers id : ℕ) (accounts : List Account) (one : Account) (v : List Account) → accounts ≡ one ∷ v → AreOther (part_code one.part) v →
     Splits {S = S} (IsOrderRuleKept plans callers) id accounts (all_others accounts) (first_alone accounts)
 deals_one {S} plans callers id accounts one v is apart =
-    subst (λ (u : List Account). Splits {S = S} (IsOrderRuleKept plans callers) id u (all_others u) (first_alone u)) (sym is) (deals_first {S} plans callers id one v apart)
+    subst (λ (u : List Account). Splits {S = S} (IsOrderRuleKept plans callers) id u (all_others u) (first_alone u)) (sym is) (deals_first {S = S} plans callers id one v apart)
 
 -- the accounts of a shard and of a caller, where the caller does something there
 abbrev pub the_two : Deed → List Deed → List Deed → List Account

@@ -159,6 +159,14 @@ commander_more plan updates script noted noted' state state' before after comman
 
 -- ---- an account that goes on from another
 
+pub account_done : (plan : ℕ → ShardPlan) (updates : List MapUpdate) (script : List Command) (size : ℕ) (noted : List Applied) (state state' : ControllerState)
+    (before after : UpdatesView) (command : Command) (last : Applied) →
+    (account : IsScriptAccount plan before.maps before.options updates script size noted state before.pass) → (known : slice_get script last.command ≡ Some command) →
+    (effect : HasEffect plan state command.action last.fault state' before after) →
+    (account_more plan updates script size noted state state' before after command last account known effect).done ≡ account.done ++ effect.one ∷ []
+unfolding account_more
+account_done plan updates script size noted state state' before after command last account known effect = refl
+
 account_behind : (plan : ℕ → ShardPlan) (updates : List MapUpdate) (script : List Command) (size : ℕ) (noted : List Applied) (state state' : ControllerState)
     (before after : UpdatesView) (command : Command) (last : Applied) →
     (account : IsScriptAccount plan before.maps before.options updates script size noted state before.pass) → slice_get script last.command ≡ Some command →

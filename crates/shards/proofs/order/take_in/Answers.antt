@@ -13,7 +13,7 @@ places-init c = record {
   few = (let some = c.requires.some in omega (arith, some));
   table_is = c.requires.seat.0;
   counted = refl;
-  has = λ others is. c.requires.seat.1 ∙ ap (λ (n : ℕ). (callers_down n (account_deeds c.args.seat.now.me.0), [])) (omega (arith, is));
+  has = λ others is. let same : 0 ≡ others = omega (arith, is) in c.requires.seat.1 ∙ ap (λ (n : ℕ). (callers_down n (account_deeds c.args.seat.now.me.0), [])) same;
   left = λ k later. refl;
 }
 
