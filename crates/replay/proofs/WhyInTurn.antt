@@ -49,11 +49,7 @@ entries_append (MetFull who call ∷ first) second = entries_append first second
 
 made_append : (number : ℕ) (first second : List Deed) → made_on number (first ++ second) ≡ made_on number first ++ made_on number second
 made_append number first second =
-    ap (λ (entries : List Entry). filter_on number entries) (entries_append first second)
-    ∙ filter-append (is_of_shard number) (entries_made first) (entries_made second)
-  where
-    filter_on : ℕ → List Entry → List Entry
-    filter_on n entries = filter (is_of_shard n) entries
+    ap (filter (is_of_shard number)) (entries_append first second) ∙ filter-append (is_of_shard number) (entries_made first) (entries_made second)
 
 legal_earlier : (plan : ShardPlan) (later earlier : List Entry) → IsLegalHistory plan (later ++ earlier) → IsLegalHistory plan earlier
 legal_earlier plan [] earlier is = is
@@ -66,7 +62,7 @@ met_earlier plan (deed ∷ later) earlier met = met_earlier plan later earlier m
 first_less : (deed : Deed) (deeds whole : List Deed) → AreFirst (deed ∷ deeds) whole → AreFirst deeds whole
 first_less deed deeds whole first = (first.0 ++ deed ∷ [], first.1 ∙ sym (append_assoc first.0 (deed ∷ []) deeds))
 
-answer_of : ℤ → Reply → ℤ
+abbrev answer_of : ℤ → Reply → ℤ
 answer_of none (Answer answer) = answer
 answer_of none reply = none
 
@@ -92,7 +88,7 @@ module _ (plan : ℕ → ShardPlan) (maps : List MapDef) (options : Options) (co
   there deeds number (suc left) (suc k) below = there deeds (suc number) left k (omega (arith, below)) ∙ ap (λ (n : ℕ). Some (shard_with deeds n)) (omega arith)
 
   there_at : (deeds : List Deed) (k : ℕ) → k < count → slice_get (shards_from deeds 0 count) k ≡ Some (shard_with deeds k)
-  there_at deeds k below = there deeds 0 count k below
+  there_at deeds k below = there deeds 0 count k below ∙ ap (λ (n : ℕ). Some (shard_with deeds n)) (omega arith)
 
   many : (deeds : List Deed) (number left : ℕ) → length (shards_from deeds number left) ≡ left
   many deeds number zero = refl
@@ -128,6 +124,11 @@ module _ (plan : ℕ → ShardPlan) (maps : List MapDef) (options : Options) (co
       ∷ one_more entry deeds (suc number) left k (omega (arith, below)) (omega (arith, at)) i)
       ∙ ap (λ (n : ℕ). shard_with deeds number ∷ slice_set (shards_from deeds (suc number) left) k (with_entry (shard_with deeds n) entry)) (omega arith)
 
+  one_more_at : (entry : Entry) (deeds : List Deed) (k : ℕ) → k < count → shard_of_call entry.call ≡ k →
+      shards_from (Wrote entry ∷ deeds) 0 count ≡ slice_set (shards_from deeds 0 count) k (with_entry (shard_with deeds k) entry)
+  one_more_at entry deeds k below at = one_more entry deeds 0 count k below (omega (arith, at))
+      ∙ ap (λ (n : ℕ). slice_set (shards_from deeds 0 count) k (with_entry (shard_with deeds n) entry)) (omega arith)
+
   -- ---- in a whole whose histories are legal, and in which each look at a full journal met one
 
   module _ (whole : List Deed) (legal : (number : ℕ) → number < count → IsLegalHistory (plan number) (made_on number whole)) (met : AreMet plan whole) where
@@ -149,7 +150,7 @@ module _ (plan : ℕ → ShardPlan) (maps : List MapDef) (options : Options) (co
         ap (λ (m : List MapDef). slice_get m update.map) (sym same_maps) ∙ made.of_map ∙ ap (λ (n : ℕ). Some (plan n).definition) at in
         let below : number < count = subst (λ (n : ℕ). number < n) (sym plans.count_is)
         (within_of maps update.map options.shards update.key (slice_get maps update.map) (some_shards maps options fit) refl
-        (subst (λ (found : Option MapDef). IsTrue (is_some found)) (sym of_map) tt)) in
+        (subst (λ (found : Option MapDef). IsTrue (is_some found)) (sym of_map) refl)) in
         let entry : Entry = entry_of Controller (update_call number update) (Answer answer) in
         let did : after.pass.deeds ≡ Wrote entry ∷ before.pass.deeds =
         made.did ∙ ap (λ (n : ℕ). Wrote (entry_of Controller (update_call n update) (Answer answer)) ∷ before.pass.deeds) at in
@@ -171,7 +172,7 @@ module _ (plan : ℕ → ShardPlan) (maps : List MapDef) (options : Options) (co
                 (subst (IsLegalHistory (plan number))
                 (sym (ap (λ (list : List Entry). reverse list) (sym (reverse-cons entry (made_on number before.pass.deeds))) ∙ reverse-reverse (entry ∷ made_on number before.pass.deeds)))
                 grown);
-            written = ap (λ (list : List Deed). shards_from list 0 count) did ∙ one_more entry before.pass.deeds 0 count number below refl
+            written = ap (λ (list : List Deed). shards_from list 0 count) did ∙ one_more_at entry before.pass.deeds number below refl
                 ∙ ap (λ (one : JournaledShard). slice_set (shards_from before.pass.deeds 0 count) number one) named;
           };
           of_map = ∣ of_map ∣₁;
@@ -189,7 +190,7 @@ module _ (plan : ℕ → ShardPlan) (maps : List MapDef) (options : Options) (co
         ap (λ (m : List MapDef). slice_get m update.map) (sym same_maps) ∙ away.of_map ∙ ap (λ (n : ℕ). Some (plan n).definition) at in
         let below : number < count = subst (λ (n : ℕ). number < n) (sym plans.count_is)
         (within_of maps update.map options.shards update.key (slice_get maps update.map) (some_shards maps options fit) refl
-        (subst (λ (found : Option MapDef). IsTrue (is_some found)) (sym of_map) tt)) in
+        (subst (λ (found : Option MapDef). IsTrue (is_some found)) (sym of_map) refl)) in
         let did : after.pass.deeds ≡ MetFull Controller (update_call number update) ∷ before.pass.deeds =
         away.did ∙ ap (λ (n : ℕ). MetFull Controller (update_call n update) ∷ before.pass.deeds) at in
         let full : IsJournalFull (plan number) (made_on number before.pass.deeds) (update_call number update) =
