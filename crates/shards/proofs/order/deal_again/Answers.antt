@@ -61,8 +61,9 @@ places-preserved c =
       counted = set_count c.places.places.items (c.args.callers - done) _ ∙ i.counted;
       has = λ others is. let same : left ≡ others = (let all = more.1 in omega (arith, all, is)) in c.split_seat-one.ensures.2 ∙ ap (λ (m : Me ℕ (List Account)). (all_others m.0, m.1)) was
           ∙ ap (λ (n : ℕ). (callers_down n deeds, [])) same;
-      waiting = place_dealt table c.args.callers done c.places.places.items (c.args.callers - done) _ (omega (arith, below))
-          (let enough = c.requires.callers.1 in let counted = i.counted in let some = i.some in omega (arith, below, enough, counted, some)) fresh i.waiting;
+      waiting = place_dealt table c.args.callers done c.places.places.items (c.args.callers - done) c.replace-blank.new.dest (omega (arith, below))
+          (let enough = c.requires.callers.1 in let counted = i.counted in let some = i.some in omega (arith, below, enough, counted, some))
+          (subst (IsFresh table (ByCaller (caller_at (c.args.callers - done)))) (sym c.replace-blank.ensures.after) fresh) i.waiting;
     }
 
 pub returns-clause-waiting : goal.returns-clause-waiting
