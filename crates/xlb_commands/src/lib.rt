@@ -24,6 +24,7 @@ mod records;
 mod replays;
 mod report;
 mod serving;
+mod share;
 mod shipping;
 mod tables;
 mod timed;
