@@ -134,6 +134,9 @@ script_command = with_rule (with_rule (new_app (codes "script")) (file_rule (cod
 abbrev pub compare_command : App
 compare_command = with_rule (with_rule (new_app (codes "compare")) (file_rule (codes "FIRST"))) (file_rule (codes "SECOND"))
 
+abbrev pub flows_command : App
+flows_command = with_rule (with_rule (new_app (codes "flows")) (file_rule (codes "REPORT"))) (file_rule (codes "SCRIPT"))
+
 -- the name, with `--version`; a command has to be given, and `help` describes the commands
 abbrev pub program_name : App
 program_name =
@@ -149,6 +152,7 @@ program =
     (with_subcommand
     (with_subcommand
     (with_subcommand
+    (with_subcommand
     (with_subcommand (with_subcommand (with_subcommand program_name check_command.top) run_command.top) disasm_command.top)
     asm_command.top)
     audit_command.top)
@@ -157,4 +161,5 @@ program =
     shipped_command.top)
     table_command.top)
     script_command.top)
-    compare_command.top
+    compare_command.top)
+    flows_command.top

@@ -65,6 +65,12 @@ pub enum Settings<'a> {
         first: &'a str,
         second: &'a str,
     },
+    /// Prints what became of each flow of a replay.
+    Flows {
+        /// The report of its records.
+        report: &'a str,
+        script: &'a str,
+    },
     /// Runs the frames of a capture by some workers over shared maps, and writes those that are sent.
     Replay(ReplaySettings<'a>),
 }

@@ -87,6 +87,9 @@ pub const FIRST: &str = "FIRST";
 /// The second of two reports.
 pub const SECOND: &str = "SECOND";
 
+/// A report that was written.
+pub const WRITTEN_REPORT: &str = "REPORT";
+
 /// The switch with which no rows of journals are kept.
 pub const NO_JOURNALS: &str = "no-journals";
 
@@ -297,6 +300,17 @@ records they have, how many of these differ in verdict, case (where both have
 one), backend or address, from what to what and how often, and the first ten of
 them. The status is 0 where none differs, 1 where one does, and 2 where the files
 cannot be compared: one is no CSV, or they are not of the same records."
+}
+
+fn after_flows<'a>() -> &'a str {
+    "\
+REPORT was written by replay --exact --report, of the shipped program, and SCRIPT
+is the script of that replay. Prints a line for each flow with a sent frame:
+when it was seen, how many frames it had, and its backends in order, each with
+the reason of the change: down (the backend before was not up), untracked (the
+service keeps no notes), readdressed (the backend before has another address),
+evicted (it was still up, and the flow's note was gone). The status is 2 where
+REPORT is no report of CSV."
 }
 
 /// A file, or another word, that has to be given.
@@ -739,6 +753,22 @@ fn compare<'a>(alloc: Global) -> Result<Command<'a>, AllocError>
     .arg(second)
 }
 
+fn flows<'a>(alloc: Global) -> Result<Command<'a>, AllocError>
+    ensures app { IfOk result (λ command. app_of command ≡ line.flows_command) }
+    ensures local { IfOk result (λ command. (out-Command command).has_globals ≡ false) }
+{
+    let report = file(alloc, WRITTEN_REPORT, "The file of the replay's report");
+    let script = file(alloc, TABLE_SCRIPT, "The file of the replay's script");
+    command(
+        alloc,
+        "flows",
+        "Prints what became of each flow of a replay",
+        after_flows(),
+    )
+    .arg(report)?
+    .arg(script)
+}
+
 /// The program's commands.
 pub fn program<'a>(alloc: Global) -> Result<Command<'a>, AllocError>
     ensures app { IfOk result (λ command. app_of command ≡ line.program) }
@@ -760,5 +790,6 @@ pub fn program<'a>(alloc: Global) -> Result<Command<'a>, AllocError>
         .subcommand(shipped(alloc)?)?
         .subcommand(table(alloc)?)?
         .subcommand(script(alloc)?)?
-        .subcommand(compare(alloc)?)
+        .subcommand(compare(alloc)?)?
+        .subcommand(flows(alloc)?)
 }

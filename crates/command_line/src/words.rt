@@ -22,7 +22,7 @@ use crate::grammar::{
     ALLOW_CUT, CAPTURE, EXACT, EXPLAIN, FAULT, FIRST, FRAME, IMAGE, JOURNAL, JOURNALS,
     JOURNALS_OUT, LOST, NO_CLOBBER, NO_JOURNALS, NOW, OUT, PAD_CUT, PART, PROGRAM, REPLAY_IMAGE,
     REPORT, RING, SCRIPT, SECOND, SENT, SHARDS, SKIP_LONG, SOURCE, STRICT, SUMMARY, TABLE_SCRIPT,
-    TEXT, TIMED, UPDATE, WORKER, WORKERS, program,
+    TEXT, TIMED, UPDATE, WORKER, WORKERS, WRITTEN_REPORT, program,
 };
 use crate::part_word::{part_losing, part_said};
 use clap::{ArgMatches, Error};
@@ -228,6 +228,9 @@ fn asked_of<'a>(alloc: Global, name: &str, found: &ArgMatches<'a>) -> AskedWords
     }
     if name == "compare" {
         return AskedWords::Command(compare_of(found));
+    }
+    if name == "flows" {
+        return AskedWords::Command(flows_of(found));
     }
     AskedWords::Command(command_of(name, found))
 }
@@ -519,6 +522,16 @@ fn compare_of<'a>(found: &ArgMatches<'a>) -> Settings<'a>
     }
 }
 
+/// The settings of the command that says what became of each flow.
+fn flows_of<'a>(found: &ArgMatches<'a>) -> Settings<'a>
+    ensures { IsReadFrom (codes "flows") (rows_of (found_of found.now)) result }
+{
+    Settings::Flows {
+        report: word(found, WRITTEN_REPORT),
+        script: word(found, TABLE_SCRIPT),
+    }
+}
+
 /// The files of a replay.
 fn replay_files_of<'a>(found: &ArgMatches<'a>) -> ReplayFiles<'a>
     ensures { AreReplayFiles (rows_of (found_of found.now)) result }
@@ -576,6 +589,7 @@ fn command_of<'a>(name: &str, found: &ArgMatches<'a>) -> Settings<'a>
     requires table { IsFalse (bytes_eq name.now (codes "table")) }
     requires script { IsFalse (bytes_eq name.now (codes "script")) }
     requires compare { IsFalse (bytes_eq name.now (codes "compare")) }
+    requires flows { IsFalse (bytes_eq name.now (codes "flows")) }
     ensures { IsReadFrom name.now (rows_of (found_of found.now)) result }
 {
     if name == "check" {

@@ -19,6 +19,7 @@ mod first_path;
 mod images;
 mod in_pieces;
 mod long_records;
+mod looking_back;
 mod one_run;
 mod parts;
 mod programs;

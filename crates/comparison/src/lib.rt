@@ -11,3 +11,5 @@ mod rows;
 
 pub use comparing::{Comparison, compare};
 pub use fault::{Unlike, Which};
+pub use printing::{flow_phrase, flow_pieces};
+pub use rows::{field, fields_from, parts_at, row_at, rows_in};

@@ -19,7 +19,7 @@ fn name_of<'a>(which: Which, first: &'a str, second: &'a str) -> &'a str
 fn json_text(alloc: Global, name: &str) -> Result<String, AllocError>
     ensures { IfOk result (λ text. string_bytes text ≡ json_text name.now) }
 {
-    format!(in alloc; "error: {name} has JSON lines: reports of CSV are compared\n")
+    format!(in alloc; "error: {name} has JSON lines: a report of CSV is read\n")
 }
 
 fn no_report_text(alloc: Global, name: &str, line: usize) -> Result<String, AllocError>

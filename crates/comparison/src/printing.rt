@@ -50,7 +50,7 @@ fn more_line(alloc: Global, count: usize) -> Result<String, AllocError>
 }
 
 /// A flow's protocol, source and destination.
-fn flow_pieces(
+pub fn flow_pieces(
     alloc: Global,
     protocol: &str,
     source: &str,
@@ -65,7 +65,7 @@ fn flow_pieces(
 }
 
 /// The flow of a record.
-fn flow_phrase(alloc: Global, row: &str) -> Result<String, AllocError>
+pub fn flow_phrase(alloc: Global, row: &str) -> Result<String, AllocError>
     ensures { IfOk result (λ text. string_bytes text ≡ flow_phrase row.now) }
 {
     if field(row, 8).len() == 0 {

@@ -40,7 +40,7 @@ pub(crate) fn later_fields(line: &str) -> &str
 }
 
 /// The fields from this one on, counted from 0.
-pub(crate) fn fields_from(line: &str, place: usize) -> &str
+pub fn fields_from(line: &str, place: usize) -> &str
     ensures { result.now ≡ fields_from place line.now }
 {
     let mut rest = line;
@@ -51,14 +51,14 @@ pub(crate) fn fields_from(line: &str, place: usize) -> &str
 }
 
 /// A field, counted from 0.
-pub(crate) fn field(line: &str, place: usize) -> &str
+pub fn field(line: &str, place: usize) -> &str
     ensures { result.now ≡ field place line.now }
 {
     first_field(fields_from(line, place))
 }
 
 /// The parts of a text between marks.
-fn parts_at(alloc: Global, text: &str, mark: char) -> Result<Vec<&str>, AllocError>
+pub fn parts_at(alloc: Global, text: &str, mark: char) -> Result<Vec<&str>, AllocError>
     requires { mark < 128 }
     ensures { IfOk result (λ parts. map (λ part. part.now) parts.items ≡ parts_at mark text.now) }
 {
@@ -77,7 +77,7 @@ fn row_count(lines: &[&str]) -> usize
 }
 
 /// The row at a place, or an empty one.
-pub(crate) fn row_at<'a>(rows: &[&'a str], place: usize) -> &'a str
+pub fn row_at<'a>(rows: &[&'a str], place: usize) -> &'a str
     ensures { result.now ≡ row_at (map (λ row. row.now) rows.now) place }
 {
     match rows.get(place) {
@@ -136,7 +136,7 @@ fn begins_as_json(bytes: &[u8]) -> bool
 }
 
 /// The rows of a report. Refused where the bytes are none, with the first line that shows it, and where memory is refused.
-pub(crate) fn rows_in(alloc: Global, bytes: &[u8], which: Which) -> Result<Vec<&str>, Unlike>
+pub fn rows_in(alloc: Global, bytes: &[u8], which: Which) -> Result<Vec<&str>, Unlike>
     ensures rows { IfOk result (λ rows. IsReport bytes.now (map (λ row. row.now) rows.items)) }
     ensures refused { IfErr result (λ unlike. IsUnread which bytes.now unlike) }
 {

@@ -2,6 +2,7 @@
 
 use crate::asserting::{holds_of, same_text};
 use command_line::{ReplayFiles, ReplaySettings, RunFiles, Settings, WordsFault, settings};
+use fleet::Part;
 use map_updates::MapUpdate;
 use semantics::Options;
 use std::alloc::{AllocError, Global};
@@ -32,6 +33,7 @@ fn shown(rt: &impl Abort, alloc: Global, settings: Settings<'_>) -> Result<Strin
         Settings::Table { script, ring } => format!(in alloc; "table {script} {ring}"),
         Settings::Script { capture, timed } => format!(in alloc; "script {capture} {timed}"),
         Settings::Compare { first, second } => format!(in alloc; "compare {first} {second}"),
+        Settings::Flows { report, script } => format!(in alloc; "flows {report} {script}"),
         Settings::Replay(asked) => {
             let mut text = replay_shown(rt, alloc, asked.files, asked.options, asked.ring);
             put_flags(rt, &mut text, &asked);
@@ -62,6 +64,16 @@ fn put_flags(rt: &impl Abort, text: &mut String, asked: &ReplaySettings<'_>) {
     put_if(rt, text, asked.no_clobber, " no-clobber");
 }
 
+/// The part that is lost, where one is.
+fn put_loss(rt: &impl Abort, alloc: Global, text: &mut String, part: Part) {
+    if let Some(loss) = part.lost {
+        let number = loss.part;
+        let from = loss.from;
+        let shown = format!(in alloc; " lost {number} at {from}").expect(rt, "memory");
+        text.push_str(shown.as_str()).expect(rt, "memory");
+    }
+}
+
 /// The part of a replay, where one is asked for.
 fn put_part(rt: &impl Abort, alloc: Global, text: &mut String, asked: &ReplaySettings<'_>) {
     if let Some(part) = asked.part {
@@ -69,6 +81,7 @@ fn put_part(rt: &impl Abort, alloc: Global, text: &mut String, asked: &ReplaySet
         let of = part.of;
         let shown = format!(in alloc; " part {number} of {of}").expect(rt, "memory");
         text.push_str(shown.as_str()).expect(rt, "memory");
+        put_loss(rt, alloc, text, part);
     }
 }
 
@@ -133,7 +146,7 @@ fn replay_shown(
 }
 
 #[rattlefmt::skip]
-const READ: [(&str, &str); 53] = [
+const READ: [(&str, &str); 57] = [
     ("xlb check a",                             "check a false"),
     ("xlb check --explain a",                   "check a true"),
     ("xlb check a --explain",                   "check a true"),
@@ -182,6 +195,10 @@ const READ: [(&str, &str); 53] = [
     ("xlb replay a b --part 0/1",              "replay a b - - 1 1 65536 251 - part 0 of 1"),
     ("xlb replay --part=3/8 a b --exact",      "replay a b - - 1 1 65536 251 - exact part 3 of 8"),
     ("xlb replay a b --part +1/4294967295",    "replay a b - - 1 1 65536 251 - part 1 of 4294967295"),
+    ("xlb replay a b --part 0/2 --lost 1@7",   "replay a b - - 1 1 65536 251 - part 0 of 2 lost 1 at 7"),
+    ("xlb replay --lost=2@+0 a b --part 2/3",  "replay a b - - 1 1 65536 251 - part 2 of 3 lost 2 at 0"),
+    ("xlb replay a b --part 1/2 --lost 0@4294967295", "replay a b - - 1 1 65536 251 - part 1 of 2 lost 0 at 4294967295"),
+    ("xlb flows r s",                          "flows r s"),
     ("xlb script a b",                          "script a b"),
     ("xlb compare a b",                         "compare a b"),
     ("xlb replay a b --no-journals --workers 4", "replay a b - - 4 1 65536 251 - no-journals"),
@@ -212,7 +229,7 @@ fn reads_commands(rt: HostRuntime) {
 
 /// A command line, the status, and what its text begins with.
 #[rattlefmt::skip]
-const REFUSED: [(&str, u8, &str); 69] = [
+const REFUSED: [(&str, u8, &str); 78] = [
     ("xlb",                                     2, "error: 'xlb' requires a subcommand but one was not provided"),
     ("xlb play a b",                            2, "error: unrecognized subcommand 'play'"),
     ("xlb replay a",                            2, "error: the following required arguments were not provided:\n  <SENT>"),
@@ -240,6 +257,15 @@ const REFUSED: [(&str, u8, &str); 69] = [
         "error: update 1: its key has not two hexadecimal digits for each of at most 32 bytes"),
     ("xlb replay a b --part",                   2, "error: a value is required for '--part <K/N>' but none was supplied"),
     ("xlb replay a b --part 0/2 --part 1/2",    2, "error: the argument '--part <K/N>' cannot be used multiple times"),
+    ("xlb replay a b --lost 0@7",               2, "error: the option --lost cannot be used without --part"),
+    ("xlb replay a b --part 0/1 --lost 0@7",    2, "error: --lost takes J@RECORD, where J counts from 0 and is below the N of --part, which is at least 2, and not 0@7"),
+    ("xlb replay a b --part 0/2 --lost 2@7",    2, "error: --lost takes J@RECORD, where J counts from 0 and is below the N of --part, which is at least 2, and not 2@7"),
+    ("xlb replay a b --part 0/2 --lost 1",      2, "error: --lost takes J@RECORD, where J counts from 0 and is below the N of --part, which is at least 2, and not 1"),
+    ("xlb replay a b --part 0/2 --lost @7",     2, "error: --lost takes J@RECORD, where J counts from 0 and is below the N of --part, which is at least 2, and not @7"),
+    ("xlb replay a b --part 0/2 --lost 1@7@8",  2, "error: --lost takes J@RECORD, where J counts from 0 and is below the N of --part, which is at least 2, and not 1@7@8"),
+    ("xlb replay a b --part 0/2 --lost 1@4294967296", 2, "error: --lost takes J@RECORD, where J counts from 0 and is below the N of --part, which is at least 2, and not 1@4294967296"),
+    ("xlb replay a b --part 2/2 --lost 1@7",    2, "error: --part takes K/N, where K counts from 0 and is below N, and not 2/2"),
+    ("xlb flows r",                             2, "error: the following required arguments were not provided:\n  <SCRIPT>"),
     ("xlb help",                                0,
         "Replays captures through eBPF programs; checks, runs, audits, prints and assembles them"),
     ("xlb check",                               2, "error: the following required arguments were not provided:\n  <IMAGE>"),

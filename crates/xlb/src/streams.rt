@@ -112,6 +112,10 @@ pub(crate) fn with_streams<'a>(settings: Settings<'a>) -> Settings<'a> {
             first: read_from(first),
             second: read_from(second),
         },
+        Settings::Flows { report, script } => Settings::Flows {
+            report: read_from(report),
+            script: read_from(script),
+        },
         Settings::Replay(asked) => Settings::Replay(ReplaySettings {
             files: replay_files(asked.files),
             ..asked
@@ -140,6 +144,11 @@ fn inputs_of<'a>(settings: &Settings<'a>) -> [Named<'a>; 3] {
         Settings::Compare { first, second } => [
             ("FIRST", Some(*first)),
             ("SECOND", Some(*second)),
+            NONE,
+        ],
+        Settings::Flows { report, script } => [
+            ("REPORT", Some(*report)),
+            ("SCRIPT", Some(*script)),
             NONE,
         ],
         Settings::Replay(asked) => [

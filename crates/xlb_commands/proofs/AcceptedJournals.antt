@@ -1,12 +1,11 @@
 -- An audit of the journals that a replay wrote blames none of their lines and none of their entries.
-use Rattle.std.proofs.Common.{◌≡◌, ◌∙◌, ◌<◌, ℕ, List, Option, Some, ap, refl, subst, sym, length}
+use Rattle.std.proofs.Common.{◌≡◌, ◌∙◌, ◌<◌, ℕ, List, Some, refl, subst, sym}
 use Rattle.semantics.specs.Program.{Program}
 use Rattle.semantics.specs.declared.options.Options.{Options}
 use Rattle.semantics.specs.declared.plan.ShardPlan.{ShardPlan}
 use Rattle.semantics.specs.ShardPlan.{plan_at}
 use Rattle.semantics.specs.History.{IsLegalJournal}
 use Rattle.ebpf_decode.specs.declared.map.MapDef.{MapDef}
-use Rattle.ebpf_decode.specs.ImageContents.{Contents}
 use Rattle.ebpf_decode.specs.declared.fault.DecodeFault.{DecodeFault}
 use Rattle.folders.specs.declared.folder.FolderFault.{FolderFault}
 use Rattle.wire.specs.declared.records.Sent.{Sent}
@@ -26,7 +25,7 @@ use Rattle.actors.specs.declared.outcome.Outcome.{Outcome}
 use Rattle.xlb_commands.specs.declared.fault.Fault.{Fault}
 use Rattle.xlb_commands.specs.declared.fault.Fault.TheVariants as faults
 use Rattle.xlb_commands.specs.Files.{FileBytes}
-use Rattle.xlb_commands.specs.Refused.{IsAuditRefusal, IsImageRefusal, IsUnserved, no_audited_image, no_journal_bytes, no_journals, not_legal}
+use Rattle.xlb_commands.specs.Refused.{IsImageRefusal, IsUnserved, no_audited_image, no_journal_bytes, no_journals, not_legal}
 use Rattle.xlb_commands.specs.Refused.{no_verdict}
 use Rattle.xlb_commands.specs.Refused.{device_failed, lacks_memory, no_image_bytes, no_image}
 use Rattle.xlb_commands.specs.AcceptedJournals.{AuditsAccept, BlamesNoEntry}

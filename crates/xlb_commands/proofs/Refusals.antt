@@ -1,5 +1,5 @@
 -- What a refusal by a later call says of the files as they were before the earlier ones.
-use Rattle.std.proofs.Common.{◌≡◌, ℕ, Bool, List, Option, Some, None, arith, refl, subst}
+use Rattle.std.proofs.Common.{◌≡◌, ℕ, List, Option, Some, None, arith, refl, subst}
 use Rattle.journals.specs.JournalsView.{JournalsView}
 use Rattle.journals.specs.JournalText.{journals_text}
 use Rattle.traffic.specs.declared.readings.Reading.{Reading}

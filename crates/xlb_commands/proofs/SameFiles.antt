@@ -1,11 +1,10 @@
 -- Outcomes that agree are written alike.
-use Rattle.std.proofs.Common.{◌≡◌, ◌∙◌, ◌++◌, ◌∷◌, ◌+◌, ◌*◌, ℕ, zero, suc, Bool, true, List, [], Option, Some, None, ap, refl, subst, sym, length}
+use Rattle.std.proofs.Common.{◌≡◌, ◌∙◌, ◌++◌, ◌∷◌, ◌+◌, ◌*◌, ℕ, zero, suc, Bool, List, [], Option, Some, None, ap, refl, sym, length}
 use Rattle.std.proofs.lemmas.List.{length-map}
-use Rattle.std.specs.Prelude.{if◌then◌else◌, map, slice_get}
+use Rattle.std.specs.Prelude.{if◌then◌else◌, slice_get}
 use Rattle.wire.specs.declared.records.Sent.{Sent}
 use Rattle.wire.specs.CaptureFormat.{header_bytes}
 use Rattle.control.specs.declared.command.Command.{Command}
-use Rattle.journals.specs.JournalsView.{JournalsView}
 use Rattle.journals.specs.JournalText.{journals_text}
 use Rattle.traffic.specs.Counting.{target_of}
 use Rattle.traffic.specs.RecordLines.{back_text, flow_text, front_text, head_of}

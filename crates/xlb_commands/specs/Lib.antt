@@ -7,6 +7,7 @@ pub mod Replays
 pub mod Tables
 pub mod Timed
 pub mod Comparing
+pub mod LookingBack
 pub mod Results
 pub mod FaultLines
 pub mod Refused

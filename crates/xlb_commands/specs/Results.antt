@@ -44,12 +44,13 @@ use Rattle.xlb_commands.specs.Replays.{AreWritten, IsProgramOf, IsReplayedWhole,
 use Rattle.xlb_commands.specs.Tables.{IsTableShown}
 use Rattle.xlb_commands.specs.Timed.{IsScriptShown}
 use Rattle.xlb_commands.specs.Comparing.{IsComparison, IsUnlikeTold}
+use Rattle.xlb_commands.specs.LookingBack.{AreFlowsShown, AreNoFlows}
 use Rattle.command_line.specs.declared.commands.ReplayFiles.{ReplayFiles}
 use Rattle.command_line.specs.declared.commands.ReplaySettings.{ReplaySettings}
 use Rattle.command_line.specs.declared.commands.RunFiles.{RunFiles}
 use Rattle.command_line.specs.declared.commands.Settings.{Settings}
 use Rattle.command_line.specs.declared.commands.Settings.TheVariants.{Check, Run, Disasm, Audit, Explain, Asm, Shipped, Replay, Table}
-use Rattle.command_line.specs.declared.commands.Settings.TheVariants.{Script, Compare}
+use Rattle.command_line.specs.declared.commands.Settings.TheVariants.{Script, Compare, Flows}
 
 abbrev pub yes_or_no : Bool → List ℕ
 yes_or_no true = codes "yes"
@@ -223,6 +224,7 @@ IsDone before after (Replay asked) printed = IsReplayedWhole before after asked 
 IsDone before after (Table script ring) printed = IsTableShown before script.now ring printed false
 IsDone before after (Script capture timed) printed = IsScriptShown before capture.now timed.now printed
 IsDone before after (Compare first second) printed = IsComparison before first.now second.now printed false
+IsDone before after (Flows report script) printed = AreFlowsShown before report.now script.now printed
 
 -- the command is done except a part that was refused, as the report says: commands of a script; or reports were compared, and differ
 abbrev pub IsDoneInPart : FileBytes → FileBytes → Settings → List ℕ → Type 0
@@ -243,6 +245,7 @@ KeepsFiles before after (Shipped out ring) = AreOthersKept before after out.now
 KeepsFiles before after (Table script ring) = AreKept before after
 KeepsFiles before after (Script capture timed) = AreKept before after
 KeepsFiles before after (Compare first second) = AreKept before after
+KeepsFiles before after (Flows report script) = AreKept before after
 KeepsFiles before after (Replay asked) =
     AreAllButKept before after asked.files.sent.now (text_of asked.files.journals) (text_of asked.files.report)
 
@@ -260,12 +263,13 @@ pub record AreNotesPrinted (before after : Stream) : Type 0 where
   pub are_notes : AreNotes notes
   pub printed : after.failures ≡ before.failures → after.held ≡ append_known before.held notes
 
--- what is written to the error stream after a command's report: of a run, of a replay, of tables and of a timed script such lines, of another
--- command nothing
+-- what is written to the error stream after a command's report: of a run, of a replay, of tables, of a timed script and of flows such lines,
+-- of another command nothing
 abbrev pub IsNoted : Settings → Stream → Stream → Type 0
 IsNoted (Replay asked) before after = AreNotesPrinted before after
 IsNoted (Table script ring) before after = AreNotesPrinted before after
 IsNoted (Script capture timed) before after = AreNotesPrinted before after
+IsNoted (Flows report script) before after = AreNotesPrinted before after
 IsNoted (Run files now worker updates) before after = AreNotesPrinted before after
 IsNoted other before after = after ≡ before
 
@@ -283,9 +287,10 @@ IsMistake before after (Replay asked) place misfit =
     IsMisfitReplay before after asked.files asked.ring asked.updates.items place misfit
 IsMistake before after other place misfit = ⊥
 
--- the command's files cannot be compared, and the text says why; no file changed
+-- the command's files cannot be compared, or its report is none, and the text says why; no file changed
 abbrev pub IsUnlikeSaid : FileBytes → FileBytes → Settings → List ℕ → Type 0
 IsUnlikeSaid before after (Compare first second) text = AreKept before after × IsUnlikeTold before first.now second.now text
+IsUnlikeSaid before after (Flows report script) text = AreKept before after × AreNoFlows before report.now text
 IsUnlikeSaid before after other text = ⊥
 
 -- what a command comes to that is not refused: it was done, whole or in part, or its words are mistaken

@@ -1,6 +1,6 @@
 //! What each command does with its files.
 
-ghost use Rattle.std.specs.Prelude.{◌≡◌, ◌↔◌, ◌+◌, ◌-◌, ◌%◌, ◌<◌, ◌≤◌, ◌^◌, ◌==◌};
+ghost use Rattle.std.specs.Prelude.{◌≡◌, ◌+◌, ◌-◌, ◌%◌, ◌<◌, ◌≤◌, ◌^◌, ◌==◌};
 ghost use Rattle.std.specs.Prelude.{ℕ, [], List, false, length, string_bytes};
 ghost use Rattle.std.specs.Prelude.{IfErr, IfOk, IsUtf8, OnOk};
 ghost use Rattle.semantics.specs.Safety.{IsSafeImage};

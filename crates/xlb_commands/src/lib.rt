@@ -13,6 +13,7 @@ mod in_pieces;
 mod last_table;
 pub mod laws;
 mod left_out;
+mod looking_back;
 mod notes;
 mod one_run;
 mod parts;

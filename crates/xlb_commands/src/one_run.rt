@@ -1,6 +1,6 @@
 //! The command that runs an image on one frame.
 
-ghost use Rattle.std.specs.Prelude.{◌≡◌, ◌↔◌, ◌+◌, ◌-◌, ◌<◌, ◌≤◌, ◌^◌, IfErr, IfOk, IsErrOf};
+ghost use Rattle.std.specs.Prelude.{◌≡◌, ◌↔◌, ◌-◌, ◌<◌, ◌≤◌, ◌^◌, IfErr, IfOk, IsErrOf};
 ghost use Rattle.verifier.specs.Dataflow.{Accepts};
 ghost use Rattle.semantics.specs.Events.{Exited};
 ghost use Rattle.machine.specs.Running.{program_of};

@@ -1,6 +1,6 @@
 //! Files that are there already, where a command may write over none.
 
-ghost use Rattle.std.specs.Prelude.{◌≡◌, ◌⊎◌, ℕ, List, Some, None, IfOk, IfSome, false, true, string_bytes};
+ghost use Rattle.std.specs.Prelude.{◌≡◌, ℕ, List, Some, None, IfOk, IfSome, false, true, string_bytes};
 ghost use Rattle.command_line.specs.Reading.{text_of};
 ghost use Rattle.xlb_commands.specs.Clashes.{AreFree, IsWrittenAnew, IsWrittenInReplay, present_text};
 

@@ -1,7 +1,7 @@
 //! What `xlb replay` does with its files.
 
 ghost use Rattle.std.specs.Prelude.{◌≡◌, ◌≢◌, ◌↔◌, ◌+◌, ◌++◌, ◌-◌, ◌<◌, ◌^◌, ℕ, [], true, false};
-ghost use Rattle.std.specs.Prelude.{List, Some, None, IfErr, IfNone, IfOk, IfSome, IsErrOf, IsTrue, OnOk, length, string_bytes};
+ghost use Rattle.std.specs.Prelude.{List, Some, None, IfErr, IfOk, IsErrOf, IsTrue, OnOk, length, string_bytes};
 ghost use Rattle.semantics.specs.Safety.{IsSafeImage};
 ghost use Rattle.std.specs.List.{AllByRecursion};
 ghost use Rattle.semantics.specs.ShardPlan.{AreOptions, KeepsRows, recorded};
@@ -30,6 +30,7 @@ ghost use Rattle.map_updates.specs.Misfits.{AreFitting};
 ghost use Rattle.xlb_commands.specs.Results.{IsReplayAnswer};
 ghost use Rattle.steered_replays.specs.SteeredRuns.{IsSteeredReplay};
 ghost use Rattle.steered_replays.specs.StickyReplays.{FlowsStayInReplays};
+ghost use Rattle.steered_replays.specs.TablesAtEnd.{AreTables, MetNoFullJournal, carried_out, maps_at_end};
 ghost use Rattle.steered_replays.specs.Totals.{AreTotals};
 ghost use Rattle.journals.specs.JournalText.{journals_text};
 ghost use Rattle.journals.specs.FileJournals.{ReadBackWhereLegal};
@@ -343,6 +344,11 @@ pub(crate) fn steered_where_shipped(asked: Asked<'_>)
         (outcome : Made) → AreOptions asked.entry.verified.now.maps options → AllByRecursion IsCaptured records →
         IsAccounted (program_with asked.entry.verified.now options.shards) script options records outcome →
         outcome.updates.items ≡ [] → outcome.counts.stopped ≡ 0 → AreTotals outcome }
+    ensures tables { text_of asked.entry.files.now.image ≡ None → (script : List Command) (options : Settings) (records : List Record)
+        (outcome : Made) → AreOptions asked.entry.verified.now.maps options → AllByRecursion IsCaptured records →
+        IsAccounted (program_with asked.entry.verified.now options.shards) script options records outcome →
+        outcome.updates.items ≡ [] → MetNoFullJournal outcome.refused.items →
+        AreTables asked.entry.ring (carried_out outcome.refused.items 0 script) (maps_at_end outcome.journals) }
     ensures stay { FlowsStayInReplays }
 {
     flows_stay_in_replays();

@@ -1,7 +1,7 @@
 //! The program, except its command line.
 
 ghost use Rattle.std.specs.Prelude.{◌≡◌, ◌+◌, ◌-◌, ◌<◌, ◌≤◌, ◌^◌, ℕ, List, true, false};
-ghost use Rattle.std.specs.Prelude.{drop, length, IfErr, IfOk, OnOk, string_bytes};
+ghost use Rattle.std.specs.Prelude.{drop, length, IfErr, IfOk, string_bytes};
 ghost use Rattle.std.specs.Io.KnownBytes.{append_known};
 ghost use Rattle.faults.specs.Refusals.{IsRefusalText};
 ghost use Rattle.xlb_commands.specs.Clashes.{AreApart, AreFree};
@@ -19,6 +19,7 @@ use crate::commands::{
 use crate::comparing::{ComparisonAnswer, compare_files};
 use crate::fault::{Fault, Refusal};
 use crate::fault_lines::fault_line;
+use crate::looking_back::{FlowsAnswer, flows_of_files};
 use crate::one_run::{RunAnswer, run_once};
 use crate::present::{in_the_way, present_text};
 use crate::progress::Progress;
@@ -53,7 +54,7 @@ enum CommandAnswer {
     Reported(Report),
     /// A mistake of the command line that shows only in the image: its maps do not take the update at this place, from 0.
     Mistaken { place: usize, misfit: Misfit },
-    /// Files that cannot be compared: the line that says why.
+    /// Files that cannot be compared, or one that is no report: the line that says why.
     Unlike(String),
 }
 
@@ -144,6 +145,12 @@ fn answer<R: Threads + Wait + Sync, D: Folder, P: Progress + Sync>(
                 ComparisonAnswer::Unlike(text) => Ok(CommandAnswer::Unlike(text)),
             }
         }
+        Settings::Flows { report, script } => {
+            match flows_of_files(alloc, folder, report, script)? {
+                FlowsAnswer::Shown { text, notes } => Ok(CommandAnswer::noted(text, notes)),
+                FlowsAnswer::NoReport(text) => Ok(CommandAnswer::Unlike(text)),
+            }
+        }
         Settings::Replay(asked) => match replay_files(rt, alloc, folder, asked, progress)? {
             ReplayAnswer::Made(report) => Ok(CommandAnswer::Reported(report)),
             ReplayAnswer::Mistaken { place, misfit } => Ok(CommandAnswer::Mistaken {
@@ -203,7 +210,7 @@ fn refuse_present<E: Sink>(alloc: Global, name: &str, err: &mut E) -> u8
     MISTAKEN
 }
 
-/// Prints why files cannot be compared.
+/// Prints why files cannot be compared, or one is no report.
 fn refuse_unlike<E: Sink>(text: &str, err: &mut E) -> u8
     requires { E.failure_count err.old < 2 ^ 64 - 1 }
     ensures status { result ≡ 2 }
@@ -238,7 +245,8 @@ fn print_notes<E: Sink>(alloc: Global, report: &Report, err: &mut E)
     }
 }
 
-/// Prints the notes for people on a run or a replay that was made, on tables, or on a timed script. Nothing is printed of another command.
+/// Prints the notes for people on a run or a replay that was made, on tables, on a timed script, or on flows. Nothing is printed of another
+/// command.
 fn note<E: Sink>(alloc: Global, settings: &Settings<'_>, report: &Report, err: &mut E)
     requires { E.failure_count err.old < 2 ^ 64 - 1 }
     ensures { IsNoted settings.now (stream (E.held err.old) (E.failure_count err.old)) (stream (E.held err.new) (E.failure_count err.new)) }
@@ -248,6 +256,7 @@ fn note<E: Sink>(alloc: Global, settings: &Settings<'_>, report: &Report, err: &
         Settings::Table { .. } => print_notes(alloc, report, err),
         Settings::Script { .. } => print_notes(alloc, report, err),
         Settings::Run { .. } => print_notes(alloc, report, err),
+        Settings::Flows { .. } => print_notes(alloc, report, err),
         Settings::Check { .. }
         | Settings::Disasm { .. }
         | Settings::Audit { .. }
@@ -305,8 +314,8 @@ fn status_of(is_refused: bool) -> u8
 /// could not be printed; the line is that of fault 8 where there was no memory for it. Where commands of a replay's script were refused,
 /// the report is printed and names them, and the status is 1. Where the image's maps do not take an update of a run or a replay, or a file
 /// that is to be written is another one of the command's, or is there already where nothing may be written over, or files cannot be
-/// compared, that is printed on `err`, and the status is 2, as of other mistakes in the command's words. After the report of a run, of a
-/// replay, or of tables, lines for people may follow on `err`.
+/// compared or one is no report, that is printed on `err`, and the status is 2, as of other mistakes in the command's words. After the
+/// report of a run, of a replay, of tables, or of flows, lines for people may follow on `err`.
 pub fn serve<R: Threads + Wait + Sync, D: Folder, P: Progress + Sync, O: Sink, E: Sink>(
     rt: &R,
     alloc: Global,

@@ -1,6 +1,6 @@
 //! The lookup table after each command of a script.
 
-ghost use Rattle.std.specs.Prelude.{◌≡◌, ◌-◌, ◌<◌, ◌^◌, IfErr, IfOk, OnOk, false, true, string_bytes};
+ghost use Rattle.std.specs.Prelude.{◌≡◌, ◌-◌, ◌<◌, ◌^◌, IfErr, IfOk, OnOk, false, string_bytes};
 ghost use Rattle.control.specs.declared.fault.ControlFault.TheVariants as scripts;
 ghost use Rattle.maglev.specs.RingSize.{IsRingSize};
 ghost use Rattle.xlb_commands.specs.Files.{AreKept};

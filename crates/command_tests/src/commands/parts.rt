@@ -19,7 +19,7 @@ const SOURCE: usize = 69;
 const SOURCE_IN_A_TUNNEL: usize = 89;
 
 /// The last bytes of the sources' addresses, one for each frame of the capture. Of three parts the flow of 1 is in part 1, that of 2 in
-/// part 2 and that of 3 in part 0.
+/// part 2 and that of 3 in part 0; where its part is lost, the flow of 1 is in the second of the other two, and that of 2 in the first.
 const SOURCES: [u8; 8] = [1, 2, 3, 1, 3, 2, 1, 3];
 
 /// A service with a backend, which goes down behind the fourth frame, and another one comes up.
@@ -35,6 +35,8 @@ const MOVES_AT_6: &str =
 const TWO: &str = "frames 2\nshort 0\nstopped 0\naborted 0\ndrop 0\npass 0\ntx 2\n";
 
 const THREE: &str = "frames 3\nshort 0\nstopped 0\naborted 0\ndrop 0\npass 0\ntx 3\n";
+
+const FOUR: &str = "frames 4\nshort 0\nstopped 0\naborted 0\ndrop 0\npass 0\ntx 4\n";
 
 const EIGHT: &str = "frames 8\nshort 0\nstopped 0\naborted 0\ndrop 0\npass 0\ntx 8\n";
 
@@ -56,7 +58,7 @@ type Row = (
 );
 
 #[rattlefmt::skip]
-static ROWS: [Row; 9] = [
+static ROWS: [Row; 14] = [
     ("the whole capture",             MOVES_AT_4, "--exact",            0, EIGHT, "",   &[1, 2, 3, 1], &[3, 2, 1, 3]),
     ("its only part",                 MOVES_AT_4, "--exact --part 0/1", 0, EIGHT, "",   &[1, 2, 3, 1], &[3, 2, 1, 3]),
     ("the first of three parts",      MOVES_AT_4, "--exact --part 0/3", 0, THREE, "",   &[3],          &[3, 3]),
@@ -66,6 +68,11 @@ static ROWS: [Row; 9] = [
     ("behind the part's last frame",  MOVES_AT_6, "--exact --part 2/3", 0, TWO,   LATE, &[2, 2],       &[]),
     ("which is left out",             MOVES_AT_6, "--exact --part 2/3 --strict", 1, TWO, LATE, &[2, 2], &[]),
     ("before another's last frame",   MOVES_AT_6, "--exact --part 1/3 --strict", 0, THREE, "", &[1, 1], &[1]),
+    ("a part that is lost",           MOVES_AT_4, "--exact --part 1/3 --lost 1@4", 0, TWO, LATE, &[1, 1], &[]),
+    ("the heir of its flow",          MOVES_AT_4, "--exact --part 2/3 --lost 1@4", 0, THREE, "", &[2],   &[2, 1]),
+    ("another part beside the loss",  MOVES_AT_4, "--exact --part 0/3 --lost 1@4", 0, THREE, "", &[3],   &[3, 3]),
+    ("the first part as the heir",    MOVES_AT_4, "--exact --part 0/3 --lost 2@4", 0, FOUR, "", &[3],    &[3, 2, 3]),
+    ("a loss behind the last record", MOVES_AT_4, "--exact --part 1/3 --lost 1@8", 0, THREE, "", &[1, 1], &[1]),
 ];
 
 /// Puts the record of a capture of one record at the end of bytes, from another source.

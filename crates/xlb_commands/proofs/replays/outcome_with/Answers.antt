@@ -35,4 +35,6 @@ returns-clause-steered g c = λ none account.
           outcome account steered;
       totals = λ unstopped. c.steered_where_shipped.ensures.totals shipped asked.script.now options records outcome fit c.all_are_captured.ensures
           account (c.in_ok-outcome.ensures.made.updates_are ∙ none) unstopped;
+      tables = λ roomy. c.steered_where_shipped.ensures.tables shipped asked.script.now options records outcome fit c.all_are_captured.ensures
+          account (c.in_ok-outcome.ensures.made.updates_are ∙ none) roomy;
     })

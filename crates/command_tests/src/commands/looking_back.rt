@@ -1,0 +1,107 @@
+//! A replay that is looked back at, by its report and its script.
+
+ghost use Rattle.std.specs.Prelude.{◌≡◌};
+
+use super::replays::MOVES;
+use super::{Wanted, compare, compare_begins, put};
+use folders::MemoryFolder;
+use std::alloc::Global;
+use std::process::Abort;
+use std::sync::Wait;
+use std::thread::Threads;
+
+/// Two frames of a flow, the second of which is sent to another backend.
+const MOVED: &str = "\
+    number,moment,worker,verdict,steps,case,backend,address,source,source_port,destination,destination_port,protocol\n\
+    1,1.000002,0,TX,131,sent,0,192.0.2.1,198.51.100.7,40000,203.0.113.1,80,udp\n\
+    2,2.000000,0,TX,131,sent,1,192.0.2.2,198.51.100.7,40000,203.0.113.1,80,udp\n";
+
+/// The table of flows that is printed where the backend before was not up.
+const DOWN: &str = "\
+    source,source_port,destination,destination_port,protocol,first,last,frames,sent,changes,backends\n\
+    198.51.100.7,40000,203.0.113.1,80,udp,1.000002,2.000000,2,2,1,0 >down 1\n";
+
+/// And where it was up, and the flow's note was gone.
+const EVICTED: &str = "\
+    source,source_port,destination,destination_port,protocol,first,last,frames,sent,changes,backends\n\
+    198.51.100.7,40000,203.0.113.1,80,udp,1.000002,2.000000,2,2,1,0 >evicted 1\n";
+
+/// What is said of the first of these.
+const ONE_DOWN: &str = "  1 flows with a sent frame, 1 of them moved
+  1 frames moved: 1 down, 0 evicted, 0 untracked, 0 readdressed, 0 unknown
+  1 changes of udp 198.51.100.7:40000 to 203.0.113.1:80: 0 >down 1
+";
+
+/// And of the second one.
+const ONE_EVICTED: &str = "  1 flows with a sent frame, 1 of them moved
+  1 frames moved: 0 down, 1 evicted, 0 untracked, 0 readdressed, 0 unknown
+  1 changes of udp 198.51.100.7:40000 to 203.0.113.1:80: 0 >evicted 1
+";
+
+/// A script in which both backends stay up.
+const STAY: &str = "0 vip 203.0.113.1 80 udp\n0 up 0 192.0.2.1\n0 up 1 192.0.2.2\n";
+
+/// What a row shows, the command, the report and the script, the status, and what is printed on both streams.
+type Row = (
+    &'static str,
+    &'static str,
+    &'static str,
+    &'static str,
+    u8,
+    &'static str,
+    &'static str,
+);
+
+#[rattlefmt::skip]
+static ROWS: [Row; 4] = [
+    ("a backend that went down",       "flows", MOVED, MOVES, 0, DOWN, ONE_DOWN),
+    ("a note that was gone",           "flows", MOVED, STAY,  0, EVICTED, ONE_EVICTED),
+    ("flows of another file",          "flows", "a,b\n", STAY, 2, "", "error: report is no report of CSV: line 1\n"),
+    ("flows of JSON lines",            "flows", "{}\n", STAY, 2, "", "error: report has JSON lines: a report of CSV is read\n"),
+];
+
+/// The same with what is printed on the streams first.
+#[rattlefmt::skip]
+static BEGINNINGS: [Row; 1] = [
+    ("flows by another script",        "flows", MOVED, "0 vip\n", 1, "", "fault 90 BadLine line 1\n"),
+];
+
+/// The folder of a row's files.
+fn folder_of<R: Abort>(rt: &R, alloc: Global, report: &str, script: &str) -> MemoryFolder
+    ensures { result.failures ≡ 0 }
+{
+    let folder = put(
+        rt,
+        alloc,
+        MemoryFolder::new(alloc),
+        "report",
+        report.as_bytes(),
+    );
+    put(rt, alloc, folder, "script", script.as_bytes())
+}
+
+/// Holds what a command over a row's files comes to against what is wanted.
+fn compare_row<R: Abort + Threads + Wait + Sync>(rt: &R, alloc: Global, row: &Row) {
+    let (name, command, report, script, status, out, err) = *row;
+    let folder = folder_of(rt, alloc, report, script);
+    let line = format!(in alloc; "xlb {command} report script").expect(rt, "a line");
+    compare(rt, alloc, name, folder, &line, Wanted { status, out, err });
+}
+
+/// Holds how that begins against what is wanted.
+fn compare_beginning<R: Abort + Threads + Wait + Sync>(rt: &R, alloc: Global, row: &Row) {
+    let (name, command, report, script, status, out, err) = *row;
+    let folder = folder_of(rt, alloc, report, script);
+    let line = format!(in alloc; "xlb {command} report script").expect(rt, "a line");
+    compare_begins(rt, alloc, name, folder, &line, Wanted { status, out, err });
+}
+
+#[test]
+fn replays_are_looked_back_at(rt: HostRuntime) {
+    for row in &ROWS {
+        compare_row(&rt, rt.alloc(), row);
+    }
+    for row in &BEGINNINGS {
+        compare_beginning(&rt, rt.alloc(), row);
+    }
+}

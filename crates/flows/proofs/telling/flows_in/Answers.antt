@@ -1,0 +1,33 @@
+use Rattle.std.proofs.Common.{◌≡◌, ◌∙◌, ℕ, List, Bor, ap, length, map}
+use Rattle.control.specs.declared.command.Command.{Command}
+use Rattle.flows.specs.declared.flow.Flow.{Flow}
+use Rattle.flows.specs.declared.reason.Reason.{Reason}
+use Rattle.flows.specs.FlowRecords.{stories_in, story_of}
+use Rattle.flows.specs.Stories.{Story}
+use Rattle.flows.specs.SummaryText.{summary_text}
+use Rattle.flows.specs.TableText.{table_text}
+use Rattle.flows.specs.Telling.{moves_until, stories_until}
+use Rattle.flows.proofs.telling.flows_in.Goals as goal
+
+pub returns-clause-flows : goal.returns-clause-flows
+returns-clause-flows c =
+    let now : Bor (List ℕ) → List ℕ = λ row. row.now in
+    let rows : List (List ℕ) = map now c.in_ok-rows.rows.items in
+    let stories : stories_in c.in_ok-list.list ≡ stories_until rows c.args.script.now (length rows) =
+    c.in_ok-list.ensures.stories
+    ∙ (ap (λ (it : List (Bor (List ℕ))). stories_until (map now it) c.commands.result.now (length (map now it))) c.deref.ensures.value
+    ∙ ap (λ (it : List Command). stories_until rows it (length rows)) c.commands.ensures) in
+    let moves : c.in_ok-list.moves.items ≡ moves_until rows c.args.script.now (length rows) =
+    c.in_ok-list.ensures.moves
+    ∙ (ap (λ (it : List (Bor (List ℕ))). moves_until (map now it) c.commands.result.now (length (map now it))) c.deref.ensures.value
+    ∙ ap (λ (it : List Command). moves_until rows it (length rows)) c.commands.ensures) in
+    record {
+      rows = rows;
+      report = c.in_ok-rows.ensures.rows;
+      table_is = c.in_ok-table.ensures
+          ∙ ap table_text (ap (λ (it : List Flow). map story_of it) c.deref-2.ensures.value ∙ stories);
+      summary_is = c.in_ok-summary.ensures
+          ∙ (ap (λ (it : List Story). summary_text it c.deref-4.result.now)
+          (ap (λ (it : List Flow). map story_of it) c.deref-3.ensures.value ∙ stories)
+          ∙ ap (λ (it : List Reason). summary_text (stories_until rows c.args.script.now (length rows)) it) (c.deref-4.ensures.value ∙ moves));
+    }

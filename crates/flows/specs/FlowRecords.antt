@@ -1,0 +1,49 @@
+-- What the code keeps of each flow, and how it finds it.
+use Rattle.std.specs.Prelude.{◌≡◌, ℕ, ◌+◌, ◌<◌, ◌≤◌, ◌^◌, List, Option, string_bytes, map}
+use Rattle.std.specs.BTreeMap.{get_by}
+use Rattle.std.specs.Cmp.Lexicographic.{slice_cmp}
+use Rattle.std.specs.List.{position}
+use Rattle.std.specs.Ordering.{nat_cmp}
+use Rattle.flows.specs.declared.flow.Flow.{Flow}
+use Rattle.flows.specs.declared.flow_list.FlowList.{FlowList}
+use Rattle.flows.specs.Stories.{Story}
+use Rattle.flows.specs.Telling.{is_of}
+
+-- what is told of a flow
+abbrev pub story_of : Flow → Story
+story_of flow = record {
+  flow = flow.flow.now;
+  first = flow.first.now;
+  last = flow.last.now;
+  frames = flow.frames;
+  sent = flow.sent;
+  changes = flow.changes;
+  backend = flow.backend.now;
+  address = flow.address.now;
+  untracked = flow.untracked;
+  path = string_bytes flow.path;
+}
+
+-- no number is above this one
+pub record IsSmall (most : ℕ) (story : Story) : Type 0 where
+  pub frames : story.frames ≤ most
+  pub sent : story.sent ≤ most
+  pub changes : story.changes ≤ most
+
+-- one frame more can be counted
+pub record HasRoom (story : Story) : Type 0 where
+  pub frames : story.frames + 1 < 2 ^ 64
+  pub sent : story.sent + 1 < 2 ^ 64
+  pub changes : story.changes + 1 < 2 ^ 64
+
+-- the stories of a list of flows
+abbrev pub stories_in : FlowList → List Story
+stories_in list = map story_of list.flows.items
+
+-- where the list has this flow
+abbrev pub place_in : FlowList → List ℕ → Option ℕ
+place_in list flow = get_by (λ (name : _). slice_cmp nat_cmp flow name.now) list.places
+
+-- each flow is found where its story is
+abbrev pub IsIndexed : FlowList → Type 0
+IsIndexed list = (flow : List ℕ) → place_in list flow ≡ position (is_of flow) (stories_in list)

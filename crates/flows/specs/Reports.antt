@@ -1,0 +1,34 @@
+-- The rows of a report that has all records of a replay.
+use Rattle.std.specs.Prelude.{◌≡◌, ℕ, ◌+◌, ◌<◌, ◌≤◌, ◌⊎◌, Bool, true, false, List, decimal, length}
+use Rattle.std.specs.Str.{bytes_eq}
+use Rattle.comparison.specs.Rows.{BeginsAsJson, IsNoReport, IsReport, field, row_at}
+use Rattle.flows.specs.declared.fault.NoFlows.{NoFlows}
+use Rattle.flows.specs.declared.fault.NoFlows.TheVariants.{JsonLines, LeftOut, Memory, NoReport}
+
+-- the row at this place, counted from 0, is that of the record with this place: records are counted from 1
+abbrev pub is_in_place : List (List ℕ) → ℕ → Bool
+is_in_place rows place = bytes_eq (field 0 (row_at rows place)) (decimal (place + 1))
+
+-- the first N rows are those of the first N records
+abbrev pub AreInPlace : List (List ℕ) → ℕ → Type 0
+AreInPlace rows count = (place : ℕ) → place < count → is_in_place rows place ≡ true
+
+-- the first N rows are those of the first N records, and the next one, if there is one, is not that of the next record
+pub record IsCountInPlace (rows : List (List ℕ)) (count : ℕ) : Type 0 where
+  pub within : count ≤ length rows
+  pub in_place : AreInPlace rows count
+  pub next : (count ≡ length rows) ⊎ (is_in_place rows count ≡ false)
+
+-- the bytes are a report with these rows, from the first record on, with none left out
+pub record IsWholeReport (bytes : List ℕ) (rows : List (List ℕ)) : Type 0 where
+  pub report : IsReport bytes rows
+  pub in_place : AreInPlace rows (length rows)
+
+-- Why the flows of a report are not told: the bytes begin as JSON lines do; they are no report of CSV, which this line shows first, counted
+-- from 1; they are one, but the row on this line is not that of the next record; or memory was refused.
+pub data IsRefused (bytes : List ℕ) (refusal : NoFlows) : Type 0 where
+  is_json : BeginsAsJson bytes → refusal ≡ JsonLines → IsRefused bytes refusal
+  is_no_report : (line : ℕ) → ¬ BeginsAsJson bytes → IsNoReport bytes line → refusal ≡ NoReport line → IsRefused bytes refusal
+  is_left_out : (rows : List (List ℕ)) (count : ℕ) → IsReport bytes rows → IsCountInPlace rows count → count < length rows
+      → refusal ≡ LeftOut (2 + count) → IsRefused bytes refusal
+  no_memory : refusal ≡ Memory → IsRefused bytes refusal

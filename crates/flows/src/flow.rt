@@ -1,0 +1,214 @@
+//! What is told of a flow.
+
+ghost use Rattle.std.specs.Prelude.{◌≡◌, ◌<◌, ◌+◌, ◌^◌, ◌++◌, ◌==◌, not, IfOk, OnOk, Some, string_bytes};
+ghost use Rattle.std.specs.Option.{MatchOption};
+ghost use Rattle.flows.specs.FlowRecords.{HasRoom, story_of};
+ghost use Rattle.flows.specs.Stories.{after, after_sent, after_unsent, backend_name, begun, change_text, flow_of, has_flow, is_moved, is_sent};
+ghost use Rattle.flows.specs.Stories.{moment_of, move_by, one_if_some, or_else, reason_of, service_of, step_text, backend_of, address_of};
+ghost use Rattle.flows.specs.Walking.{Knows, applied};
+
+use crate::reason::Reason;
+use crate::settings::Settings;
+use comparison::{field, fields_from};
+use std::alloc::{AllocError, Global};
+
+/// The flow as a row spells it.
+pub(crate) fn flow_of(row: &str) -> &str
+    ensures { result.now ≡ flow_of row.now }
+{
+    fields_from(row, 8)
+}
+
+/// Whether a row's frame has a flow.
+pub(crate) fn has_flow(row: &str) -> bool
+    ensures { result ≡ has_flow row.now }
+{
+    !field(row, 8).is_empty()
+}
+
+/// Whether a row's frame was sent.
+fn is_sent(row: &str) -> bool
+    ensures { result ≡ is_sent row.now }
+{
+    field(row, 3) == "TX"
+}
+
+/// A word, or another one where it is empty.
+fn or_else<'a>(word: &'a str, other: &'a str) -> &'a str
+    ensures { result.now ≡ or_else word.now other.now }
+{
+    if word.is_empty() { other } else { word }
+}
+
+/// The backend of a row in a word.
+fn backend_name(row: &str) -> &str
+    ensures { result.now ≡ backend_name row.now }
+{
+    or_else(field(row, 6), or_else(field(row, 7), "-"))
+}
+
+/// 1 for a frame that is moved.
+fn one_if_some(moved: Option<Reason>) -> usize
+    ensures { result ≡ one_if_some moved }
+{
+    match moved {
+        None => 0,
+        Some(_) => 1,
+    }
+}
+
+/// What is told of a flow.
+#[derive(Drop)]
+pub(crate) struct Flow<'a> {
+    /// Addresses, ports and protocol, as rows spell them.
+    pub(crate) flow: &'a str,
+    /// The moments of its first and last frame.
+    pub(crate) first: &'a str,
+    pub(crate) last: &'a str,
+    /// How many frames it has, how many of them were sent, and how many of these to another address than the sent one before.
+    pub(crate) frames: usize,
+    pub(crate) sent: usize,
+    pub(crate) changes: usize,
+    /// The number of the backend and the address of the last sent frame.
+    pub(crate) backend: &'a str,
+    pub(crate) address: &'a str,
+    /// Whether the flow's service was without tracking at that frame.
+    pub(crate) untracked: bool,
+    /// The backends, with the reason of each change.
+    pub(crate) path: String,
+}
+
+impl<'a> Flow<'a> {
+    /// Before the first frame, which this row is.
+    pub(crate) fn begun(alloc: Global, row: &'a str) -> Flow<'a>
+        ensures { story_of result ≡ begun row.now }
+    {
+        let moment = field(row, 1);
+        Flow {
+            flow: flow_of(row),
+            first: moment,
+            last: moment,
+            frames: 0,
+            sent: 0,
+            changes: 0,
+            backend: "",
+            address: "",
+            untracked: false,
+            path: String::new(alloc),
+        }
+    }
+
+    /// Whether the frame is sent to another address than the sent one before.
+    fn is_moved(&self, row: &str) -> bool
+        ensures { result ≡ is_moved (story_of self.now) row.now }
+    {
+        is_sent(row) && self.sent != 0 && self.address != field(row, 7)
+    }
+
+    /// Why the next frame is sent to another address.
+    fn reason_of(&self, row: &str, settings: &Settings) -> Reason
+        requires { Knows settings.now }
+        ensures { result ≡ reason_of (story_of self.now) row.now (applied settings.now) }
+    {
+        if self.backend.is_empty() {
+            Reason::Unknown
+        } else if self.backend == field(row, 6) {
+            Reason::Readdressed
+        } else if !settings.is_up(self.backend) {
+            Reason::Down
+        } else if self.untracked || settings.is_untracked(fields_from(row, 10)) {
+            Reason::Untracked
+        } else {
+            Reason::Evicted
+        }
+    }
+
+    /// Why a frame is moved, if it is.
+    fn move_by(&self, row: &str, settings: &Settings) -> Option<Reason>
+        requires { Knows settings.now }
+        ensures { result ≡ move_by (story_of self.now) row.now (applied settings.now) }
+    {
+        if self.is_moved(row) {
+            Some(self.reason_of(row, settings))
+        } else {
+            None
+        }
+    }
+
+    /// What a sent frame adds to the backends in words.
+    fn step_text(
+        &self,
+        alloc: Global,
+        row: &str,
+        moved: Option<Reason>,
+    ) -> Result<String, AllocError>
+        ensures { IfOk result (λ text. string_bytes text ≡ step_text (story_of self.now) row.now moved) }
+    {
+        let name = backend_name(row);
+        match moved {
+            Some(reason) => change_text(alloc, reason.word(), name),
+            None => String::from_str(alloc, if self.sent == 0 { name } else { "" }),
+        }
+    }
+
+    /// Notes a frame that is not sent.
+    fn note_unsent(&mut self, row: &'a str)
+        requires { HasRoom (story_of self.old) }
+        ensures { story_of self.new ≡ after_unsent (story_of self.old) row.now }
+    {
+        self.last = field(row, 1);
+        self.frames += 1;
+    }
+
+    /// Notes a sent frame, which is moved for this reason, or not.
+    fn note_sent(
+        &mut self,
+        alloc: Global,
+        row: &'a str,
+        untracked: bool,
+        moved: Option<Reason>,
+    ) -> Result<(), AllocError>
+        requires { HasRoom (story_of self.old) }
+        ensures { OnOk result (story_of self.new ≡ after_sent (story_of self.old) row.now untracked moved) }
+    {
+        let step = self.step_text(alloc, row, moved)?;
+        self.path.push_str(step.as_str())?;
+        self.last = field(row, 1);
+        self.frames += 1;
+        self.sent += 1;
+        self.changes += one_if_some(moved);
+        self.backend = field(row, 6);
+        self.address = field(row, 7);
+        self.untracked = untracked;
+        Ok(())
+    }
+
+    /// Notes a frame, and says why it is moved, if it is.
+    pub(crate) fn note(
+        &mut self,
+        alloc: Global,
+        row: &'a str,
+        settings: &Settings,
+    ) -> Result<Option<Reason>, AllocError>
+        requires room { HasRoom (story_of self.old) }
+        requires knows { Knows settings.now }
+        ensures after { OnOk result (story_of self.new ≡ after (story_of self.old) row.now (applied settings.now)) }
+        ensures moved { IfOk result (λ moved. moved ≡ move_by (story_of self.old) row.now (applied settings.now)) }
+    {
+        let moved = self.move_by(row, settings);
+        if is_sent(row) {
+            let untracked = settings.is_untracked(fields_from(row, 10));
+            self.note_sent(alloc, row, untracked, moved)?;
+        } else {
+            self.note_unsent(row);
+        }
+        Ok(moved)
+    }
+}
+
+/// A change of the backend, with its reason.
+fn change_text(alloc: Global, reason: &str, backend: &str) -> Result<String, AllocError>
+    ensures { IfOk result (λ text. string_bytes text ≡ change_text reason.now backend.now) }
+{
+    format!(in alloc; " >{reason} {backend}")
+}

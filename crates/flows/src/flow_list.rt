@@ -1,0 +1,123 @@
+//! Flows in the order in which they first appear, each found by its text.
+
+ghost use Rattle.std.specs.Prelude.{◌≡◌, ◌≤◌, ◌<◌, ◌+◌, ◌^◌, ◌++◌, ◌∷◌, [], Some, None, ℕ, List, IfOk, OnOk, length, map};
+ghost use Rattle.std.specs.List.{AllByRecursion, position};
+ghost use Rattle.flows.specs.FlowRecords.{HasRoom, IsIndexed, place_in, stories_in, story_of};
+ghost use Rattle.flows.specs.Stories.{after, begun, flow_of, has_flow, move_by};
+ghost use Rattle.flows.specs.Telling.{is_of, move_in, move_of, noted, told_by};
+ghost use Rattle.flows.specs.Walking.{Knows, applied};
+
+use crate::flow::{Flow, flow_of, has_flow};
+use crate::reason::Reason;
+use crate::settings::Settings;
+use std::alloc::{AllocError, Global};
+use std::collections::BTreeMap;
+
+/// Flows in the order in which they first appear.
+#[derive(Drop)]
+pub(crate) struct FlowList<'a> {
+    pub(crate) flows: Vec<Flow<'a>>,
+    /// Of each flow its place in the list.
+    places: BTreeMap<&'a str, usize>,
+}
+
+impl<'a> FlowList<'a> {
+    /// No flow.
+    pub(crate) fn new(alloc: Global) -> FlowList<'a>
+        ensures indexed { IsIndexed result }
+        ensures none { stories_in result ≡ [] }
+    {
+        FlowList {
+            flows: Vec::new(alloc),
+            places: BTreeMap::new(alloc),
+        }
+    }
+
+    /// Where the list has this flow.
+    fn place_of(&self, flow: &'a str) -> Option<usize>
+        ensures { result ≡ place_in self.now flow.now }
+    {
+        self.places.get(&flow).copied()
+    }
+
+    /// Notes a frame of the flow at this place.
+    fn go_on(
+        &mut self,
+        alloc: Global,
+        place: usize,
+        row: &'a str,
+        settings: &Settings,
+    ) -> Result<Option<Reason>, AllocError>
+        requires indexed { IsIndexed self.old }
+        requires place { position (is_of (flow_of row.now)) (stories_in self.old) ≡ Some place }
+        requires small { AllByRecursion HasRoom (stories_in self.old) }
+        requires knows { Knows settings.now }
+        ensures indexed { OnOk result (IsIndexed self.new) }
+        ensures noted { OnOk result (stories_in self.new ≡ noted row.now (applied settings.now) (stories_in self.old)) }
+        ensures moved { IfOk result (λ moved. moved ≡ move_in row.now (applied settings.now) (stories_in self.old)) }
+    {
+        let moved = self.flows[place].note(alloc, row, settings)?;
+        Ok(moved)
+    }
+
+    /// Notes the first frame of a flow.
+    fn begin(&mut self, alloc: Global, row: &'a str, settings: &Settings) -> Result<(), AllocError>
+        requires indexed { IsIndexed self.old }
+        requires absent { position (is_of (flow_of row.now)) (stories_in self.old) ≡ None }
+        requires knows { Knows settings.now }
+        ensures indexed { OnOk result (IsIndexed self.new) }
+        ensures noted { OnOk result (stories_in self.new ≡ noted row.now (applied settings.now) (stories_in self.old)) }
+        ensures unmoved { OnOk result (move_in row.now (applied settings.now) (stories_in self.old) ≡ None) }
+    {
+        let mut flow = Flow::begun(alloc, row);
+        let _ = flow.note(alloc, row, settings)?;
+        let place = self.flows.len();
+        self.flows.push(flow)?;
+        self.places.insert(flow_of(row), place)?;
+        Ok(())
+    }
+
+    /// Notes a frame that has a flow, and says why it is moved, if it is.
+    fn note(
+        &mut self,
+        alloc: Global,
+        row: &'a str,
+        settings: &Settings,
+    ) -> Result<Option<Reason>, AllocError>
+        requires indexed { IsIndexed self.old }
+        requires small { AllByRecursion HasRoom (stories_in self.old) }
+        requires knows { Knows settings.now }
+        ensures indexed { OnOk result (IsIndexed self.new) }
+        ensures noted { OnOk result (stories_in self.new ≡ noted row.now (applied settings.now) (stories_in self.old)) }
+        ensures moved { IfOk result (λ moved. moved ≡ move_in row.now (applied settings.now) (stories_in self.old)) }
+    {
+        match self.place_of(flow_of(row)) {
+            Some(place) => self.go_on(alloc, place, row, settings),
+            None => {
+                self.begin(alloc, row, settings)?;
+                Ok(None)
+            }
+        }
+    }
+
+    /// Notes a frame, and says why it is moved, if it is.
+    pub(crate) fn tell(
+        &mut self,
+        alloc: Global,
+        row: &'a str,
+        settings: &Settings,
+    ) -> Result<Option<Reason>, AllocError>
+        requires indexed { IsIndexed self.old }
+        requires small { AllByRecursion HasRoom (stories_in self.old) }
+        requires knows { Knows settings.now }
+        ensures indexed { OnOk result (IsIndexed self.new) }
+        ensures told { OnOk result (stories_in self.new ≡ told_by row.now (applied settings.now) (stories_in self.old)) }
+        ensures moved { IfOk result (λ moved. moved ≡ move_of row.now (applied settings.now) (stories_in self.old)) }
+    {
+        if has_flow(row) {
+            self.note(alloc, row, settings)
+        } else {
+            Ok(None)
+        }
+    }
+}

@@ -1,0 +1,17 @@
+//! The flows of a replay's report: which were sent to another backend than before, and why.
+#![tactic(auto)]
+
+mod fault;
+mod flow;
+mod flow_list;
+mod printing;
+mod reading;
+mod reason;
+mod settings;
+mod summary;
+mod telling;
+#[cfg(test)]
+mod tests;
+
+pub use fault::NoFlows;
+pub use telling::{Flows, flows_in};

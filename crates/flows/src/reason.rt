@@ -1,0 +1,48 @@
+//! Why a frame is sent to another address than the sent frame of its flow before.
+
+ghost use Rattle.std.specs.Prelude.{◌≡◌};
+ghost use Rattle.flows.specs.Stories.{reason_word};
+ghost use Rattle.flows.specs.SummaryText.{rank};
+
+/// Why a frame is sent to another address than the sent frame of its flow before.
+#[derive(Clone, Copy, Debug, PartialEq, Eq)]
+pub(crate) enum Reason {
+    /// To the same backend, whose address was changed.
+    Readdressed,
+    /// The backend before is not up.
+    Down,
+    /// The flow's service is without tracking, or was at the frame before, so that no note is there.
+    Untracked,
+    /// The backend before is up, and the flow's note is gone.
+    Evicted,
+    /// The number of the backend before is not known.
+    Unknown,
+}
+
+impl Reason {
+    /// The reason in a word.
+    pub(crate) fn word(self) -> &'static str
+        ensures { result.now ≡ reason_word self }
+    {
+        match self {
+            Reason::Readdressed => "readdressed",
+            Reason::Down => "down",
+            Reason::Untracked => "untracked",
+            Reason::Evicted => "evicted",
+            Reason::Unknown => "unknown",
+        }
+    }
+
+    /// Its place among the reasons.
+    pub(crate) fn rank(self) -> u8
+        ensures { result ≡ rank self }
+    {
+        match self {
+            Reason::Readdressed => 0,
+            Reason::Down => 1,
+            Reason::Untracked => 2,
+            Reason::Evicted => 3,
+            Reason::Unknown => 4,
+        }
+    }
+}

@@ -1,0 +1,212 @@
+//! What is said of all flows, for people.
+
+ghost use Rattle.std.specs.Prelude.{◌≡◌, ◌<◌, ◌≤◌, ◌++◌, IfOk, IfSome, OnOk, count_by, length, map, nat_lt, string_bytes, take};
+ghost use Rattle.std.specs.List.{flat_map, insert, position};
+ghost use Rattle.flows.specs.FlowRecords.{story_of};
+ghost use Rattle.flows.specs.Ranking.{line_view, place_for, ranked_view};
+ghost use Rattle.flows.specs.declared.reason.Reason.TheVariants.{Down, Evicted, Readdressed, Unknown, Untracked};
+ghost use Rattle.flows.specs.SummaryText.{flow_phrase, flows_line, how_many, moves_back, moves_front, moves_line, ranked, ranked_line};
+ghost use Rattle.flows.specs.SummaryText.{ranked_pieces, summary_text, was_moved, was_sent};
+
+use crate::flow::Flow;
+use crate::reason::Reason;
+use comparison::{field, flow_pieces};
+use std::alloc::{AllocError, Global};
+
+/// So many flows are named.
+const NAMED: usize = 10;
+
+fn flows_line(alloc: Global, sent: usize, moved: usize) -> Result<String, AllocError>
+    ensures { IfOk result (λ text. string_bytes text ≡ flows_line sent moved) }
+{
+    format!(in alloc; "{sent} flows with a sent frame, {moved} of them moved\n")
+}
+
+/// How many flows have a sent frame.
+fn sent_count(flows: &[Flow]) -> usize
+    ensures { result ≡ count_by was_sent (map story_of flows.now) }
+{
+    flows.iter().filter(|flow| flow.sent != 0).count()
+}
+
+/// How many flows moved.
+fn moved_count(flows: &[Flow]) -> usize
+    ensures { result ≡ count_by was_moved (map story_of flows.now) }
+{
+    flows.iter().filter(|flow| flow.changes != 0).count()
+}
+
+/// How many frames were moved for this reason.
+fn how_many(moves: &[Reason], reason: Reason) -> usize
+    ensures { result ≡ how_many reason moves.now }
+{
+    let rank = reason.rank();
+    moves.iter().filter(|other| other.rank() == rank).count()
+}
+
+fn moves_front(
+    alloc: Global,
+    moved: usize,
+    down: usize,
+    evicted: usize,
+) -> Result<String, AllocError>
+    ensures { IfOk result (λ text. string_bytes text ≡ moves_front moved down evicted) }
+{
+    format!(in alloc; "{moved} frames moved: {down} down, {evicted} evicted, ")
+}
+
+fn moves_back(
+    alloc: Global,
+    untracked: usize,
+    readdressed: usize,
+    unknown: usize,
+) -> Result<String, AllocError>
+    ensures { IfOk result (λ text. string_bytes text ≡ moves_back untracked readdressed unknown) }
+{
+    format!(in alloc; "{untracked} untracked, {readdressed} readdressed, {unknown} unknown\n")
+}
+
+/// The front of the line that says how many frames were moved.
+fn first_reasons(alloc: Global, moves: &[Reason]) -> Result<String, AllocError>
+    ensures { IfOk result (λ text. string_bytes text ≡ moves_front (length moves.now) (how_many Down moves.now) (how_many Evicted moves.now)) }
+{
+    let down = how_many(moves, Reason::Down);
+    let evicted = how_many(moves, Reason::Evicted);
+    moves_front(alloc, moves.len(), down, evicted)
+}
+
+/// Its back.
+fn other_reasons(alloc: Global, moves: &[Reason]) -> Result<String, AllocError>
+    ensures { IfOk result (λ text. string_bytes text ≡
+        moves_back (how_many Untracked moves.now) (how_many Readdressed moves.now) (how_many Unknown moves.now)) }
+{
+    let untracked = how_many(moves, Reason::Untracked);
+    let readdressed = how_many(moves, Reason::Readdressed);
+    let unknown = how_many(moves, Reason::Unknown);
+    moves_back(alloc, untracked, readdressed, unknown)
+}
+
+/// How many frames were moved, and why.
+fn moves_line(alloc: Global, moves: &[Reason]) -> Result<String, AllocError>
+    ensures { IfOk result (λ text. string_bytes text ≡ moves_line moves.now) }
+{
+    let mut text = first_reasons(alloc, moves)?;
+    let others = other_reasons(alloc, moves)?;
+    text.push_str(others.as_str())?;
+    Ok(text)
+}
+
+/// A flow in words.
+fn flow_phrase(alloc: Global, flow: &str) -> Result<String, AllocError>
+    ensures { IfOk result (λ text. string_bytes text ≡ flow_phrase flow.now) }
+{
+    flow_pieces(
+        alloc,
+        field(flow, 4),
+        field(flow, 0),
+        field(flow, 1),
+        field(flow, 2),
+        field(flow, 3),
+    )
+}
+
+fn ranked_pieces(
+    alloc: Global,
+    changes: usize,
+    flow: &str,
+    path: &str,
+) -> Result<String, AllocError>
+    ensures { IfOk result (λ text. string_bytes text ≡ ranked_pieces changes flow.now path.now) }
+{
+    format!(in alloc; "{changes} changes of {flow}: {path}\n")
+}
+
+/// The line of a flow with its changes.
+fn ranked_line(alloc: Global, flow: &Flow) -> Result<String, AllocError>
+    ensures { IfOk result (λ text. string_bytes text ≡ ranked_line (story_of flow.now)) }
+{
+    let phrase = flow_phrase(alloc, flow.flow)?;
+    ranked_pieces(alloc, flow.changes, phrase.as_str(), flow.path.as_str())
+}
+
+/// The first line of a flow with fewer changes.
+fn first_fewer(best: &[(usize, String)], changes: usize) -> Option<usize>
+    ensures first { result ≡ position (λ line. nat_lt line.0 changes) best.now }
+    ensures within { IfSome result (λ place. place < length best.now) }
+{
+    best.iter().position(|line| line.0 < changes)
+}
+
+/// The place of a flow with so many changes among lines of flows with falling changes: before the first that has fewer.
+fn place_for(best: &[(usize, String)], changes: usize) -> usize
+    ensures place { result ≡ place_for changes best.now }
+    ensures within { result ≤ length best.now }
+{
+    match first_fewer(best, changes) {
+        Some(place) => place,
+        None => best.len(),
+    }
+}
+
+/// Puts the line of a flow with so many changes among the ten with the most, if it is one of them.
+fn put_ranked(
+    best: &mut Vec<(usize, String)>,
+    changes: usize,
+    line: String,
+) -> Result<(), AllocError>
+    ensures { OnOk result (best.new.items ≡ take 10 (insert best.old.items (place_for changes best.old.items) (changes, line))) }
+{
+    let place = place_for(best, changes);
+    best.insert(place, (changes, line))?;
+    best.truncate(NAMED);
+    Ok(())
+}
+
+/// The lines of the ten flows with the most changes, or of all that moved, each with its number of changes.
+fn most_moved(alloc: Global, flows: &[Flow]) -> Result<Vec<(usize, String)>, AllocError>
+    ensures { IfOk result (λ best. map line_view best.items ≡ map ranked_view (take 10 (ranked (map story_of flows.now)))) }
+{
+    let mut best = Vec::new(alloc);
+    'flows: for flow in flows {
+        if flow.changes != 0 {
+            let line = ranked_line(alloc, flow)?;
+            put_ranked(&mut best, flow.changes, line)?;
+        }
+    }
+    Ok(best)
+}
+
+/// Appends lines.
+fn put_ranked_lines(text: &mut String, best: &[(usize, String)]) -> Result<(), AllocError>
+    ensures { OnOk result (string_bytes text.new ≡ string_bytes text.old ++ flat_map (λ line. string_bytes line.1) best.now) }
+{
+    'lines: for line in best {
+        text.push_str(line.1.as_str())?;
+    }
+    Ok(())
+}
+
+/// How many flows have a sent frame and moved, and how many frames were moved and why.
+fn counts(alloc: Global, flows: &[Flow], moves: &[Reason]) -> Result<String, AllocError>
+    ensures { IfOk result (λ text. string_bytes text ≡
+        flows_line (count_by was_sent (map story_of flows.now)) (count_by was_moved (map story_of flows.now)) ++ moves_line moves.now) }
+{
+    let mut text = flows_line(alloc, sent_count(flows), moved_count(flows))?;
+    let moves = moves_line(alloc, moves)?;
+    text.push_str(moves.as_str())?;
+    Ok(text)
+}
+
+/// How many flows were sent and moved, how many frames were moved and why, and the ten flows with the most changes.
+pub(crate) fn summary_text(
+    alloc: Global,
+    flows: &[Flow],
+    moves: &[Reason],
+) -> Result<String, AllocError>
+    ensures { IfOk result (λ text. string_bytes text ≡ summary_text (map story_of flows.now) moves.now) }
+{
+    let mut text = counts(alloc, flows, moves)?;
+    let best = most_moved(alloc, flows)?;
+    put_ranked_lines(&mut text, &best)?;
+    Ok(text)
+}
