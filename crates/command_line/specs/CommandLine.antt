@@ -1,5 +1,5 @@
 -- The commands of the program and their words, as the parser of command lines sees them.
-use Rattle.std.specs.Prelude.{ℕ, [], ◌∷◌, Some, true, codes}
+use Rattle.std.specs.Prelude.{ℕ, List, [], ◌∷◌, Some, true, codes}
 use Rattle.clap.specs.Walk.{Rule, Text}
 use Rattle.clap.specs.Simple.{App, new_app, new_rule, on_top, with_rule, with_subcommand}
 use Rattle.clap.specs.declared.builder.action.ArgAction.TheVariants.{Append, Set, SetTrue}
@@ -134,8 +134,9 @@ script_command = with_rule (with_rule (new_app (codes "script")) (file_rule (cod
 abbrev pub compare_command : App
 compare_command = with_rule (with_rule (new_app (codes "compare")) (file_rule (codes "FIRST"))) (file_rule (codes "SECOND"))
 
-abbrev pub flows_command : App
-flows_command = with_rule (with_rule (new_app (codes "flows")) (file_rule (codes "REPORT"))) (file_rule (codes "SCRIPT"))
+-- a command that reads the report of a replay, and its script
+abbrev pub looking_back : List ℕ → App
+looking_back name = with_rule (with_rule (new_app name) (file_rule (codes "REPORT"))) (file_rule (codes "SCRIPT"))
 
 -- the name, with `--version`; a command has to be given, and `help` describes the commands
 abbrev pub program_name : App
@@ -153,6 +154,7 @@ program =
     (with_subcommand
     (with_subcommand
     (with_subcommand
+    (with_subcommand
     (with_subcommand (with_subcommand (with_subcommand program_name check_command.top) run_command.top) disasm_command.top)
     asm_command.top)
     audit_command.top)
@@ -162,4 +164,5 @@ program =
     table_command.top)
     script_command.top)
     compare_command.top)
-    flows_command.top
+    (looking_back (codes "flows")).top)
+    (looking_back (codes "page")).top

@@ -313,6 +313,14 @@ evicted (it was still up, and the flow's note was gone). The status is 2 where
 REPORT is no report of CSV."
 }
 
+fn after_page<'a>() -> &'a str {
+    "\
+REPORT was written by replay --report, and SCRIPT is the script of that replay.
+Prints a page of HTML for a browser, which needs no network: frames over time by
+backend and by what became of them, the script's commands as marks, and the flows
+that were moved. The status is 2 where REPORT is no report of CSV."
+}
+
 /// A file, or another word, that has to be given.
 fn file<'a>(alloc: Global, id: &'a str, help: &'a str) -> Arg<'a>
     ensures rule { rule_of result ≡ line.file_rule id.entry.now }
@@ -753,20 +761,19 @@ fn compare<'a>(alloc: Global) -> Result<Command<'a>, AllocError>
     .arg(second)
 }
 
-fn flows<'a>(alloc: Global) -> Result<Command<'a>, AllocError>
-    ensures app { IfOk result (λ command. app_of command ≡ line.flows_command) }
+/// A command that reads the report of a replay, and its script.
+fn looking_back<'a>(
+    alloc: Global,
+    name: &'a str,
+    about: &'a str,
+    after: &'a str,
+) -> Result<Command<'a>, AllocError>
+    ensures app { IfOk result (λ command. app_of command ≡ line.looking_back name.entry.now) }
     ensures local { IfOk result (λ command. (out-Command command).has_globals ≡ false) }
 {
     let report = file(alloc, WRITTEN_REPORT, "The file of the replay's report");
     let script = file(alloc, TABLE_SCRIPT, "The file of the replay's script");
-    command(
-        alloc,
-        "flows",
-        "Prints what became of each flow of a replay",
-        after_flows(),
-    )
-    .arg(report)?
-    .arg(script)
+    command(alloc, name, about, after).arg(report)?.arg(script)
 }
 
 /// The program's commands.
@@ -791,5 +798,16 @@ pub fn program<'a>(alloc: Global) -> Result<Command<'a>, AllocError>
         .subcommand(table(alloc)?)?
         .subcommand(script(alloc)?)?
         .subcommand(compare(alloc)?)?
-        .subcommand(flows(alloc)?)
+        .subcommand(looking_back(
+            alloc,
+            "flows",
+            "Prints what became of each flow of a replay",
+            after_flows(),
+        )?)?
+        .subcommand(looking_back(
+            alloc,
+            "page",
+            "Prints a page of HTML that shows a replay",
+            after_page(),
+        )?)
 }

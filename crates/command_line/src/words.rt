@@ -232,6 +232,9 @@ fn asked_of<'a>(alloc: Global, name: &str, found: &ArgMatches<'a>) -> AskedWords
     if name == "flows" {
         return AskedWords::Command(flows_of(found));
     }
+    if name == "page" {
+        return AskedWords::Command(page_of(found));
+    }
     AskedWords::Command(command_of(name, found))
 }
 
@@ -532,6 +535,16 @@ fn flows_of<'a>(found: &ArgMatches<'a>) -> Settings<'a>
     }
 }
 
+/// The settings of the command that prints a page.
+fn page_of<'a>(found: &ArgMatches<'a>) -> Settings<'a>
+    ensures { IsReadFrom (codes "page") (rows_of (found_of found.now)) result }
+{
+    Settings::Page {
+        report: word(found, WRITTEN_REPORT),
+        script: word(found, TABLE_SCRIPT),
+    }
+}
+
 /// The files of a replay.
 fn replay_files_of<'a>(found: &ArgMatches<'a>) -> ReplayFiles<'a>
     ensures { AreReplayFiles (rows_of (found_of found.now)) result }
@@ -590,6 +603,7 @@ fn command_of<'a>(name: &str, found: &ArgMatches<'a>) -> Settings<'a>
     requires script { IsFalse (bytes_eq name.now (codes "script")) }
     requires compare { IsFalse (bytes_eq name.now (codes "compare")) }
     requires flows { IsFalse (bytes_eq name.now (codes "flows")) }
+    requires page { IsFalse (bytes_eq name.now (codes "page")) }
     ensures { IsReadFrom name.now (rows_of (found_of found.now)) result }
 {
     if name == "check" {

@@ -34,6 +34,7 @@ fn shown(rt: &impl Abort, alloc: Global, settings: Settings<'_>) -> Result<Strin
         Settings::Script { capture, timed } => format!(in alloc; "script {capture} {timed}"),
         Settings::Compare { first, second } => format!(in alloc; "compare {first} {second}"),
         Settings::Flows { report, script } => format!(in alloc; "flows {report} {script}"),
+        Settings::Page { report, script } => format!(in alloc; "page {report} {script}"),
         Settings::Replay(asked) => {
             let mut text = replay_shown(rt, alloc, asked.files, asked.options, asked.ring);
             put_flags(rt, &mut text, &asked);
@@ -146,7 +147,7 @@ fn replay_shown(
 }
 
 #[rattlefmt::skip]
-const READ: [(&str, &str); 57] = [
+const READ: [(&str, &str); 58] = [
     ("xlb check a",                             "check a false"),
     ("xlb check --explain a",                   "check a true"),
     ("xlb check a --explain",                   "check a true"),
@@ -199,6 +200,7 @@ const READ: [(&str, &str); 57] = [
     ("xlb replay --lost=2@+0 a b --part 2/3",  "replay a b - - 1 1 65536 251 - part 2 of 3 lost 2 at 0"),
     ("xlb replay a b --part 1/2 --lost 0@4294967295", "replay a b - - 1 1 65536 251 - part 1 of 2 lost 0 at 4294967295"),
     ("xlb flows r s",                          "flows r s"),
+    ("xlb page r s",                           "page r s"),
     ("xlb script a b",                          "script a b"),
     ("xlb compare a b",                         "compare a b"),
     ("xlb replay a b --no-journals --workers 4", "replay a b - - 4 1 65536 251 - no-journals"),
@@ -229,7 +231,7 @@ fn reads_commands(rt: HostRuntime) {
 
 /// A command line, the status, and what its text begins with.
 #[rattlefmt::skip]
-const REFUSED: [(&str, u8, &str); 78] = [
+const REFUSED: [(&str, u8, &str); 79] = [
     ("xlb",                                     2, "error: 'xlb' requires a subcommand but one was not provided"),
     ("xlb play a b",                            2, "error: unrecognized subcommand 'play'"),
     ("xlb replay a",                            2, "error: the following required arguments were not provided:\n  <SENT>"),
@@ -266,6 +268,7 @@ const REFUSED: [(&str, u8, &str); 78] = [
     ("xlb replay a b --part 0/2 --lost 1@4294967296", 2, "error: --lost takes J@RECORD, where J counts from 0 and is below the N of --part, which is at least 2, and not 1@4294967296"),
     ("xlb replay a b --part 2/2 --lost 1@7",    2, "error: --part takes K/N, where K counts from 0 and is below N, and not 2/2"),
     ("xlb flows r",                             2, "error: the following required arguments were not provided:\n  <SCRIPT>"),
+    ("xlb page",                                2, "error: the following required arguments were not provided:\n  <REPORT>"),
     ("xlb help",                                0,
         "Replays captures through eBPF programs; checks, runs, audits, prints and assembles them"),
     ("xlb check",                               2, "error: the following required arguments were not provided:\n  <IMAGE>"),

@@ -1,14 +1,19 @@
--- The report of a replay beside its script: what became of each flow.
+-- The report of a replay beside its script: what became of each flow, and a page.
 use Rattle.std.specs.Prelude.{◌≡◌, ℕ, List, string_bytes}
+use Rattle.comparison.specs.Mistakes.{unlike_text}
+use Rattle.comparison.specs.Rows.{IsUnread}
+use Rattle.comparison.specs.declared.fault.Unlike.{Unlike}
+use Rattle.comparison.specs.declared.fault.Which.TheVariants.{First}
 use Rattle.control.specs.declared.command.Command.{Command}
 use Rattle.flows.specs.FlowTexts.{AreFlows}
 use Rattle.flows.specs.Mistakes.{refusal_text}
 use Rattle.flows.specs.Reports.{IsRefused}
 use Rattle.flows.specs.declared.fault.NoFlows.{NoFlows}
+use Rattle.page.specs.Page.{IsPage}
 use Rattle.xlb_commands.specs.Files.{FileBytes}
 use Rattle.xlb_commands.specs.Replays.{IsScriptFile}
-use Rattle.xlb_commands.specs.declared.looking_back.FlowsAnswer.{FlowsAnswer}
-use Rattle.xlb_commands.specs.declared.looking_back.FlowsAnswer.TheVariants as answers
+use Rattle.xlb_commands.specs.declared.looking_back.ReportAnswer.{ReportAnswer}
+use Rattle.xlb_commands.specs.declared.looking_back.ReportAnswer.TheVariants as answers
 
 -- the files are a report and a script, and this is the table of its flows
 pub record AreFlowsShown (files : FileBytes) (report script printed : List ℕ) : Type 0 where
@@ -27,13 +32,40 @@ pub record AreNoFlows (files : FileBytes) (report text : List ℕ) : Type 0 wher
   pub refused : IsRefused bytes why
   pub text_is : text ≡ refusal_text why report
 
+-- the files are a report and a script, and this is the page of both
+pub record IsPageShown (files : FileBytes) (report script printed : List ℕ) : Type 0 where
+  pub bytes : List ℕ
+  pub commands : List Command
+  pub read : files report bytes
+  pub spelled : IsScriptFile files script commands
+  pub page : IsPage bytes commands printed
+
+-- the first file is no report, and the text says why
+pub record IsNoPage (files : FileBytes) (report text : List ℕ) : Type 0 where
+  pub bytes : List ℕ
+  pub read : files report bytes
+  pub why : Unlike
+  pub unread : IsUnread First bytes why
+  pub text_is : text ≡ unlike_text why report report
+
 -- what the flows of a report's bytes come to
-abbrev pub AreFlowsAnswered : List ℕ → List ℕ → List Command → FlowsAnswer → Type 0
+abbrev pub AreFlowsAnswered : List ℕ → List ℕ → List Command → ReportAnswer → Type 0
 AreFlowsAnswered name bytes commands (answers.Shown text notes) = (summary : List ℕ) × AreFlows bytes commands (string_bytes text) summary
 AreFlowsAnswered name bytes commands (answers.NoReport text) =
     (why : NoFlows) × IsRefused bytes why × (string_bytes text ≡ refusal_text why name)
 
 -- and those of two files
-abbrev pub AreFlowsOfFiles : FileBytes → List ℕ → List ℕ → FlowsAnswer → Type 0
+abbrev pub AreFlowsOfFiles : FileBytes → List ℕ → List ℕ → ReportAnswer → Type 0
 AreFlowsOfFiles files report script (answers.Shown text notes) = AreFlowsShown files report script (string_bytes text)
 AreFlowsOfFiles files report script (answers.NoReport text) = AreNoFlows files report (string_bytes text)
+
+-- what a page of a report's bytes comes to
+abbrev pub IsPageAnswered : List ℕ → List ℕ → List Command → ReportAnswer → Type 0
+IsPageAnswered name bytes commands (answers.Shown text notes) = IsPage bytes commands (string_bytes text)
+IsPageAnswered name bytes commands (answers.NoReport text) =
+    (why : Unlike) × IsUnread First bytes why × (string_bytes text ≡ unlike_text why name name)
+
+-- and one of two files
+abbrev pub IsPageOfFiles : FileBytes → List ℕ → List ℕ → ReportAnswer → Type 0
+IsPageOfFiles files report script (answers.Shown text notes) = IsPageShown files report script (string_bytes text)
+IsPageOfFiles files report script (answers.NoReport text) = IsNoPage files report (string_bytes text)

@@ -16,6 +16,10 @@ const MOVED: &str = "\
     1,1.000002,0,TX,131,sent,0,192.0.2.1,198.51.100.7,40000,203.0.113.1,80,udp\n\
     2,2.000000,0,TX,131,sent,1,192.0.2.2,198.51.100.7,40000,203.0.113.1,80,udp\n";
 
+/// No record.
+const HEAD: &str =
+    "number,moment,worker,verdict,steps,case,backend,address,source,source_port,destination,destination_port,protocol\n";
+
 /// The table of flows that is printed where the backend before was not up.
 const DOWN: &str = "\
     source,source_port,destination,destination_port,protocol,first,last,frames,sent,changes,backends\n\
@@ -53,17 +57,22 @@ type Row = (
 );
 
 #[rattlefmt::skip]
-static ROWS: [Row; 4] = [
+static ROWS: [Row; 6] = [
     ("a backend that went down",       "flows", MOVED, MOVES, 0, DOWN, ONE_DOWN),
     ("a note that was gone",           "flows", MOVED, STAY,  0, EVICTED, ONE_EVICTED),
     ("flows of another file",          "flows", "a,b\n", STAY, 2, "", "error: report is no report of CSV: line 1\n"),
     ("flows of JSON lines",            "flows", "{}\n", STAY, 2, "", "error: report has JSON lines: a report of CSV is read\n"),
+    ("a page of another file",         "page",  "a,b\n", STAY, 2, "", "error: report is no report of CSV: line 1\n"),
+    ("a page of JSON lines",           "page",  "{}\n", STAY, 2, "", "error: report has JSON lines: a report of CSV is read\n"),
 ];
 
 /// The same with what is printed on the streams first.
 #[rattlefmt::skip]
-static BEGINNINGS: [Row; 1] = [
+static BEGINNINGS: [Row; 4] = [
+    ("a page",                         "page",  MOVED, MOVES, 0, "<!DOCTYPE html>\n", ""),
+    ("a page of no record",            "page",  HEAD,  "",    0, "<!DOCTYPE html>\n", ""),
     ("flows by another script",        "flows", MOVED, "0 vip\n", 1, "", "fault 90 BadLine line 1\n"),
+    ("a page by another script",       "page",  MOVED, "0 vip\n", 1, "", "fault 90 BadLine line 1\n"),
 ];
 
 /// The folder of a row's files.

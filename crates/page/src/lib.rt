@@ -1,0 +1,13 @@
+//! A page of HTML that shows what a report of a replay says: frames over time, frames by backend, and flows that moved.
+#![tactic(auto)]
+
+mod charts;
+mod html;
+mod moves;
+mod reading;
+mod svg;
+mod tables;
+mod tallies;
+mod whole;
+
+pub use whole::page;
