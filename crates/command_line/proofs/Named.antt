@@ -179,7 +179,7 @@ entered_command (Some stop) fine name rows found =
                         (λ _. refl),
                         (
                           (λ _. refl),
-                          ((λ _. refl), (helps_alone stop.0 fine, tt)),
+                          ((λ _. refl), ((λ _. refl), (helps_alone stop.0 fine, tt))),
                         ),
                       ),
                     ),

@@ -1,5 +1,5 @@
 -- The commands of the program and their words, as the parser of command lines sees them.
-use Rattle.std.specs.Prelude.{ℕ, [], ◌∷◌, Some, true, codes}
+use Rattle.std.specs.Prelude.{ℕ, List, [], ◌∷◌, Some, true, codes}
 use Rattle.clap.specs.Walk.{Rule, Text}
 use Rattle.clap.specs.Simple.{App, new_app, new_rule, on_top, with_rule, with_subcommand}
 use Rattle.clap.specs.declared.builder.action.ArgAction.TheVariants.{Append, Set, SetTrue}
@@ -59,8 +59,12 @@ asm_command =
     (with_rule (with_rule (new_app (codes "asm")) (file_rule (codes "TEXT"))) (file_rule (codes "OUT")))
     (switch_rule (codes "source"))
 
+-- a command of two files, or other words, that have to be given
+abbrev pub two_files : List ℕ → List ℕ → List ℕ → App
+two_files name first second = with_rule (with_rule (new_app name) (file_rule first)) (file_rule second)
+
 abbrev pub audit_command : App
-audit_command = with_rule (with_rule (new_app (codes "audit")) (file_rule (codes "IMAGE"))) (file_rule (codes "JOURNALS"))
+audit_command = two_files (codes "audit") (codes "IMAGE") (codes "JOURNALS")
 
 abbrev pub explain_command : App
 explain_command = with_rule (new_app (codes "explain")) (file_rule (codes "FAULT"))
@@ -79,7 +83,7 @@ table_command =
 
 -- a replay: its capture, and the file of what is sent
 abbrev pub replay_named : App
-replay_named = with_rule (with_rule (new_app (codes "replay")) (file_rule (codes "CAPTURE"))) (file_rule (codes "SENT"))
+replay_named = two_files (codes "replay") (codes "CAPTURE") (codes "SENT")
 
 -- the other files
 abbrev pub replay_files : App
@@ -129,13 +133,14 @@ replay_command =
     (switch_rule (codes "no-clobber"))
 
 abbrev pub script_command : App
-script_command = with_rule (with_rule (new_app (codes "script")) (file_rule (codes "CAPTURE"))) (file_rule (codes "TIMED"))
+script_command = two_files (codes "script") (codes "CAPTURE") (codes "TIMED")
 
 abbrev pub compare_command : App
-compare_command = with_rule (with_rule (new_app (codes "compare")) (file_rule (codes "FIRST"))) (file_rule (codes "SECOND"))
+compare_command = two_files (codes "compare") (codes "FIRST") (codes "SECOND")
 
-abbrev pub flows_command : App
-flows_command = with_rule (with_rule (new_app (codes "flows")) (file_rule (codes "REPORT"))) (file_rule (codes "SCRIPT"))
+-- a command that reads the report of a replay, and its script
+abbrev pub looking_back : List ℕ → App
+looking_back name = two_files name (codes "REPORT") (codes "SCRIPT")
 
 -- the name, with `--version`; a command has to be given, and `help` describes the commands
 abbrev pub program_name : App
@@ -153,6 +158,7 @@ program =
     (with_subcommand
     (with_subcommand
     (with_subcommand
+    (with_subcommand
     (with_subcommand (with_subcommand (with_subcommand program_name check_command.top) run_command.top) disasm_command.top)
     asm_command.top)
     audit_command.top)
@@ -162,4 +168,5 @@ program =
     table_command.top)
     script_command.top)
     compare_command.top)
-    flows_command.top
+    (looking_back (codes "flows")).top)
+    (looking_back (codes "page")).top

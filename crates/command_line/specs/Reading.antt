@@ -17,7 +17,7 @@ use Rattle.command_line.specs.declared.commands.ReplayFiles.{ReplayFiles}
 use Rattle.command_line.specs.declared.commands.RunFiles.{RunFiles}
 use Rattle.command_line.specs.declared.commands.Settings.{Settings}
 use Rattle.command_line.specs.declared.commands.Settings.TheVariants.{Check, Run, Disasm, Audit, Explain, Asm, Shipped, Replay, Table}
-use Rattle.command_line.specs.declared.commands.Settings.TheVariants.{Script, Compare, Flows}
+use Rattle.command_line.specs.declared.commands.Settings.TheVariants.{Script, Compare, Flows, Page}
 use Rattle.command_line.specs.declared.words.WordsFault.{WordsFault}
 use Rattle.command_line.specs.declared.words.WordsFault.TheVariants.{Parser, UnknownFault, Both, TwoImages, UpdatesAlone, JournalsOfNone}
 use Rattle.command_line.specs.declared.words.WordsFault.TheVariants.{Update, NoPart, LostAlone, NoLoss}
@@ -67,6 +67,7 @@ IsCommand name = IsTrue
     || bytes_eq name (codes "script")
     || bytes_eq name (codes "compare")
     || bytes_eq name (codes "flows")
+    || bytes_eq name (codes "page")
     || bytes_eq name (codes "asm"))
 
 -- both of two options are given
@@ -298,6 +299,9 @@ IsReadFrom name rows (Compare first second) = is_named name (codes "compare")
     × (first.now ≡ argument_word (codes "FIRST") rows)
     × (second.now ≡ argument_word (codes "SECOND") rows)
 IsReadFrom name rows (Flows report script) = is_named name (codes "flows")
+    × (report.now ≡ argument_word (codes "REPORT") rows)
+    × (script.now ≡ argument_word (codes "SCRIPT") rows)
+IsReadFrom name rows (Page report script) = is_named name (codes "page")
     × (report.now ≡ argument_word (codes "REPORT") rows)
     × (script.now ≡ argument_word (codes "SCRIPT") rows)
 IsReadFrom name rows (Replay asked) = is_named name (codes "replay")

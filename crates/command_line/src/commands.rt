@@ -71,6 +71,12 @@ pub enum Settings<'a> {
         report: &'a str,
         script: &'a str,
     },
+    /// Prints a page that shows a replay.
+    Page {
+        /// The report of its records.
+        report: &'a str,
+        script: &'a str,
+    },
     /// Runs the frames of a capture by some workers over shared maps, and writes those that are sent.
     Replay(ReplaySettings<'a>),
 }

@@ -3,6 +3,7 @@
 
 mod commands;
 mod grammar;
+mod help;
 mod part_word;
 mod words;
 

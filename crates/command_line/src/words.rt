@@ -49,6 +49,10 @@ const NO_IMAGE: &str = "error: the option --update cannot be used without --imag
 /// What is printed for a replay with a loss that is of no part.
 const NO_PART: &str = "error: the option --lost cannot be used without --part";
 
+/// What is printed of a loss that is none, before its word.
+const NO_LOSS: &str =
+    "error: --lost takes J@RECORD, where J counts from 0 and is below the N of --part, which is at least 2, and not";
+
 /// Why words are no command, or which text they ask for: help or the version.
 #[derive(Debug, Drop)]
 pub enum WordsFault<'a> {
@@ -148,12 +152,7 @@ impl fmt::Display for WordsFault<'_> {
                 )
             }
             WordsFault::LostAlone => write!(f, "{NO_PART}"),
-            WordsFault::NoLoss(word) => {
-                write!(
-                    f,
-                    "error: --lost takes J@RECORD, where J counts from 0 and is below the N of --part, which is at least 2, and not {word}"
-                )
-            }
+            WordsFault::NoLoss(word) => write!(f, "{NO_LOSS} {word}"),
         }
     }
 }
@@ -231,6 +230,9 @@ fn asked_of<'a>(alloc: Global, name: &str, found: &ArgMatches<'a>) -> AskedWords
     }
     if name == "flows" {
         return AskedWords::Command(flows_of(found));
+    }
+    if name == "page" {
+        return AskedWords::Command(page_of(found));
     }
     AskedWords::Command(command_of(name, found))
 }
@@ -532,6 +534,16 @@ fn flows_of<'a>(found: &ArgMatches<'a>) -> Settings<'a>
     }
 }
 
+/// The settings of the command that prints a page.
+fn page_of<'a>(found: &ArgMatches<'a>) -> Settings<'a>
+    ensures { IsReadFrom (codes "page") (rows_of (found_of found.now)) result }
+{
+    Settings::Page {
+        report: word(found, WRITTEN_REPORT),
+        script: word(found, TABLE_SCRIPT),
+    }
+}
+
 /// The files of a replay.
 fn replay_files_of<'a>(found: &ArgMatches<'a>) -> ReplayFiles<'a>
     ensures { AreReplayFiles (rows_of (found_of found.now)) result }
@@ -590,6 +602,7 @@ fn command_of<'a>(name: &str, found: &ArgMatches<'a>) -> Settings<'a>
     requires script { IsFalse (bytes_eq name.now (codes "script")) }
     requires compare { IsFalse (bytes_eq name.now (codes "compare")) }
     requires flows { IsFalse (bytes_eq name.now (codes "flows")) }
+    requires page { IsFalse (bytes_eq name.now (codes "page")) }
     ensures { IsReadFrom name.now (rows_of (found_of found.now)) result }
 {
     if name == "check" {

@@ -11,7 +11,7 @@ name_of First first second = first
 name_of Second first second = second
 
 abbrev pub json_text : List ℕ → List ℕ
-json_text name = codes "error: " ++ (name ++ codes " has JSON lines: a report of CSV is read\n")
+json_text name = codes "error: " ++ (name ++ codes " has JSON lines, and a report of CSV is needed\n")
 
 abbrev pub no_report_text : List ℕ → ℕ → List ℕ
 no_report_text name line = codes "error: " ++ (name ++ (codes " is no report of CSV: line " ++ (decimal line ++ codes "\n")))

@@ -16,13 +16,15 @@ fn name_of<'a>(which: Which, first: &'a str, second: &'a str) -> &'a str
     }
 }
 
-fn json_text(alloc: Global, name: &str) -> Result<String, AllocError>
+/// The line that says that a file has JSON lines. It fails only for lack of memory.
+pub fn json_text(alloc: Global, name: &str) -> Result<String, AllocError>
     ensures { IfOk result (λ text. string_bytes text ≡ json_text name.now) }
 {
-    format!(in alloc; "error: {name} has JSON lines: a report of CSV is read\n")
+    format!(in alloc; "error: {name} has JSON lines, and a report of CSV is needed\n")
 }
 
-fn no_report_text(alloc: Global, name: &str, line: usize) -> Result<String, AllocError>
+/// The line that says that a file is no report of CSV, and which of its lines, from 1, shows it. It fails only for lack of memory.
+pub fn no_report_text(alloc: Global, name: &str, line: usize) -> Result<String, AllocError>
     ensures { IfOk result (λ text. string_bytes text ≡ no_report_text name.now line) }
 {
     format!(in alloc; "error: {name} is no report of CSV: line {line}\n")

@@ -5,24 +5,28 @@ use Rattle.std.proofs.lemmas.List.Folds.{flat_map-map}
 use Rattle.std.proofs.lemmas.List.Sums.{fold-append}
 use Rattle.std.specs.Prelude.{nat_lt}
 use Rattle.std.specs.List.{flat_map, insert, position_or_len, take-map}
-use Rattle.flows.specs.Ranking.{has_fewer, line_view, ranked_view}
+use Rattle.flows.specs.Ranking.{line_view, ranked_view}
 use Rattle.flows.specs.Stories.{Story}
-use Rattle.flows.specs.SummaryText.{placed, placed_if_moved, ranked, ranked_line, was_moved}
+use Rattle.flows.specs.SummaryText.{story_placed, placed_if_moved, ranked, ranked_line, was_moved}
 use Rattle.flows.proofs.MapLemmas.{first_of_map, insert_of_map}
 
 one_plus : (n : ℕ) → suc n ≡ 1 + n
 one_plus n = omega arith
 
+-- a story with fewer changes than these
+abbrev has_fewer : ℕ → Story → Bool
+has_fewer changes story = nat_lt story.changes changes
+
 -- a story is placed before the first that has fewer changes
-pub placed_is : (story : Story) (best : List Story) → insert best (position_or_len (has_fewer story.changes) best) story ≡ placed story best
+pub placed_is : (story : Story) (best : List Story) → insert best (position_or_len (has_fewer story.changes) best) story ≡ story_placed story best
 placed_is story [] = refl
 placed_is story (first ∷ others) = by_test (nat_lt first.changes story.changes) refl (placed_is story others) where
   by_test : (test : Bool) → nat_lt first.changes story.changes ≡ test
-      → insert others (position_or_len (has_fewer story.changes) others) story ≡ placed story others
-      → insert (first ∷ others) (position_or_len (has_fewer story.changes) (first ∷ others)) story ≡ placed story (first ∷ others)
+      → insert others (position_or_len (has_fewer story.changes) others) story ≡ story_placed story others
+      → insert (first ∷ others) (position_or_len (has_fewer story.changes) (first ∷ others)) story ≡ story_placed story (first ∷ others)
   by_test true is later = rw is refl
   by_test false is later = rw is
-      (subst (λ (n : ℕ). insert (first ∷ others) n story ≡ first ∷ placed story others)
+      (subst (λ (n : ℕ). insert (first ∷ others) n story ≡ first ∷ story_placed story others)
       (one_plus (position_or_len (has_fewer story.changes) others)) (ap (λ (it : List Story). first ∷ it) later))
 
 take_again : {X : Type 0} (n : ℕ) (x : X) (xs : List X) → take n (x ∷ take n xs) ≡ take n (x ∷ xs)
@@ -31,14 +35,14 @@ take_again (suc n) x [] = refl
 take_again (suc n) x (y ∷ xs) = ap (λ it. x ∷ it) (take_again n y xs)
 
 -- the first ones of a list decide which are the first ones with a story more
-pub placed_in_first : (n : ℕ) (story : Story) (best : List Story) → take n (placed story (take n best)) ≡ take n (placed story best)
+pub placed_in_first : (n : ℕ) (story : Story) (best : List Story) → take n (story_placed story (take n best)) ≡ take n (story_placed story best)
 placed_in_first zero story best = refl
 placed_in_first (suc n) story [] = refl
 placed_in_first (suc n) story (first ∷ others) =
     by_test (nat_lt first.changes story.changes) refl (placed_in_first n story others)
   where
-    by_test : (test : Bool) → nat_lt first.changes story.changes ≡ test → take n (placed story (take n others)) ≡ take n (placed story others)
-        → take (suc n) (placed story (take (suc n) (first ∷ others))) ≡ take (suc n) (placed story (first ∷ others))
+    by_test : (test : Bool) → nat_lt first.changes story.changes ≡ test → take n (story_placed story (take n others)) ≡ take n (story_placed story others)
+        → take (suc n) (story_placed story (take (suc n) (first ∷ others))) ≡ take (suc n) (story_placed story (first ∷ others))
     by_test true is later = rw is (ap (λ (it : List Story). story ∷ it) (take_again n first others))
     by_test false is later = rw is (ap (λ (it : List Story). first ∷ it) later)
 
@@ -65,17 +69,17 @@ kept_more best after stories i story line inside read before moved line_is put =
     ∙ (ap (λ (n : ℕ). insert (map ranked_view so_far) n (ranked_view story)) (first_of_map ranked_view (λ other. nat_lt other.0 story.changes) so_far)
     ∙ (sym (insert_of_map ranked_view so_far (position_or_len (has_fewer story.changes) so_far) story)
     ∙ ap (map ranked_view) (placed_is story so_far)))))))
-    ∙ (take-map ranked_view 10 (placed story so_far)
+    ∙ (take-map ranked_view 10 (story_placed story so_far)
     ∙ ap (map ranked_view) (placed_in_first 10 story (ranked (take i stories)) ∙ ap (take 10) (sym next)))))
   where
     so_far : List Story
     so_far = take 10 (ranked (take i stories))
 
-    next : ranked (take (i + 1) stories) ≡ placed story (ranked (take i stories))
+    next : ranked (take (i + 1) stories) ≡ story_placed story (ranked (take i stories))
     next =
         ranked_more stories i story inside
         ∙ (ap (placed_if_moved (ranked (take i stories))) (sym read)
-        ∙ ap (λ (test : Bool). cond test (placed story (ranked (take i stories))) (ranked (take i stories))) moved)
+        ∙ ap (λ (test : Bool). cond test (story_placed story (ranked (take i stories))) (ranked (take i stories))) moved)
 
 -- an unmoved flow changes nothing
 pub kept_same : (best : List (ℕ × List ℕ)) (stories : List Story) (i : ℕ) (story : Story) → i < length stories → story ≡ get_or stories i story
@@ -86,7 +90,7 @@ kept_same best stories i story inside read before unmoved = before ∙ ap (λ (i
   next =
       ranked_more stories i story inside
       ∙ (ap (placed_if_moved (ranked (take i stories))) (sym read)
-      ∙ ap (λ (test : Bool). cond test (placed story (ranked (take i stories))) (ranked (take i stories))) unmoved)
+      ∙ ap (λ (test : Bool). cond test (story_placed story (ranked (take i stories))) (ranked (take i stories))) unmoved)
 
 -- a text with the lines that are kept
 pub with_lines : {Y : Type 0} (text before counts : List ℕ) (kept items : List (ℕ × String Y)) (stories : List Story)

@@ -7,8 +7,8 @@ use Rattle.comparison.specs.Rows.{IsUnread}
 use Rattle.comparison.specs.Rows.IsUnread.{is_json, is_no_report, no_memory}
 use Rattle.flows.specs.declared.fault.NoFlows.{NoFlows}
 use Rattle.flows.specs.declared.fault.NoFlows.TheVariants as refusals
-use Rattle.flows.specs.Reports.{IsRefused}
-use Rattle.flows.specs.Reports.IsRefused.{is_json as json_refused, is_no_report as no_report_refused, no_memory as memory_refused}
+use Rattle.flows.specs.Reports.{AreFlowsRefused}
+use Rattle.flows.specs.Reports.AreFlowsRefused.{is_json as json_refused, is_no_report as no_report_refused, no_memory as memory_refused}
 
 -- the refusal of a file that was not read
 abbrev pub as_refusal : Unlike → NoFlows
@@ -17,7 +17,7 @@ as_refusal (unlikes.NoReport which line) = refusals.NoReport line
 as_refusal (unlikes.OtherRecords record_number) = refusals.Memory
 as_refusal unlikes.Memory = refusals.Memory
 
-pub refused_as : (which : Which) (bytes : List ℕ) (unlike : Unlike) → IsUnread which bytes unlike → IsRefused bytes (as_refusal unlike)
+pub refused_as : (which : Which) (bytes : List ℕ) (unlike : Unlike) → IsUnread which bytes unlike → AreFlowsRefused bytes (as_refusal unlike)
 refused_as which bytes unlike (is_json begins is) = json_refused begins (ap as_refusal is)
 refused_as which bytes unlike (is_no_report line not_json no_report is) = no_report_refused line not_json no_report (ap as_refusal is)
 refused_as which bytes unlike (no_memory is) = memory_refused (ap as_refusal is)

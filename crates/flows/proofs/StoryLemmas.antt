@@ -13,10 +13,11 @@ use Rattle.comparison.specs.Rows.{row_at}
 use Rattle.control.specs.declared.command.Command.{Command}
 use Rattle.flows.specs.declared.reason.Reason.{Reason}
 use Rattle.flows.specs.declared.flow.Flow.{Flow}
-use Rattle.flows.specs.FlowRecords.{HasRoom, IsSmall, story_of}
+use Rattle.flows.specs.FlowRecords.{HasRoomForFrame, story_of}
 use Rattle.flows.specs.Settings.{before, is_untracked}
-use Rattle.flows.specs.Stories.{Story, after, after_sent, after_unsent, begun, flow_of, has_flow, is_sent, move_by, one_if_some, service_of}
-use Rattle.flows.specs.Telling.{is_of, listed, move_in, move_of, moves_until, noted, stories_until, told_by}
+use Rattle.flows.specs.Stories.{Story, after, after_sent, after_unsent, story_begun, flow_of_row, row_has_flow, is_sent_row, move_by, one_if_some}
+use Rattle.flows.specs.Stories.{service_of_row}
+use Rattle.flows.specs.Telling.{is_story_of, listed, move_in, move_of, reasons_until, stories_with, stories_until, stories_after}
 
 -- ---- places
 
@@ -90,108 +91,114 @@ position_further p (x ∷ xs) y fails = by_test (p x) refl (position_further p x
 
 module _ (row : List ℕ) (commands : List Command) where
   -- the story that goes on is the first of the flow
-  pub noted_at : (stories : List Story) (d : Story) → position_or_len (is_of (flow_of row)) stories < length stories
-      → noted row commands stories ≡ set stories (position_or_len (is_of (flow_of row)) stories)
-      (after (get_or stories (position_or_len (is_of (flow_of row)) stories) d) row commands)
+  pub noted_at : (stories : List Story) (d : Story) → position_or_len (is_story_of (flow_of_row row)) stories < length stories
+      → stories_with row commands stories ≡ set stories (position_or_len (is_story_of (flow_of_row row)) stories)
+      (after (get_or stories (position_or_len (is_story_of (flow_of_row row)) stories) d) row commands)
   noted_at [] d inside = absurd (omega (arith, inside))
-  noted_at (story ∷ others) d inside = by_test (is_of (flow_of row) story) refl (noted_at others d) where
-    by_test : (test : Bool) → is_of (flow_of row) story ≡ test
-        → (position_or_len (is_of (flow_of row)) others < length others
-        → noted row commands others ≡ set others (position_or_len (is_of (flow_of row)) others)
-        (after (get_or others (position_or_len (is_of (flow_of row)) others) d) row commands))
-        → noted row commands (story ∷ others) ≡ set (story ∷ others) (position_or_len (is_of (flow_of row)) (story ∷ others))
-        (after (get_or (story ∷ others) (position_or_len (is_of (flow_of row)) (story ∷ others)) d) row commands)
+  noted_at (story ∷ others) d inside = by_test (is_story_of (flow_of_row row) story) refl (noted_at others d) where
+    by_test : (test : Bool) → is_story_of (flow_of_row row) story ≡ test
+        → (position_or_len (is_story_of (flow_of_row row)) others < length others
+        → stories_with row commands others ≡ set others (position_or_len (is_story_of (flow_of_row row)) others)
+        (after (get_or others (position_or_len (is_story_of (flow_of_row row)) others) d) row commands))
+        → stories_with row commands (story ∷ others) ≡ set (story ∷ others) (position_or_len (is_story_of (flow_of_row row)) (story ∷ others))
+        (after (get_or (story ∷ others) (position_or_len (is_story_of (flow_of_row row)) (story ∷ others)) d) row commands)
     by_test true is later = rw is refl
     by_test false is later =
-        let further : 1 + position_or_len (is_of (flow_of row)) others < suc (length others) = rw is at inside in
+        let further : 1 + position_or_len (is_story_of (flow_of_row row)) others < suc (length others) = rw is at inside in
         let next = later (omega (arith, further)) in
-        rw is (subst (λ (n : ℕ). story ∷ noted row commands others
-        ≡ set (story ∷ others) n (after (get_or (story ∷ others) n d) row commands)) (one_plus (position_or_len (is_of (flow_of row)) others))
+        rw is (subst (λ (n : ℕ). story ∷ stories_with row commands others
+        ≡ set (story ∷ others) n (after (get_or (story ∷ others) n d) row commands)) (one_plus (position_or_len (is_story_of (flow_of_row row)) others))
         (ap (λ (it : List Story). story ∷ it) next))
 
-  pub move_at : (stories : List Story) (d : Story) → position_or_len (is_of (flow_of row)) stories < length stories
-      → move_in row commands stories ≡ move_by (get_or stories (position_or_len (is_of (flow_of row)) stories) d) row commands
+  pub move_at : (stories : List Story) (d : Story) → position_or_len (is_story_of (flow_of_row row)) stories < length stories
+      → move_in row commands stories ≡ move_by (get_or stories (position_or_len (is_story_of (flow_of_row row)) stories) d) row commands
   move_at [] d inside = absurd (omega (arith, inside))
-  move_at (story ∷ others) d inside = by_test (is_of (flow_of row) story) refl (move_at others d) where
-    by_test : (test : Bool) → is_of (flow_of row) story ≡ test
-        → (position_or_len (is_of (flow_of row)) others < length others
-        → move_in row commands others ≡ move_by (get_or others (position_or_len (is_of (flow_of row)) others) d) row commands)
+  move_at (story ∷ others) d inside = by_test (is_story_of (flow_of_row row) story) refl (move_at others d) where
+    by_test : (test : Bool) → is_story_of (flow_of_row row) story ≡ test
+        → (position_or_len (is_story_of (flow_of_row row)) others < length others
+        → move_in row commands others ≡ move_by (get_or others (position_or_len (is_story_of (flow_of_row row)) others) d) row commands)
         → move_in row commands (story ∷ others)
-        ≡ move_by (get_or (story ∷ others) (position_or_len (is_of (flow_of row)) (story ∷ others)) d) row commands
+        ≡ move_by (get_or (story ∷ others) (position_or_len (is_story_of (flow_of_row row)) (story ∷ others)) d) row commands
     by_test true is later = rw is refl
     by_test false is later =
-        let further : 1 + position_or_len (is_of (flow_of row)) others < suc (length others) = rw is at inside in
+        let further : 1 + position_or_len (is_story_of (flow_of_row row)) others < suc (length others) = rw is at inside in
         rw is (subst (λ (n : ℕ). move_in row commands others ≡ move_by (get_or (story ∷ others) n d) row commands)
-        (one_plus (position_or_len (is_of (flow_of row)) others)) (later (omega (arith, further))))
+        (one_plus (position_or_len (is_story_of (flow_of_row row)) others)) (later (omega (arith, further))))
 
   -- a flow without a story begins one
-  pub noted_new : (stories : List Story) → position_or_len (is_of (flow_of row)) stories ≡ length stories
-      → noted row commands stories ≡ stories ++ after (begun row) row commands ∷ []
+  pub noted_new : (stories : List Story) → position_or_len (is_story_of (flow_of_row row)) stories ≡ length stories
+      → stories_with row commands stories ≡ stories ++ after (story_begun row) row commands ∷ []
   noted_new [] at_end = refl
-  noted_new (story ∷ others) at_end = by_test (is_of (flow_of row) story) refl (noted_new others) where
-    by_test : (test : Bool) → is_of (flow_of row) story ≡ test
-        → (position_or_len (is_of (flow_of row)) others ≡ length others
-        → noted row commands others ≡ others ++ after (begun row) row commands ∷ [])
-        → noted row commands (story ∷ others) ≡ (story ∷ others) ++ after (begun row) row commands ∷ []
+  noted_new (story ∷ others) at_end = by_test (is_story_of (flow_of_row row) story) refl (noted_new others) where
+    by_test : (test : Bool) → is_story_of (flow_of_row row) story ≡ test
+        → (position_or_len (is_story_of (flow_of_row row)) others ≡ length others
+        → stories_with row commands others ≡ others ++ after (story_begun row) row commands ∷ [])
+        → stories_with row commands (story ∷ others) ≡ (story ∷ others) ++ after (story_begun row) row commands ∷ []
     by_test true is later = let none : 0 ≡ suc (length others) = rw is at at_end in absurd (omega (arith, none))
     by_test false is later =
-        let further : 1 + position_or_len (is_of (flow_of row)) others ≡ suc (length others) = rw is at at_end in
+        let further : 1 + position_or_len (is_story_of (flow_of_row row)) others ≡ suc (length others) = rw is at at_end in
         rw is (ap (λ (it : List Story). story ∷ it) (later (omega (arith, further))))
 
-  pub move_new : (stories : List Story) → position_or_len (is_of (flow_of row)) stories ≡ length stories
+  pub move_new : (stories : List Story) → position_or_len (is_story_of (flow_of_row row)) stories ≡ length stories
       → move_in row commands stories ≡ None
   move_new [] at_end = refl
-  move_new (story ∷ others) at_end = by_test (is_of (flow_of row) story) refl (move_new others) where
-    by_test : (test : Bool) → is_of (flow_of row) story ≡ test
-        → (position_or_len (is_of (flow_of row)) others ≡ length others → move_in row commands others ≡ None)
+  move_new (story ∷ others) at_end = by_test (is_story_of (flow_of_row row) story) refl (move_new others) where
+    by_test : (test : Bool) → is_story_of (flow_of_row row) story ≡ test
+        → (position_or_len (is_story_of (flow_of_row row)) others ≡ length others → move_in row commands others ≡ None)
         → move_in row commands (story ∷ others) ≡ None
     by_test true is later = let none : 0 ≡ suc (length others) = rw is at at_end in absurd (omega (arith, none))
     by_test false is later =
-        let further : 1 + position_or_len (is_of (flow_of row)) others ≡ suc (length others) = rw is at at_end in
+        let further : 1 + position_or_len (is_story_of (flow_of_row row)) others ≡ suc (length others) = rw is at at_end in
         rw is (later (omega (arith, further)))
 
   -- a frame leaves the flow's text
   pub same_flow : (story : Story) → (after story row commands).flow ≡ story.flow
-  same_flow story = by_test (is_sent row) refl where
-    by_test : (test : Bool) → is_sent row ≡ test → (after story row commands).flow ≡ story.flow
+  same_flow story = by_test (is_sent_row row) refl where
+    by_test : (test : Bool) → is_sent_row row ≡ test → (after story row commands).flow ≡ story.flow
     by_test true is = rw is refl
     by_test false is = rw is refl
 
 -- each flow is where it was after one of the stories has gone on
 pub places_kept : (flow : List ℕ) (stories : List Story) (i : ℕ) (next d : Story) → next.flow ≡ (get_or stories i d).flow
-    → position (is_of flow) (set stories i next) ≡ position (is_of flow) stories
+    → position (is_story_of flow) (set stories i next) ≡ position (is_story_of flow) stories
 places_kept flow stories i next d same =
-    let first = position_or_len-set (is_of flow) stories i next d (ap (λ (it : List ℕ). bytes_eq it flow) same) in
+    let first = position_or_len-set (is_story_of flow) stories i next d (ap (λ (it : List ℕ). bytes_eq it flow) same) in
     rw (first, length-set stories i next) refl
 
 -- a story more is found at the end, and each other flow where it was
 pub place_more : (flow : List ℕ) (stories : List Story) (last : Story) (name : List ℕ) → last.flow ≡ name
-    → position (is_of name) stories ≡ None
-    → position (is_of flow) (stories ++ last ∷ []) ≡ update bytes_eq (λ other. position (is_of other) stories) name (Some (length stories)) flow
+    → position (is_story_of name) stories ≡ None
+    → position (is_story_of flow) (stories ++ last ∷ []) ≡ update bytes_eq (λ other. position (is_story_of other) stories) name (Some (length stories)) flow
 place_more flow stories last name named absent = by_test (bytes_eq name flow) refl where
   grown : length (stories ++ last ∷ []) ≡ length stories + 1
   grown = length-append stories (last ∷ [])
 
   by_test : (test : Bool) → bytes_eq name flow ≡ test
-      → position (is_of flow) (stories ++ last ∷ []) ≡ update bytes_eq (λ other. position (is_of other) stories) name (Some (length stories)) flow
+      → position (is_story_of flow) (stories ++ last ∷ []) ≡ update bytes_eq (λ other. position (is_story_of other) stories) name (Some (length stories)) flow
   by_test true same =
       let name_is : name ≡ flow = (bytes_decides name flow).0 same in
-      let at_end : position_or_len (is_of flow) stories ≡ length stories =
-      position_none (is_of flow) stories (subst (λ (it : List ℕ). position (is_of it) stories ≡ None) name_is absent) in
-      let passes : is_of flow last ≡ true = ap (λ (it : List ℕ). bytes_eq it flow) named ∙ same in
-      let place : position_or_len (is_of flow) (stories ++ last ∷ []) ≡ length stories =
-      position_or_len_push (is_of flow) stories last
-      ∙ end_passes (position_or_len (is_of flow) stories) (length stories) (is_of flow last) at_end passes in
-      rw same (position_found (is_of flow) (stories ++ last ∷ []) (length stories) place (omega (arith, grown)))
+      let at_end : position_or_len (is_story_of flow) stories ≡ length stories =
+      position_none (is_story_of flow) stories (subst (λ (it : List ℕ). position (is_story_of it) stories ≡ None) name_is absent) in
+      let passes : is_story_of flow last ≡ true = ap (λ (it : List ℕ). bytes_eq it flow) named ∙ same in
+      let place : position_or_len (is_story_of flow) (stories ++ last ∷ []) ≡ length stories =
+      position_or_len_push (is_story_of flow) stories last
+      ∙ end_passes (position_or_len (is_story_of flow) stories) (length stories) (is_story_of flow last) at_end passes in
+      rw same (position_found (is_story_of flow) (stories ++ last ∷ []) (length stories) place (omega (arith, grown)))
   by_test false other =
-      let fails : is_of flow last ≡ false = ap (λ (it : List ℕ). bytes_eq it flow) named ∙ other in
-      rw other (position_further (is_of flow) stories last fails)
+      let fails : is_story_of flow last ≡ false = ap (λ (it : List ℕ). bytes_eq it flow) named ∙ other in
+      rw other (position_further (is_story_of flow) stories last fails)
 
 -- ---- numbers
 
 one_at_most : (move : Option Reason) → one_if_some move ≤ 1
 one_at_most None = omega arith
 one_at_most (Some reason) = omega arith
+
+-- no number is above this one
+pub record IsSmall (most : ℕ) (story : Story) : Type 0 where
+  pub frames : story.frames ≤ most
+  pub sent : story.sent ≤ most
+  pub changes : story.changes ≤ most
 
 small_sent : (most : ℕ) (story : Story) (row : List ℕ) (untracked : Bool) (move : Option Reason) → IsSmall most story
     → IsSmall (most + 1) (after_sent story row untracked move)
@@ -217,8 +224,8 @@ small_if most false one other first second = second
 small_after : (most : ℕ) (story : Story) (row : List ℕ) (commands : List Command) → IsSmall most story
     → IsSmall (most + 1) (after story row commands)
 small_after most story row commands small =
-    small_if (most + 1) (is_sent row) (after_sent story row (is_untracked (service_of row) commands) (move_by story row commands))
-    (after_unsent story row) (small_sent most story row (is_untracked (service_of row) commands) (move_by story row commands) small)
+    small_if (most + 1) (is_sent_row row) (after_sent story row (is_untracked (service_of_row row) commands) (move_by story row commands))
+    (after_unsent story row) (small_sent most story row (is_untracked (service_of_row row) commands) (move_by story row commands) small)
     (small_unsent most story row small)
 
 small_later : (most : ℕ) (stories : List Story) → AllByRecursion (IsSmall most) stories → AllByRecursion (IsSmall (most + 1)) stories
@@ -233,21 +240,21 @@ small_later most (story ∷ others) all = (
 )
 
 small_noted : (most : ℕ) (row : List ℕ) (commands : List Command) (stories : List Story) → AllByRecursion (IsSmall most) stories
-    → AllByRecursion (IsSmall (most + 1)) (noted row commands stories)
+    → AllByRecursion (IsSmall (most + 1)) (stories_with row commands stories)
 small_noted most row commands [] all =
-    (small_after most (begun row) row commands (record { frames = omega arith; sent = omega arith; changes = omega arith }), tt)
+    (small_after most (story_begun row) row commands (record { frames = omega arith; sent = omega arith; changes = omega arith }), tt)
 small_noted most row commands (story ∷ others) all =
-    by_test (is_of (flow_of row) story) refl (small_noted most row commands others all.1)
+    by_test (is_story_of (flow_of_row row) story) refl (small_noted most row commands others all.1)
   where
-    by_test : (test : Bool) → is_of (flow_of row) story ≡ test → AllByRecursion (IsSmall (most + 1)) (noted row commands others)
-        → AllByRecursion (IsSmall (most + 1)) (noted row commands (story ∷ others))
+    by_test : (test : Bool) → is_story_of (flow_of_row row) story ≡ test → AllByRecursion (IsSmall (most + 1)) (stories_with row commands others)
+        → AllByRecursion (IsSmall (most + 1)) (stories_with row commands (story ∷ others))
     by_test true is later = rw is (small_after most story row commands all.0, small_later most others all.1)
     by_test false is later = rw is ((small_later most (story ∷ []) (all.0, tt)).0, later)
 
 small_told : (most : ℕ) (row : List ℕ) (commands : List Command) (stories : List Story) → AllByRecursion (IsSmall most) stories
-    → AllByRecursion (IsSmall (most + 1)) (told_by row commands stories)
-small_told most row commands stories all = by_test (has_flow row) refl where
-  by_test : (test : Bool) → has_flow row ≡ test → AllByRecursion (IsSmall (most + 1)) (told_by row commands stories)
+    → AllByRecursion (IsSmall (most + 1)) (stories_after row commands stories)
+small_told most row commands stories all = by_test (row_has_flow row) refl where
+  by_test : (test : Bool) → row_has_flow row ≡ test → AllByRecursion (IsSmall (most + 1)) (stories_after row commands stories)
   by_test true is = rw is (small_noted most row commands stories all)
   by_test false is = rw is (small_later most stories all)
 
@@ -257,11 +264,11 @@ pub stories_small : (rows : List (List ℕ)) (commands : List Command) (place : 
 stories_small rows commands zero = tt
 stories_small rows commands (suc place) =
     subst (λ (n : ℕ). AllByRecursion (IsSmall n)
-    (told_by (row_at rows place) (before place commands) (stories_until rows commands place))) (add-one place)
+    (stories_after (row_at rows place) (before place commands) (stories_until rows commands place))) (add-one place)
     (small_told place (row_at rows place) (before place commands) (stories_until rows commands place) (stories_small rows commands place))
 
 -- small numbers leave room for one frame more
-pub room_in : (most : ℕ) (stories : List Story) → most + 1 < 2 ^ 64 → AllByRecursion (IsSmall most) stories → AllByRecursion HasRoom stories
+pub room_in : (most : ℕ) (stories : List Story) → most + 1 < 2 ^ 64 → AllByRecursion (IsSmall most) stories → AllByRecursion HasRoomForFrame stories
 room_in most [] below all = tt
 room_in most (story ∷ others) below all = (
   record {
@@ -273,15 +280,15 @@ room_in most (story ∷ others) below all = (
 )
 
 -- what holds of each story holds at a place
-pub room_at : (stories : List Story) (i : ℕ) (d : Story) → i < length stories → AllByRecursion HasRoom stories → HasRoom (get_or stories i d)
+pub room_at : (stories : List Story) (i : ℕ) (d : Story) → i < length stories → AllByRecursion HasRoomForFrame stories → HasRoomForFrame (get_or stories i d)
 room_at [] i d inside all = absurd (omega (arith, inside))
 room_at (story ∷ others) zero d inside all = all.0
 room_at (story ∷ others) (suc i) d inside all = room_at others i d (omega (arith, inside)) all.1
 
 -- the index with a flow more
 pub index_more : (flow name key : List ℕ) (stories : List Story) (last : Story) (old : Option ℕ) (place : ℕ) → key ≡ name
-    → last.flow ≡ name → place ≡ length stories → position (is_of name) stories ≡ None → old ≡ position (is_of flow) stories
-    → cond (bytes_eq key flow) (Some place) old ≡ position (is_of flow) (stories ++ last ∷ [])
+    → last.flow ≡ name → place ≡ length stories → position (is_story_of name) stories ≡ None → old ≡ position (is_story_of flow) stories
+    → cond (bytes_eq key flow) (Some place) old ≡ position (is_story_of flow) (stories ++ last ∷ [])
 index_more flow name key stories last old place key_is named at_end absent was =
     ap (λ (it : List ℕ). cond (bytes_eq it flow) (Some place) old) key_is
     ∙ (ap (λ (it : ℕ). cond (bytes_eq name flow) (Some it) old) at_end
@@ -299,15 +306,15 @@ pub read_story : (flows : List Flow) (i : ℕ) (flow : Flow) → flow ≡ get_or
 read_story flows i flow read = ap story_of read ∙ sym (get_or_map story_of flows i flow)
 
 module _ (row : List ℕ) (commands : List Command) (stories : List Story) (place : ℕ) (old : Story)
-    (found : position (is_of (flow_of row)) stories ≡ Some place) (read : old ≡ get_or stories place old) where
-  here : position_or_len (is_of (flow_of row)) stories ≡ place
-  here = position_is (is_of (flow_of row)) stories place found
+    (found : position (is_story_of (flow_of_row row)) stories ≡ Some place) (read : old ≡ get_or stories place old) where
+  here : position_or_len (is_story_of (flow_of_row row)) stories ≡ place
+  here = position_is (is_story_of (flow_of_row row)) stories place found
 
-  inside : position_or_len (is_of (flow_of row)) stories < length stories
-  inside = let within = position_within (is_of (flow_of row)) stories place found in omega (arith, within, here)
+  inside : position_or_len (is_story_of (flow_of_row row)) stories < length stories
+  inside = let within = position_within (is_story_of (flow_of_row row)) stories place found in omega (arith, within, here)
 
   -- the flow's story goes on
-  pub goes_on : (next : Story) → next ≡ after old row commands → set stories place next ≡ noted row commands stories
+  pub goes_on : (next : Story) → next ≡ after old row commands → set stories place next ≡ stories_with row commands stories
   goes_on next is =
       sym (noted_at row commands stories old inside
       ∙ (ap (λ (n : ℕ). set stories n (after (get_or stories n old) row commands)) here
@@ -320,7 +327,7 @@ module _ (row : List ℕ) (commands : List Command) (stories : List Story) (plac
       ∙ ap (λ (it : Story). move_by it row commands) (sym read)))
 
   pub stays_found : (flow : List ℕ) (next : Story) → next ≡ after old row commands
-      → position (is_of flow) (set stories place next) ≡ position (is_of flow) stories
+      → position (is_story_of flow) (set stories place next) ≡ position (is_story_of flow) stories
   stays_found flow next is =
       places_kept flow stories place next old
       (ap (λ (it : Story). it.flow) is ∙ (same_flow row commands old ∙ ap (λ (it : Story). it.flow) read))
@@ -330,18 +337,18 @@ module _ (row : List ℕ) (commands : List Command) (stories : List Story) (plac
 module _ (rows : List (List ℕ)) (commands applied : List Command) (place : ℕ) (row : List ℕ) (stories : List Story)
     (row_is : row ≡ row_at rows place) (applied_is : applied ≡ before place commands) (stories_are : stories ≡ stories_until rows commands place)
   where
-    pub stories_next : told_by row applied stories ≡ stories_until rows commands (place + 1)
+    pub stories_next : stories_after row applied stories ≡ stories_until rows commands (place + 1)
     stories_next =
-        ap (λ (it : List ℕ). told_by it applied stories) row_is
-        ∙ (ap (λ (it : List Command). told_by (row_at rows place) it stories) applied_is
-        ∙ (ap (λ (it : List Story). told_by (row_at rows place) (before place commands) it) stories_are
+        ap (λ (it : List ℕ). stories_after it applied stories) row_is
+        ∙ (ap (λ (it : List Command). stories_after (row_at rows place) it stories) applied_is
+        ∙ (ap (λ (it : List Story). stories_after (row_at rows place) (before place commands) it) stories_are
         ∙ sym (ap (λ (n : ℕ). stories_until rows commands n) (add-one place))))
 
-    pub moves_next : (moves : List Reason) → moves ≡ moves_until rows commands place
-        → moves ++ listed (move_of row applied stories) ≡ moves_until rows commands (place + 1)
+    pub moves_next : (moves : List Reason) → moves ≡ reasons_until rows commands place
+        → moves ++ listed (move_of row applied stories) ≡ reasons_until rows commands (place + 1)
     moves_next moves moves_are =
         ap (λ (it : List Reason). it ++ listed (move_of row applied stories)) moves_are
-        ∙ (ap (λ (it : List ℕ). moves_until rows commands place ++ listed (move_of it applied stories)) row_is
-        ∙ (ap (λ (it : List Command). moves_until rows commands place ++ listed (move_of (row_at rows place) it stories)) applied_is
-        ∙ (ap (λ (it : List Story). moves_until rows commands place ++ listed (move_of (row_at rows place) (before place commands) it)) stories_are
-        ∙ sym (ap (λ (n : ℕ). moves_until rows commands n) (add-one place)))))
+        ∙ (ap (λ (it : List ℕ). reasons_until rows commands place ++ listed (move_of it applied stories)) row_is
+        ∙ (ap (λ (it : List Command). reasons_until rows commands place ++ listed (move_of (row_at rows place) it stories)) applied_is
+        ∙ (ap (λ (it : List Story). reasons_until rows commands place ++ listed (move_of (row_at rows place) (before place commands) it)) stories_are
+        ∙ sym (ap (λ (n : ℕ). reasons_until rows commands n) (add-one place)))))

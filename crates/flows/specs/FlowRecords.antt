@@ -1,5 +1,5 @@
 -- What the code keeps of each flow, and how it finds it.
-use Rattle.std.specs.Prelude.{◌≡◌, ℕ, ◌+◌, ◌<◌, ◌≤◌, ◌^◌, List, Option, string_bytes, map}
+use Rattle.std.specs.Prelude.{◌≡◌, ℕ, ◌+◌, ◌<◌, ◌^◌, List, Option, string_bytes, map}
 use Rattle.std.specs.BTreeMap.{get_by}
 use Rattle.std.specs.Cmp.Lexicographic.{slice_cmp}
 use Rattle.std.specs.List.{position}
@@ -7,7 +7,7 @@ use Rattle.std.specs.Ordering.{nat_cmp}
 use Rattle.flows.specs.declared.flow.Flow.{Flow}
 use Rattle.flows.specs.declared.flow_list.FlowList.{FlowList}
 use Rattle.flows.specs.Stories.{Story}
-use Rattle.flows.specs.Telling.{is_of}
+use Rattle.flows.specs.Telling.{is_story_of}
 
 -- what is told of a flow
 abbrev pub story_of : Flow → Story
@@ -24,14 +24,8 @@ story_of flow = record {
   path = string_bytes flow.path;
 }
 
--- no number is above this one
-pub record IsSmall (most : ℕ) (story : Story) : Type 0 where
-  pub frames : story.frames ≤ most
-  pub sent : story.sent ≤ most
-  pub changes : story.changes ≤ most
-
 -- one frame more can be counted
-pub record HasRoom (story : Story) : Type 0 where
+pub record HasRoomForFrame (story : Story) : Type 0 where
   pub frames : story.frames + 1 < 2 ^ 64
   pub sent : story.sent + 1 < 2 ^ 64
   pub changes : story.changes + 1 < 2 ^ 64
@@ -46,4 +40,4 @@ place_in list flow = get_by (λ (name : _). slice_cmp nat_cmp flow name.now) lis
 
 -- each flow is found where its story is
 abbrev pub IsIndexed : FlowList → Type 0
-IsIndexed list = (flow : List ℕ) → place_in list flow ≡ position (is_of flow) (stories_in list)
+IsIndexed list = (flow : List ℕ) → place_in list flow ≡ position (is_story_of flow) (stories_in list)

@@ -1,13 +1,8 @@
 -- What is printed where the flows of a file are not told.
 use Rattle.std.specs.Prelude.{ℕ, ◌++◌, List, codes, decimal}
+use Rattle.comparison.specs.Mistakes.{json_text, no_report_text}
 use Rattle.flows.specs.declared.fault.NoFlows.{NoFlows}
 use Rattle.flows.specs.declared.fault.NoFlows.TheVariants.{JsonLines, LeftOut, Memory, NoReport}
-
-abbrev pub json_text : List ℕ → List ℕ
-json_text name = codes "error: " ++ (name ++ codes " has JSON lines: a report of CSV is read\n")
-
-abbrev pub no_report_text : List ℕ → ℕ → List ℕ
-no_report_text name line = codes "error: " ++ (name ++ (codes " is no report of CSV: line " ++ (decimal line ++ codes "\n")))
 
 abbrev pub left_out_text : List ℕ → ℕ → List ℕ
 left_out_text name line =

@@ -1,12 +1,8 @@
 -- What the code keeps of the flows with the most changes: for each the number of its changes, and its line.
-use Rattle.std.specs.Prelude.{ℕ, nat_lt, Bool, List, String, length, string_bytes, unwrap_or}
+use Rattle.std.specs.Prelude.{ℕ, nat_lt, List, String, length, string_bytes, unwrap_or}
 use Rattle.std.specs.List.{position}
 use Rattle.flows.specs.Stories.{Story}
 use Rattle.flows.specs.SummaryText.{ranked_line}
-
--- a story with fewer changes than these
-abbrev pub has_fewer : ℕ → Story → Bool
-has_fewer changes story = nat_lt story.changes changes
 
 -- what is kept
 abbrev pub line_view : {Y : Type 0} → ℕ × String Y → ℕ × List ℕ

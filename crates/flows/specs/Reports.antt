@@ -1,4 +1,4 @@
--- The rows of a report that has all records of a replay.
+-- The rows of a report whose rows are those of records 1, 2, 3 and so on.
 use Rattle.std.specs.Prelude.{◌≡◌, ℕ, ◌+◌, ◌<◌, ◌≤◌, ◌⊎◌, Bool, true, false, List, decimal, length}
 use Rattle.std.specs.Str.{bytes_eq}
 use Rattle.comparison.specs.Rows.{BeginsAsJson, IsNoReport, IsReport, field, row_at}
@@ -19,16 +19,17 @@ pub record IsCountInPlace (rows : List (List ℕ)) (count : ℕ) : Type 0 where
   pub in_place : AreInPlace rows count
   pub next : (count ≡ length rows) ⊎ (is_in_place rows count ≡ false)
 
--- the bytes are a report with these rows, from the first record on, with none left out
-pub record IsWholeReport (bytes : List ℕ) (rows : List (List ℕ)) : Type 0 where
+-- the bytes are a report with these rows, which are those of records 1, 2, 3 and so on without a gap; whether rows are missing behind the
+-- last one does not show
+pub record IsGapless (bytes : List ℕ) (rows : List (List ℕ)) : Type 0 where
   pub report : IsReport bytes rows
   pub in_place : AreInPlace rows (length rows)
 
 -- Why the flows of a report are not told: the bytes begin as JSON lines do; they are no report of CSV, which this line shows first, counted
 -- from 1; they are one, but the row on this line is not that of the next record; or memory was refused.
-pub data IsRefused (bytes : List ℕ) (refusal : NoFlows) : Type 0 where
-  is_json : BeginsAsJson bytes → refusal ≡ JsonLines → IsRefused bytes refusal
-  is_no_report : (line : ℕ) → ¬ BeginsAsJson bytes → IsNoReport bytes line → refusal ≡ NoReport line → IsRefused bytes refusal
+pub data AreFlowsRefused (bytes : List ℕ) (refusal : NoFlows) : Type 0 where
+  is_json : BeginsAsJson bytes → refusal ≡ JsonLines → AreFlowsRefused bytes refusal
+  is_no_report : (line : ℕ) → ¬ BeginsAsJson bytes → IsNoReport bytes line → refusal ≡ NoReport line → AreFlowsRefused bytes refusal
   is_left_out : (rows : List (List ℕ)) (count : ℕ) → IsReport bytes rows → IsCountInPlace rows count → count < length rows
-      → refusal ≡ LeftOut (2 + count) → IsRefused bytes refusal
-  no_memory : refusal ≡ Memory → IsRefused bytes refusal
+      → refusal ≡ LeftOut (2 + count) → AreFlowsRefused bytes refusal
+  no_memory : refusal ≡ Memory → AreFlowsRefused bytes refusal

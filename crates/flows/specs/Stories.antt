@@ -10,25 +10,25 @@ use Rattle.flows.specs.Settings.{is_untracked, is_up}
 -- ---- what a row says
 
 -- the flow as the row spells it: source, source port, destination, destination port and protocol with commas between them
-abbrev pub flow_of : List ℕ → List ℕ
-flow_of row = fields_from 8 row
+abbrev pub flow_of_row : List ℕ → List ℕ
+flow_of_row row = fields_from 8 row
 
-abbrev pub has_flow : List ℕ → Bool
-has_flow row = not (length (field 8 row) == 0)
+abbrev pub row_has_flow : List ℕ → Bool
+row_has_flow row = not (length (field 8 row) == 0)
 
 -- the service of the flow: destination, destination port and protocol
-abbrev pub service_of : List ℕ → List ℕ
-service_of row = fields_from 10 row
+abbrev pub service_of_row : List ℕ → List ℕ
+service_of_row row = fields_from 10 row
 
-abbrev pub moment_of : List ℕ → List ℕ
-moment_of row = field 1 row
+abbrev pub moment_of_row : List ℕ → List ℕ
+moment_of_row row = field 1 row
 
-abbrev pub is_sent : List ℕ → Bool
-is_sent row = bytes_eq (field 3 row) (codes "TX")
+abbrev pub is_sent_row : List ℕ → Bool
+is_sent_row row = bytes_eq (field 3 row) (codes "TX")
 
 -- the number of the backend, and the address to which the frame was sent; what is not known is empty
-abbrev pub backend_of : List ℕ → List ℕ
-backend_of row = field 6 row
+abbrev pub backend_of_row : List ℕ → List ℕ
+backend_of_row row = field 6 row
 
 abbrev pub address_of : List ℕ → List ℕ
 address_of row = field 7 row
@@ -40,7 +40,7 @@ or_else (byte ∷ more) other = byte ∷ more
 
 -- the backend in a word: its number; where that is not known, its address; and where a frame was sent in no tunnel, a dash
 abbrev pub backend_name : List ℕ → List ℕ
-backend_name row = or_else (backend_of row) (or_else (address_of row) (codes "-"))
+backend_name row = or_else (backend_of_row row) (or_else (address_of row) (codes "-"))
 
 -- ---- stories
 
@@ -60,11 +60,11 @@ pub record Story : Type 0 where
   pub path : List ℕ
 
 -- before the first frame, which this row is
-abbrev pub begun : List ℕ → Story
-begun row = record {
-  flow = flow_of row;
-  first = moment_of row;
-  last = moment_of row;
+abbrev pub story_begun : List ℕ → Story
+story_begun row = record {
+  flow = flow_of_row row;
+  first = moment_of_row row;
+  last = moment_of_row row;
   frames = 0;
   sent = 0;
   changes = 0;
@@ -77,23 +77,23 @@ begun row = record {
 -- ---- changes
 
 -- the frame is sent to another address than the sent one before
-abbrev pub is_moved : Story → List ℕ → Bool
-is_moved story row = is_sent row && (not (story.sent == 0) && not (bytes_eq story.address (address_of row)))
+abbrev pub is_moved_row : Story → List ℕ → Bool
+is_moved_row story row = is_sent_row row && (not (story.sent == 0) && not (bytes_eq story.address (address_of row)))
 
 -- Why the next frame is sent to another address. The number of the backend before is not known; it is this frame's too, so its address
--- was changed; it is not up; the service is without tracking, or was at the frame before, so that no note is there; or else the flow's
--- note is gone though the backend is up.
-abbrev pub reason_of : Story → List ℕ → List Command → Reason
-reason_of story row commands =
+-- was changed; it is not up; the service is without tracking, or was at the sent frame before, which left no note; or else the flow's note
+-- is gone though the backend is up.
+abbrev pub reason_of_move : Story → List ℕ → List Command → Reason
+reason_of_move story row commands =
     if length story.backend == 0 then Unknown
-    else if bytes_eq story.backend (backend_of row) then Readdressed
+    else if bytes_eq story.backend (backend_of_row row) then Readdressed
     else if not (is_up story.backend commands) then Down
-    else if story.untracked || is_untracked (service_of row) commands then Untracked
+    else if story.untracked || is_untracked (service_of_row row) commands then Untracked
     else Evicted
 
 -- why a frame is moved, if it is
 abbrev pub move_by : Story → List ℕ → List Command → Option Reason
-move_by story row commands = if is_moved story row then Some (reason_of story row commands) else None
+move_by story row commands = if is_moved_row story row then Some (reason_of_move story row commands) else None
 
 abbrev pub reason_word : Reason → List ℕ
 reason_word Readdressed = codes "readdressed"
@@ -102,13 +102,13 @@ reason_word Untracked = codes "untracked"
 reason_word Evicted = codes "evicted"
 reason_word Unknown = codes "unknown"
 
-abbrev pub change_text : List ℕ → List ℕ → List ℕ
-change_text reason backend = codes " >" ++ (reason ++ (codes " " ++ backend))
+abbrev pub change_with_reason : List ℕ → List ℕ → List ℕ
+change_with_reason reason backend = codes " >" ++ (reason ++ (codes " " ++ backend))
 
 -- what a sent frame adds to the backends in words: the first backend, and each change with its reason
 abbrev pub step_text : Story → List ℕ → Option Reason → List ℕ
 step_text story row None = if story.sent == 0 then backend_name row else []
-step_text story row (Some reason) = change_text (reason_word reason) (backend_name row)
+step_text story row (Some reason) = change_with_reason (reason_word reason) (backend_name row)
 
 abbrev pub one_if_some : Option Reason → ℕ
 one_if_some None = 0
@@ -121,7 +121,7 @@ abbrev pub after_unsent : Story → List ℕ → Story
 after_unsent story row = record {
   flow = story.flow;
   first = story.first;
-  last = moment_of row;
+  last = moment_of_row row;
   frames = story.frames + 1;
   sent = story.sent;
   changes = story.changes;
@@ -136,11 +136,11 @@ abbrev pub after_sent : Story → List ℕ → Bool → Option Reason → Story
 after_sent story row untracked move = record {
   flow = story.flow;
   first = story.first;
-  last = moment_of row;
+  last = moment_of_row row;
   frames = story.frames + 1;
   sent = story.sent + 1;
   changes = story.changes + one_if_some move;
-  backend = backend_of row;
+  backend = backend_of_row row;
   address = address_of row;
   untracked = untracked;
   path = story.path ++ step_text story row move;
@@ -149,5 +149,5 @@ after_sent story row untracked move = record {
 -- after a frame, where these commands came before it
 abbrev pub after : Story → List ℕ → List Command → Story
 after story row commands =
-    if is_sent row then after_sent story row (is_untracked (service_of row) commands) (move_by story row commands)
+    if is_sent_row row then after_sent story row (is_untracked (service_of_row row) commands) (move_by story row commands)
     else after_unsent story row

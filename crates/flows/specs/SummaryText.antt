@@ -26,8 +26,8 @@ rank Untracked = 2
 rank Evicted = 3
 rank Unknown = 4
 
-abbrev pub how_many : Reason → List Reason → ℕ
-how_many reason moves = count_by (λ move. rank move == rank reason) moves
+abbrev pub moves_for : Reason → List Reason → ℕ
+moves_for reason moves = count_by (λ move. rank move == rank reason) moves
 
 abbrev pub moves_front : ℕ → ℕ → ℕ → List ℕ
 moves_front moved down evicted =
@@ -37,21 +37,21 @@ abbrev pub moves_back : ℕ → ℕ → ℕ → List ℕ
 moves_back untracked readdressed unknown =
     decimal untracked ++ (codes " untracked, " ++ (decimal readdressed ++ (codes " readdressed, " ++ (decimal unknown ++ codes " unknown\n"))))
 
-abbrev pub moves_line : List Reason → List ℕ
-moves_line moves =
-    moves_front (length moves) (how_many Down moves) (how_many Evicted moves)
-    ++ moves_back (how_many Untracked moves) (how_many Readdressed moves) (how_many Unknown moves)
+abbrev pub moves_by_reason : List Reason → List ℕ
+moves_by_reason moves =
+    moves_front (length moves) (moves_for Down moves) (moves_for Evicted moves)
+    ++ moves_back (moves_for Untracked moves) (moves_for Readdressed moves) (moves_for Unknown moves)
 
 -- ---- the flows with the most changes
 
 -- a story goes before those with fewer changes, and behind all others
-abbrev pub placed : Story → List Story → List Story
-placed story [] = story ∷ []
-placed story (best ∷ others) = if nat_lt best.changes story.changes then story ∷ best ∷ others else best ∷ placed story others
+abbrev pub story_placed : Story → List Story → List Story
+story_placed story [] = story ∷ []
+story_placed story (best ∷ others) = if nat_lt best.changes story.changes then story ∷ best ∷ others else best ∷ story_placed story others
 
 -- the same for the story of a flow that moved; any other is left out
 abbrev pub placed_if_moved : List Story → Story → List Story
-placed_if_moved ranked story = if was_moved story then placed story ranked else ranked
+placed_if_moved ranked story = if was_moved story then story_placed story ranked else ranked
 
 -- the stories of moved flows, those with the most changes first
 abbrev pub ranked : List Story → List Story
@@ -62,11 +62,11 @@ ranked_pieces changes flow path =
     decimal changes ++ (codes " changes of " ++ (flow ++ (codes ": " ++ (path ++ codes "\n"))))
 
 -- a flow as its story has it, in words
-abbrev pub flow_phrase : List ℕ → List ℕ
-flow_phrase flow = flow_pieces (field 4 flow) (field 0 flow) (field 1 flow) (field 2 flow) (field 3 flow)
+abbrev pub flow_in_words : List ℕ → List ℕ
+flow_in_words flow = flow_pieces (field 4 flow) (field 0 flow) (field 1 flow) (field 2 flow) (field 3 flow)
 
 abbrev pub ranked_line : Story → List ℕ
-ranked_line story = ranked_pieces story.changes (flow_phrase story.flow) story.path
+ranked_line story = ranked_pieces story.changes (flow_in_words story.flow) story.path
 
 -- ---- all
 
@@ -74,5 +74,5 @@ ranked_line story = ranked_pieces story.changes (flow_phrase story.flow) story.p
 -- most changes
 abbrev pub summary_text : List Story → List Reason → List ℕ
 summary_text stories moves =
-    (flows_line (count_by was_sent stories) (count_by was_moved stories) ++ moves_line moves)
+    (flows_line (count_by was_sent stories) (count_by was_moved stories) ++ moves_by_reason moves)
     ++ flat_map ranked_line (take 10 (ranked stories))

@@ -17,10 +17,10 @@ line_back frames sent changes path =
     codes "," ++ (decimal frames ++ (codes "," ++ (decimal sent ++ (codes "," ++ (decimal changes ++ (codes "," ++ (path ++ codes "\n")))))))
 
 -- the line of a flow, if one of its frames was sent
-abbrev pub line_of : Story → List ℕ
-line_of story =
+abbrev pub flow_line : Story → List ℕ
+flow_line story =
     if story.sent == 0 then []
     else line_front story.flow story.first story.last ++ line_back story.frames story.sent story.changes story.path
 
 abbrev pub table_text : List Story → List ℕ
-table_text stories = table_head ++ flat_map line_of stories
+table_text stories = table_head ++ flat_map flow_line stories

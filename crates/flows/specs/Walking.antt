@@ -34,11 +34,11 @@ pub record IsSetBy (old new : Settings) (action : Action) : Type 0 where
   pub commands : new.commands.now ≡ old.commands.now
 
 -- the flags are those that the commands set
-pub record Knows (settings : Settings) : Type 0 where
+pub record KnowsSettings (settings : Settings) : Type 0 where
   pub up : (backend_number : List ℕ) → flag settings.up backend_number ≡ is_up backend_number (applied settings)
   pub untracked : (name : List ℕ) → flag settings.untracked name ≡ is_untracked name (applied settings)
 
--- none of the commands that were carried out comes after the record at this place
+-- the flags are those of the commands that were carried out, and none of these comes after the record at this place
 pub record IsWalked (settings : Settings) (place : ℕ) : Type 0 where
-  pub knows : Knows settings
+  pub knows : KnowsSettings settings
   pub due : settings.done ≤ prefix_len (is_due place) settings.commands.now

@@ -1,8 +1,9 @@
 //! Why the flows of a file are not told.
 
 ghost use Rattle.std.specs.Prelude.{◌≡◌, IfOk, string_bytes};
-ghost use Rattle.flows.specs.Mistakes.{json_text, left_out_text, no_report_text, refusal_text};
+ghost use Rattle.flows.specs.Mistakes.{left_out_text, refusal_text};
 
+use comparison::{json_text, no_report_text};
 use std::alloc::{AllocError, Global};
 
 /// Why the flows of a file are not told.
@@ -27,18 +28,6 @@ impl From<AllocError> for NoFlows {
     fn from(_error: AllocError) -> NoFlows {
         NoFlows::Memory
     }
-}
-
-fn json_text(alloc: Global, name: &str) -> Result<String, AllocError>
-    ensures { IfOk result (λ text. string_bytes text ≡ json_text name.now) }
-{
-    format!(in alloc; "error: {name} has JSON lines: a report of CSV is read\n")
-}
-
-fn no_report_text(alloc: Global, name: &str, line: usize) -> Result<String, AllocError>
-    ensures { IfOk result (λ text. string_bytes text ≡ no_report_text name.now line) }
-{
-    format!(in alloc; "error: {name} is no report of CSV: line {line}\n")
 }
 
 fn left_out_text(alloc: Global, name: &str, line: usize) -> Result<String, AllocError>

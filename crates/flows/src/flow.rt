@@ -2,10 +2,11 @@
 
 ghost use Rattle.std.specs.Prelude.{◌≡◌, ◌<◌, ◌+◌, ◌^◌, ◌++◌, ◌==◌, not, IfOk, OnOk, Some, string_bytes};
 ghost use Rattle.std.specs.Option.{MatchOption};
-ghost use Rattle.flows.specs.FlowRecords.{HasRoom, story_of};
-ghost use Rattle.flows.specs.Stories.{after, after_sent, after_unsent, backend_name, begun, change_text, flow_of, has_flow, is_moved, is_sent};
-ghost use Rattle.flows.specs.Stories.{moment_of, move_by, one_if_some, or_else, reason_of, service_of, step_text, backend_of, address_of};
-ghost use Rattle.flows.specs.Walking.{Knows, applied};
+ghost use Rattle.flows.specs.FlowRecords.{HasRoomForFrame, story_of};
+ghost use Rattle.flows.specs.Stories.{after, after_sent, after_unsent, backend_name, story_begun, change_with_reason, flow_of_row, row_has_flow, is_moved_row};
+ghost use Rattle.flows.specs.Stories.{is_sent_row};
+ghost use Rattle.flows.specs.Stories.{moment_of_row, move_by, one_if_some, or_else, reason_of_move, service_of_row, step_text, backend_of_row, address_of};
+ghost use Rattle.flows.specs.Walking.{KnowsSettings, applied};
 
 use crate::reason::Reason;
 use crate::settings::Settings;
@@ -14,21 +15,21 @@ use std::alloc::{AllocError, Global};
 
 /// The flow as a row spells it.
 pub(crate) fn flow_of(row: &str) -> &str
-    ensures { result.now ≡ flow_of row.now }
+    ensures { result.now ≡ flow_of_row row.now }
 {
     fields_from(row, 8)
 }
 
 /// Whether a row's frame has a flow.
 pub(crate) fn has_flow(row: &str) -> bool
-    ensures { result ≡ has_flow row.now }
+    ensures { result ≡ row_has_flow row.now }
 {
     !field(row, 8).is_empty()
 }
 
 /// Whether a row's frame was sent.
 fn is_sent(row: &str) -> bool
-    ensures { result ≡ is_sent row.now }
+    ensures { result ≡ is_sent_row row.now }
 {
     field(row, 3) == "TX"
 }
@@ -81,7 +82,7 @@ pub(crate) struct Flow<'a> {
 impl<'a> Flow<'a> {
     /// Before the first frame, which this row is.
     pub(crate) fn begun(alloc: Global, row: &'a str) -> Flow<'a>
-        ensures { story_of result ≡ begun row.now }
+        ensures { story_of result ≡ story_begun row.now }
     {
         let moment = field(row, 1);
         Flow {
@@ -100,15 +101,15 @@ impl<'a> Flow<'a> {
 
     /// Whether the frame is sent to another address than the sent one before.
     fn is_moved(&self, row: &str) -> bool
-        ensures { result ≡ is_moved (story_of self.now) row.now }
+        ensures { result ≡ is_moved_row (story_of self.now) row.now }
     {
         is_sent(row) && self.sent != 0 && self.address != field(row, 7)
     }
 
     /// Why the next frame is sent to another address.
     fn reason_of(&self, row: &str, settings: &Settings) -> Reason
-        requires { Knows settings.now }
-        ensures { result ≡ reason_of (story_of self.now) row.now (applied settings.now) }
+        requires { KnowsSettings settings.now }
+        ensures { result ≡ reason_of_move (story_of self.now) row.now (applied settings.now) }
     {
         if self.backend.is_empty() {
             Reason::Unknown
@@ -125,7 +126,7 @@ impl<'a> Flow<'a> {
 
     /// Why a frame is moved, if it is.
     fn move_by(&self, row: &str, settings: &Settings) -> Option<Reason>
-        requires { Knows settings.now }
+        requires { KnowsSettings settings.now }
         ensures { result ≡ move_by (story_of self.now) row.now (applied settings.now) }
     {
         if self.is_moved(row) {
@@ -153,7 +154,7 @@ impl<'a> Flow<'a> {
 
     /// Notes a frame that is not sent.
     fn note_unsent(&mut self, row: &'a str)
-        requires { HasRoom (story_of self.old) }
+        requires { HasRoomForFrame (story_of self.old) }
         ensures { story_of self.new ≡ after_unsent (story_of self.old) row.now }
     {
         self.last = field(row, 1);
@@ -168,7 +169,7 @@ impl<'a> Flow<'a> {
         untracked: bool,
         moved: Option<Reason>,
     ) -> Result<(), AllocError>
-        requires { HasRoom (story_of self.old) }
+        requires { HasRoomForFrame (story_of self.old) }
         ensures { OnOk result (story_of self.new ≡ after_sent (story_of self.old) row.now untracked moved) }
     {
         let step = self.step_text(alloc, row, moved)?;
@@ -190,8 +191,8 @@ impl<'a> Flow<'a> {
         row: &'a str,
         settings: &Settings,
     ) -> Result<Option<Reason>, AllocError>
-        requires room { HasRoom (story_of self.old) }
-        requires knows { Knows settings.now }
+        requires room { HasRoomForFrame (story_of self.old) }
+        requires knows { KnowsSettings settings.now }
         ensures after { OnOk result (story_of self.new ≡ after (story_of self.old) row.now (applied settings.now)) }
         ensures moved { IfOk result (λ moved. moved ≡ move_by (story_of self.old) row.now (applied settings.now)) }
     {
@@ -208,7 +209,7 @@ impl<'a> Flow<'a> {
 
 /// A change of the backend, with its reason.
 fn change_text(alloc: Global, reason: &str, backend: &str) -> Result<String, AllocError>
-    ensures { IfOk result (λ text. string_bytes text ≡ change_text reason.now backend.now) }
+    ensures { IfOk result (λ text. string_bytes text ≡ change_with_reason reason.now backend.now) }
 {
     format!(in alloc; " >{reason} {backend}")
 }

@@ -2,10 +2,10 @@
 
 ghost use Rattle.std.specs.Prelude.{◌≡◌, ◌≤◌, ◌<◌, ◌+◌, ◌^◌, ◌++◌, ◌∷◌, [], Some, None, ℕ, List, IfOk, OnOk, length, map};
 ghost use Rattle.std.specs.List.{AllByRecursion, position};
-ghost use Rattle.flows.specs.FlowRecords.{HasRoom, IsIndexed, place_in, stories_in, story_of};
-ghost use Rattle.flows.specs.Stories.{after, begun, flow_of, has_flow, move_by};
-ghost use Rattle.flows.specs.Telling.{is_of, move_in, move_of, noted, told_by};
-ghost use Rattle.flows.specs.Walking.{Knows, applied};
+ghost use Rattle.flows.specs.FlowRecords.{HasRoomForFrame, IsIndexed, place_in, stories_in, story_of};
+ghost use Rattle.flows.specs.Stories.{after, story_begun, flow_of_row, row_has_flow, move_by};
+ghost use Rattle.flows.specs.Telling.{is_story_of, move_in, move_of, stories_with, stories_after};
+ghost use Rattle.flows.specs.Walking.{KnowsSettings, applied};
 
 use crate::flow::{Flow, flow_of, has_flow};
 use crate::reason::Reason;
@@ -49,11 +49,11 @@ impl<'a> FlowList<'a> {
         settings: &Settings,
     ) -> Result<Option<Reason>, AllocError>
         requires indexed { IsIndexed self.old }
-        requires place { position (is_of (flow_of row.now)) (stories_in self.old) ≡ Some place }
-        requires small { AllByRecursion HasRoom (stories_in self.old) }
-        requires knows { Knows settings.now }
+        requires place { position (is_story_of (flow_of_row row.now)) (stories_in self.old) ≡ Some place }
+        requires small { AllByRecursion HasRoomForFrame (stories_in self.old) }
+        requires knows { KnowsSettings settings.now }
         ensures indexed { OnOk result (IsIndexed self.new) }
-        ensures noted { OnOk result (stories_in self.new ≡ noted row.now (applied settings.now) (stories_in self.old)) }
+        ensures noted { OnOk result (stories_in self.new ≡ stories_with row.now (applied settings.now) (stories_in self.old)) }
         ensures moved { IfOk result (λ moved. moved ≡ move_in row.now (applied settings.now) (stories_in self.old)) }
     {
         let moved = self.flows[place].note(alloc, row, settings)?;
@@ -63,10 +63,10 @@ impl<'a> FlowList<'a> {
     /// Notes the first frame of a flow.
     fn begin(&mut self, alloc: Global, row: &'a str, settings: &Settings) -> Result<(), AllocError>
         requires indexed { IsIndexed self.old }
-        requires absent { position (is_of (flow_of row.now)) (stories_in self.old) ≡ None }
-        requires knows { Knows settings.now }
+        requires absent { position (is_story_of (flow_of_row row.now)) (stories_in self.old) ≡ None }
+        requires knows { KnowsSettings settings.now }
         ensures indexed { OnOk result (IsIndexed self.new) }
-        ensures noted { OnOk result (stories_in self.new ≡ noted row.now (applied settings.now) (stories_in self.old)) }
+        ensures noted { OnOk result (stories_in self.new ≡ stories_with row.now (applied settings.now) (stories_in self.old)) }
         ensures unmoved { OnOk result (move_in row.now (applied settings.now) (stories_in self.old) ≡ None) }
     {
         let mut flow = Flow::begun(alloc, row);
@@ -85,10 +85,10 @@ impl<'a> FlowList<'a> {
         settings: &Settings,
     ) -> Result<Option<Reason>, AllocError>
         requires indexed { IsIndexed self.old }
-        requires small { AllByRecursion HasRoom (stories_in self.old) }
-        requires knows { Knows settings.now }
+        requires small { AllByRecursion HasRoomForFrame (stories_in self.old) }
+        requires knows { KnowsSettings settings.now }
         ensures indexed { OnOk result (IsIndexed self.new) }
-        ensures noted { OnOk result (stories_in self.new ≡ noted row.now (applied settings.now) (stories_in self.old)) }
+        ensures noted { OnOk result (stories_in self.new ≡ stories_with row.now (applied settings.now) (stories_in self.old)) }
         ensures moved { IfOk result (λ moved. moved ≡ move_in row.now (applied settings.now) (stories_in self.old)) }
     {
         match self.place_of(flow_of(row)) {
@@ -108,10 +108,10 @@ impl<'a> FlowList<'a> {
         settings: &Settings,
     ) -> Result<Option<Reason>, AllocError>
         requires indexed { IsIndexed self.old }
-        requires small { AllByRecursion HasRoom (stories_in self.old) }
-        requires knows { Knows settings.now }
+        requires small { AllByRecursion HasRoomForFrame (stories_in self.old) }
+        requires knows { KnowsSettings settings.now }
         ensures indexed { OnOk result (IsIndexed self.new) }
-        ensures told { OnOk result (stories_in self.new ≡ told_by row.now (applied settings.now) (stories_in self.old)) }
+        ensures told { OnOk result (stories_in self.new ≡ stories_after row.now (applied settings.now) (stories_in self.old)) }
         ensures moved { IfOk result (λ moved. moved ≡ move_of row.now (applied settings.now) (stories_in self.old)) }
     {
         if has_flow(row) {

@@ -3,7 +3,7 @@
 ghost use Rattle.std.specs.Prelude.{◌≡◌, ◌++◌, IfOk, OnOk, map, string_bytes};
 ghost use Rattle.std.specs.List.{flat_map};
 ghost use Rattle.flows.specs.FlowRecords.{story_of};
-ghost use Rattle.flows.specs.TableText.{line_back, line_front, line_of, table_head, table_text};
+ghost use Rattle.flows.specs.TableText.{line_back, line_front, flow_line, table_head, table_text};
 
 use crate::flow::Flow;
 use std::alloc::{AllocError, Global};
@@ -34,7 +34,7 @@ fn line_back(
 
 /// The line of a flow, if one of its frames was sent.
 fn line_of(alloc: Global, flow: &Flow) -> Result<String, AllocError>
-    ensures { IfOk result (λ text. string_bytes text ≡ line_of (story_of flow.now)) }
+    ensures { IfOk result (λ text. string_bytes text ≡ flow_line (story_of flow.now)) }
 {
     if flow.sent == 0 {
         return Ok(String::new(alloc));
@@ -53,7 +53,7 @@ fn line_of(alloc: Global, flow: &Flow) -> Result<String, AllocError>
 
 /// Appends the lines of flows.
 fn put_lines(alloc: Global, text: &mut String, flows: &[Flow]) -> Result<(), AllocError>
-    ensures { OnOk result (string_bytes text.new ≡ string_bytes text.old ++ flat_map (λ flow. line_of (story_of flow)) flows.now) }
+    ensures { OnOk result (string_bytes text.new ≡ string_bytes text.old ++ flat_map (λ flow. flow_line (story_of flow)) flows.now) }
 {
     'flows: for flow in flows {
         let line = line_of(alloc, flow)?;

@@ -1,8 +1,8 @@
-//! The rows of a report that has all records of a replay.
+//! The rows of a report whose rows are those of records 1, 2, 3 and so on.
 
 ghost use Rattle.std.specs.Prelude.{◌≡◌, ◌<◌, IfErr, IfOk, decimal, length, map, string_bytes};
 ghost use Rattle.comparison.specs.Rows.{IsReport};
-ghost use Rattle.flows.specs.Reports.{IsCountInPlace, IsRefused, IsWholeReport, is_in_place};
+ghost use Rattle.flows.specs.Reports.{IsCountInPlace, AreFlowsRefused, IsGapless, is_in_place};
 
 use crate::fault::NoFlows;
 use comparison::{Unlike, Which, field, row_at, rows_in};
@@ -42,7 +42,7 @@ fn count_in_place(alloc: Global, rows: &[&str]) -> Result<usize, AllocError>
 /// The rows of a report.
 fn report_rows(alloc: Global, bytes: &[u8]) -> Result<Vec<&str>, NoFlows>
     ensures rows { IfOk result (λ rows. IsReport bytes.now (map (λ row. row.now) rows.items)) }
-    ensures refused { IfErr result (λ refusal. IsRefused bytes.now refusal) }
+    ensures refused { IfErr result (λ refusal. AreFlowsRefused bytes.now refusal) }
 {
     match rows_in(alloc, bytes, Which::First) {
         Ok(rows) => Ok(rows),
@@ -55,11 +55,11 @@ fn report_rows(alloc: Global, bytes: &[u8]) -> Result<Vec<&str>, NoFlows>
     }
 }
 
-/// The rows of a report that has all records of a replay. Refused where the bytes are none, with the first line that shows it, and where
+/// The rows of a report, which are those of records 1, 2, 3 and so on without a gap. Refused where the bytes are none, with the first line that shows it, and where
 /// memory is refused.
 pub(crate) fn whole_report(alloc: Global, bytes: &[u8]) -> Result<Vec<&str>, NoFlows>
-    ensures rows { IfOk result (λ rows. IsWholeReport bytes.now (map (λ row. row.now) rows.items)) }
-    ensures refused { IfErr result (λ refusal. IsRefused bytes.now refusal) }
+    ensures rows { IfOk result (λ rows. IsGapless bytes.now (map (λ row. row.now) rows.items)) }
+    ensures refused { IfErr result (λ refusal. AreFlowsRefused bytes.now refusal) }
 {
     let rows = report_rows(alloc, bytes)?;
     let count = count_in_place(alloc, &rows)?;

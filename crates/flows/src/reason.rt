@@ -11,7 +11,7 @@ pub(crate) enum Reason {
     Readdressed,
     /// The backend before is not up.
     Down,
-    /// The flow's service is without tracking, or was at the frame before, so that no note is there.
+    /// The flow's service is without tracking, or was at the sent frame before, which left no note.
     Untracked,
     /// The backend before is up, and the flow's note is gone.
     Evicted,

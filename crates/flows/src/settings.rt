@@ -3,7 +3,7 @@
 ghost use Rattle.std.specs.Prelude.{◌≡◌, ◌<◌, ◌+◌, List, ℕ, IfOk, OnOk, decimal, false, length, slice_get, string_bytes};
 ghost use Rattle.control.specs.ScriptText.{address_text};
 ghost use Rattle.flows.specs.Settings.{before, is_untracked, is_up, service_text};
-ghost use Rattle.flows.specs.Walking.{IsSetBy, IsWalked, Knows, SetsFlag, applied, flag, is_one_due};
+ghost use Rattle.flows.specs.Walking.{IsSetBy, IsWalked, KnowsSettings, SetsFlag, applied, flag, is_one_due};
 
 use conntrack::Service;
 use control::{Action, Command, transport_text};
@@ -84,7 +84,7 @@ pub(crate) struct Settings<'a> {
 impl<'a> Settings<'a> {
     /// Before the first command.
     pub(crate) fn new(alloc: Global, commands: &'a [Command]) -> Settings<'a>
-        ensures knows { Knows result }
+        ensures knows { KnowsSettings result }
         ensures start { result.done ≡ 0 }
         ensures of { result.commands.now ≡ commands.now }
     {
@@ -98,7 +98,7 @@ impl<'a> Settings<'a> {
 
     /// Whether the backend of this number is up.
     pub(crate) fn is_up(&self, number: &str) -> bool
-        requires { Knows self.now }
+        requires { KnowsSettings self.now }
         ensures { result ≡ is_up number.now (applied self.now) }
     {
         self.up.has(number)
@@ -106,7 +106,7 @@ impl<'a> Settings<'a> {
 
     /// Whether this service is without tracking.
     pub(crate) fn is_untracked(&self, service: &str) -> bool
-        requires { Knows self.now }
+        requires { KnowsSettings self.now }
         ensures { result ≡ is_untracked service.now (applied self.now) }
     {
         self.untracked.has(service)
@@ -132,9 +132,9 @@ impl<'a> Settings<'a> {
 
     /// Carries the next command out.
     fn step(&mut self, alloc: Global) -> Result<(), AllocError>
-        requires knows { Knows self.old }
+        requires knows { KnowsSettings self.old }
         requires next { self.old.done < length self.old.commands.now }
-        ensures knows { OnOk result (Knows self.new) }
+        ensures knows { OnOk result (KnowsSettings self.new) }
         ensures further { OnOk result (self.new.done ≡ self.old.done + 1) }
         ensures same { OnOk result (self.new.commands.now ≡ self.old.commands.now) }
     {

@@ -5,7 +5,7 @@ ghost use Rattle.std.specs.List.{flat_map, insert, position};
 ghost use Rattle.flows.specs.FlowRecords.{story_of};
 ghost use Rattle.flows.specs.Ranking.{line_view, place_for, ranked_view};
 ghost use Rattle.flows.specs.declared.reason.Reason.TheVariants.{Down, Evicted, Readdressed, Unknown, Untracked};
-ghost use Rattle.flows.specs.SummaryText.{flow_phrase, flows_line, how_many, moves_back, moves_front, moves_line, ranked, ranked_line};
+ghost use Rattle.flows.specs.SummaryText.{flow_in_words, flows_line, moves_for, moves_back, moves_front, moves_by_reason, ranked, ranked_line};
 ghost use Rattle.flows.specs.SummaryText.{ranked_pieces, summary_text, was_moved, was_sent};
 
 use crate::flow::Flow;
@@ -38,7 +38,7 @@ fn moved_count(flows: &[Flow]) -> usize
 
 /// How many frames were moved for this reason.
 fn how_many(moves: &[Reason], reason: Reason) -> usize
-    ensures { result ≡ how_many reason moves.now }
+    ensures { result ≡ moves_for reason moves.now }
 {
     let rank = reason.rank();
     moves.iter().filter(|other| other.rank() == rank).count()
@@ -68,7 +68,7 @@ fn moves_back(
 
 /// The front of the line that says how many frames were moved.
 fn first_reasons(alloc: Global, moves: &[Reason]) -> Result<String, AllocError>
-    ensures { IfOk result (λ text. string_bytes text ≡ moves_front (length moves.now) (how_many Down moves.now) (how_many Evicted moves.now)) }
+    ensures { IfOk result (λ text. string_bytes text ≡ moves_front (length moves.now) (moves_for Down moves.now) (moves_for Evicted moves.now)) }
 {
     let down = how_many(moves, Reason::Down);
     let evicted = how_many(moves, Reason::Evicted);
@@ -78,7 +78,7 @@ fn first_reasons(alloc: Global, moves: &[Reason]) -> Result<String, AllocError>
 /// Its back.
 fn other_reasons(alloc: Global, moves: &[Reason]) -> Result<String, AllocError>
     ensures { IfOk result (λ text. string_bytes text ≡
-        moves_back (how_many Untracked moves.now) (how_many Readdressed moves.now) (how_many Unknown moves.now)) }
+        moves_back (moves_for Untracked moves.now) (moves_for Readdressed moves.now) (moves_for Unknown moves.now)) }
 {
     let untracked = how_many(moves, Reason::Untracked);
     let readdressed = how_many(moves, Reason::Readdressed);
@@ -88,7 +88,7 @@ fn other_reasons(alloc: Global, moves: &[Reason]) -> Result<String, AllocError>
 
 /// How many frames were moved, and why.
 fn moves_line(alloc: Global, moves: &[Reason]) -> Result<String, AllocError>
-    ensures { IfOk result (λ text. string_bytes text ≡ moves_line moves.now) }
+    ensures { IfOk result (λ text. string_bytes text ≡ moves_by_reason moves.now) }
 {
     let mut text = first_reasons(alloc, moves)?;
     let others = other_reasons(alloc, moves)?;
@@ -98,7 +98,7 @@ fn moves_line(alloc: Global, moves: &[Reason]) -> Result<String, AllocError>
 
 /// A flow in words.
 fn flow_phrase(alloc: Global, flow: &str) -> Result<String, AllocError>
-    ensures { IfOk result (λ text. string_bytes text ≡ flow_phrase flow.now) }
+    ensures { IfOk result (λ text. string_bytes text ≡ flow_in_words flow.now) }
 {
     flow_pieces(
         alloc,
@@ -189,7 +189,7 @@ fn put_ranked_lines(text: &mut String, best: &[(usize, String)]) -> Result<(), A
 /// How many flows have a sent frame and moved, and how many frames were moved and why.
 fn counts(alloc: Global, flows: &[Flow], moves: &[Reason]) -> Result<String, AllocError>
     ensures { IfOk result (λ text. string_bytes text ≡
-        flows_line (count_by was_sent (map story_of flows.now)) (count_by was_moved (map story_of flows.now)) ++ moves_line moves.now) }
+        flows_line (count_by was_sent (map story_of flows.now)) (count_by was_moved (map story_of flows.now)) ++ moves_by_reason moves.now) }
 {
     let mut text = flows_line(alloc, sent_count(flows), moved_count(flows))?;
     let moves = moves_line(alloc, moves)?;

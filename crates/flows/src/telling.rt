@@ -3,8 +3,8 @@
 ghost use Rattle.std.specs.Prelude.{◌≡◌, ◌++◌, IfErr, IfOk, OnOk, length, map, string_bytes};
 ghost use Rattle.flows.specs.FlowRecords.{stories_in};
 ghost use Rattle.flows.specs.FlowTexts.{AreFlows};
-ghost use Rattle.flows.specs.Reports.{IsRefused};
-ghost use Rattle.flows.specs.Telling.{listed, moves_until, stories_until};
+ghost use Rattle.flows.specs.Reports.{AreFlowsRefused};
+ghost use Rattle.flows.specs.Telling.{listed, reasons_until, stories_until};
 
 use crate::fault::NoFlows;
 use crate::flow_list::FlowList;
@@ -45,7 +45,7 @@ fn told<'a>(
     ensures stories { IfOk result (λ told. stories_in told.0 ≡
         stories_until (map (λ row. row.now) rows.now) commands.now (length (map (λ row. row.now) rows.now))) }
     ensures moves { IfOk result (λ told. told.1.items ≡
-        moves_until (map (λ row. row.now) rows.now) commands.now (length (map (λ row. row.now) rows.now))) }
+        reasons_until (map (λ row. row.now) rows.now) commands.now (length (map (λ row. row.now) rows.now))) }
 {
     let mut settings = Settings::new(alloc, commands);
     let mut list = FlowList::new(alloc);
@@ -59,7 +59,8 @@ fn told<'a>(
 }
 
 /// The flows of the report of a replay with this script: of each flow that has a sent frame its frames, and the backends that got them, each
-/// change with its reason. The report is one of CSV, of all records of the replay from the first on.
+/// change with its reason. The report is one of CSV, whose rows are those of records 1, 2, 3 and so on without a gap; a part that is cut off
+/// behind does not show.
 ///
 /// The reasons are those of an exact replay by the shipped program whose commands were all carried out; on threads a command and a frame may
 /// overlap.
@@ -67,7 +68,7 @@ fn told<'a>(
 /// Refused where the file is no such report, with the line that shows it first, and where memory is refused.
 pub fn flows_in(alloc: Global, report: &[u8], script: &Script) -> Result<Flows, NoFlows>
     ensures flows { IfOk result (λ flows. AreFlows report.now script.now (string_bytes flows.table) (string_bytes flows.summary)) }
-    ensures refused { IfErr result (λ refusal. IsRefused report.now refusal) }
+    ensures refused { IfErr result (λ refusal. AreFlowsRefused report.now refusal) }
 {
     let rows = whole_report(alloc, report)?;
     let (list, moves) = told(alloc, &rows, script.commands())?;

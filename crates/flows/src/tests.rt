@@ -31,53 +31,93 @@ static ROWS: [Row; 14] = [
         "",
         "0 flows with a sent frame, 0 of them moved\n0 frames moved: 0 down, 0 evicted, 0 untracked, 0 readdressed, 0 unknown\n"),
     ("a flow that stays", "0 vip 203.0.113.1 80 tcp\n0 up 1 192.0.2.2\n",
-        "1,1.000000,0,DROP,90,no-backend,,,10.0.0.1,1000,203.0.113.1,80,tcp\n2,2.000000,0,TX,99,sent,1,192.0.2.2,10.0.0.1,1000,203.0.113.1,80,tcp\n3,3.500000,0,TX,99,sent,1,192.0.2.2,10.0.0.1,1000,203.0.113.1,80,tcp\n",
+        "1,1.000000,0,DROP,90,no-backend,,,10.0.0.1,1000,203.0.113.1,80,tcp\n\
+         2,2.000000,0,TX,99,sent,1,192.0.2.2,10.0.0.1,1000,203.0.113.1,80,tcp\n\
+         3,3.500000,0,TX,99,sent,1,192.0.2.2,10.0.0.1,1000,203.0.113.1,80,tcp\n",
         "10.0.0.1,1000,203.0.113.1,80,tcp,1.000000,3.500000,3,2,0,1\n",
         "1 flows with a sent frame, 0 of them moved\n0 frames moved: 0 down, 0 evicted, 0 untracked, 0 readdressed, 0 unknown\n"),
     ("a command of number 1 comes before record 2", "0 vip 203.0.113.1 80 tcp\n0 up 0 192.0.2.1\n0 up 1 192.0.2.2\n1 down 1\n",
         "1,1.000000,0,TX,99,sent,1,192.0.2.2,10.0.0.1,1000,203.0.113.1,80,tcp\n2,2.000000,0,TX,99,sent,0,192.0.2.1,10.0.0.1,1000,203.0.113.1,80,tcp\n",
         "10.0.0.1,1000,203.0.113.1,80,tcp,1.000000,2.000000,2,2,1,1 >down 0\n",
-        "1 flows with a sent frame, 1 of them moved\n1 frames moved: 1 down, 0 evicted, 0 untracked, 0 readdressed, 0 unknown\n1 changes of tcp 10.0.0.1:1000 to 203.0.113.1:80: 1 >down 0\n"),
+        "1 flows with a sent frame, 1 of them moved\n\
+         1 frames moved: 1 down, 0 evicted, 0 untracked, 0 readdressed, 0 unknown\n\
+         1 changes of tcp 10.0.0.1:1000 to 203.0.113.1:80: 1 >down 0\n"),
     ("one of number 2 does not, so the note was gone", "0 vip 203.0.113.1 80 tcp\n0 up 0 192.0.2.1\n0 up 1 192.0.2.2\n2 down 1\n",
         "1,1.000000,0,TX,99,sent,1,192.0.2.2,10.0.0.1,1000,203.0.113.1,80,tcp\n2,2.000000,0,TX,99,sent,0,192.0.2.1,10.0.0.1,1000,203.0.113.1,80,tcp\n",
         "10.0.0.1,1000,203.0.113.1,80,tcp,1.000000,2.000000,2,2,1,1 >evicted 0\n",
-        "1 flows with a sent frame, 1 of them moved\n1 frames moved: 0 down, 1 evicted, 0 untracked, 0 readdressed, 0 unknown\n1 changes of tcp 10.0.0.1:1000 to 203.0.113.1:80: 1 >evicted 0\n"),
+        "1 flows with a sent frame, 1 of them moved\n\
+         1 frames moved: 0 down, 1 evicted, 0 untracked, 0 readdressed, 0 unknown\n\
+         1 changes of tcp 10.0.0.1:1000 to 203.0.113.1:80: 1 >evicted 0\n"),
     ("a backend that is up again was not the reason", "0 vip 203.0.113.1 80 tcp\n0 up 0 192.0.2.1\n0 up 1 192.0.2.2\n1 down 1\n1 up 1 192.0.2.2\n",
         "1,1.000000,0,TX,99,sent,1,192.0.2.2,10.0.0.1,1000,203.0.113.1,80,tcp\n2,2.000000,0,TX,99,sent,0,192.0.2.1,10.0.0.1,1000,203.0.113.1,80,tcp\n",
         "10.0.0.1,1000,203.0.113.1,80,tcp,1.000000,2.000000,2,2,1,1 >evicted 0\n",
-        "1 flows with a sent frame, 1 of them moved\n1 frames moved: 0 down, 1 evicted, 0 untracked, 0 readdressed, 0 unknown\n1 changes of tcp 10.0.0.1:1000 to 203.0.113.1:80: 1 >evicted 0\n"),
+        "1 flows with a sent frame, 1 of them moved\n\
+         1 frames moved: 0 down, 1 evicted, 0 untracked, 0 readdressed, 0 unknown\n\
+         1 changes of tcp 10.0.0.1:1000 to 203.0.113.1:80: 1 >evicted 0\n"),
     ("a service without tracking", "0 vip 203.0.113.2 53 udp notrack\n0 up 1 192.0.2.2\n1 up 2 192.0.2.3\n",
         "1,1.000000,0,TX,99,sent,1,192.0.2.2,10.0.0.1,1000,203.0.113.2,53,udp\n2,2.000000,0,TX,99,sent,2,192.0.2.3,10.0.0.1,1000,203.0.113.2,53,udp\n",
         "10.0.0.1,1000,203.0.113.2,53,udp,1.000000,2.000000,2,2,1,1 >untracked 2\n",
-        "1 flows with a sent frame, 1 of them moved\n1 frames moved: 0 down, 0 evicted, 1 untracked, 0 readdressed, 0 unknown\n1 changes of udp 10.0.0.1:1000 to 203.0.113.2:53: 1 >untracked 2\n"),
-    ("a service that was without tracking at the frame before", "0 vip 203.0.113.2 53 udp notrack\n0 up 1 192.0.2.2\n1 up 2 192.0.2.3\n1 vip 203.0.113.2 53 udp\n",
-        "1,1.000000,0,TX,99,sent,1,192.0.2.2,10.0.0.1,1000,203.0.113.2,53,udp\n2,2.000000,0,TX,99,sent,2,192.0.2.3,10.0.0.1,1000,203.0.113.2,53,udp\n3,3.000000,0,TX,99,sent,1,192.0.2.2,10.0.0.1,1000,203.0.113.2,53,udp\n",
+        "1 flows with a sent frame, 1 of them moved\n\
+         1 frames moved: 0 down, 0 evicted, 1 untracked, 0 readdressed, 0 unknown\n\
+         1 changes of udp 10.0.0.1:1000 to 203.0.113.2:53: 1 >untracked 2\n"),
+    ("a service that was without tracking at the frame before", "0 vip 203.0.113.2 53 udp notrack\n\
+         0 up 1 192.0.2.2\n\
+         1 up 2 192.0.2.3\n\
+         1 vip 203.0.113.2 53 udp\n",
+        "1,1.000000,0,TX,99,sent,1,192.0.2.2,10.0.0.1,1000,203.0.113.2,53,udp\n\
+         2,2.000000,0,TX,99,sent,2,192.0.2.3,10.0.0.1,1000,203.0.113.2,53,udp\n\
+         3,3.000000,0,TX,99,sent,1,192.0.2.2,10.0.0.1,1000,203.0.113.2,53,udp\n",
         "10.0.0.1,1000,203.0.113.2,53,udp,1.000000,3.000000,3,3,2,1 >untracked 2 >evicted 1\n",
-        "1 flows with a sent frame, 1 of them moved\n2 frames moved: 0 down, 1 evicted, 1 untracked, 0 readdressed, 0 unknown\n2 changes of udp 10.0.0.1:1000 to 203.0.113.2:53: 1 >untracked 2 >evicted 1\n"),
+        "1 flows with a sent frame, 1 of them moved\n\
+         2 frames moved: 0 down, 1 evicted, 1 untracked, 0 readdressed, 0 unknown\n\
+         2 changes of udp 10.0.0.1:1000 to 203.0.113.2:53: 1 >untracked 2 >evicted 1\n"),
     ("the same port of another protocol is another service", "0 vip 203.0.113.2 53 tcp notrack\n0 vip 203.0.113.2 53 udp\n0 up 1 192.0.2.2\n0 up 2 192.0.2.3\n",
         "1,1.000000,0,TX,99,sent,1,192.0.2.2,10.0.0.1,1000,203.0.113.2,53,udp\n2,2.000000,0,TX,99,sent,2,192.0.2.3,10.0.0.1,1000,203.0.113.2,53,udp\n",
         "10.0.0.1,1000,203.0.113.2,53,udp,1.000000,2.000000,2,2,1,1 >evicted 2\n",
-        "1 flows with a sent frame, 1 of them moved\n1 frames moved: 0 down, 1 evicted, 0 untracked, 0 readdressed, 0 unknown\n1 changes of udp 10.0.0.1:1000 to 203.0.113.2:53: 1 >evicted 2\n"),
+        "1 flows with a sent frame, 1 of them moved\n\
+         1 frames moved: 0 down, 1 evicted, 0 untracked, 0 readdressed, 0 unknown\n\
+         1 changes of udp 10.0.0.1:1000 to 203.0.113.2:53: 1 >evicted 2\n"),
     ("a backend with another address", "0 vip 203.0.113.1 80 tcp\n0 up 1 192.0.2.2\n1 down 1\n1 up 1 192.0.2.9\n",
         "1,1.000000,0,TX,99,sent,1,192.0.2.2,10.0.0.1,1000,203.0.113.1,80,tcp\n2,2.000000,0,TX,99,sent,1,192.0.2.9,10.0.0.1,1000,203.0.113.1,80,tcp\n",
         "10.0.0.1,1000,203.0.113.1,80,tcp,1.000000,2.000000,2,2,1,1 >readdressed 1\n",
-        "1 flows with a sent frame, 1 of them moved\n1 frames moved: 0 down, 0 evicted, 0 untracked, 1 readdressed, 0 unknown\n1 changes of tcp 10.0.0.1:1000 to 203.0.113.1:80: 1 >readdressed 1\n"),
+        "1 flows with a sent frame, 1 of them moved\n\
+         1 frames moved: 0 down, 0 evicted, 0 untracked, 1 readdressed, 0 unknown\n\
+         1 changes of tcp 10.0.0.1:1000 to 203.0.113.1:80: 1 >readdressed 1\n"),
     ("a backend whose number is not known", "0 vip 203.0.113.1 80 tcp\n0 up 1 192.0.2.2\n",
         "1,1.000000,0,TX,99,,,192.0.2.7,10.0.0.1,1000,203.0.113.1,80,tcp\n2,2.000000,0,TX,99,,1,192.0.2.2,10.0.0.1,1000,203.0.113.1,80,tcp\n",
         "10.0.0.1,1000,203.0.113.1,80,tcp,1.000000,2.000000,2,2,1,192.0.2.7 >unknown 1\n",
-        "1 flows with a sent frame, 1 of them moved\n1 frames moved: 0 down, 0 evicted, 0 untracked, 0 readdressed, 1 unknown\n1 changes of tcp 10.0.0.1:1000 to 203.0.113.1:80: 192.0.2.7 >unknown 1\n"),
+        "1 flows with a sent frame, 1 of them moved\n\
+         1 frames moved: 0 down, 0 evicted, 0 untracked, 0 readdressed, 1 unknown\n\
+         1 changes of tcp 10.0.0.1:1000 to 203.0.113.1:80: 192.0.2.7 >unknown 1\n"),
     ("frames in no tunnel", "",
         "1,1.000000,0,TX,2,,,,10.0.0.1,1000,203.0.113.1,80,tcp\n2,2.000000,0,TX,2,,,,10.0.0.1,1000,203.0.113.1,80,tcp\n",
         "10.0.0.1,1000,203.0.113.1,80,tcp,1.000000,2.000000,2,2,0,-\n",
         "1 flows with a sent frame, 0 of them moved\n0 frames moved: 0 down, 0 evicted, 0 untracked, 0 readdressed, 0 unknown\n"),
     ("what comes between two sent frames is no change", "0 vip 203.0.113.1 80 tcp\n0 up 1 192.0.2.2\n1 down 1\n2 up 1 192.0.2.2\n",
-        "1,1.000000,0,TX,99,sent,1,192.0.2.2,10.0.0.1,1000,203.0.113.1,80,tcp\n2,2.000000,0,DROP,90,no-backend,,,10.0.0.1,1000,203.0.113.1,80,tcp\n3,3.000000,0,TX,99,sent,1,192.0.2.2,10.0.0.1,1000,203.0.113.1,80,tcp\n",
+        "1,1.000000,0,TX,99,sent,1,192.0.2.2,10.0.0.1,1000,203.0.113.1,80,tcp\n\
+         2,2.000000,0,DROP,90,no-backend,,,10.0.0.1,1000,203.0.113.1,80,tcp\n\
+         3,3.000000,0,TX,99,sent,1,192.0.2.2,10.0.0.1,1000,203.0.113.1,80,tcp\n",
         "10.0.0.1,1000,203.0.113.1,80,tcp,1.000000,3.000000,3,2,0,1\n",
         "1 flows with a sent frame, 0 of them moved\n0 frames moved: 0 down, 0 evicted, 0 untracked, 0 readdressed, 0 unknown\n"),
-    ("three flows, of which the second has most changes", "0 vip 203.0.113.1 80 tcp\n0 up 0 192.0.2.1\n0 up 1 192.0.2.2\n3 down 1\n5 up 1 192.0.2.2\n5 down 0\n",
-        "1,1.000000,0,TX,99,sent,1,192.0.2.2,10.0.0.1,1000,203.0.113.1,80,tcp\n2,2.000000,0,TX,99,sent,1,192.0.2.2,10.0.0.1,1001,203.0.113.1,80,tcp\n3,3.000000,0,TX,99,sent,0,192.0.2.1,10.0.0.2,1000,203.0.113.1,80,tcp\n4,4.000000,0,TX,99,sent,0,192.0.2.1,10.0.0.1,1001,203.0.113.1,80,tcp\n5,5.000000,0,TX,99,sent,0,192.0.2.1,10.0.0.1,1000,203.0.113.1,80,tcp\n6,6.000000,0,TX,99,sent,1,192.0.2.2,10.0.0.1,1001,203.0.113.1,80,tcp\n",
-        "10.0.0.1,1000,203.0.113.1,80,tcp,1.000000,5.000000,2,2,1,1 >down 0\n10.0.0.1,1001,203.0.113.1,80,tcp,2.000000,6.000000,3,3,2,1 >down 0 >down 1\n10.0.0.2,1000,203.0.113.1,80,tcp,3.000000,3.000000,1,1,0,0\n",
-        "3 flows with a sent frame, 2 of them moved\n3 frames moved: 3 down, 0 evicted, 0 untracked, 0 readdressed, 0 unknown\n2 changes of tcp 10.0.0.1:1001 to 203.0.113.1:80: 1 >down 0 >down 1\n1 changes of tcp 10.0.0.1:1000 to 203.0.113.1:80: 1 >down 0\n"),
+    ("three flows, of which the second has most changes", "0 vip 203.0.113.1 80 tcp\n\
+         0 up 0 192.0.2.1\n\
+         0 up 1 192.0.2.2\n\
+         3 down 1\n\
+         5 up 1 192.0.2.2\n\
+         5 down 0\n",
+        "1,1.000000,0,TX,99,sent,1,192.0.2.2,10.0.0.1,1000,203.0.113.1,80,tcp\n\
+         2,2.000000,0,TX,99,sent,1,192.0.2.2,10.0.0.1,1001,203.0.113.1,80,tcp\n\
+         3,3.000000,0,TX,99,sent,0,192.0.2.1,10.0.0.2,1000,203.0.113.1,80,tcp\n\
+         4,4.000000,0,TX,99,sent,0,192.0.2.1,10.0.0.1,1001,203.0.113.1,80,tcp\n\
+         5,5.000000,0,TX,99,sent,0,192.0.2.1,10.0.0.1,1000,203.0.113.1,80,tcp\n\
+         6,6.000000,0,TX,99,sent,1,192.0.2.2,10.0.0.1,1001,203.0.113.1,80,tcp\n",
+        "10.0.0.1,1000,203.0.113.1,80,tcp,1.000000,5.000000,2,2,1,1 >down 0\n\
+         10.0.0.1,1001,203.0.113.1,80,tcp,2.000000,6.000000,3,3,2,1 >down 0 >down 1\n\
+         10.0.0.2,1000,203.0.113.1,80,tcp,3.000000,3.000000,1,1,0,0\n",
+        "3 flows with a sent frame, 2 of them moved\n\
+         3 frames moved: 3 down, 0 evicted, 0 untracked, 0 readdressed, 0 unknown\n\
+         2 changes of tcp 10.0.0.1:1001 to 203.0.113.1:80: 1 >down 0 >down 1\n\
+         1 changes of tcp 10.0.0.1:1000 to 203.0.113.1:80: 1 >down 0\n"),
 ];
 
 /// What a row shows, bytes that are no report, and the refusal.
@@ -88,11 +128,17 @@ static REFUSED: [Refusal; 8] = [
     ("JSON lines", b"{\"number\":1}\n", NoFlows::JsonLines),
     ("no bytes", b"", NoFlows::NoReport { line: 1 }),
     ("bytes that are no text", b"number\n\xff\n", NoFlows::NoReport { line: 2 }),
-    ("a row with eleven commas", b"number,moment,worker,verdict,steps,case,backend,address,source,source_port,destination,destination_port,protocol\n1,1.000000,,SHORT,,short,,,,,,\n", NoFlows::NoReport { line: 2 }),
-    ("a row that is not ended", b"number,moment,worker,verdict,steps,case,backend,address,source,source_port,destination,destination_port,protocol\n1,1.000000,,SHORT,,short,,,,,,,", NoFlows::NoReport { line: 2 }),
-    ("the second record first", b"number,moment,worker,verdict,steps,case,backend,address,source,source_port,destination,destination_port,protocol\n2,1.000000,,SHORT,,short,,,,,,,\n", NoFlows::LeftOut { line: 2 }),
-    ("no second record", b"number,moment,worker,verdict,steps,case,backend,address,source,source_port,destination,destination_port,protocol\n1,1.000000,,SHORT,,short,,,,,,,\n3,1.000000,,SHORT,,short,,,,,,,\n", NoFlows::LeftOut { line: 3 }),
-    ("a number with a zero in front", b"number,moment,worker,verdict,steps,case,backend,address,source,source_port,destination,destination_port,protocol\n01,1.000000,,SHORT,,short,,,,,,,\n", NoFlows::LeftOut { line: 2 }),
+    ("a row with eleven commas", b"number,moment,worker,verdict,steps,case,backend,address,source,source_port,destination,destination_port,protocol\n\
+         1,1.000000,,SHORT,,short,,,,,,\n", NoFlows::NoReport { line: 2 }),
+    ("a row that is not ended", b"number,moment,worker,verdict,steps,case,backend,address,source,source_port,destination,destination_port,protocol\n\
+         1,1.000000,,SHORT,,short,,,,,,,", NoFlows::NoReport { line: 2 }),
+    ("the second record first", b"number,moment,worker,verdict,steps,case,backend,address,source,source_port,destination,destination_port,protocol\n\
+         2,1.000000,,SHORT,,short,,,,,,,\n", NoFlows::LeftOut { line: 2 }),
+    ("no second record", b"number,moment,worker,verdict,steps,case,backend,address,source,source_port,destination,destination_port,protocol\n\
+         1,1.000000,,SHORT,,short,,,,,,,\n\
+         3,1.000000,,SHORT,,short,,,,,,,\n", NoFlows::LeftOut { line: 3 }),
+    ("a number with a zero in front", b"number,moment,worker,verdict,steps,case,backend,address,source,source_port,destination,destination_port,protocol\n\
+         01,1.000000,,SHORT,,short,,,,,,,\n", NoFlows::LeftOut { line: 2 }),
 ];
 
 /// Holds the texts of a row against what is wanted.
@@ -141,7 +187,7 @@ fn refusals_have_lines(rt: HostRuntime) {
         &rt,
         alloc,
         NoFlows::JsonLines,
-        "error: a.csv has JSON lines: a report of CSV is read\n",
+        "error: a.csv has JSON lines, and a report of CSV is needed\n",
     );
     compare_line(
         &rt,
@@ -156,4 +202,77 @@ fn refusals_have_lines(rt: HostRuntime) {
         "error: a.csv is not of all records of a replay: line 7\n",
     );
     compare_line(&rt, alloc, NoFlows::Memory, "fault 8 Memory\n");
+}
+
+/// Adds a row for each of the first flows, whose frames go to this backend; so many rows come before.
+fn push_rows(
+    rt: &impl Abort,
+    alloc: Global,
+    report: &mut String,
+    before: u32,
+    flows: u16,
+    backend: u8,
+)
+    requires { before < 2 ^ 20 }
+{
+    for port in 0..flows {
+        let record = before + port as u32 + 1;
+        let row = format!(in alloc;
+            "{record},1.000000,0,TX,99,sent,{backend},192.0.2.{backend},10.0.0.1,{port},203.0.113.1,80,tcp\n"
+        ).expect(rt, "a row");
+        report.push_str(row.as_str()).expect(rt, "a report");
+    }
+}
+
+/// The head of a report, to which rows are added.
+fn new_report(rt: &impl Abort, alloc: Global) -> String {
+    String::from_str(alloc, REPORT_HEAD).expect(rt, "a report")
+}
+
+/// Holds the summary of a report by a script against what it is to begin with.
+fn compare_summary(rt: &impl Abort, alloc: Global, report: &str, commands: &str, wanted: &str) {
+    let script = parse_script(alloc, commands.as_bytes()).expect(rt, "a script");
+    let made = flows_in(alloc, report.as_bytes(), &script).expect(rt, "flows");
+    assert!(rt; made.summary.as_str().starts_with(wanted), "{wanted}");
+}
+
+/// Twelve flows that moved, the last of which did so twice: of those with as many changes the first are named, ten in all.
+const TWELVE: &str = "\
+    12 flows with a sent frame, 12 of them moved\n\
+    13 frames moved: 13 down, 0 evicted, 0 untracked, 0 readdressed, 0 unknown\n\
+    2 changes of tcp 10.0.0.1:11 to 203.0.113.1:80: 1 >down 2 >down 3\n\
+    1 changes of tcp 10.0.0.1:0 to 203.0.113.1:80: 1 >down 2\n\
+    1 changes of tcp 10.0.0.1:1 to 203.0.113.1:80: 1 >down 2\n\
+    1 changes of tcp 10.0.0.1:2 to 203.0.113.1:80: 1 >down 2\n\
+    1 changes of tcp 10.0.0.1:3 to 203.0.113.1:80: 1 >down 2\n\
+    1 changes of tcp 10.0.0.1:4 to 203.0.113.1:80: 1 >down 2\n\
+    1 changes of tcp 10.0.0.1:5 to 203.0.113.1:80: 1 >down 2\n\
+    1 changes of tcp 10.0.0.1:6 to 203.0.113.1:80: 1 >down 2\n\
+    1 changes of tcp 10.0.0.1:7 to 203.0.113.1:80: 1 >down 2\n\
+    1 changes of tcp 10.0.0.1:8 to 203.0.113.1:80: 1 >down 2\n";
+
+#[test]
+fn ten_flows_are_named(rt: HostRuntime) {
+    let alloc = rt.alloc();
+    let mut report = new_report(&rt, alloc);
+    push_rows(&rt, alloc, &mut report, 0, 12, 1);
+    push_rows(&rt, alloc, &mut report, 12, 12, 2);
+    report
+        .push_str("25,1.000000,0,TX,99,sent,3,192.0.2.3,10.0.0.1,11,203.0.113.1,80,tcp\n")
+        .expect(&rt, "a report");
+    let commands =
+        "0 vip 203.0.113.1 80 tcp\n0 up 1 192.0.2.1\n0 up 2 192.0.2.2\n0 up 3 192.0.2.3\n12 down 1\n24 down 2\n";
+    compare_summary(&rt, alloc, report.as_str(), commands, TWELVE);
+}
+
+#[test]
+fn many_flows_are_told(rt: HostRuntime) {
+    let alloc = rt.alloc();
+    let mut report = new_report(&rt, alloc);
+    push_rows(&rt, alloc, &mut report, 0, 1000, 1);
+    push_rows(&rt, alloc, &mut report, 1000, 1000, 2);
+    let commands = "0 vip 203.0.113.1 80 tcp\n0 up 1 192.0.2.1\n0 up 2 192.0.2.2\n1000 down 1\n";
+    let wanted =
+        "1000 flows with a sent frame, 1000 of them moved\n1000 frames moved: 1000 down, 0 evicted";
+    compare_summary(&rt, alloc, report.as_str(), commands, wanted);
 }

@@ -34,6 +34,7 @@ fn shown(rt: &impl Abort, alloc: Global, settings: Settings<'_>) -> Result<Strin
         Settings::Script { capture, timed } => format!(in alloc; "script {capture} {timed}"),
         Settings::Compare { first, second } => format!(in alloc; "compare {first} {second}"),
         Settings::Flows { report, script } => format!(in alloc; "flows {report} {script}"),
+        Settings::Page { report, script } => format!(in alloc; "page {report} {script}"),
         Settings::Replay(asked) => {
             let mut text = replay_shown(rt, alloc, asked.files, asked.options, asked.ring);
             put_flags(rt, &mut text, &asked);
@@ -146,7 +147,7 @@ fn replay_shown(
 }
 
 #[rattlefmt::skip]
-const READ: [(&str, &str); 57] = [
+const READ: [(&str, &str); 58] = [
     ("xlb check a",                             "check a false"),
     ("xlb check --explain a",                   "check a true"),
     ("xlb check a --explain",                   "check a true"),
@@ -195,10 +196,11 @@ const READ: [(&str, &str); 57] = [
     ("xlb replay a b --part 0/1",              "replay a b - - 1 1 65536 251 - part 0 of 1"),
     ("xlb replay --part=3/8 a b --exact",      "replay a b - - 1 1 65536 251 - exact part 3 of 8"),
     ("xlb replay a b --part +1/4294967295",    "replay a b - - 1 1 65536 251 - part 1 of 4294967295"),
-    ("xlb replay a b --part 0/2 --lost 1@7",   "replay a b - - 1 1 65536 251 - part 0 of 2 lost 1 at 7"),
+    ("xlb replay a b --part 0/2 --lost 1@7", "replay a b - - 1 1 65536 251 - part 0 of 2 lost 1 at 7"),
     ("xlb replay --lost=2@+0 a b --part 2/3",  "replay a b - - 1 1 65536 251 - part 2 of 3 lost 2 at 0"),
     ("xlb replay a b --part 1/2 --lost 0@4294967295", "replay a b - - 1 1 65536 251 - part 1 of 2 lost 0 at 4294967295"),
     ("xlb flows r s",                          "flows r s"),
+    ("xlb page r s",                           "page r s"),
     ("xlb script a b",                          "script a b"),
     ("xlb compare a b",                         "compare a b"),
     ("xlb replay a b --no-journals --workers 4", "replay a b - - 4 1 65536 251 - no-journals"),
@@ -229,7 +231,7 @@ fn reads_commands(rt: HostRuntime) {
 
 /// A command line, the status, and what its text begins with.
 #[rattlefmt::skip]
-const REFUSED: [(&str, u8, &str); 78] = [
+const REFUSED: [(&str, u8, &str); 73] = [
     ("xlb",                                     2, "error: 'xlb' requires a subcommand but one was not provided"),
     ("xlb play a b",                            2, "error: unrecognized subcommand 'play'"),
     ("xlb replay a",                            2, "error: the following required arguments were not provided:\n  <SENT>"),
@@ -258,14 +260,9 @@ const REFUSED: [(&str, u8, &str); 78] = [
     ("xlb replay a b --part",                   2, "error: a value is required for '--part <K/N>' but none was supplied"),
     ("xlb replay a b --part 0/2 --part 1/2",    2, "error: the argument '--part <K/N>' cannot be used multiple times"),
     ("xlb replay a b --lost 0@7",               2, "error: the option --lost cannot be used without --part"),
-    ("xlb replay a b --part 0/1 --lost 0@7",    2, "error: --lost takes J@RECORD, where J counts from 0 and is below the N of --part, which is at least 2, and not 0@7"),
-    ("xlb replay a b --part 0/2 --lost 2@7",    2, "error: --lost takes J@RECORD, where J counts from 0 and is below the N of --part, which is at least 2, and not 2@7"),
-    ("xlb replay a b --part 0/2 --lost 1",      2, "error: --lost takes J@RECORD, where J counts from 0 and is below the N of --part, which is at least 2, and not 1"),
-    ("xlb replay a b --part 0/2 --lost @7",     2, "error: --lost takes J@RECORD, where J counts from 0 and is below the N of --part, which is at least 2, and not @7"),
-    ("xlb replay a b --part 0/2 --lost 1@7@8",  2, "error: --lost takes J@RECORD, where J counts from 0 and is below the N of --part, which is at least 2, and not 1@7@8"),
-    ("xlb replay a b --part 0/2 --lost 1@4294967296", 2, "error: --lost takes J@RECORD, where J counts from 0 and is below the N of --part, which is at least 2, and not 1@4294967296"),
     ("xlb replay a b --part 2/2 --lost 1@7",    2, "error: --part takes K/N, where K counts from 0 and is below N, and not 2/2"),
     ("xlb flows r",                             2, "error: the following required arguments were not provided:\n  <SCRIPT>"),
+    ("xlb page",                                2, "error: the following required arguments were not provided:\n  <REPORT>"),
     ("xlb help",                                0,
         "Replays captures through eBPF programs; checks, runs, audits, prints and assembles them"),
     ("xlb check",                               2, "error: the following required arguments were not provided:\n  <IMAGE>"),
@@ -316,6 +313,21 @@ const REFUSED: [(&str, u8, &str); 78] = [
     ("xlb --version",                           0, "xlb 0.1.0\n"),
 ];
 
+/// What is printed of a loss that is none, before its word.
+const NO_LOSS: &str =
+    "error: --lost takes J@RECORD, where J counts from 0 and is below the N of --part, which is at least 2, and not ";
+
+/// A command line, and its word that is no loss.
+#[rattlefmt::skip]
+const NO_LOSSES: [(&str, &str); 6] = [
+    ("xlb replay a b --part 0/1 --lost 0@7", "0@7"),
+    ("xlb replay a b --part 0/2 --lost 2@7", "2@7"),
+    ("xlb replay a b --part 0/2 --lost 1", "1"),
+    ("xlb replay a b --part 0/2 --lost @7", "@7"),
+    ("xlb replay a b --part 0/2 --lost 1@7@8", "1@7@8"),
+    ("xlb replay a b --part 0/2 --lost 1@4294967296", "1@4294967296"),
+];
+
 /// Compares the status of a fault, and what its text begins with.
 fn is_told(
     rt: &impl Abort,
@@ -339,7 +351,7 @@ fn is_refused(rt: &impl Abort, alloc: Global, line: &str, status: u8, text: &str
     }
 }
 
-/// The same of each line.
+/// Compares the fault of each line.
 fn are_refused(rt: &impl Abort, alloc: Global, rows: &[(&str, u8, &str)]) {
     for (line, status, text) in rows {
         is_refused(rt, alloc, line, *status, text);
@@ -349,4 +361,12 @@ fn are_refused(rt: &impl Abort, alloc: Global, rows: &[(&str, u8, &str)]) {
 #[test]
 fn refuses_wrong_words(rt: HostRuntime) {
     are_refused(&rt, rt.alloc(), &REFUSED);
+}
+
+#[test]
+fn refuses_losses_that_are_none(rt: HostRuntime) {
+    for (line, word) in &NO_LOSSES {
+        let text = format!(in rt.alloc(); "{NO_LOSS}{word}").expect(&rt, "memory");
+        is_refused(&rt, rt.alloc(), line, 2, &text);
+    }
 }

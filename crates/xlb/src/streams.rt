@@ -116,6 +116,10 @@ pub(crate) fn with_streams<'a>(settings: Settings<'a>) -> Settings<'a> {
             report: read_from(report),
             script: read_from(script),
         },
+        Settings::Page { report, script } => Settings::Page {
+            report: read_from(report),
+            script: read_from(script),
+        },
         Settings::Replay(asked) => Settings::Replay(ReplaySettings {
             files: replay_files(asked.files),
             ..asked
@@ -146,7 +150,7 @@ fn inputs_of<'a>(settings: &Settings<'a>) -> [Named<'a>; 3] {
             ("SECOND", Some(*second)),
             NONE,
         ],
-        Settings::Flows { report, script } => [
+        Settings::Flows { report, script } | Settings::Page { report, script } => [
             ("REPORT", Some(*report)),
             ("SCRIPT", Some(*script)),
             NONE,

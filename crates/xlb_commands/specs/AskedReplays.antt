@@ -1,7 +1,11 @@
 -- What a replay that is asked for comes to.
-use Rattle.std.specs.Prelude.{true, List}
+use Rattle.std.specs.Prelude.{◌≡◌, ℕ, true, List, Some, None}
 use Rattle.wire.specs.declared.records.Sent.{Sent}
 use Rattle.semantics.specs.ShardPlan.{recorded}
+use Rattle.semantics.specs.declared.options.Recording.TheVariants.{Rows}
+use Rattle.map_updates.specs.Misfits.{AreFitting}
+use Rattle.maglev.specs.RingSize.{IsRingSize}
+use Rattle.steer.specs.ShippedProgram.{shipped_image}
 use Rattle.machine.specs.Running.{program_of}
 use Rattle.actors.specs.Parts.{AreBadOptions}
 use Rattle.actors.specs.declared.fault.ReplayFault.{ReplayFault}
@@ -14,6 +18,14 @@ use Rattle.xlb_commands.specs.declared.report.Report.{Report}
 use Rattle.xlb_commands.specs.Files.{FileBytes, AreAllButKept}
 use Rattle.xlb_commands.specs.Refused.{IsGivenUp, IsUnmade, IsUnreplayed}
 use Rattle.xlb_commands.specs.Replays.{IsCaptureOf, IsMade, IsReplayReport, IsReportOf, image_of}
+
+-- the parts of what is asked for belong together: the maps take the updates, journals that are written have rows, and where no image is named
+-- the program is the shipped one
+pub record IsConsistent (asked : Asked) : Type 0 where
+  pub fit : AreFitting asked.verified.now.maps asked.updates.now
+  pub rows : (file : List ℕ) → text_of asked.files.now.journals ≡ Some file → asked.recording ≡ Rows
+  pub size : text_of asked.files.now.image ≡ None → IsRingSize asked.ring
+  pub shipped : text_of asked.files.now.image ≡ None → image_of asked.verified.now ≡ shipped_image asked.ring
 
 -- it was made of these records, and this is its report
 abbrev pub IsAnsweredOf : FileBytes → Asked → List Sent → Report → Type 0

@@ -1,9 +1,9 @@
 -- The reports of two replays compared.
-use Rattle.std.specs.Prelude.{◌≡◌, ℕ, Bool, List}
+use Rattle.std.specs.Prelude.{◌≡◌, ◌≢◌, ℕ, Bool, List, string_bytes}
 use Rattle.comparison.specs.Comparing.{AreCompared, IsUnlike}
 use Rattle.comparison.specs.Mistakes.{unlike_text}
 use Rattle.comparison.specs.declared.fault.Unlike.{Unlike}
-use Rattle.std.specs.Prelude.{string_bytes}
+use Rattle.comparison.specs.declared.fault.Unlike.TheVariants.{Memory}
 use Rattle.xlb_commands.specs.Files.{FileBytes}
 use Rattle.xlb_commands.specs.declared.comparing.ComparisonAnswer.{ComparisonAnswer}
 use Rattle.xlb_commands.specs.declared.comparing.ComparisonAnswer.TheVariants as answers
@@ -24,13 +24,14 @@ pub record IsUnlikeTold (files : FileBytes) (first second text : List ℕ) : Typ
   pub second_read : files second second_bytes
   pub unlike : Unlike
   pub why : IsUnlike first_bytes second_bytes unlike
+  pub not_memory : unlike ≢ Memory
   pub text_is : text ≡ unlike_text unlike first second
 
 -- what a comparison of the files' bytes comes to
 abbrev pub IsAnswerOf : List ℕ → List ℕ → List ℕ → List ℕ → ComparisonAnswer → Type 0
 IsAnswerOf first_name second_name first second (answers.Compared text differs) = AreCompared first second (string_bytes text) differs
 IsAnswerOf first_name second_name first second (answers.Unlike text) =
-    (unlike : Unlike) × IsUnlike first second unlike × (string_bytes text ≡ unlike_text unlike first_name second_name)
+    (unlike : Unlike) × IsUnlike first second unlike × (unlike ≢ Memory) × (string_bytes text ≡ unlike_text unlike first_name second_name)
 
 -- what a comparison of two files comes to
 abbrev pub IsComparisonAnswer : FileBytes → List ℕ → List ℕ → ComparisonAnswer → Type 0

@@ -66,7 +66,7 @@ use Rattle.command_line.specs.declared.commands.ReplaySettings.{ReplaySettings}
 use Rattle.command_line.specs.Reading.{text_of}
 use Rattle.command_line.specs.declared.commands.Settings.{Settings}
 use Rattle.command_line.specs.declared.commands.Settings.TheVariants.{Check, Run, Disasm, Audit, Explain, Asm, Shipped, Replay, Table}
-use Rattle.command_line.specs.declared.commands.Settings.TheVariants.{Script, Compare, Flows}
+use Rattle.command_line.specs.declared.commands.Settings.TheVariants.{Script, Compare, Flows, Page}
 use Rattle.timed_scripts.specs.MeantScript.{ExplainsTimedScript as MeansNone}
 use Rattle.traffic.specs.Readings.{alters, unaltered}
 use Rattle.traffic.specs.declared.readings.Reading.{Reading}
@@ -355,11 +355,13 @@ pub data IsComparisonRefusal (failed : Type 0) (fault : Fault) : Type 0 where
   no_report_bytes : IsUnserved failed fault → IsComparisonRefusal failed fault
   no_comparison : fault ≡ faults.Memory → IsComparisonRefusal failed fault
 
--- xlb flows: the report was not read; or it was, and the script was not; or both were, and memory was refused
-pub data IsReportRefusal (files : FileBytes) (failed : Type 0) (script : List ℕ) (fault : Fault) : Type 0 where
-  no_report : IsUnserved failed fault → IsReportRefusal files failed script fault
-  no_report_script : IsScriptFileRefusal files failed script fault → IsReportRefusal files failed script fault
-  no_report_text : fault ≡ faults.Memory → IsReportRefusal files failed script fault
+-- xlb flows, xlb page: the report was not read; or it was, and the script was not; or both were, and memory was refused
+pub data IsReportRefusal (files : FileBytes) (failed : Type 0) (report script : List ℕ) (fault : Fault) : Type 0 where
+  no_report : IsUnserved failed fault → IsReportRefusal files failed report script fault
+  no_report_script : (bytes : List ℕ) → files report bytes → IsScriptFileRefusal files failed script fault
+      → IsReportRefusal files failed report script fault
+  no_report_text : (bytes : List ℕ) (commands : List Command) → files report bytes → IsScriptFile files script commands → fault ≡ faults.Memory
+      → IsReportRefusal files failed report script fault
 
 -- no script: of the file, or where none is named memory was refused for that of no commands
 abbrev pub IsScriptRefusal : FileBytes → Type 0 → Option (List ℕ) → Fault → Type 0
@@ -490,7 +492,8 @@ IsRefusedWith before after failed (Shipped out ring) fault = IsShippedFileRefusa
 IsRefusedWith before after failed (Table script ring) fault = IsTableRefusal before failed script.now ring fault
 IsRefusedWith before after failed (Script capture timed) fault = IsTimedRefusal before failed capture.now timed.now fault
 IsRefusedWith before after failed (Compare first second) fault = IsComparisonRefusal failed fault
-IsRefusedWith before after failed (Flows report script) fault = IsReportRefusal before failed script.now fault
+IsRefusedWith before after failed (Flows report script) fault = IsReportRefusal before failed report.now script.now fault
+IsRefusedWith before after failed (Page report script) fault = IsReportRefusal before failed report.now script.now fault
 IsRefusedWith before after failed (Replay asked) fault = IsReplayRefused before after failed asked fault
 
 -- the fault that is printed: the command was refused with it; or it was done, and what it prints could not be printed

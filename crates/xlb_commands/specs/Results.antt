@@ -44,13 +44,13 @@ use Rattle.xlb_commands.specs.Replays.{AreWritten, IsProgramOf, IsReplayedWhole,
 use Rattle.xlb_commands.specs.Tables.{IsTableShown}
 use Rattle.xlb_commands.specs.Timed.{IsScriptShown}
 use Rattle.xlb_commands.specs.Comparing.{IsComparison, IsUnlikeTold}
-use Rattle.xlb_commands.specs.LookingBack.{AreFlowsShown, AreNoFlows}
+use Rattle.xlb_commands.specs.LookingBack.{AreFlowsShown, AreNoFlows, IsNoPage, IsPageShown}
 use Rattle.command_line.specs.declared.commands.ReplayFiles.{ReplayFiles}
 use Rattle.command_line.specs.declared.commands.ReplaySettings.{ReplaySettings}
 use Rattle.command_line.specs.declared.commands.RunFiles.{RunFiles}
 use Rattle.command_line.specs.declared.commands.Settings.{Settings}
 use Rattle.command_line.specs.declared.commands.Settings.TheVariants.{Check, Run, Disasm, Audit, Explain, Asm, Shipped, Replay, Table}
-use Rattle.command_line.specs.declared.commands.Settings.TheVariants.{Script, Compare, Flows}
+use Rattle.command_line.specs.declared.commands.Settings.TheVariants.{Script, Compare, Flows, Page}
 
 abbrev pub yes_or_no : Bool → List ℕ
 yes_or_no true = codes "yes"
@@ -225,6 +225,7 @@ IsDone before after (Table script ring) printed = IsTableShown before script.now
 IsDone before after (Script capture timed) printed = IsScriptShown before capture.now timed.now printed
 IsDone before after (Compare first second) printed = IsComparison before first.now second.now printed false
 IsDone before after (Flows report script) printed = AreFlowsShown before report.now script.now printed
+IsDone before after (Page report script) printed = IsPageShown before report.now script.now printed
 
 -- the command is done except a part that was refused, as the report says: commands of a script; or reports were compared, and differ
 abbrev pub IsDoneInPart : FileBytes → FileBytes → Settings → List ℕ → Type 0
@@ -246,6 +247,7 @@ KeepsFiles before after (Table script ring) = AreKept before after
 KeepsFiles before after (Script capture timed) = AreKept before after
 KeepsFiles before after (Compare first second) = AreKept before after
 KeepsFiles before after (Flows report script) = AreKept before after
+KeepsFiles before after (Page report script) = AreKept before after
 KeepsFiles before after (Replay asked) =
     AreAllButKept before after asked.files.sent.now (text_of asked.files.journals) (text_of asked.files.report)
 
@@ -290,7 +292,8 @@ IsMistake before after other place misfit = ⊥
 -- the command's files cannot be compared, or its report is none, and the text says why; no file changed
 abbrev pub IsUnlikeSaid : FileBytes → FileBytes → Settings → List ℕ → Type 0
 IsUnlikeSaid before after (Compare first second) text = AreKept before after × IsUnlikeTold before first.now second.now text
-IsUnlikeSaid before after (Flows report script) text = AreKept before after × AreNoFlows before report.now text
+IsUnlikeSaid before after (Flows report script) text = AreKept before after × AreNoFlows before report.now script.now text
+IsUnlikeSaid before after (Page report script) text = AreKept before after × IsNoPage before report.now script.now text
 IsUnlikeSaid before after other text = ⊥
 
 -- what a command comes to that is not refused: it was done, whole or in part, or its words are mistaken

@@ -12,10 +12,7 @@ ghost use Rattle.std.specs.List.{AllByRecursion};
 ghost use Rattle.semantics.specs.Program.{Program};
 ghost use Rattle.semantics.specs.ShardPlan.{KeepsRows, recorded};
 ghost use Rattle.semantics.specs.declared.options.Options.{Options as Settings};
-ghost use Rattle.semantics.specs.declared.options.Recording.TheVariants.{Rows};
 ghost use Rattle.machine.specs.Running.{program_of};
-ghost use Rattle.maglev.specs.RingSize.{IsRingSize};
-ghost use Rattle.steer.specs.ShippedProgram.{shipped_image};
 ghost use Rattle.wire.specs.CaptureFormat.{header_bytes, records_bytes};
 ghost use Rattle.wire.specs.declared.records.Sent.{Sent as Record};
 ghost use Rattle.folders.specs.PieceReading.{IsReadTo, ReadsOn, ReadsToEnd};
@@ -29,7 +26,7 @@ ghost use Rattle.actors.specs.declared.outcome.RecordEnd.{RecordEnd as End};
 ghost use Rattle.journals.specs.JournalsView.{JournalsView};
 ghost use Rattle.command_line.specs.Reading.{text_of};
 ghost use Rattle.xlb_commands.specs.Files.{AreAllButKept, AreKept, AreOthersKept};
-ghost use Rattle.xlb_commands.specs.AskedReplays.{IsAnswered, IsDenied, IsMadeInTurn, LeavesOthers};
+ghost use Rattle.xlb_commands.specs.AskedReplays.{IsConsistent, IsAnswered, IsDenied, IsMadeInTurn, LeavesOthers};
 ghost use Rattle.xlb_commands.specs.InPieces.{HasGoneThrough, ReaderHasRoom, HaveRun, IsGoing, IsReplayLeft, IsMadeOf};
 ghost use Rattle.xlb_commands.specs.Refused.{AreUnfiled, HasFailed, IsBrokenOff, IsGivenUp, IsUnserved, LacksRoom};
 ghost use Rattle.traffic.specs.Readings.{unaltered};
@@ -469,10 +466,8 @@ fn left_in_pieces(
     requires goes_on { ReplayGoesOn asked.script.now going.replay }
     requires underway { IsGoing (program_of asked.verified.now asked.options.shards) asked.script.now
         (recorded asked.recording asked.options) asked.updates.now going.replay }
-    requires rows { (file : List ℕ) → text_of asked.files.now.journals ≡ Some file → asked.recording ≡ Rows }
     requires served { KeepsRows asked.options.journal }
-    requires size { text_of asked.files.now.image ≡ None → IsRingSize asked.ring }
-    requires shipped { text_of asked.files.now.image ≡ None → image_of asked.verified.now ≡ shipped_image asked.ring }
+    requires consistent { IsConsistent asked }
     ensures left { IfOk result (λ left. (records sent : List Record) (ends : List End) →
         IsUnderway (program_of asked.entry.verified.now asked.entry.options.shards) asked.entry.script.now (recorded
         asked.entry.recording asked.entry.options)
@@ -525,10 +520,8 @@ fn left_by_pieces<D: Folder, G: Gate>(
     requires maps { going.replay.turns.all.maps ≡ asked.verified.now.maps }
     requires underway { IsUnderway (program_of asked.verified.now asked.options.shards) asked.script.now
         (recorded asked.recording asked.options) asked.updates.now [] [] [] going.replay }
-    requires rows { (file : List ℕ) → text_of asked.files.now.journals ≡ Some file → asked.recording ≡ Rows }
     requires served { KeepsRows asked.options.journal }
-    requires size { text_of asked.files.now.image ≡ None → IsRingSize asked.ring }
-    requires shipped { text_of asked.files.now.image ≡ None → image_of asked.verified.now ≡ shipped_image asked.ring }
+    requires consistent { IsConsistent asked }
     ensures left { IfOk result (λ found. IfSome found (λ left. IsReplayLeft (D.holds folder.old) (D.is_begun folder.old) (D.is_begun folder.new)
         asked.entry.files.now (image_of asked.entry.verified.now)
         asked.entry.verified.now.states asked.entry.script.now asked.entry.options asked.entry.recording asked.entry.ring
@@ -603,10 +596,7 @@ pub(crate) fn replay_in_pieces<D: Folder, P: Progress + Sync>(
     requires all { asked.reading ≡ unaltered }
     requires whole { asked.part ≡ None }
     requires no_report { text_of asked.files.now.report ≡ None }
-    requires fit { AreFitting asked.verified.now.maps asked.updates.now }
-    requires rows { (file : List ℕ) → text_of asked.files.now.journals ≡ Some file → asked.recording ≡ Rows }
-    requires size { text_of asked.files.now.image ≡ None → IsRingSize asked.ring }
-    requires shipped { text_of asked.files.now.image ≡ None → image_of asked.verified.now ≡ shipped_image asked.ring }
+    requires consistent { IsConsistent asked }
     ensures done { IfOk result (λ found. IfSome found (IsAnswered (D.holds folder.old) (D.holds folder.new) asked.entry)) }
     ensures none { IfOk result (λ found. IfNone found (AreKept (D.holds folder.old) (D.holds folder.new))) }
     ensures steady { IfOk result (λ found. IfNone found (D.failure_count folder.new ≡ D.failure_count folder.old)) }

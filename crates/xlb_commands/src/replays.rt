@@ -4,7 +4,7 @@ ghost use Rattle.std.specs.Prelude.{◌≡◌, ◌≢◌, ◌↔◌, ◌+◌, �
 ghost use Rattle.std.specs.Prelude.{List, Some, None, IfErr, IfOk, IsErrOf, IsTrue, OnOk, length, string_bytes};
 ghost use Rattle.semantics.specs.Safety.{IsSafeImage};
 ghost use Rattle.std.specs.List.{AllByRecursion};
-ghost use Rattle.semantics.specs.ShardPlan.{AreOptions, KeepsRows, recorded};
+ghost use Rattle.semantics.specs.ShardPlan.{AreOptions, KeepsRows};
 ghost use Rattle.semantics.specs.declared.options.Options.{Options as Settings};
 ghost use Rattle.wire.specs.declared.records.Sent.{Sent as Record};
 ghost use Rattle.actors.specs.declared.outcome.Outcome.{Outcome as Made};
@@ -13,11 +13,9 @@ ghost use Rattle.semantics.specs.declared.options.Recording.TheVariants.{Rows};
 ghost use Rattle.verifier.specs.Dataflow.{Accepts};
 ghost use Rattle.verifier.specs.Readers.{IsReader};
 ghost use Rattle.actors.specs.Accounted.{IsAccounted};
-ghost use Rattle.guarantees.specs.HeadlineOf.{HeadlineOf};
 ghost use Rattle.machine.specs.Running.{program_of as program_with};
 ghost use Rattle.guarantees.specs.ReaderReplays.{SendsAsAtOpening};
 ghost use Rattle.maglev.specs.RingSize.{IsRingSize};
-ghost use Rattle.steer.specs.ShippedProgram.{shipped_image};
 ghost use Rattle.wire.specs.CaptureFormat.{IsCaptureFile, capture_bytes};
 ghost use Rattle.control.specs.ScriptText.{IsScriptText};
 ghost use Rattle.control.specs.ScriptReading.{ExplainsScript};
@@ -35,16 +33,16 @@ ghost use Rattle.steered_replays.specs.Totals.{AreTotals};
 ghost use Rattle.journals.specs.JournalText.{journals_text};
 ghost use Rattle.journals.specs.FileJournals.{ReadBackWhereLegal};
 ghost use Rattle.command_line.specs.Reading.{text_of};
-ghost use Rattle.xlb_commands.specs.AskedReplays.{HasBadOptions, IsAnswered, IsDenied, IsOutcome, IsWhyNone, LeavesOthers};
+ghost use Rattle.xlb_commands.specs.AskedReplays.{IsConsistent, HasBadOptions, IsAnswered, IsDenied, IsOutcome, IsWhyNone, LeavesOthers};
 ghost use Rattle.xlb_commands.specs.AskedReplays.{IsAnsweredOf, IsDeniedOf};
 ghost use Rattle.xlb_commands.specs.Files.{AreKept, AreAllButKept};
 ghost use Rattle.xlb_commands.specs.Refused.{HasFailed, LacksRoom, AreUnfiled, IsReplayProgramRefusal, IsScriptFileRefusal};
 ghost use Rattle.xlb_commands.specs.Refused.{IsScriptRefusal};
 ghost use Rattle.xlb_commands.specs.Refused.{IsNoCapture, IsNoCaptureIn, IsCaptureRefusal, IsReplayRefused};
-ghost use Rattle.xlb_commands.specs.Replays.{LeavesNothingOut, image_of};
+ghost use Rattle.xlb_commands.specs.Replays.{LeavesNothingOut};
 ghost use Rattle.traffic.specs.Readings.{alters, unaltered};
 ghost use Rattle.xlb_commands.specs.Replays.{IsProgramOf, IsScriptOf, IsScriptFile, IsCaptureIn, IsCaptureOf, HasBytes};
-ghost use Rattle.xlb_commands.specs.Replays.{FollowsRule, SendsAlike, recording_of, counts_text, refusals_text, AreWritten};
+ghost use Rattle.xlb_commands.specs.Replays.{recording_of, counts_text, refusals_text, AreWritten};
 ghost use Rattle.xlb_commands.specs.RecordReports.{form_of, report_text, runs_shipped};
 
 use crate::commands::judged_of;
@@ -296,7 +294,7 @@ fn replay_at<R: Threads + Wait + Sync, G: Gate + Sync>(
     capture: &Capture,
     gate: &G,
 ) -> Result<Outcome, ReplayFault>
-    requires fit { AreFitting asked.verified.now.maps asked.updates.now }
+    requires { AreFitting asked.verified.now.maps asked.updates.now }
     ensures made { IfOk result (IsOutcome asked.entry capture.now.records.items) }
     ensures given_up { IfErr result (IsWhyNone asked.entry) }
     ensures served { OnOk result (KeepsRows asked.entry.options.journal) }
@@ -334,8 +332,7 @@ pub(crate) fn readers_send_alike(verified: &Verified)
 
 /// What holds of every replay of the shipped program, where no image is named.
 pub(crate) fn steered_where_shipped(asked: Asked<'_>)
-    requires size { text_of asked.files.now.image ≡ None → IsRingSize asked.ring }
-    requires shipped { text_of asked.files.now.image ≡ None → image_of asked.verified.now ≡ shipped_image asked.ring }
+    requires consistent { IsConsistent asked }
     ensures steered { text_of asked.entry.files.now.image ≡ None → (script : List Command) (options : Settings) (records : List Record)
         (outcome : Made) → AreOptions asked.entry.verified.now.maps options → AllByRecursion IsCaptured records →
         (accounted : IsAccounted (program_with asked.entry.verified.now options.shards) script options records outcome) →
@@ -356,46 +353,6 @@ pub(crate) fn steered_where_shipped(asked: Asked<'_>)
         Some(_) => {}
         None => shipped_replays_are_steered(asked.verified, asked.ring),
     }
-}
-
-/// `replay_at`, with the headline, of the runs that are accounted for; with the steering rule where no image is named; and with what holds
-/// besides of a program that only reads.
-fn outcome_with<R: Threads + Wait + Sync, G: Gate + Sync>(
-    rt: &R,
-    alloc: Global,
-    asked: Asked<'_>,
-    capture: &Capture,
-    gate: &G,
-) -> Result<Outcome, ReplayFault>
-    requires size { text_of asked.files.now.image ≡ None → IsRingSize asked.ring }
-    requires shipped { text_of asked.files.now.image ≡ None → image_of asked.verified.now ≡ shipped_image asked.ring }
-    requires fit { AreFitting asked.verified.now.maps asked.updates.now }
-    ensures made { IfOk result (IsOutcome asked.entry capture.now.records.items) }
-    ensures headline { IfOk result (λ outcome. (accounted : IsAccounted
-        (program_with asked.entry.verified.now asked.entry.options.shards) asked.entry.script.now
-        (recorded asked.entry.recording asked.entry.options) capture.now.records.items outcome) →
-        HeadlineOf asked.entry.verified.now asked.entry.script.now (recorded asked.entry.recording asked.entry.options)
-        capture.now.records.items outcome accounted) }
-    ensures readers { asked.entry.updates.now ≡ [] → IfOk result (SendsAlike (image_of asked.entry.verified.now)
-        asked.entry.verified.now.states asked.entry.script.now (recorded asked.entry.recording asked.entry.options)
-        capture.now.records.items) }
-    ensures steered { asked.entry.updates.now ≡ [] → IfOk result (λ outcome. (accounted : IsAccounted
-        (program_with asked.entry.verified.now asked.entry.options.shards) asked.entry.script.now
-        (recorded asked.entry.recording asked.entry.options) capture.now.records.items outcome) →
-        FollowsRule (text_of asked.entry.files.now.image) asked.entry.ring (program_with asked.entry.verified.now asked.entry.options.shards)
-        asked.entry.script.now (recorded asked.entry.recording asked.entry.options) capture.now.records.items outcome accounted) }
-    ensures given_up { IfErr result (IsWhyNone asked.entry) }
-    ensures served { OnOk result (KeepsRows asked.entry.options.journal) }
-    ensures bad_options { IsErrOf result BadOptions ↔ HasBadOptions asked.entry }
-{
-    headline(asked.verified);
-    commands_fit(asked.script);
-    readers_send_alike(asked.verified);
-    steered_where_shipped(asked);
-    all_are_captured(capture);
-    let outcome = replay_at(rt, alloc, asked, capture, gate)?;
-    let _ = outcome.journals.options();
-    Ok(outcome)
 }
 
 /// A replay that was given up.
@@ -559,10 +516,7 @@ fn replay_records<R: Threads + Wait + Sync, D: Folder, P: Progress + Sync>(
     progress: &P,
 ) -> Result<Report, Refusal>
     requires failures { D.failure_count folder.old < 2 ^ 64 - 1 }
-    requires fit { AreFitting asked.verified.now.maps asked.updates.now }
-    requires rows { (file : List ℕ) → text_of asked.files.now.journals ≡ Some file → asked.recording ≡ Rows }
-    requires size { text_of asked.files.now.image ≡ None → IsRingSize asked.ring }
-    requires shipped { text_of asked.files.now.image ≡ None → image_of asked.verified.now ≡ shipped_image asked.ring }
+    requires consistent { IsConsistent asked }
     ensures done { IfOk result (IsAnsweredOf (D.holds folder.new) asked.entry capture.now.records.items) }
     ensures kept { LeavesOthers (D.holds folder.old) (D.holds folder.new) asked.entry }
     ensures refused { IfErr result (λ refusal. IsDeniedOf (D.holds folder.old) (D.holds folder.new)
@@ -577,10 +531,16 @@ fn replay_records<R: Threads + Wait + Sync, D: Folder, P: Progress + Sync>(
         asked.exact,
         frames,
     );
-    let outcome = match outcome_with(rt, alloc, asked, capture, &rounds) {
+    headline(asked.verified);
+    commands_fit(asked.script);
+    readers_send_alike(asked.verified);
+    steered_where_shipped(asked);
+    all_are_captured(capture);
+    let outcome = match replay_at(rt, alloc, asked, capture, &rounds) {
         Ok(outcome) => outcome,
         Err(fault) => return Err(given_up(alloc, asked.options, asked.verified, fault)),
     };
+    let _ = outcome.journals.options();
     let notes = Notes::of(asked, altered)
         .text(alloc, capture, asked.script, &outcome)
         .ok();
@@ -597,27 +557,29 @@ fn replay_records<R: Threads + Wait + Sync, D: Folder, P: Progress + Sync>(
     Ok(left.report)
 }
 
-/// Makes the replay of the part that is asked for of a file's capture, in memory.
-fn replay_part<R: Threads + Wait + Sync, D: Folder, P: Progress + Sync>(
+/// Makes the replay with the whole capture in memory, or of the part of it that is asked for.
+fn replay_whole<R: Threads + Wait + Sync, D: Folder, P: Progress + Sync>(
     rt: &R,
     alloc: Global,
     folder: &mut D,
     asked: Asked<'_>,
-    capture: Capture,
-    altered: Altered,
     progress: &P,
 ) -> Result<Report, Refusal>
     requires failures { D.failure_count folder.old < 2 ^ 64 - 1 }
-    requires captured { IsCaptureOf (D.holds folder.old) asked.reading asked.files.now.capture.now capture.records.items }
-    requires fit { AreFitting asked.verified.now.maps asked.updates.now }
-    requires rows { (file : List ℕ) → text_of asked.files.now.journals ≡ Some file → asked.recording ≡ Rows }
-    requires size { text_of asked.files.now.image ≡ None → IsRingSize asked.ring }
-    requires shipped { text_of asked.files.now.image ≡ None → image_of asked.verified.now ≡ shipped_image asked.ring }
+    requires consistent { IsConsistent asked }
     ensures done { IfOk result (IsAnswered (D.holds folder.old) (D.holds folder.new) asked.entry) }
     ensures kept { LeavesOthers (D.holds folder.old) (D.holds folder.new) asked.entry }
     ensures refused { IfErr result (λ refusal. IsDenied (D.holds folder.old) (D.holds folder.new)
         (HasFailed (D.failure_count folder.old) (D.failure_count folder.new)) asked.entry refusal.fault) }
 {
+    let mut altered = Altered::default();
+    let capture = capture_of(
+        alloc,
+        folder,
+        asked.files.capture,
+        asked.reading,
+        &mut altered,
+    )?;
     match asked.part {
         None => replay_records(rt, alloc, folder, asked, &capture, altered, progress),
         Some(part) => {
@@ -632,35 +594,6 @@ fn replay_part<R: Threads + Wait + Sync, D: Folder, P: Progress + Sync>(
     }
 }
 
-/// Makes the replay with the whole capture in memory.
-fn replay_whole<R: Threads + Wait + Sync, D: Folder, P: Progress + Sync>(
-    rt: &R,
-    alloc: Global,
-    folder: &mut D,
-    asked: Asked<'_>,
-    progress: &P,
-) -> Result<Report, Refusal>
-    requires failures { D.failure_count folder.old < 2 ^ 64 - 1 }
-    requires fit { AreFitting asked.verified.now.maps asked.updates.now }
-    requires rows { (file : List ℕ) → text_of asked.files.now.journals ≡ Some file → asked.recording ≡ Rows }
-    requires size { text_of asked.files.now.image ≡ None → IsRingSize asked.ring }
-    requires shipped { text_of asked.files.now.image ≡ None → image_of asked.verified.now ≡ shipped_image asked.ring }
-    ensures done { IfOk result (IsAnswered (D.holds folder.old) (D.holds folder.new) asked.entry) }
-    ensures kept { LeavesOthers (D.holds folder.old) (D.holds folder.new) asked.entry }
-    ensures refused { IfErr result (λ refusal. IsDenied (D.holds folder.old) (D.holds folder.new)
-        (HasFailed (D.failure_count folder.old) (D.failure_count folder.new)) asked.entry refusal.fault) }
-{
-    let mut altered = Altered::default();
-    let capture = capture_of(
-        alloc,
-        folder,
-        asked.files.capture,
-        asked.reading,
-        &mut altered,
-    )?;
-    replay_part(rt, alloc, folder, asked, capture, altered, progress)
-}
-
 /// Makes the replay, in pieces where that is possible, else with the whole capture in memory.
 fn replay_once<R: Threads + Wait + Sync, D: Folder, P: Progress + Sync>(
     rt: &R,
@@ -670,10 +603,7 @@ fn replay_once<R: Threads + Wait + Sync, D: Folder, P: Progress + Sync>(
     progress: &P,
 ) -> Result<Report, Refusal>
     requires failures { D.failure_count folder.old < 2 ^ 64 - 1 }
-    requires fit { AreFitting asked.verified.now.maps asked.updates.now }
-    requires rows { (file : List ℕ) → text_of asked.files.now.journals ≡ Some file → asked.recording ≡ Rows }
-    requires size { text_of asked.files.now.image ≡ None → IsRingSize asked.ring }
-    requires shipped { text_of asked.files.now.image ≡ None → image_of asked.verified.now ≡ shipped_image asked.ring }
+    requires consistent { IsConsistent asked }
     ensures done { IfOk result (IsAnswered (D.holds folder.old) (D.holds folder.new) asked.entry) }
     ensures kept { LeavesOthers (D.holds folder.old) (D.holds folder.new) asked.entry }
     ensures refused { IfErr result (λ refusal. IsDenied (D.holds folder.old) (D.holds folder.new)

@@ -19,7 +19,7 @@ use crate::commands::{
 use crate::comparing::{ComparisonAnswer, compare_files};
 use crate::fault::{Fault, Refusal};
 use crate::fault_lines::fault_line;
-use crate::looking_back::{FlowsAnswer, flows_of_files};
+use crate::looking_back::{ReportAnswer, flows_of_files, page_of_files};
 use crate::one_run::{RunAnswer, run_once};
 use crate::present::{in_the_way, present_text};
 use crate::progress::Progress;
@@ -147,8 +147,14 @@ fn answer<R: Threads + Wait + Sync, D: Folder, P: Progress + Sync>(
         }
         Settings::Flows { report, script } => {
             match flows_of_files(alloc, folder, report, script)? {
-                FlowsAnswer::Shown { text, notes } => Ok(CommandAnswer::noted(text, notes)),
-                FlowsAnswer::NoReport(text) => Ok(CommandAnswer::Unlike(text)),
+                ReportAnswer::Shown { text, notes } => Ok(CommandAnswer::noted(text, notes)),
+                ReportAnswer::NoReport(text) => Ok(CommandAnswer::Unlike(text)),
+            }
+        }
+        Settings::Page { report, script } => {
+            match page_of_files(alloc, folder, report, script)? {
+                ReportAnswer::Shown { text, notes } => Ok(CommandAnswer::noted(text, notes)),
+                ReportAnswer::NoReport(text) => Ok(CommandAnswer::Unlike(text)),
             }
         }
         Settings::Replay(asked) => match replay_files(rt, alloc, folder, asked, progress)? {
@@ -263,6 +269,7 @@ fn note<E: Sink>(alloc: Global, settings: &Settings<'_>, report: &Report, err: &
         | Settings::Explain { .. }
         | Settings::Asm { .. }
         | Settings::Compare { .. }
+        | Settings::Page { .. }
         | Settings::Shipped { .. } => {}
     }
 }

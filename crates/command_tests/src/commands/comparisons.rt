@@ -92,9 +92,9 @@ static ROWS: [Row; 15] = [
     ("a field is missing", THREE, CUT, 2, "", "error: second is no report of CSV: line 3\n"),
     ("no bytes", b"", THREE, 2, "", "error: first is no report of CSV: line 1\n"),
     ("a head that is cut", THREE, b"number,moment\n", 2, "", "error: second is no report of CSV: line 1\n"),
-    ("JSON lines", THREE, b"{}\n", 2, "", "error: second has JSON lines: a report of CSV is read\n"),
+    ("JSON lines", THREE, b"{}\n", 2, "", "error: second has JSON lines, and a report of CSV is needed\n"),
     ("bytes that are no text", b"a\n\xff", THREE, 2, "", "error: first is no report of CSV: line 2\n"),
-    ("JSON before anything else", b"{\xff", b"", 2, "", "error: first has JSON lines: a report of CSV is read\n"),
+    ("JSON before anything else", b"{\xff", b"", 2, "", "error: first has JSON lines, and a report of CSV is needed\n"),
 ];
 
 /// Holds the comparison of a row's files against what is wanted.

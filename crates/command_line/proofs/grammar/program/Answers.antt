@@ -16,7 +16,7 @@ with_a_command = on_top (λ s. record s { subcommand_required = true })
 abbrev has_globals : Command-F Command → Bool
 has_globals f = f.has_globals
 
-top_is : (c : goal.After-subcommand-12) → app_of c.subcommand_required-top.result ≡ program_name
+top_is : (c : goal.After-subcommand-13) → app_of c.subcommand_required-top.result ≡ program_name
 top_is c =
     let bin : app_of c.in_ok-bin_name.field-0 ≡ app_of c.new.result = ap app_of_fields c.in_ok-bin_name.ensures.0 in
     let about : app_of c.about.result ≡ app_of c.in_ok-bin_name.field-0 = ap app_of_fields c.about.ensures in
@@ -25,7 +25,7 @@ top_is c =
     let needs : app_of c.subcommand_required-top.result ≡ with_a_command (app_of c.after_help.result) = ap app_of_fields c.subcommand_required-top.ensures in
     needs ∙ ap with_a_command (after ∙ (version ∙ ap with_a_version (about ∙ (bin ∙ c.new.ensures.app))))
 
-top_is_local : (c : goal.After-subcommand-12) → (out-Command c.subcommand_required-top.result).has_globals ≡ false
+top_is_local : (c : goal.After-subcommand-13) → (out-Command c.subcommand_required-top.result).has_globals ≡ false
 top_is_local c =
     ap has_globals c.subcommand_required-top.ensures
     ∙ (ap has_globals c.after_help.ensures
@@ -59,9 +59,12 @@ returns-clause-app c =
     ∙ ap₂ with_subcommand ninth (ap top_of c.in_ok-script.ensures.app) in
     let eleventh = c.in_ok-subcommand-11.ensures.shape c.in_ok-compare.ensures.local
     ∙ ap₂ with_subcommand tenth (ap top_of c.in_ok-compare.ensures.app) in
-    IfOk-weaker c.subcommand-12.result _ _
-    (λ command adds. adds.shape c.in_ok-flows.ensures.local ∙ ap₂ with_subcommand eleventh (ap top_of c.in_ok-flows.ensures.app))
-    c.subcommand-12.ensures
+    let twelfth = c.in_ok-subcommand-12.ensures.shape c.in_ok-looking_back.ensures.local
+    ∙ ap₂ with_subcommand eleventh (ap top_of c.in_ok-looking_back.ensures.app) in
+    IfOk-weaker c.subcommand-13.result _ _
+    (λ command adds. adds.shape c.in_ok-looking_back-2.ensures.local
+    ∙ ap₂ with_subcommand twelfth (ap top_of c.in_ok-looking_back-2.ensures.app))
+    c.subcommand-13.ensures
 
 pub returns-clause-local : goal.returns-clause-local
 returns-clause-local c =
@@ -76,6 +79,7 @@ returns-clause-local c =
     let ninth = c.in_ok-subcommand-9.ensures.globals ∙ ap₂ (◌||◌) eighth c.in_ok-table.ensures.local in
     let tenth = c.in_ok-subcommand-10.ensures.globals ∙ ap₂ (◌||◌) ninth c.in_ok-script.ensures.local in
     let eleventh = c.in_ok-subcommand-11.ensures.globals ∙ ap₂ (◌||◌) tenth c.in_ok-compare.ensures.local in
-    IfOk-weaker c.subcommand-12.result _ _
-    (λ command adds. adds.globals ∙ ap₂ (◌||◌) eleventh c.in_ok-flows.ensures.local)
-    c.subcommand-12.ensures
+    let twelfth = c.in_ok-subcommand-12.ensures.globals ∙ ap₂ (◌||◌) eleventh c.in_ok-looking_back.ensures.local in
+    IfOk-weaker c.subcommand-13.result _ _
+    (λ command adds. adds.globals ∙ ap₂ (◌||◌) twelfth c.in_ok-looking_back-2.ensures.local)
+    c.subcommand-13.ensures

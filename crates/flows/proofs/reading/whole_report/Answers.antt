@@ -1,7 +1,7 @@
 use Rattle.std.proofs.Common.{ℕ, List, Bor, arith, map, refl, subst}
 use Rattle.std.proofs.lemmas.List.{length-map}
 use Rattle.flows.specs.Reports.{IsCountInPlace}
-use Rattle.flows.specs.Reports.IsRefused.{is_left_out}
+use Rattle.flows.specs.Reports.AreFlowsRefused.{is_left_out}
 use Rattle.flows.proofs.reading.whole_report.Goals as goal
 
 pub returns-then-count-len-clause-refused : goal.returns-then-count-len-clause-refused

@@ -6,7 +6,7 @@ use Rattle.flows.specs.FlowRecords.{stories_in, story_of}
 use Rattle.flows.specs.Stories.{Story}
 use Rattle.flows.specs.SummaryText.{summary_text}
 use Rattle.flows.specs.TableText.{table_text}
-use Rattle.flows.specs.Telling.{moves_until, stories_until}
+use Rattle.flows.specs.Telling.{reasons_until, stories_until}
 use Rattle.flows.proofs.telling.flows_in.Goals as goal
 
 pub returns-clause-flows : goal.returns-clause-flows
@@ -17,10 +17,10 @@ returns-clause-flows c =
     c.in_ok-list.ensures.stories
     ∙ (ap (λ (it : List (Bor (List ℕ))). stories_until (map now it) c.commands.result.now (length (map now it))) c.deref.ensures.value
     ∙ ap (λ (it : List Command). stories_until rows it (length rows)) c.commands.ensures) in
-    let moves : c.in_ok-list.moves.items ≡ moves_until rows c.args.script.now (length rows) =
+    let moves : c.in_ok-list.moves.items ≡ reasons_until rows c.args.script.now (length rows) =
     c.in_ok-list.ensures.moves
-    ∙ (ap (λ (it : List (Bor (List ℕ))). moves_until (map now it) c.commands.result.now (length (map now it))) c.deref.ensures.value
-    ∙ ap (λ (it : List Command). moves_until rows it (length rows)) c.commands.ensures) in
+    ∙ (ap (λ (it : List (Bor (List ℕ))). reasons_until (map now it) c.commands.result.now (length (map now it))) c.deref.ensures.value
+    ∙ ap (λ (it : List Command). reasons_until rows it (length rows)) c.commands.ensures) in
     record {
       rows = rows;
       report = c.in_ok-rows.ensures.rows;

@@ -1,6 +1,6 @@
 use Rattle.std.proofs.Common.{◌∙◌, List, ap, arith, map, subst, sym}
 use Rattle.std.specs.List.{AllByRecursion}
-use Rattle.flows.specs.FlowRecords.{HasRoom, stories_in}
+use Rattle.flows.specs.FlowRecords.{HasRoomForFrame, stories_in}
 use Rattle.flows.specs.Settings.{before}
 use Rattle.flows.specs.Stories.{Story}
 use Rattle.flows.specs.Telling.{stories_until}
@@ -14,7 +14,7 @@ use Rattle.flows.proofs.telling.told.Goals as goal
 
 pub tell-requires-clause-small : goal.tell-requires-clause-small
 tell-requires-clause-small c =
-    subst (λ (it : List Story). AllByRecursion HasRoom it) (sym c.rows.invariant.stories)
+    subst (λ (it : List Story). AllByRecursion HasRoomForFrame it) (sym c.rows.invariant.stories)
     (room_in c.rows.place (stories_until (map (λ row. row.now) c.args.rows.now) c.args.commands.now c.rows.place)
     (omega (arith, c.rows-test.true)) (stories_small (map (λ row. row.now) c.args.rows.now) c.args.commands.now c.rows.place))
 

@@ -41,7 +41,7 @@ journal_bytes-requires c = λ file named.
     going.records going.sent going.ends going.underway in
     subst (λ (j : JournalsView). KeepsRows j.options.journal) replayed.is_whole.journals
     (subst (λ (o : Options). KeepsRows o.journal) (sym replayed.accounted.options_are)
-    (subst (λ (r : Recording). KeepsRows (room_for r asked.options.journal)) (sym (c.requires.rows file named)) c.requires.served))
+    (subst (λ (r : Recording). KeepsRows (room_for r asked.options.journal)) (sym (c.requires.consistent.rows file named)) c.requires.served))
 
 pub replayed-requires : goal.replayed-requires
 replayed-requires c =

@@ -40,14 +40,15 @@ rows_where_named true (Some name) file is = refl
 rows_where_named true None file is = absurd cc
 rows_where_named false name file is = refl
 
-pub replay_once-requires-clause-rows : goal.replay_once-requires-clause-rows
-replay_once-requires-clause-rows g c κs outlives =
-    λ file is. c.recording_of.ensures ∙ rows_where_named c.args.settings.now.no_journals (text_of c.args.settings.now.files.journals) file is
-
-pub replay_once-requires-clause-shipped : goal.replay_once-requires-clause-shipped
-replay_once-requires-clause-shipped g c κs outlives =
-    shipped_of (g.D.Folder.holds c.args.folder.now) (text_of c.args.settings.now.files.image) c.args.settings.now.ring (image_of c.in_ok-verified.verified)
-    c.in_ok-verified.ensures.program
+pub replay_once-requires-clause-consistent : goal.replay_once-requires-clause-consistent
+replay_once-requires-clause-consistent g c κs outlives = record {
+  fit = search rules;
+  rows = λ file is. c.recording_of.ensures
+      ∙ rows_where_named c.args.settings.now.no_journals (text_of c.args.settings.now.files.journals) file is;
+  size = search rules;
+  shipped = shipped_of (g.D.Folder.holds c.args.folder.now) (text_of c.args.settings.now.files.image) c.args.settings.now.ring
+      (image_of c.in_ok-verified.verified) c.in_ok-verified.ensures.program;
+}
 
 -- a command was refused, or the replay is strict
 some_of : (refused : List Applied) (strict is_refused : Bool) → ((refused ≡ []) ↔ (is_refused ≡ false))

@@ -13,6 +13,7 @@ use Rattle.actors.specs.Shares.{frames_of}
 use Rattle.actors.specs.declared.outcome.Outcome.{Outcome}
 use Rattle.actors.specs.declared.runner.Ran.{Ran}
 use Rattle.journals.specs.JournalsView.{JournalsView}
+use Rattle.machine.specs.Running.{program_of}
 use Rattle.command_line.specs.Reading.{text_of}
 use Rattle.command_line.specs.declared.commands.ReplayFiles.{ReplayFiles}
 use Rattle.xlb_commands.specs.declared.fault.Fault.{Fault}
@@ -21,6 +22,8 @@ use Rattle.xlb_commands.specs.RecordReports.{IsReportFile, form_of, report_text,
 use Rattle.xlb_commands.specs.Replays.{HasBytes, image_of, program_of_replay}
 use Rattle.xlb_commands.specs.Refused.{AreUnfiled, given_up, not_reported, not_written_down}
 use Rattle.xlb_commands.proofs.AcceptedJournals.{accepted_of}
+use Rattle.xlb_commands.proofs.Outcomes.{options_fit, rule_of}
+use Rattle.xlb_commands.proofs.ReaderFiles.{reader_file_is}
 use Rattle.xlb_commands.proofs.Refusals.{kept_still}
 use Rattle.xlb_commands.proofs.replays.replay_records.Goals as goal
 
@@ -51,39 +54,58 @@ left_of-requires-clause-ends g c =
 pub left_of-requires-clause-rows : goal.left_of-requires-clause-rows
 left_of-requires-clause-rows g c = λ file is.
     subst (λ (o : Options). KeepsRows o.journal) (sym c.in-Ok.ensures.made.accounted.options_are)
-    (subst (λ (r : Recording). KeepsRows (room_for r c.args.asked.options.journal)) (sym (c.requires.rows file is)) c.in-Ok.ensures.served)
+    (subst (λ (r : Recording). KeepsRows (room_for r c.args.asked.options.journal)) (sym (c.requires.consistent.rows file is)) c.in-Ok.ensures.served)
 
 pub returns-clause-done : goal.returns-clause-done
-returns-clause-done g c = (
-  c.in-Ok.outcome.refused.items,
-  record {
-    outcome = c.in-Ok.outcome;
-    made = c.in-Ok.ensures.made;
-    headline = record {
-      verified = c.args.asked.verified.now;
-      image_is = refl;
-      accounted = c.in-Ok.ensures.made.accounted;
-      kept = c.in-Ok.ensures.headline c.in-Ok.ensures.made.accounted;
-      same = subst_refl (λ (one : Contents). IsAccounted (program_of_replay one (recorded c.args.asked.recording c.args.asked.options)) c.args.asked.script.now
-          (recorded c.args.asked.recording c.args.asked.options) c.args.capture.now.records.items c.in-Ok.outcome)
-          {x = image_of c.args.asked.verified.now} c.in-Ok.ensures.made.accounted;
-    };
-    by_rule = λ none. c.in-Ok.ensures.steered none c.in-Ok.ensures.made.accounted;
-    readers = c.in-Ok.ensures.readers;
-    refused_are = refl;
-    sent = λ other third.
-        subst (λ (it : List ℕ). g.D.Folder.holds c.write_files.new.folder c.args.asked.files.now.sent.now it) c.in_ok-left.ensures.sent
-        (c.in_ok-write_files.ensures.sent other third);
-    journals = c.in_ok-write_files.ensures.journals;
-    accepted = λ file named. accepted_of _ _ _ _ c.in-Ok.outcome c.in-Ok.ensures.made.accounted (c.in_ok-left.ensures.reads_back file named);
-    report = report_stands (g.D.Folder.holds c.write_files.new.folder) (text_of c.args.asked.files.now.report) (runs_shipped c.args.asked.files.now)
-        c.args.asked.script.now c.args.capture.now.records.items c.in-Ok.outcome _ c.in_ok-left.ensures.lines
-        c.in_ok-write_files.ensures.report;
-    lines = c.in_ok-left.ensures.text;
-  },
-  c.in_ok-left.ensures.whole,
-  c.in_ok-left.ensures.all,
-)
+returns-clause-done g c =
+    let asked = c.args.asked in
+    let program = program_of asked.verified.now asked.options.shards in
+    let options = recorded asked.recording asked.options in
+    let records = c.args.capture.now.records.items in
+    let outcome = c.in-Ok.outcome in
+    let account = c.in-Ok.ensures.made.accounted in
+    let fit = options_fit program asked.script.now options records outcome c.options.ensures.fit account in (
+      outcome.refused.items,
+      record {
+        outcome = outcome;
+        made = c.in-Ok.ensures.made;
+        headline = record {
+          verified = asked.verified.now;
+          image_is = refl;
+          accounted = account;
+          kept = c.headline.ensures asked.script.now options records outcome fit c.all_are_captured.ensures c.commands_fit.ensures account;
+          same = subst_refl (λ (one : Contents). IsAccounted (program_of_replay one options) asked.script.now options records outcome)
+              {x = image_of asked.verified.now} account;
+        };
+        by_rule = λ none. rule_of (text_of asked.files.now.image) asked.ring program asked.script.now options records outcome account
+            (λ shipped.
+            let steered = c.steered_where_shipped.ensures.steered shipped asked.script.now options records outcome fit c.all_are_captured.ensures
+            account in
+            record {
+              runs = steered;
+              stay = c.steered_where_shipped.ensures.stay asked.ring program asked.script.now options records outcome account steered;
+              totals = λ unstopped. c.steered_where_shipped.ensures.totals shipped asked.script.now options records outcome fit
+                  c.all_are_captured.ensures account (c.in-Ok.ensures.made.updates_are ∙ none) unstopped;
+              tables = λ roomy. c.steered_where_shipped.ensures.tables shipped asked.script.now options records outcome fit
+                  c.all_are_captured.ensures account (c.in-Ok.ensures.made.updates_are ∙ none) roomy;
+            });
+        readers = λ none_set reads none unstopped.
+            reader_file_is asked.verified.now.maps asked.verified.now.code asked.script.now options records outcome
+            (c.readers_send_alike.ensures.sends reads) c.options.ensures.fit c.all_are_captured.ensures account
+            (c.in-Ok.ensures.made.updates_are ∙ none_set) none unstopped;
+        refused_are = refl;
+        sent = λ other third.
+            subst (λ (it : List ℕ). g.D.Folder.holds c.write_files.new.folder asked.files.now.sent.now it) c.in_ok-left.ensures.sent
+            (c.in_ok-write_files.ensures.sent other third);
+        journals = c.in_ok-write_files.ensures.journals;
+        accepted = λ file named. accepted_of _ _ _ _ outcome account (c.in_ok-left.ensures.reads_back file named);
+        report = report_stands (g.D.Folder.holds c.write_files.new.folder) (text_of asked.files.now.report) (runs_shipped asked.files.now)
+            asked.script.now records outcome _ c.in_ok-left.ensures.lines c.in_ok-write_files.ensures.report;
+        lines = c.in_ok-left.ensures.text;
+      },
+      c.in_ok-left.ensures.whole,
+      c.in_ok-left.ensures.all,
+    )
 
 pub returns-in-Err-clause-refused : goal.returns-in-Err-clause-refused
 returns-in-Err-clause-refused g c = given_up c.in-Err.fault (kept_still _) c.in-Err.ensures.given_up c.given_up.ensures

@@ -1,0 +1,68 @@
+-- The page of a report and a script.
+use Rattle.std.specs.Prelude.{◌≡◌, ℕ, List, length, take}
+use Rattle.comparison.specs.Rows.{IsReport}
+use Rattle.control.specs.declared.command.Command.{Command}
+use Rattle.page.specs.Charts.{backends_over_time, backends_text, fates_named, fates_over_time, seconds_text}
+use Rattle.page.specs.Html.{command_slots, commands_text, whole_text}
+use Rattle.page.specs.Moves.{moves_in_rows}
+use Rattle.page.specs.Reading.{fates_of, keys_of, moments_of}
+use Rattle.page.specs.Svg.{marks_until}
+use Rattle.page.specs.Tables.{fate_figures, figures_text, moves_text}
+use Rattle.page.specs.Tallies.{AreLeast, classes_of, counts_by_cell, earliest, latest, slot_length, time_slots}
+
+-- the marks of commands by their slots
+abbrev pub marks_of_slots : List ℕ → List ℕ
+marks_of_slots slots = marks_until slots (length slots)
+
+-- the marks of the first hundred commands
+abbrev pub command_marks : ℕ → ℕ → List ℕ → List Command → List ℕ
+command_marks first last moments commands = marks_of_slots (command_slots first (slot_length first last) last moments (take 100 commands))
+
+-- the figures of so many records, by what became of each and how often a flow moved
+abbrev pub figures_of : ℕ → List ℕ → ℕ → ℕ → ℕ → List ℕ
+figures_of records totals moves first last =
+    figures_text records (fate_figures totals (fates_named totals)) moves (seconds_text first) (seconds_text last)
+
+unfoldable pub figures_in : List (List ℕ) → ℕ → ℕ → ℕ → List ℕ
+figures_in rows moves first last = figures_of (length rows) (counts_by_cell (fates_of rows) 7) moves first last
+
+-- frames over time, by backend and by what became of them
+abbrev pub by_backend : List ℕ → List ℕ → List ℕ → ℕ → ℕ → List ℕ → List ℕ
+by_backend listed keys slots first last marks = backends_over_time listed keys slots (seconds_text first) (seconds_text last) marks
+
+abbrev pub by_fate : List ℕ → List ℕ → ℕ → ℕ → List ℕ → List ℕ
+by_fate fates slots first last marks = fates_over_time (counts_by_cell fates 7) fates slots (seconds_text first) (seconds_text last) marks
+
+unfoldable pub backends_in_time : List ℕ → List (List ℕ) → List Command → List ℕ → ℕ → ℕ → List ℕ
+backends_in_time listed rows commands moments first last =
+    by_backend listed (keys_of rows) (time_slots first (slot_length first last) moments) first last (command_marks first last moments commands)
+
+unfoldable pub fates_in_time : List (List ℕ) → List Command → List ℕ → ℕ → ℕ → List ℕ
+fates_in_time rows commands moments first last =
+    by_fate (fates_of rows) (time_slots first (slot_length first last) moments) first last (command_marks first last moments commands)
+
+-- frames by backend
+unfoldable pub of_backends : List ℕ → List ℕ → List ℕ
+of_backends listed keys = backends_text listed (counts_by_cell (classes_of listed 33 keys) 33)
+
+-- the page of rows with these moments and these listed backends
+unfoldable pub page_at : List ℕ → List (List ℕ) → List Command → List ℕ → ℕ → ℕ → List ℕ
+page_at listed rows commands moments first last =
+    whole_text (figures_in rows (length (moves_in_rows rows)) first last) (backends_in_time listed rows commands moments first last)
+    (fates_in_time rows commands moments first last) (of_backends listed (keys_of rows)) (commands_text moments last commands)
+    (moves_text rows (moves_in_rows rows))
+
+abbrev pub page_of_moments : List ℕ → List (List ℕ) → List Command → List ℕ → List ℕ
+page_of_moments listed rows commands moments = page_at listed rows commands moments (earliest moments) (latest moments)
+
+-- the text is the page of these rows and commands, where the 32 backends with the least numbers are listed
+pub record IsPageOf (rows : List (List ℕ)) (commands : List Command) (text : List ℕ) : Type 0 where
+  pub listed : List ℕ
+  pub are_listed : AreLeast (keys_of rows) 32 listed
+  pub text_is : text ≡ page_of_moments listed rows commands (moments_of rows)
+
+-- the bytes are a report, and the text is the page of it and these commands
+pub record IsPage (report : List ℕ) (commands : List Command) (text : List ℕ) : Type 0 where
+  pub rows : List (List ℕ)
+  pub is_report : IsReport report rows
+  pub is_page : IsPageOf rows commands text

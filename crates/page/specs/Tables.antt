@@ -1,0 +1,69 @@
+-- The tables of a page: figures, and flows that moved. What comes from the report is escaped for HTML.
+use Rattle.std.specs.Prelude.{ℕ, zero, suc, ◌+◌, ◌-◌, ◌==◌, ◌++◌, List, [], codes, decimal, if◌then◌else◌, length, slice_index, take}
+use Rattle.std.specs.List.{flat_map}
+use Rattle.comparison.specs.Rows.{field, parts_between, row_at}
+use Rattle.comparison.specs.ComparisonText.{flow_phrase}
+use Rattle.page.specs.Charts.{fate_word, seconds_text}
+
+-- ---- escapes
+
+-- a text between two parts
+abbrev pub between_at : List ℕ → ℕ → List ℕ
+between_at between zero = []
+between_at between (suc place) = between
+
+-- the first N parts, with a text between them
+abbrev pub joined_until : List ℕ → List (List ℕ) → ℕ → List ℕ
+joined_until between parts zero = []
+joined_until between parts (suc place) = joined_until between parts place ++ (between_at between place ++ row_at parts place)
+
+-- a text with another in place of each mark
+abbrev pub replaced : ℕ → List ℕ → List ℕ → List ℕ
+replaced mark by text = joined_until by (parts_between mark text) (length (parts_between mark text))
+
+-- a text as HTML has it between elements: ampersands first, then less and greater signs
+abbrev pub escaped : List ℕ → List ℕ
+escaped text = replaced 62 (codes "&gt;") (replaced 60 (codes "&lt;") (replaced 38 (codes "&amp;") text))
+
+-- ---- figures
+
+unfoldable pub figure_text : List ℕ → ℕ → List ℕ
+figure_text name value = codes "<tr><th>" ++ (name ++ (codes "</th><td>" ++ (decimal value ++ codes "</td></tr>\n")))
+
+abbrev pub fate_figures : List ℕ → ℕ → List ℕ
+fate_figures totals zero = []
+fate_figures totals (suc fate) = fate_figures totals fate ++ figure_text (fate_word fate) (slice_index totals fate)
+
+unfoldable pub figures_text : ℕ → List ℕ → ℕ → List ℕ → List ℕ → List ℕ
+figures_text records fates moves first last =
+    codes "<table class=\"figures\">\n<tr><th>records</th><td>" ++ (decimal records ++ (codes "</td></tr>\n" ++ (fates
+    ++ (codes "<tr><th>moves of flows</th><td>" ++ (decimal moves ++ (codes "</td></tr>\n<tr><th>first moment</th><td>" ++ (first
+    ++ (codes " s</td></tr>\n<tr><th>last moment</th><td>" ++ (last ++ codes " s</td></tr>\n</table>\n")))))))))
+
+-- ---- flows that moved
+
+unfoldable pub move_text : List ℕ → List ℕ → List ℕ → List ℕ → List ℕ → List ℕ
+move_text record_number moment flow before after =
+    codes "<tr><td>" ++ (record_number ++ (codes "</td><td>" ++ (moment ++ (codes "</td><td>" ++ (flow ++ (codes "</td><td>" ++ (before
+    ++ (codes "</td><td>" ++ (after ++ codes "</td></tr>\n")))))))))
+
+-- the row of a record, whose flow was sent elsewhere at the record before it
+unfoldable pub move_row : List ℕ → List ℕ → List ℕ
+move_row before row =
+    move_text (escaped (field 0 row)) (escaped (field 1 row)) (escaped (flow_phrase row)) (escaped (field 7 before)) (escaped (field 7 row))
+
+abbrev pub move_rows : List (List ℕ) → List (ℕ × ℕ) → List ℕ
+move_rows rows moves = flat_map (λ move. move_row (row_at rows move.0) (row_at rows move.1)) moves
+
+-- what is not in a table
+abbrev pub more_text : ℕ → List ℕ
+more_text count = if count == 0 then [] else codes "<p>and " ++ (decimal count ++ codes " more</p>\n")
+
+unfoldable pub moves_table : List ℕ → List ℕ → List ℕ
+moves_table moved more =
+    codes "<h2>Flows that moved</h2>\n<div class=\"wide\"><table>\n<tr><th>record</th><th>at</th><th>flow</th><th>from</th><th>to</th></tr>\n"
+    ++ (moved ++ (codes "</table></div>\n" ++ more))
+
+-- the first hundred records at which a flow moved
+unfoldable pub moves_text : List (List ℕ) → List (ℕ × ℕ) → List ℕ
+moves_text rows moves = moves_table (move_rows rows (take 100 moves)) (more_text (length moves - 100))

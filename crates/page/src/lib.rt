@@ -1,0 +1,15 @@
+//! A page of HTML that shows what a report of a replay says: frames over time, frames by backend, and flows that moved.
+#![tactic(auto)]
+
+mod charts;
+mod html;
+mod moves;
+mod reading;
+mod svg;
+mod tables;
+mod tallies;
+#[cfg(test)]
+mod tests;
+mod whole;
+
+pub use whole::page;

@@ -1,0 +1,240 @@
+//! Pages of short reports, worked out by hand, and of longer ones.
+
+use crate::page;
+use comparison::{Unlike, Which};
+use control::parse_script;
+use std::alloc::{AllocError, Global};
+use std::process::Abort;
+
+/// What comes before the first row of a report.
+const REPORT_HEAD: &str =
+    "number,moment,worker,verdict,steps,case,backend,address,source,source_port,destination,destination_port,protocol\n";
+
+/// What a row shows, a script, the rows of a report, and parts of its page, one behind the other.
+type Row = (
+    &'static str,
+    &'static str,
+    &'static str,
+    &'static [&'static str],
+);
+
+/// A frame that was sent, one that was dropped two slots of a third of the time later, and one that was passed; three commands.
+const THREE_RECORDS: &str =
+    "1,1.000000,0,TX,99,sent,1,192.0.2.2,10.0.0.1,1000,203.0.113.1,80,tcp\n2,1.000060,0,DROP,90,no-backend,,,10.0.0.2,1001,203.0.113.1,80,tcp\n\
+     3,1.000120,0,PASS,9,arp,,,,,,,\n";
+
+const THREE_COMMANDS: &str = "0 vip 203.0.113.1 80 tcp\n0 up 1 192.0.2.2\n2 down 1\n";
+
+#[rattlefmt::skip]
+static ROWS: [Row; 9] = [
+    ("no record", "0 up 1 192.0.2.2\n", "", &[
+        "<!DOCTYPE html>\n",
+        "<tr><th>records</th><td>0</td></tr>\n<tr><th>sent</th><td>0</td></tr>\n<tr><th>passed</th><td>0</td></tr>\n<tr><th>dropped</th><td>0</td></tr>\n",
+        "<tr><th>aborted</th><td>0</td></tr>\n<tr><th>stopped</th><td>0</td></tr>\n<tr><th>short</th><td>0</td></tr>\n\
+         <tr><th>moves of flows</th><td>0</td></tr>\n",
+        "<tr><th>first moment</th><td>0.000000 s</td></tr>\n<tr><th>last moment</th><td>0.000000 s</td></tr>\n</table>\n",
+        "</defs>\n<g fill=\"url(#f0)\"></g>\n",
+        "<g fill=\"url(#f8)\"></g>\n<path class=\"axis\" d=\"M36 20H396M36 80H396M36 140H396\"/>\n<text class=\"end\" x=\"33\" y=\"24\">1</text>",
+        "<path class=\"mark\" d=\"M36 12V140\"/><text class=\"mid\" x=\"36\" y=\"9\">1</text>\n</svg>\n",
+        "viewBox=\"0 0 400 4\">\n<title>Frames by backend</title>\n<desc>Bars: how many frames each backend got.</desc>\n</svg>\n",
+        "<tr><td>1</td><td>1</td><td>0.000000</td><td>up 1 192.0.2.2</td></tr>\n</table></div>\n<h2>Flows that moved</h2>\n",
+        "<th>to</th></tr>\n</table></div>\n</body>\n</html>\n",
+    ]),
+    ("three records: figures", THREE_COMMANDS, THREE_RECORDS, &[
+        "<tr><th>records</th><td>3</td></tr>\n<tr><th>sent</th><td>1</td></tr>\n<tr><th>passed</th><td>1</td></tr>\n<tr><th>dropped</th><td>1</td></tr>\n",
+        "<tr><th>short</th><td>0</td></tr>\n<tr><th>moves of flows</th><td>0</td></tr>\n",
+        "<tr><th>first moment</th><td>1.000000 s</td></tr>\n<tr><th>last moment</th><td>1.000120 s</td></tr>\n",
+    ]),
+    ("three records: slots are of 3 microseconds, and the records in the first, 20 and 40 further; the second command is in the slot of the first",
+        THREE_COMMANDS, THREE_RECORDS, &[
+        "<h2>Frames over time, by backend</h2>\n",
+        "<g fill=\"url(#f0)\"><rect x=\"36\" y=\"20\" width=\"5\" height=\"120\"/></g>\n<g fill=\"url(#f1)\"></g>\n",
+        "<path class=\"mark\" d=\"M36 12V140\"/><text class=\"mid\" x=\"36\" y=\"9\">1</text>\n\
+         <path class=\"mark\" d=\"M276 12V140\"/><text class=\"mid\" x=\"276\" y=\"9\">3</text>\n",
+        "<rect class=\"key\" x=\"36\" y=\"162\" width=\"14\" height=\"9\" fill=\"url(#f0)\"/><text x=\"54\" y=\"170\">backend 1</text>\n</svg>\n",
+        "<h2>Frames over time, by what became of them</h2>\n",
+        "<g fill=\"url(#f0)\"><rect x=\"36\" y=\"20\" width=\"5\" height=\"120\"/></g>\n\
+         <g fill=\"url(#f1)\"><rect x=\"276\" y=\"20\" width=\"5\" height=\"120\"/></g>\n\
+         <g fill=\"url(#f2)\"><rect x=\"156\" y=\"20\" width=\"5\" height=\"120\"/></g>\n<g fill=\"url(#f3)\"></g>\n",
+        "<text x=\"36\" y=\"153\">1.000000 s</text><text class=\"end\" x=\"396\" y=\"153\">1.000120 s</text>\n",
+        "<path class=\"mark\" d=\"M276 12V140\"/><text class=\"mid\" x=\"276\" y=\"9\">3</text>\n",
+        "<rect class=\"key\" x=\"280\" y=\"176\" width=\"14\" height=\"9\" fill=\"url(#f5)\"/><text x=\"298\" y=\"184\">short</text>\n</svg>\n",
+    ]),
+    ("three records: the bar of the backend, and the commands", THREE_COMMANDS, THREE_RECORDS, &[
+        "viewBox=\"0 0 400 18\">\n<title>Frames by backend</title>\n",
+        "<text class=\"end\" x=\"80\" y=\"12\">backend 1</text>\
+         <rect class=\"key\" x=\"84\" y=\"4\" width=\"240\" height=\"10\" fill=\"url(#f0)\"/><text x=\"328\" y=\"12\">1</text>\n</svg>\n",
+        "<tr><th>mark</th><th>before record</th><th>at</th><th>command</th></tr>\n\
+         <tr><td>1</td><td>1</td><td>1.000000</td><td>vip 203.0.113.1 80 tcp</td></tr>\n\
+         <tr><td>2</td><td>1</td><td>1.000000</td><td>up 1 192.0.2.2</td></tr>\n<tr><td>3</td><td>3</td><td>1.000120</td><td>down 1</td></tr>\n\
+         </table></div>\n<h2>Flows that moved</h2>\n",
+    ]),
+    ("commands of each kind; one behind the last record is at the last moment",
+        "0 gateway 192.0.2.1 02:00:00:00:00:01 02:00:00:00:00:02\n1 vip 203.0.113.2 53 udp notrack\n9 down 7\n",
+        "1,1.000000,0,PASS,9,arp,,,,,,,\n2,3.000000,0,PASS,9,arp,,,,,,,\n", &[
+        "<tr><td>1</td><td>1</td><td>1.000000</td><td>gateway 192.0.2.1</td></tr>\n\
+         <tr><td>2</td><td>2</td><td>3.000000</td><td>vip 203.0.113.2 53 udp notrack</td></tr>\n\
+         <tr><td>3</td><td>10</td><td>3.000000</td><td>down 7</td></tr>\n",
+    ]),
+    ("two moves of one flow, and a frame between that was dropped", "",
+        "1,1.000000,0,TX,99,sent,1,192.0.2.2,10.0.0.1,1000,203.0.113.1,80,tcp\n2,2.000000,0,TX,99,sent,1,192.0.2.2,10.0.0.1,1001,203.0.113.1,80,tcp\n\
+         3,3.000000,0,DROP,90,no-backend,,,10.0.0.1,1000,203.0.113.1,80,tcp\n4,4.000000,0,TX,99,sent,2,192.0.2.3,10.0.0.1,1000,203.0.113.1,80,tcp\n\
+         5,5.000000,0,TX,99,sent,1,192.0.2.2,10.0.0.1,1000,203.0.113.1,80,tcp\n", &[
+        "<tr><th>moves of flows</th><td>2</td></tr>\n",
+        "<th>to</th></tr>\n<tr><td>4</td><td>4.000000</td><td>tcp 10.0.0.1:1000 to 203.0.113.1:80</td><td>192.0.2.2</td><td>192.0.2.3</td></tr>\n\
+         <tr><td>5</td><td>5.000000</td><td>tcp 10.0.0.1:1000 to 203.0.113.1:80</td><td>192.0.2.3</td><td>192.0.2.2</td></tr>\n</table></div>\n\
+         </body>\n",
+    ]),
+    ("marks of HTML in a report", "",
+        "1,1.000000,0,TX,99,sent,1,a,10.0.0.1,1000,203.0.113.1,80,tcp\n<2&>,2.000000,0,TX,99,sent,2,&lt;,10.0.0.1,1000,203.0.113.1,80,tcp\n", &[
+        "<th>to</th></tr>\n<tr><td>&lt;2&amp;&gt;</td><td>2.000000</td><td>tcp 10.0.0.1:1000 to 203.0.113.1:80</td><td>a</td><td>&amp;lt;</td></tr>\n",
+    ]),
+    ("a verdict of another word, and the verdicts that are rare", "",
+        "1,1.000000,0,ABORTED,9,aborted,,,,,,,\n2,2.000000,0,STOPPED,9,stopped,,,,,,,\n3,3.000000,,SHORT,,short,,,,,,,\n\
+         4,4.000000,,LATE,,late,,,,,,,\n5,5.000000,,SHORT,,short,,,,,,,\n", &[
+        "<tr><th>sent</th><td>0</td></tr>\n<tr><th>passed</th><td>0</td></tr>\n<tr><th>dropped</th><td>0</td></tr>\n\
+         <tr><th>aborted</th><td>1</td></tr>\n<tr><th>stopped</th><td>1</td></tr>\n<tr><th>short</th><td>2</td></tr>\n\
+         <tr><th>other</th><td>1</td></tr>\n<tr><th>moves of flows</th>",
+        "<text x=\"54\" y=\"198\">other</text>\n</svg>\n",
+    ]),
+    ("moments that do not rise, and backends in the order of their numbers", "",
+        "1,9.000000,0,TX,99,sent,4294967295,192.0.2.2,10.0.0.1,1000,203.0.113.1,80,tcp\n\
+         2,7.000000,0,TX,99,sent,0,192.0.2.3,10.0.0.2,1000,203.0.113.1,80,tcp\n3,8.000000,0,TX,99,sent,0,192.0.2.3,10.0.0.2,1000,203.0.113.1,80,tcp\n", &[
+        "<tr><th>first moment</th><td>7.000000 s</td></tr>\n<tr><th>last moment</th><td>9.000000 s</td></tr>\n",
+        "backend 0</text>\n\
+         <rect class=\"key\" x=\"158\" y=\"162\" width=\"14\" height=\"9\" fill=\"url(#f1)\"/><text x=\"176\" y=\"170\">backend 4294967295</text>\n\
+         </svg>\n",
+        "<text class=\"end\" x=\"80\" y=\"12\">backend 0</text>\
+         <rect class=\"key\" x=\"84\" y=\"4\" width=\"240\" height=\"10\" fill=\"url(#f0)\"/><text x=\"328\" y=\"12\">2</text>\n\
+         <text class=\"end\" x=\"80\" y=\"26\">backend 4294967295</text>\
+         <rect class=\"key\" x=\"84\" y=\"18\" width=\"120\" height=\"10\" fill=\"url(#f1)\"/><text x=\"208\" y=\"26\">1</text>\n</svg>\n",
+    ]),
+];
+
+/// What a row shows, the bytes of a file, and the refusal.
+type Refusal = (&'static str, &'static [u8], Unlike);
+
+#[rattlefmt::skip]
+const REFUSED: [Refusal; 6] = [
+    ("JSON lines", b"{\"number\":1}\n", Unlike::JsonLines { which: Which::First }),
+    ("an empty file", b"", Unlike::NoReport { which: Which::First, line: 1 }),
+    ("a report without its head", b"1,1.000000,0,PASS,9,arp,,,,,,,\n", Unlike::NoReport { which: Which::First, line: 1 }),
+    ("a second row of twelve fields",
+        b"number,moment,worker,verdict,steps,case,backend,address,source,source_port,destination,destination_port,protocol\n\
+             1,1.000000,0,PASS,9,arp,,,,,,,\n2,2.000000,0,PASS,9,arp,,,,,,\n3\n",
+        Unlike::NoReport { which: Which::First, line: 3 }),
+    ("a last row without its line feed",
+        b"number,moment,worker,verdict,steps,case,backend,address,source,source_port,destination,destination_port,protocol\n\
+             1,1.000000,0,PASS,9,arp,,,,,,,\n2,2.000000,0,PASS,9,arp,,,,,,,",
+        Unlike::NoReport { which: Which::First, line: 3 }),
+    ("bytes that are no text",
+        b"number,moment,worker,verdict,steps,case,backend,address,source,source_port,destination,destination_port,protocol\n\
+             1,1.000000,0,PASS,9,arp,,,,,,,\n\xff\n",
+        Unlike::NoReport { which: Which::First, line: 3 }),
+];
+
+/// The page of these rows and these commands.
+fn page_of_rows(rt: &impl Abort, alloc: Global, name: &str, commands: &str, rows: &str) -> String {
+    let script = parse_script(alloc, commands.as_bytes()).expect(rt, name);
+    let report = format!(in alloc; "{REPORT_HEAD}{rows}").expect(rt, name);
+    page(alloc, report.as_bytes(), &script).expect(rt, name)
+}
+
+/// Finds parts in a text, each behind the one before it.
+fn find_parts(rt: &impl Abort, name: &str, text: &str, parts: &[&str]) {
+    let mut rest = text;
+    for part in parts {
+        match rest.split_once(*part) {
+            Some((_, behind)) => rest = behind,
+            None => panic!(rt; "{name}: there is no part {part}"),
+        }
+    }
+}
+
+/// Holds the page of a row against what is wanted.
+fn compare_row(rt: &impl Abort, alloc: Global, row: &Row) {
+    let (name, commands, rows, parts) = *row;
+    let made = page_of_rows(rt, alloc, name, commands, rows);
+    find_parts(rt, name, made.as_str(), parts);
+}
+
+#[test]
+fn pages_are_made(rt: HostRuntime) {
+    for row in &ROWS {
+        compare_row(&rt, rt.alloc(), row);
+    }
+}
+
+/// Holds the refusal of a row against what is wanted.
+fn compare_refusal(rt: &impl Abort, alloc: Global, row: &Refusal) {
+    let (name, bytes, wanted) = *row;
+    let script = parse_script(alloc, b"").expect(rt, name);
+    let refusal = page(alloc, bytes, &script).err();
+    assert_eq!(rt; refusal, Some(wanted), "{name}");
+}
+
+#[test]
+fn other_files_are_refused(rt: HostRuntime) {
+    for row in &REFUSED {
+        compare_refusal(&rt, rt.alloc(), row);
+    }
+}
+
+/// The rows of so many records of one flow, a second apart, each with the next of forty backends.
+fn rows_in_turn(alloc: Global, count: u64) -> Result<String, AllocError> {
+    let mut rows = String::new(alloc);
+    for place in 0..count {
+        let number = place + 1;
+        let backend = place % 40;
+        let row = format!(in alloc;
+            "{number},{number}.000000,0,TX,99,sent,{backend},192.0.2.{backend},10.0.0.1,1000,203.0.113.1,80,tcp\n"
+        )?;
+        rows.push_str(row.as_str())?;
+    }
+    Ok(rows)
+}
+
+/// So many commands, one before each record.
+fn commands_in_turn(alloc: Global, count: u64) -> Result<String, AllocError> {
+    let mut commands = String::new(alloc);
+    for place in 0..count {
+        let command = format!(in alloc; "{place} down {place}\n")?;
+        commands.push_str(command.as_str())?;
+    }
+    Ok(commands)
+}
+
+/// Parts of the page of 200 records over forty backends and 150 commands, one behind the other. A slot of 3.316667 seconds has three records or
+/// four; the first four are of four backends.
+#[rattlefmt::skip]
+static MANY: [&str; 16] = [
+    "<tr><th>records</th><td>200</td></tr>\n<tr><th>sent</th><td>200</td></tr>\n",
+    "<tr><th>moves of flows</th><td>199</td></tr>\n<tr><th>first moment</th><td>1.000000 s</td></tr>\n<tr><th>last moment</th><td>200.000000 s</td></tr>\n",
+    "<g fill=\"url(#f0)\"><rect x=\"36\" y=\"110\" width=\"5\" height=\"30\"/>",
+    "<g fill=\"url(#f1)\"><rect x=\"36\" y=\"80\" width=\"5\" height=\"30\"/>",
+    "<g fill=\"url(#f8)\"><rect x=\"48\" y=\"50\" width=\"5\" height=\"60\"/><rect x=\"54\" y=\"20\" width=\"5\" height=\"120\"/>",
+    "<text class=\"end\" x=\"33\" y=\"24\">4</text>",
+    "<text class=\"mid\" x=\"36\" y=\"9\">1</text>\n<path class=\"mark\" d=\"M42 12V140\"/><text class=\"mid\" x=\"42\" y=\"9\">5</text>\n",
+    "backend 7</text>\n<rect class=\"key\" x=\"280\" y=\"190\" width=\"14\" height=\"9\" fill=\"url(#f8)\"/><text x=\"298\" y=\"198\">others</text>\n</svg>\n",
+    "<g fill=\"url(#f0)\"><rect x=\"36\" y=\"20\" width=\"5\" height=\"120\"/><rect x=\"42\" y=\"50\" width=\"5\" height=\"90\"/>",
+    "viewBox=\"0 0 400 466\">\n<title>Frames by backend</title>\n",
+    "<text class=\"end\" x=\"80\" y=\"446\">backend 31</text>\
+     <rect class=\"key\" x=\"84\" y=\"438\" width=\"30\" height=\"10\" fill=\"url(#f8)\"/><text x=\"118\" y=\"446\">5</text>\n",
+    "<text class=\"end\" x=\"80\" y=\"460\">others</text>\
+     <rect class=\"key\" x=\"84\" y=\"452\" width=\"240\" height=\"10\" fill=\"url(#f8)\"/><text x=\"328\" y=\"460\">40</text>\n</svg>\n",
+    "<tr><td>100</td><td>100</td><td>100.000000</td><td>down 99</td></tr>\n</table></div>\n<p>and 50 more</p>\n",
+    "<tr><td>2</td><td>2.000000</td><td>tcp 10.0.0.1:1000 to 203.0.113.1:80</td><td>192.0.2.0</td><td>192.0.2.1</td></tr>\n",
+    "<tr><td>101</td><td>101.000000</td><td>tcp 10.0.0.1:1000 to 203.0.113.1:80</td><td>192.0.2.19</td><td>192.0.2.20</td></tr>\n</table></div>\n\
+     <p>and 99 more</p>\n",
+    "</body>\n</html>\n",
+];
+
+#[test]
+fn a_long_report_has_a_short_page(rt: HostRuntime) {
+    let alloc = rt.alloc();
+    let rows = rows_in_turn(alloc, 200).expect(&rt, "the rows");
+    let commands = commands_in_turn(alloc, 150).expect(&rt, "the commands");
+    let made = page_of_rows(&rt, alloc, "many records", commands.as_str(), rows.as_str());
+    find_parts(&rt, "many records", made.as_str(), &MANY);
+    assert!(&rt; made.len() < 65536, "the page is short");
+}

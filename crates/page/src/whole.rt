@@ -1,0 +1,273 @@
+//! The page of a report and a script.
+
+ghost use Rattle.std.specs.Prelude.{◌≡◌, ◌≤◌, IfErr, IfOk, length, map, string_bytes};
+ghost use Rattle.comparison.specs.Rows.{IsUnread};
+ghost use Rattle.comparison.specs.declared.fault.Which.TheVariants.{First};
+ghost use Rattle.page.specs.Page.{IsPage, IsPageOf, backends_in_time, by_backend, by_fate, command_marks, fates_in_time, figures_in, figures_of};
+ghost use Rattle.page.specs.Moves.{moves_in_rows};
+ghost use Rattle.page.specs.Page.{of_backends, page_at};
+ghost use Rattle.page.specs.Reading.{keys_of};
+ghost use Rattle.page.specs.Tables.{moves_text};
+ghost use Rattle.page.specs.Tallies.{AreLeast};
+
+use crate::charts::{
+    backends_over_time, backends_text, fates_named, fates_over_time, seconds_text,
+};
+use crate::html::{COMMANDS, command_slots, commands_text, first_commands, whole_text};
+use crate::moves::moves_of;
+use crate::reading::{fates_of, keys_of, moments_of};
+use crate::svg::marks_of;
+use crate::tables::{fate_figures, figures_text, moves_text};
+use crate::tallies::{classes_of, counts_of, earliest, latest, lowest_keys, slot_length, slots_of};
+use comparison::{Unlike, Which, rows_in};
+use control::{Command, Script};
+use std::alloc::{AllocError, Global};
+
+/// The figures of so many records, by what became of each and how often a flow moved.
+fn figures_of(
+    alloc: Global,
+    records: usize,
+    totals: &[usize],
+    moves: usize,
+    first: u64,
+    last: u64,
+) -> Result<String, AllocError>
+    ensures { IfOk result (λ text. string_bytes text ≡ figures_of records totals.now moves first last) }
+{
+    let fates = fate_figures(alloc, totals, fates_named(totals))?;
+    let first = seconds_text(alloc, first)?;
+    let last = seconds_text(alloc, last)?;
+    figures_text(
+        alloc,
+        records,
+        fates.as_str(),
+        moves,
+        first.as_str(),
+        last.as_str(),
+    )
+}
+
+/// The marks of the first hundred commands.
+fn command_marks(
+    alloc: Global,
+    first: u64,
+    last: u64,
+    moments: &[u64],
+    commands: &[Command],
+) -> Result<String, AllocError>
+    ensures { IfOk result (λ text. string_bytes text ≡ command_marks first last moments.now commands.now) }
+{
+    let long = slot_length(first, last);
+    let slots = command_slots(
+        alloc,
+        first,
+        long,
+        last,
+        moments,
+        first_commands(commands, COMMANDS),
+    )?;
+    marks_of(alloc, &slots)
+}
+
+/// Frames over time by backend.
+fn by_backend(
+    alloc: Global,
+    listed: &[u64],
+    keys: &[u64],
+    slots: &[usize],
+    first: u64,
+    last: u64,
+    marks: &str,
+) -> Result<String, AllocError>
+    ensures { IfOk result (λ text. string_bytes text ≡ by_backend listed.now keys.now slots.now first last marks.now) }
+{
+    let first = seconds_text(alloc, first)?;
+    let last = seconds_text(alloc, last)?;
+    backends_over_time(
+        alloc,
+        listed,
+        keys,
+        slots,
+        first.as_str(),
+        last.as_str(),
+        marks,
+    )
+}
+
+/// Frames over time by what became of them.
+fn by_fate(
+    alloc: Global,
+    fates: &[usize],
+    slots: &[usize],
+    first: u64,
+    last: u64,
+    marks: &str,
+) -> Result<String, AllocError>
+    ensures { IfOk result (λ text. string_bytes text ≡ by_fate fates.now slots.now first last marks.now) }
+{
+    let totals = counts_of(alloc, fates, 7)?;
+    let first = seconds_text(alloc, first)?;
+    let last = seconds_text(alloc, last)?;
+    fates_over_time(
+        alloc,
+        &totals,
+        fates,
+        slots,
+        first.as_str(),
+        last.as_str(),
+        marks,
+    )
+}
+
+/// Frames by backend.
+#[tactic(auto, unfolding(crate::specs::Page::of_backends))]
+fn of_backends(alloc: Global, listed: &[u64], keys: &[u64]) -> Result<String, AllocError>
+    requires { length listed.now ≤ 32 }
+    ensures { IfOk result (λ text. string_bytes text ≡ of_backends listed.now keys.now) }
+{
+    let classes = classes_of(alloc, listed, 33, keys)?;
+    let totals = counts_of(alloc, &classes, 33)?;
+    backends_text(alloc, listed, &totals)
+}
+
+/// Frames over time by backend, of rows.
+#[tactic(auto, unfolding(crate::specs::Page::backends_in_time))]
+fn backends_in_time(
+    alloc: Global,
+    listed: &[u64],
+    rows: &[&str],
+    commands: &[Command],
+    moments: &[u64],
+    first: u64,
+    last: u64,
+) -> Result<String, AllocError>
+    ensures { IfOk result
+        (λ text. string_bytes text ≡ backends_in_time listed.now (map (λ row. row.now) rows.now) commands.now moments.now first last) }
+{
+    let slots = slots_of(alloc, first, slot_length(first, last), moments)?;
+    let marks = command_marks(alloc, first, last, moments, commands)?;
+    let keys = keys_of(alloc, rows)?;
+    by_backend(alloc, listed, &keys, &slots, first, last, marks.as_str())
+}
+
+/// Frames over time by what became of them, of rows.
+#[tactic(auto, unfolding(crate::specs::Page::fates_in_time))]
+fn fates_in_time(
+    alloc: Global,
+    rows: &[&str],
+    commands: &[Command],
+    moments: &[u64],
+    first: u64,
+    last: u64,
+) -> Result<String, AllocError>
+    ensures { IfOk result
+        (λ text. string_bytes text ≡ fates_in_time (map (λ row. row.now) rows.now) commands.now moments.now first last) }
+{
+    let slots = slots_of(alloc, first, slot_length(first, last), moments)?;
+    let marks = command_marks(alloc, first, last, moments, commands)?;
+    let fates = fates_of(alloc, rows)?;
+    by_fate(alloc, &fates, &slots, first, last, marks.as_str())
+}
+
+/// The figures of rows.
+#[tactic(auto, unfolding(crate::specs::Page::figures_in))]
+fn figures_in(
+    alloc: Global,
+    rows: &[&str],
+    moves: usize,
+    first: u64,
+    last: u64,
+) -> Result<String, AllocError>
+    ensures { IfOk result (λ text. string_bytes text ≡ figures_in (map (λ row. row.now) rows.now) moves first last) }
+{
+    let fates = fates_of(alloc, rows)?;
+    let totals = counts_of(alloc, &fates, 7)?;
+    figures_of(alloc, rows.len(), &totals, moves, first, last)
+}
+
+/// Frames by backend, of rows.
+fn backends_in(alloc: Global, listed: &[u64], rows: &[&str]) -> Result<String, AllocError>
+    requires { length listed.now ≤ 32 }
+    ensures { IfOk result (λ text. string_bytes text ≡ of_backends listed.now (keys_of (map (λ row. row.now) rows.now))) }
+{
+    let keys = keys_of(alloc, rows)?;
+    of_backends(alloc, listed, &keys)
+}
+
+/// How often flows of rows were moved, and the table of these moves.
+fn moves_told(alloc: Global, rows: &[&str]) -> Result<(usize, String), AllocError>
+    ensures count { IfOk result (λ told. told.0 ≡ length (moves_in_rows (map (λ row. row.now) rows.now))) }
+    ensures text { IfOk result (λ told. string_bytes told.1 ≡
+        moves_text (map (λ row. row.now) rows.now) (moves_in_rows (map (λ row. row.now) rows.now))) }
+{
+    let moves = moves_of(alloc, rows)?;
+    let text = moves_text(alloc, rows, &moves)?;
+    Ok((moves.len(), text))
+}
+
+/// The keys of the backends that are listed: the least 32.
+fn listed_of(alloc: Global, rows: &[&str]) -> Result<Vec<u64>, AllocError>
+    ensures { IfOk result (λ listed. AreLeast (keys_of (map (λ row. row.now) rows.now)) 32 listed.items) }
+{
+    let keys = keys_of(alloc, rows)?;
+    lowest_keys(alloc, &keys, 32)
+}
+
+/// The page of rows with these moments, where the first and the last of them are known, and the listed backends.
+#[tactic(auto, unfolding(crate::specs::Page::page_at))]
+fn page_at(
+    alloc: Global,
+    listed: &[u64],
+    rows: &[&str],
+    commands: &[Command],
+    moments: &[u64],
+    first: u64,
+    last: u64,
+) -> Result<String, AllocError>
+    requires { length listed.now ≤ 32 }
+    ensures { IfOk result
+        (λ text. string_bytes text ≡ page_at listed.now (map (λ row. row.now) rows.now) commands.now moments.now first last) }
+{
+    let by_backend = backends_in_time(alloc, listed, rows, commands, moments, first, last)?;
+    let by_fate = fates_in_time(alloc, rows, commands, moments, first, last)?;
+    let backends = backends_in(alloc, listed, rows)?;
+    let listing = commands_text(alloc, moments, last, commands)?;
+    let (count, moves) = moves_told(alloc, rows)?;
+    let figures = figures_in(alloc, rows, count, first, last)?;
+    whole_text(
+        alloc,
+        figures.as_str(),
+        by_backend.as_str(),
+        by_fate.as_str(),
+        backends.as_str(),
+        listing.as_str(),
+        moves.as_str(),
+    )
+}
+
+/// The page of rows.
+fn page_of(alloc: Global, rows: &[&str], commands: &[Command]) -> Result<String, AllocError>
+    ensures { IfOk result (λ text. IsPageOf (map (λ row. row.now) rows.now) commands.now (string_bytes text)) }
+{
+    let listed = listed_of(alloc, rows)?;
+    let moments = moments_of(alloc, rows)?;
+    let first = earliest(&moments);
+    let last = latest(&moments);
+    let text = page_at(alloc, &listed, rows, commands, &moments, first, last)?;
+    Ok(text)
+}
+
+/// A page of HTML on a report of CSV and the script of its replay, which any browser shows without a network: figures; frames over time, by
+/// backend and by what became of them, with the commands as marks; frames by backend; the commands; and the first hundred records at which
+/// a flow was sent to another address than at its frame before. Its size is bounded, however long the report is, but for the lengths of
+/// numbers and of the report's own fields.
+///
+/// Refused where the file is no report of CSV, with the first line that shows it, and where memory is refused.
+pub fn page(alloc: Global, report: &[u8], script: &Script) -> Result<String, Unlike>
+    ensures page { IfOk result (λ text. IsPage report.now script.now (string_bytes text)) }
+    ensures refused { IfErr result (λ unlike. IsUnread First report.now unlike) }
+{
+    let rows = rows_in(alloc, report, Which::First)?;
+    let text = page_of(alloc, &rows, script.commands())?;
+    Ok(text)
+}
