@@ -209,14 +209,12 @@ fn push_rows(
     rt: &impl Abort,
     alloc: Global,
     report: &mut String,
-    before: u32,
+    before: u16,
     flows: u16,
     backend: u8,
-)
-    requires { before < 2 ^ 20 }
-{
+) {
     for port in 0..flows {
-        let record = before + port as u32 + 1;
+        let record = before as u32 + port as u32 + 1;
         let row = format!(in alloc;
             "{record},1.000000,0,TX,99,sent,{backend},192.0.2.{backend},10.0.0.1,{port},203.0.113.1,80,tcp\n"
         ).expect(rt, "a row");
