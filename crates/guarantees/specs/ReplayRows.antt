@@ -39,6 +39,7 @@ held_asked = record {
   worker_of = λ frame. 0;
   updates = put 1 5 ∷ [];
   commands = (Delete 0 (key_of 1) ∷ put 2 9 ∷ []) ∷ [];
+  first = 0;
 }
 
 abbrev pub held_run : List SystemEvent
@@ -78,6 +79,7 @@ full_asked = record {
   worker_of = λ frame. 0;
   updates = [];
   commands = replicate 15 (put 1 5) ∷ [];
+  first = 0;
 }
 
 abbrev pub full_events : List SystemEvent → List SystemEvent
@@ -110,6 +112,12 @@ pub record ReplayRows : Type 0 where
   pub other_totals :
       (totals : Totals) → totals ≢ (held_result held_ending).totals → (events : List SystemEvent) →
       IsReplay row_setting held_asked (record (held_result held_ending) { totals = totals }) events → ⊥
+  -- with the update behind the beginning of the run
+  pub late_update :
+      IsReplay row_setting held_asked (held_result held_ending) (held_run ++ Controls (put 1 5) ∷ held_command ++ held_end ++ Reclaims 0 ∷ []) → ⊥
+  -- where the command is to come before the first record
+  pub late_command :
+      IsReplay row_setting (record held_asked { first = 1 }) (held_result held_ending) held_events → ⊥
   -- without a call of the command, or with one behind a full journal that nobody asked
   pub no_call : IsReplay row_setting held_asked (held_result held_ending) (Controls (put 1 5) ∷ held_run ++ held_end ++ Reclaims 0 ∷ []) → ⊥
   pub unasked_call :

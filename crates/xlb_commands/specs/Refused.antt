@@ -56,7 +56,7 @@ use Rattle.control.specs.declared.fault.ControlFault.TheVariants as scripts
 use Rattle.control.specs.ScriptReading.{Explains as ExplainsScript}
 use Rattle.actors.specs.declared.fault.ReplayFault.{ReplayFault}
 use Rattle.actors.specs.declared.fault.ReplayFault.TheVariants as replays
-use Rattle.actors.specs.UpdateFaults.{OfUpdate, IsWhyByPass}
+use Rattle.actors.specs.UpdateFaults.{OfUpdate}
 use Rattle.replay.specs.TurnFaults.{IsWhyInTurn}
 use Rattle.actors.specs.declared.outcome.Outcome.{Outcome}
 use Rattle.actors.specs.Parts.{AreBadOptions}
@@ -397,8 +397,7 @@ pub record IsGivenUp (exact : Bool) (maps : List MapDef) (updates : List MapUpda
     (recording : Recording) (why : ReplayFault) : Type 0 where
   pub options_are_bad : (why ≡ replays.BadOptions) ↔ AreBadOptions maps options script
   pub no_thread : exact ≡ true → ¬ (why ≡ replays.NoThread)
-  pub by_pass : exact ≡ false → OfUpdate (IsWhyByPass maps (recorded recording options) updates) why
-  pub in_turn : exact ≡ true → OfUpdate (IsWhyInTurn maps (recorded recording options) updates) why
+  pub of_update : OfUpdate (IsWhyInTurn maps (recorded recording options) updates) why
 
 -- The files of a replay were not written: that of the sent frames, and no other file changed; or that of the journals, and the sent
 -- frames are in theirs; or that of the report, and the sent frames and the journals are in theirs.

@@ -14,7 +14,7 @@ use Rattle.replay.specs.declared.threads.Abandoned.{Abandoned}
 use Rattle.replay.proofs.AbandonLemmas.{of_abandoned}
 use Rattle.replay.proofs.Accounts.{new_is_idle}
 use Rattle.semantics.proofs.shared.EachLemmas.{within}
-use Rattle.replay.proofs.PartLemmas.{script_run, rounds_made}
+use Rattle.replay.proofs.PartLemmas.{script_run, script_run_behind, rounds_made}
 use Rattle.replay.proofs.setting.run_threads.Goals as goal
 
 pub run_all-requires-clause-ready : goal.run_all-requires-clause-ready
@@ -58,9 +58,11 @@ returns-in-Ok-clause-script g c =
     let below = started.within in
     let many = c.requires.starts in
     let all : first + count ≡ length script = omega (arith, below) in
-    script_run g.B.Naming.plan c.args.setting.runner.now.shards.now.maps c.args.setting.runner.now.shards.now.options c.args.updates.now script c.args.size start
+    λ deeds. script_run_behind g.B.Naming.plan c.args.setting.runner.now.shards.now.maps c.args.setting.runner.now.shards.now.options c.args.updates.now script c.args.size
+    start c.in-Ok.all.controller.noted.items c.in-Ok.all.controller.pass deeds
+    (script_run g.B.Naming.plan c.args.setting.runner.now.shards.now.maps c.args.setting.runner.now.shards.now.options c.args.updates.now script c.args.size start
     c.in-Ok.all.controller.noted.items c.in-Ok.all.controller.pass first count started.updates_are started.script_is started.maps_are started.options_are
-    started.size_is started.applied all (c.in-Ok.ensures.done.commands count (all ∙ sym many))
+    started.size_is started.applied all (c.in-Ok.ensures.done.commands count (all ∙ sym many)))
 
 pub returns-in-Ok-clause-rounds : goal.returns-in-Ok-clause-rounds
 returns-in-Ok-clause-rounds g c =

@@ -1,5 +1,6 @@
-use Rattle.std.proofs.Common.{[], ◌∷◌, ◌++◌, ap, ◌∙◌}
-use Rattle.actors.proofs.shared.CommandAccounts.{commander_more}
+use Rattle.std.proofs.Common.{[], ◌∷◌, ◌++◌, ap, ◌∙◌, subst}
+use Rattle.actors.specs.Commands.{CommanderView, HasAccountBehind, OfEachAccount}
+use Rattle.actors.proofs.shared.CommandAccounts.{commander_more, commander_behind}
 use Rattle.actors.proofs.controller.Commander.apply.Goals as goal
 
 pub invariant_of-self-2 : goal.invariant_of-self-2
@@ -8,3 +9,11 @@ invariant_of-self-2 g c =
     c.command_at-command.result.now (record { command = c.args.number; fault = c.apply_to-fault.result }) c.self.invariant
     (c.push_reserved.ensures.items ∙ ap (λ items. items ++ (record { command = c.args.number; fault = c.apply_to-fault.result }) ∷ []) c.reserve.ensures.items)
     c.command_at-command.ensures c.apply_to-fault.ensures.effect c.apply_to-fault.ensures.size
+
+pub returns-clause-more : goal.returns-clause-more
+returns-clause-more g c =
+    subst (λ (view : CommanderView). OfEachAccount g.B.Naming.plan view (HasAccountBehind g.B.Naming.plan _)) c.self.view_is
+    (commander_behind g.B.Naming.plan c.self.inside.updates.now c.self.inside.script.now c.self.inside.noted.items _ c.self.inside.controller _ c.self.inside.port.port _
+    c.command_at-command.result.now (record { command = c.args.number; fault = c.apply_to-fault.result })
+    (c.push_reserved.ensures.items ∙ ap (λ items. items ++ (record { command = c.args.number; fault = c.apply_to-fault.result }) ∷ []) c.reserve.ensures.items)
+    c.command_at-command.ensures c.apply_to-fault.ensures.effect c.apply_to-fault.ensures.size)

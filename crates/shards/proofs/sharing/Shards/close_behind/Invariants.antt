@@ -12,7 +12,7 @@ use Rattle.shards.proofs.OrderClosing.{HasShard}
 use Rattle.shards.specs.Passes.{pass_at, view_at}
 use Rattle.shards.specs.GuardedView.{keyed}
 use Rattle.shards.specs.Seats.{IsLockOf}
-use Rattle.shards.proofs.sharing.Shards.close.Given as goal
+use Rattle.shards.proofs.sharing.Shards.close_behind.Given as goal
 
 pub record Closed (g : goal.Over) (l : goal.Live-shards g) : Type 0 where
   pub count_is : l.count ≡ g.B.Naming.count
@@ -31,7 +31,7 @@ pub record Closed (g : goal.Over) (l : goal.Live-shards g) : Type 0 where
   pub legal : (k : ℕ) → k < l.number → IsLegalJournal (g.B.Naming.plan k) (slice_index_or (written_entries l.journals.items) k [])
   pub callers : (k : ℕ) → (pass_at l.passes.items k).who ≡ (pass_at l.fn.passes.items k).who
   pub deeds : (k : ℕ) → (pass_at l.passes.items k).deeds ≡ (pass_at l.fn.passes.items k).deeds
-  pub order_is : IsOrderOf g.B.Naming.order g.B.Naming.plan g.B.Naming.count l.order
+  pub order_is : IsOrderOf g.B.Naming.order g.B.Naming.plan g.B.Naming.count (l.options.workers + 2) l.order
   pub plans : ArePlans l.maps.items l.options g.B.Naming.count g.B.Naming.plan
   pub seat_is : l.seat.table_id ≡ g.B.Naming.order
   pub gathered : (k : ℕ) → k < l.number → HasShard k (slice_index_or (written_entries l.journals.items) k []) l.seat.me.0

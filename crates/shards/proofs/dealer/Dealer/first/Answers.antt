@@ -1,0 +1,31 @@
+use Rattle.std.proofs.Common.{◌≡◌, ◌<◌, ◌≤◌, ◌+◌, Bool, List, length, sym, ap, ◌∙◌, subst, arith}
+use Rattle.std.specs.Prelude.{slice_set, replicate}
+use Rattle.shards.specs.OrderRule.{AreWaiting}
+use Rattle.shards.proofs.OrderBeginning.{alone_count, alone_waiting, alone_at_order}
+use Rattle.shards.proofs.dealer.Dealer.first.Goals as goal
+
+pub first_of-requires-clause-callers : goal.first_of-requires-clause-callers
+first_of-requires-clause-callers g c =
+    let many = alone_count (c.args.shards.now.options.workers + 2) c.self.inside.dealt.items c.requires.alone in
+    let n = c.len.ensures in
+    let ok = c.self.inside.dealt.ok.0 in
+    let key = c.shards.invariant.1.callers_are in
+    omega (arith, many, n, ok, key)
+
+pub first_of-requires-clause-waiting : goal.first_of-requires-clause-waiting
+first_of-requires-clause-waiting g c =
+    let many = alone_count (c.args.shards.now.options.workers + 2) c.self.inside.dealt.items c.requires.alone in
+    let table = c.shards.invariant.1.table_is in
+    subst (λ n. AreWaiting c.shards.inside.order.shared.table_id n c.self.inside.places.items) (let n = c.len.ensures in let ok = c.self.inside.dealt.ok.0 in omega (arith, many, n, ok))
+    (subst (λ t. AreWaiting t (c.args.shards.now.options.workers + 2) c.self.inside.places.items) (sym table)
+    (alone_waiting (c.args.shards.now.options.workers + 2) c.self.inside.dealt.items c.requires.alone g.B.Naming.order c.self.inside.places.items c.self.invariant.1))
+
+pub invariant_of-self : goal.invariant_of-self
+invariant_of-self g c =
+    let many = alone_count (c.args.shards.now.options.workers + 2) c.self.inside.dealt.items c.requires.alone in
+    let table = c.shards.invariant.1.table_is in (
+      c.self.invariant.0,
+      alone_at_order (c.args.shards.now.options.workers + 2) c.self.inside.dealt.items c.requires.alone g.B.Naming.order c.first_of.new.places.items
+          (subst (λ n. AreWaiting g.B.Naming.order n c.first_of.new.places.items) (let n = c.len.ensures in let ok = c.self.inside.dealt.ok.0 in omega (arith, many, n, ok))
+          (subst (λ t. AreWaiting t c.len.result c.first_of.new.places.items) table c.first_of.ensures.waiting)),
+    )
