@@ -20,7 +20,7 @@ use Rattle.semantics.specs.History.{shard_of_call, entry_of, IsLegalHistory, IsL
 use Rattle.semantics.specs.SequentialShard.{update_answer, shard_after}
 use Rattle.semantics.specs.ShardPlan.{plan_at, AreOptions}
 use Rattle.semantics.proofs.shared.PlanLemmas.{some_shards}
-use Rattle.shard_core.specs.JournaledShard.{JournaledShard, opened_shard, state_of, with_entry}
+use Rattle.shard_core.specs.JournaledShard.{JournaledShard, opened_shard, state_of, shard_with_entry}
 use Rattle.shards.specs.declared.deeds.Deed.{Deed}
 use Rattle.shards.specs.declared.deeds.Deed.TheVariants.{Wrote, MetFull}
 use Rattle.shards.specs.Deeds.{is_of_shard, entries_made, made_on, AreMet, AreFirst}
@@ -32,7 +32,7 @@ use Rattle.actors.specs.declared.fault.ReplayFault.{ReplayFault}
 use Rattle.actors.specs.declared.fault.ReplayFault.TheVariants.{BadOptions, Memory, NoThread, Refused, Full}
 use Rattle.actors.specs.Actors.{IsUnused}
 use Rattle.actors.specs.FirstUpdates.{update_bytes, AreSet, IsWhyLeft}
-use Rattle.actors.specs.SharedUpdates.{UpdatesView, shard_of, update_call, IsUpdated, IsTurnedAway}
+use Rattle.actors.specs.SharedUpdates.{UpdatesView, shard_of, controller_update, IsUpdated, IsTurnedAway}
 use Rattle.actors.specs.UpdateFaults.{IsWhyByPass}
 use Rattle.replay.specs.InTurn.{TurnMaps, IsUpdatedInTurn, IsTurnedAwayInTurn}
 use Rattle.replay.specs.TurnFaults.{IsWhyInTurn}
@@ -111,23 +111,23 @@ module _ (plan : ℕ → ShardPlan) (maps : List MapDef) (options : Options) (co
       ∷ apart_still entry deeds (suc number) left (omega (arith, below)) i
 
   one_more : (entry : Entry) (deeds : List Deed) (number left k : ℕ) → k < left → shard_of_call entry.call ≡ number + k →
-      shards_from (Wrote entry ∷ deeds) number left ≡ slice_set (shards_from deeds number left) k (with_entry (shard_with deeds (number + k)) entry)
+      shards_from (Wrote entry ∷ deeds) number left ≡ slice_set (shards_from deeds number left) k (shard_with_entry (shard_with deeds (number + k)) entry)
   one_more entry deeds number zero k below at = absurd (omega (arith, below))
   one_more entry deeds number (suc left) zero below at =
       let here : shard_of_call entry.call ≡ number = omega (arith, at) in
       let written : reverse (made_on number (Wrote entry ∷ deeds)) ≡ reverse (made_on number deeds) ++ entry ∷ [] =
       ap (λ (list : List Entry). reverse list) (made_here number entry deeds here) ∙ reverse-cons entry (made_on number deeds) in
       (λ i. record { plan = plan number; journal = written i } ∷ apart_still entry deeds (suc number) left (omega (arith, here)) i)
-      ∙ ap (λ (n : ℕ). with_entry (shard_with deeds n) entry ∷ shards_from deeds (suc number) left) (omega arith)
+      ∙ ap (λ (n : ℕ). shard_with_entry (shard_with deeds n) entry ∷ shards_from deeds (suc number) left) (omega arith)
   one_more entry deeds number (suc left) (suc k) below at =
       (λ i. record { plan = plan number; journal = reverse (one_else number (Wrote entry) deeds (λ same. omega (arith, same, at)) i) }
       ∷ one_more entry deeds (suc number) left k (omega (arith, below)) (omega (arith, at)) i)
-      ∙ ap (λ (n : ℕ). shard_with deeds number ∷ slice_set (shards_from deeds (suc number) left) k (with_entry (shard_with deeds n) entry)) (omega arith)
+      ∙ ap (λ (n : ℕ). shard_with deeds number ∷ slice_set (shards_from deeds (suc number) left) k (shard_with_entry (shard_with deeds n) entry)) (omega arith)
 
   one_more_at : (entry : Entry) (deeds : List Deed) (k : ℕ) → k < count → shard_of_call entry.call ≡ k →
-      shards_from (Wrote entry ∷ deeds) 0 count ≡ slice_set (shards_from deeds 0 count) k (with_entry (shard_with deeds k) entry)
+      shards_from (Wrote entry ∷ deeds) 0 count ≡ slice_set (shards_from deeds 0 count) k (shard_with_entry (shard_with deeds k) entry)
   one_more_at entry deeds k below at = one_more entry deeds 0 count k below (omega (arith, at))
-      ∙ ap (λ (n : ℕ). slice_set (shards_from deeds 0 count) k (with_entry (shard_with deeds n) entry)) (omega arith)
+      ∙ ap (λ (n : ℕ). slice_set (shards_from deeds 0 count) k (shard_with_entry (shard_with deeds n) entry)) (omega arith)
 
   -- ---- in a whole whose histories are legal, and in which each look at a full journal met one
 
@@ -151,17 +151,17 @@ module _ (plan : ℕ → ShardPlan) (maps : List MapDef) (options : Options) (co
         let below : number < count = subst (λ (n : ℕ). number < n) (sym plans.count_is)
         (within_of maps update.map options.shards update.key (slice_get maps update.map) (some_shards maps options fit) refl
         (subst (λ (found : Option MapDef). IsTrue (is_some found)) (sym of_map) refl)) in
-        let entry : Entry = entry_of Controller (update_call number update) (Answer answer) in
+        let entry : Entry = entry_of Controller (controller_update number update) (Answer answer) in
         let did : after.pass.deeds ≡ Wrote entry ∷ before.pass.deeds =
-        made.did ∙ ap (λ (n : ℕ). Wrote (entry_of Controller (update_call n update) (Answer answer)) ∷ before.pass.deeds) at in
+        made.did ∙ ap (λ (n : ℕ). Wrote (entry_of Controller (controller_update n update) (Answer answer)) ∷ before.pass.deeds) at in
         let now : AreFirst (Wrote entry ∷ before.pass.deeds) whole = subst (λ (list : List Deed). AreFirst list whole) did first in
         let grown : IsLegalHistory (plan number) (entry ∷ made_on number before.pass.deeds) =
         subst (IsLegalHistory (plan number)) (made_here number entry before.pass.deeds refl) (legal_first (Wrote entry ∷ before.pass.deeds) now number below) in
         let history : reverse (reverse (made_on number before.pass.deeds)) ≡ made_on number before.pass.deeds = reverse-reverse (made_on number before.pass.deeds) in
-        let own : update_call number update ≡ update_call (plan number).number update = ap (λ (n : ℕ). update_call n update) (sym (numbered number below)) in
-        let named : with_entry (shard_with before.pass.deeds number) entry ≡
-        with_entry (shard_with before.pass.deeds number) (entry_of Controller (update_call (plan number).number update) (Answer answer)) =
-        ap (λ (call : Call). with_entry (shard_with before.pass.deeds number) (entry_of Controller call (Answer answer))) own in
+        let own : controller_update number update ≡ controller_update (plan number).number update = ap (λ (n : ℕ). controller_update n update) (sym (numbered number below)) in
+        let named : shard_with_entry (shard_with before.pass.deeds number) entry ≡
+        shard_with_entry (shard_with before.pass.deeds number) (entry_of Controller (controller_update (plan number).number update) (Answer answer)) =
+        ap (λ (call : Call). shard_with_entry (shard_with before.pass.deeds number) (entry_of Controller call (Answer answer))) own in
         record {
           at = record {
             one = shard_with before.pass.deeds number;
@@ -191,17 +191,17 @@ module _ (plan : ℕ → ShardPlan) (maps : List MapDef) (options : Options) (co
         let below : number < count = subst (λ (n : ℕ). number < n) (sym plans.count_is)
         (within_of maps update.map options.shards update.key (slice_get maps update.map) (some_shards maps options fit) refl
         (subst (λ (found : Option MapDef). IsTrue (is_some found)) (sym of_map) refl)) in
-        let did : after.pass.deeds ≡ MetFull Controller (update_call number update) ∷ before.pass.deeds =
-        away.did ∙ ap (λ (n : ℕ). MetFull Controller (update_call n update) ∷ before.pass.deeds) at in
-        let full : IsJournalFull (plan number) (made_on number before.pass.deeds) (update_call number update) =
-        (met_first (MetFull Controller (update_call number update) ∷ before.pass.deeds) (subst (λ (list : List Deed). AreFirst list whole) did first)).0 in
+        let did : after.pass.deeds ≡ MetFull Controller (controller_update number update) ∷ before.pass.deeds =
+        away.did ∙ ap (λ (n : ℕ). MetFull Controller (controller_update n update) ∷ before.pass.deeds) at in
+        let full : IsJournalFull (plan number) (made_on number before.pass.deeds) (controller_update number update) =
+        (met_first (MetFull Controller (controller_update number update) ∷ before.pass.deeds) (subst (λ (list : List Deed). AreFirst list whole) did first)).0 in
         record {
           at = record {
             one = shard_with before.pass.deeds number;
             known = there_at before.pass.deeds number below;
             full = subst (λ (call : Call). IsJournalFull (plan number) (reverse (reverse (made_on number before.pass.deeds))) call)
-                (ap (λ (n : ℕ). update_call n update) (sym (numbered number below)))
-                (subst (λ (list : List Entry). IsJournalFull (plan number) list (update_call number update)) (sym (reverse-reverse (made_on number before.pass.deeds))) full);
+                (ap (λ (n : ℕ). controller_update n update) (sym (numbered number below)))
+                (subst (λ (list : List Entry). IsJournalFull (plan number) list (controller_update number update)) (sym (reverse-reverse (made_on number before.pass.deeds))) full);
           };
           of_map = ∣ of_map ∣₁;
           nothing = refl;

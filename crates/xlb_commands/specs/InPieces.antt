@@ -27,8 +27,8 @@ use Rattle.xlb_commands.specs.Replays.{AreAccepted, FollowsRule, IsCaptureOf, Is
 use Rattle.xlb_commands.specs.Replays.{counts_text, program_of_replay, refusals_text}
 
 -- no reader counts too far: each record takes 16 bytes at least
-abbrev pub HasRoom : ℕ → ReaderView → Type 0
-HasRoom most reader = 16 * reader.count + length reader.unread + most ≤ 2 ^ 40
+abbrev pub ReaderHasRoom : ℕ → ReaderView → Type 0
+ReaderHasRoom most reader = 16 * reader.count + length reader.unread + most ≤ 2 ^ 40
 
 -- the replay took the turns of these records: these frames were sent, and each record ended so
 abbrev pub AreRun : Program → List Command → Options → PieceReplay → PieceReplay → List Sent → List Sent → List RecordEnd → Type 0
@@ -85,7 +85,7 @@ pub record HasGoneThrough (files : FileBytes) (name : List ℕ) (program : Progr
   pub have_run : HaveRun program script options before after made made' records
 
 -- besides, the replay came to its end, and the report and the bytes of the journals are its
-pub record IsLeft (before made made' : FileBytes) (files : ReplayFiles) (program : Contents) (states : List (Option State))
+pub record IsReplayLeft (before made made' : FileBytes) (files : ReplayFiles) (program : Contents) (states : List (Option State))
     (script : List Command) (options : Options) (recording : Recording) (ring : ℕ) (updates : List MapUpdate) (report : Report)
     (journals : List ℕ) : Type 0 where
   pub records : List Sent

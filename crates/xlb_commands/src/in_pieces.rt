@@ -23,14 +23,14 @@ ghost use Rattle.guarantees.specs.HeadlineOf.{HeadlineOf};
 ghost use Rattle.actors.specs.Captured.{IsCaptured};
 ghost use Rattle.map_updates.specs.Misfits.{AreFitting};
 ghost use Rattle.actors.specs.Parts.{AreBadOptions};
-ghost use Rattle.replay.specs.Pieces.{GoesOn, IsUnderway, IsReplayedInPieces};
+ghost use Rattle.replay.specs.Pieces.{ReplayGoesOn, IsUnderway, IsReplayedInPieces};
 ghost use Rattle.actors.specs.declared.outcome.Outcome.{Outcome as Made};
 ghost use Rattle.actors.specs.declared.outcome.RecordEnd.{RecordEnd as End};
 ghost use Rattle.journals.specs.JournalsView.{JournalsView};
 ghost use Rattle.command_line.specs.Reading.{text_of};
 ghost use Rattle.xlb_commands.specs.Files.{AreAllButKept, AreKept, AreOthersKept};
 ghost use Rattle.xlb_commands.specs.AskedReplays.{IsAnswered, IsDenied, IsMadeInTurn, LeavesOthers};
-ghost use Rattle.xlb_commands.specs.InPieces.{HasGoneThrough, HasRoom, HaveRun, IsGoing, IsLeft, IsMadeOf};
+ghost use Rattle.xlb_commands.specs.InPieces.{HasGoneThrough, ReaderHasRoom, HaveRun, IsGoing, IsReplayLeft, IsMadeOf};
 ghost use Rattle.xlb_commands.specs.Refused.{AreUnfiled, HasFailed, IsBrokenOff, IsGivenUp, IsUnserved, LacksRoom};
 ghost use Rattle.traffic.specs.Readings.{unaltered};
 ghost use Rattle.xlb_commands.specs.Replays.{HasBytes, IsCaptureOf, IsMade, image_of};
@@ -112,7 +112,7 @@ fn open_reader<D: Folder>(
 ) -> Result<Option<CaptureReader>, Refusal>
     requires { D.failure_count folder.old < 2 ^ 64 - 1 }
     ensures opened { IfOk result (λ found. IfSome found (IsReadTo (D.holds folder.old name.now) (D.is_left folder.new) [])) }
-    ensures room { IfOk result (λ found. IfSome found (HasRoom (D.most_left folder.new))) }
+    ensures room { IfOk result (λ found. IfSome found (ReaderHasRoom (D.most_left folder.new))) }
     ensures kept { AreKept (D.holds folder.old) (D.holds folder.new) }
     ensures made { AreKept (D.is_begun folder.old) (D.is_begun folder.new) }
     ensures steady { OnOk result (D.failure_count folder.new ≡ D.failure_count folder.old) }
@@ -136,7 +136,7 @@ fn next_piece<D: Folder>(
     reader: &mut CaptureReader,
 ) -> Result<Option<Capture>, Refusal>
     requires failures { D.failure_count folder.old < 2 ^ 64 - 1 }
-    requires room { HasRoom (D.most_left folder.old) reader.old }
+    requires room { ReaderHasRoom (D.most_left folder.old) reader.old }
     ensures read { IfOk result (λ found. IfSome found (λ piece.
         ReadsOn D.holds (D.is_left folder.old) (D.is_left folder.new) reader.old reader.new piece.records.items)) }
     ensures whole { IfOk result (λ found. IfSome found (λ piece. length piece.records.items < 1024 →
@@ -144,7 +144,7 @@ fn next_piece<D: Folder>(
     ensures count { IfOk result (λ found. IfSome found (λ piece. reader.new.count ≡ reader.old.count + length piece.records.items)) }
     ensures fewer { IfOk result (λ found. IfSome found (λ piece. length reader.new.unread + D.most_left folder.new
         + 16 * length piece.records.items ≤ length reader.old.unread + D.most_left folder.old)) }
-    ensures room { IfOk result (λ found. IfSome found (λ _. HasRoom (D.most_left folder.new) reader.new)) }
+    ensures room { IfOk result (λ found. IfSome found (λ _. ReaderHasRoom (D.most_left folder.new) reader.new)) }
     ensures kept { AreKept (D.holds folder.old) (D.holds folder.new) }
     ensures made { AreKept (D.is_begun folder.old) (D.is_begun folder.new) }
     ensures steady { OnOk result (D.failure_count folder.new ≡ D.failure_count folder.old) }
@@ -291,7 +291,7 @@ impl Going {
 /// The replay before its first record.
 fn opened(alloc: Global, asked: Asked<'_>) -> Result<Going, Refusal>
     requires fit { AreFitting asked.verified.now.maps asked.updates.now }
-    ensures goes_on { IfOk result (λ going. GoesOn asked.entry.script.now going.replay) }
+    ensures goes_on { IfOk result (λ going. ReplayGoesOn asked.entry.script.now going.replay) }
     ensures maps { IfOk result (λ going. going.replay.turns.all.maps ≡ asked.entry.verified.now.maps) }
     ensures underway { IfOk result (λ going. IsUnderway (program_of asked.entry.verified.now asked.entry.options.shards)
         asked.entry.script.now
@@ -328,12 +328,12 @@ fn run_piece<D: Folder, G: Gate>(
     gate: &G,
 ) -> Result<bool, Refusal>
     requires failures { D.failure_count folder.old < 2 ^ 64 - 1 }
-    requires goes_on { GoesOn asked.script.now going.old.replay }
+    requires goes_on { ReplayGoesOn asked.script.now going.old.replay }
     requires maps { going.old.replay.turns.all.maps ≡ asked.verified.now.maps }
     ensures run { IfOk result (λ went. went ≡ true → HaveRun (program_of asked.entry.verified.now asked.entry.options.shards)
         asked.entry.script.now (recorded asked.entry.recording asked.entry.options) going.old.replay going.new.replay
         (D.is_begun folder.old) (D.is_begun folder.new) piece.now.records.items) }
-    ensures goes_on { IfOk result (λ went. went ≡ true → GoesOn asked.entry.script.now going.new.replay) }
+    ensures goes_on { IfOk result (λ went. went ≡ true → ReplayGoesOn asked.entry.script.now going.new.replay) }
     ensures maps { IfOk result (λ went. went ≡ true → going.new.replay.turns.all.maps ≡ asked.entry.verified.now.maps) }
     ensures kept { AreKept (D.holds folder.old) (D.holds folder.new) }
     ensures left { (rest : List ℕ) → (D.is_left folder.old rest ↔ D.is_left folder.new rest) }
@@ -370,8 +370,8 @@ fn take_piece<D: Folder, G: Gate>(
     gate: &G,
 ) -> Result<PieceStep, Refusal>
     requires failures { D.failure_count folder.old < 2 ^ 64 - 1 }
-    requires room { HasRoom (D.most_left folder.old) reader.old }
-    requires goes_on { GoesOn asked.script.now going.old.replay }
+    requires room { ReaderHasRoom (D.most_left folder.old) reader.old }
+    requires goes_on { ReplayGoesOn asked.script.now going.old.replay }
     requires maps { going.old.replay.turns.all.maps ≡ asked.verified.now.maps }
     ensures more { IfOk result (λ step. step ≡ PieceStep.More → (records : List Record)
         × ReadsOn D.holds (D.is_left folder.old) (D.is_left folder.new) reader.old reader.new records
@@ -383,10 +383,10 @@ fn take_piece<D: Folder, G: Gate>(
         × HaveRun (program_of asked.entry.verified.now asked.entry.options.shards) asked.entry.script.now
         (recorded asked.entry.recording asked.entry.options) going.old.replay going.new.replay
         (D.is_begun folder.old) (D.is_begun folder.new) records) }
-    ensures room { IfOk result (λ step. step ≢ PieceStep.Changed → HasRoom (D.most_left folder.new) reader.new) }
+    ensures room { IfOk result (λ step. step ≢ PieceStep.Changed → ReaderHasRoom (D.most_left folder.new) reader.new) }
     ensures fewer { IfOk result (λ step. step ≡ PieceStep.More →
         length reader.new.unread + D.most_left folder.new < length reader.old.unread + D.most_left folder.old) }
-    ensures goes_on { IfOk result (λ step. step ≢ PieceStep.Changed → GoesOn asked.entry.script.now going.new.replay) }
+    ensures goes_on { IfOk result (λ step. step ≢ PieceStep.Changed → ReplayGoesOn asked.entry.script.now going.new.replay) }
     ensures maps { IfOk result (λ step. step ≢ PieceStep.Changed → going.new.replay.turns.all.maps ≡ asked.entry.verified.now.maps) }
     ensures kept { AreKept (D.holds folder.old) (D.holds folder.new) }
     ensures steady { OnOk result (D.failure_count folder.new ≡ D.failure_count folder.old) }
@@ -414,13 +414,13 @@ fn go_through<D: Folder, G: Gate>(
     gate: &G,
 ) -> Result<bool, Refusal>
     requires failures { D.failure_count folder.old < 2 ^ 64 - 1 }
-    requires goes_on { GoesOn asked.script.now going.old.replay }
+    requires goes_on { ReplayGoesOn asked.script.now going.old.replay }
     requires maps { going.old.replay.turns.all.maps ≡ asked.verified.now.maps }
     ensures gone { IfOk result (λ whole. whole ≡ true → HasGoneThrough (D.holds folder.old) asked.entry.files.now.capture.now
         (program_of asked.entry.verified.now asked.entry.options.shards) asked.entry.script.now
         (recorded asked.entry.recording asked.entry.options) going.old.replay going.new.replay
         (D.is_begun folder.old) (D.is_begun folder.new)) }
-    ensures goes_on { IfOk result (λ whole. whole ≡ true → GoesOn asked.entry.script.now going.new.replay) }
+    ensures goes_on { IfOk result (λ whole. whole ≡ true → ReplayGoesOn asked.entry.script.now going.new.replay) }
     ensures kept { AreKept (D.holds folder.old) (D.holds folder.new) }
     ensures steady { OnOk result (D.failure_count folder.new ≡ D.failure_count folder.old) }
     ensures refused { IfErr result
@@ -441,7 +441,7 @@ fn go_through<D: Folder, G: Gate>(
 
 /// The outcome of a replay behind its last record; it has no sent frames and no ends.
 fn ended(alloc: Global, asked: Asked<'_>, replay: PieceReplay) -> Result<Outcome, Refusal>
-    requires { GoesOn asked.script.now replay }
+    requires { ReplayGoesOn asked.script.now replay }
     ensures replayed { IfOk result (λ rest. (program : Program) (options : Settings) (records sent : List Record) (ends : List End) →
         IsUnderway program asked.entry.script.now options asked.entry.updates.now records sent ends replay →
         IsReplayedInPieces program asked.entry.script.now options records sent ends rest) }
@@ -466,7 +466,7 @@ fn left_in_pieces(
     altered: Altered,
     going: Going,
 ) -> Result<LeftInPieces, Refusal>
-    requires goes_on { GoesOn asked.script.now going.replay }
+    requires goes_on { ReplayGoesOn asked.script.now going.replay }
     requires underway { IsGoing (program_of asked.verified.now asked.options.shards) asked.script.now
         (recorded asked.recording asked.options) asked.updates.now going.replay }
     requires rows { (file : List ℕ) → text_of asked.files.now.journals ≡ Some file → asked.recording ≡ Rows }
@@ -521,7 +521,7 @@ fn left_by_pieces<D: Folder, G: Gate>(
     gate: &G,
 ) -> Result<Option<LeftInPieces>, Refusal>
     requires failures { D.failure_count folder.old < 2 ^ 64 - 1 }
-    requires goes_on { GoesOn asked.script.now going.replay }
+    requires goes_on { ReplayGoesOn asked.script.now going.replay }
     requires maps { going.replay.turns.all.maps ≡ asked.verified.now.maps }
     requires underway { IsUnderway (program_of asked.verified.now asked.options.shards) asked.script.now
         (recorded asked.recording asked.options) asked.updates.now [] [] [] going.replay }
@@ -529,7 +529,7 @@ fn left_by_pieces<D: Folder, G: Gate>(
     requires served { KeepsRows asked.options.journal }
     requires size { text_of asked.files.now.image ≡ None → IsRingSize asked.ring }
     requires shipped { text_of asked.files.now.image ≡ None → image_of asked.verified.now ≡ shipped_image asked.ring }
-    ensures left { IfOk result (λ found. IfSome found (λ left. IsLeft (D.holds folder.old) (D.is_begun folder.old) (D.is_begun folder.new)
+    ensures left { IfOk result (λ found. IfSome found (λ left. IsReplayLeft (D.holds folder.old) (D.is_begun folder.old) (D.is_begun folder.new)
         asked.entry.files.now (image_of asked.entry.verified.now)
         asked.entry.verified.now.states asked.entry.script.now asked.entry.options asked.entry.recording asked.entry.ring
         asked.entry.updates.now
