@@ -5,6 +5,7 @@ use Rattle.semantics.specs.declared.options.Options.{Options}
 use Rattle.shards.specs.Passes.{PassView}
 use Rattle.actors.specs.Commands.{HasSet}
 use Rattle.actors.specs.SharedUpdates.{UpdatesView}
+use Rattle.actors.specs.UpdateFaults.{IsWhyByPass}
 use Rattle.actors.proofs.shared.Effects.{GivesCounted, RefusesUncounted, counted_within}
 use Rattle.actors.proofs.shared.SetLemmas.{why_within}
 use Rattle.actors.proofs.shared.PortUpdates.{port_set, port_refused, same_left}
@@ -38,9 +39,11 @@ returns-in-Err-clause-refused g c =
     let same = same_left g.B.Naming.plan c.args.updates.now _ c.set_all-done.new.port.port c.in-Err.fault within in
     let maps_are = same.maps ∙ ap (λ (port : UpdatesView). port.maps) c.over.ensures in
     let options_are = same.options ∙ ap (λ (port : UpdatesView). port.options) c.over.ensures in
-    port_refused g.B.Naming.plan (λ gated. gated.port) (λ gated. gated.tally.who) (λ gated. gated.tally.count) c.args.shards.now.maps c.args.shards.now.options
+    subst (λ (pass : PassView). IsWhyByPass g.B.Naming.plan c.args.shards.now.maps c.args.shards.now.options c.args.pass pass c.args.updates.now c.in-Err.fault)
+    (sym c.finish-pass.ensures)
+    (port_refused g.B.Naming.plan (λ gated. gated.port) (λ gated. gated.tally.who) (λ gated. gated.tally.count) c.args.shards.now.maps c.args.shards.now.options
     c.args.updates.now c.args.pass _ c.set_all-done.new.port c.in-Err.fault c.over.ensures
-    (λ i. record { maps = maps_are i; options = options_are i; pass = c.set_all-done.new.port.port.pass }) c.in-Err.ensures.refused
+    (λ i. record { maps = maps_are i; options = options_are i; pass = c.set_all-done.new.port.port.pass }) c.in-Err.ensures.refused)
 
 pub returns-in-Err-clause-still : goal.returns-in-Err-clause-still
 returns-in-Err-clause-still g c =

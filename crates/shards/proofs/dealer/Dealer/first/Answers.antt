@@ -12,6 +12,15 @@ first_of-requires-clause-callers g c =
     let key = c.shards.invariant.1.callers_are in
     omega (arith, many, n, ok, key)
 
+pub first_of-requires-clause-some : goal.first_of-requires-clause-some
+first_of-requires-clause-some g c =
+    let many = alone_count (c.args.shards.now.options.workers + 2) c.self.inside.dealt.items c.requires.alone in
+    let n = c.len.ensures in
+    let ok = c.self.inside.dealt.ok.0 in
+    let last = (alone_waiting (c.args.shards.now.options.workers + 2) c.self.inside.dealt.items c.requires.alone g.B.Naming.order c.self.inside.places.items c.self.invariant.1
+    (c.args.shards.now.options.workers + 1) (omega arith) (omega arith)).0 in
+    (omega (arith, many, n, ok), omega (arith, many, n, ok, last))
+
 pub first_of-requires-clause-waiting : goal.first_of-requires-clause-waiting
 first_of-requires-clause-waiting g c =
     let many = alone_count (c.args.shards.now.options.workers + 2) c.self.inside.dealt.items c.requires.alone in
