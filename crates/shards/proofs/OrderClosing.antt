@@ -103,3 +103,12 @@ one_order_behind plan count plans journals passes first accounts end sized alike
       sized alike shards callers;
   begins = end.each (account AtFirst first) (inl refl);
 }
+
+-- where the seat took in that account last
+pub one_order_gathered : {S : Type 0} (plan : ℕ → ShardPlan) (count : ℕ) (plans : List ShardPlan) (journals : JournalsView) (passes : List PassView) (first : List Deed)
+    (before after : Me S (List Account)) → after ≡ (account AtFirst first ∷ before.0, before.1) → IsEnd plans after.0 → length plans ≡ count →
+    ((number : ℕ) → number < count → plan_in plans number ≡ plan number) → ((number : ℕ) → number < count → HasShard number (entries_at journals number) before.0) →
+    ((place : ℕ) → place < length passes → IsOneOfAccounts (account_of (pass_at passes place)) before.0) → IsOneOrderBehind plan count first journals passes
+one_order_gathered {S} plan count plans journals passes first before after is end sized alike shards callers =
+    one_order_behind plan count plans journals passes first before.0 (subst (λ (l : List Account). IsEnd plans l) (ap (λ (m : Me S (List Account)). m.0) is) end)
+    sized alike shards callers

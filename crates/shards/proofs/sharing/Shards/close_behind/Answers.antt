@@ -17,9 +17,9 @@ use Rattle.semantics.proofs.shared.EachLemmas.{each_first, each_rest}
 use Rattle.shards.proofs.Settling.{legal_more, settled_more, untouched_less}
 use Rattle.shards.specs.declared.deeds.Account.{Account}
 use Rattle.shards.specs.declared.deeds.OrderPart.TheVariants.{ByCaller, AtFirst}
-use Rattle.shards.specs.OrderRule.{account, IsOneOfAccounts, IsEnd}
+use Rattle.shards.specs.OrderRule.{account, IsOneOfAccounts}
 use Rattle.shards.proofs.OrderShards.{numbered, reserved}
-use Rattle.shards.proofs.OrderClosing.{HasShard, gathered, gathered_more, one_order_behind}
+use Rattle.shards.proofs.OrderClosing.{HasShard, gathered, gathered_more, one_order_gathered}
 use Rattle.shards.proofs.sharing.Shards.close_behind.Goals as goal
 
 pub settled-journal-requires-clause-lock : goal.settled-journal-requires-clause-lock
@@ -97,8 +97,8 @@ returns-clause-did g c =
     let i = c.shards.invariant in
     let end = c.gather_all.ensures in
     let first = gathered c.gather_all.new.seat.me c.gather.new.seat.me c.into_seat.result.me AtFirst c.args.first c.gather.ensures.both c.into_seat.ensures.seat.1 c.into_seat.ensures.deeds in
-    one_order_behind g.B.Naming.plan g.B.Naming.count _ c.written.result c.args.passes.items c.args.first c.gather_all.new.seat.me.0
-    (subst (λ (l : List Account). IsEnd _ l) (ap (λ (m : Me ℕ (List Account)). m.0) first) c.end.ensures) i.order_is.sized i.order_is.plans
+    one_order_gathered g.B.Naming.plan g.B.Naming.count _ c.written.result c.args.passes.items c.args.first c.gather_all.new.seat.me c.gather.new.seat.me first
+    c.end.ensures i.order_is.sized i.order_is.plans
     (λ number below. let was = i.gathered number (let t = i.together in let e = c.shards-test.false in let n = i.count_is in omega (arith, t, e, n, below)) in
     subst (λ (js : JournalsView). HasShard number (entries_at js number) c.gather_all.new.seat.me.0) (sym c.written.ensures)
     (record { deeds = was.deeds; written = was.written; has = end.kept _ was.has }))
