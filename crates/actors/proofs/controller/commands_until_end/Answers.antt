@@ -32,11 +32,11 @@ jobs-preserved-in-Ok g c =
       updates = same.4 ∙ i.updates;
       accounts = behind_more g.B.Naming.plan c.args.commander c.jobs.commander c.apply.new.self i.accounts c.in-Ok.ensures.more;
       noted = λ fresh. one_since c.args.commander.noted c.jobs.commander.noted c.apply.new.self.noted (jobs_taken c.jobs.take) (jobs_taken c.next_command.new.take)
-          (record { command = c.in-Some.number; fault = noted.0 }) (i.noted c.if-not-is_refused.true) noted.1 c.in-Some.ensures.taken.1;
+          (record { command = c.in-Some-next_command.number; fault = noted.0 }) (i.noted c.if-not-is_refused.true) noted.1 c.in-Some-next_command.ensures.taken.1;
     }
 
 pub returns-clause-account : goal.returns-clause-account
 returns-clause-account g c =
     let i = c.jobs.invariant in
-    actor_accounted g.B.Naming.plan _ c.jobs.commander c.finish.result.1.items c.finish.result.0 i.maps i.options i.updates i.script i.size c.finish.ensures.noted
-    c.finish.ensures.pass i.accounts
+    actor_accounted g.B.Naming.plan _ c.jobs.commander c.finish-pass.result.1.items c.finish-pass.result.0 i.maps i.options i.updates i.script i.size c.finish-pass.ensures.noted
+    c.finish-pass.ensures.pass i.accounts
