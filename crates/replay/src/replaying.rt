@@ -1,11 +1,13 @@
 //! A whole replay.
 
-ghost use Rattle.std.specs.Prelude.{◌≡◌, ◌<◌, ◌≤◌, ◌+◌, ◌↔◌, [], length, replicate, IfOk, OnOk, IfErr, IsErrOf};
+ghost use Rattle.std.specs.Prelude.{◌≡◌, ◌<◌, ◌≤◌, ◌+◌, ◌↔◌, true, false, [], length, map, replicate, slice_set, IfOk, OnOk, IfErr, IsErrOf};
 ghost use Rattle.machine.specs.Running.{program_of};
 ghost use Rattle.semantics.specs.ShardPlan.{KeepsRows, recorded};
 ghost use Rattle.rx_queues.specs.Passes.{IsPutPassOf, AreTakePasses, jobs_put, workers_of, record_count_of, command_count_of};
 ghost use Rattle.maglev.specs.RingSize.{IsRingSize};
-ghost use Rattle.actors.specs.Commands.{ServesScript};
+ghost use Rattle.actors.specs.Commands.{HasSet, ServesScript};
+ghost use Rattle.control.specs.declared.command.Command.{Command as Line};
+ghost use Rattle.semantics.specs.declared.call.Caller.TheVariants.{Controller as TheController};
 ghost use Rattle.shards.specs.NewShards.{IsNamed};
 ghost use Rattle.actors.specs.Accounted.{IsAccounted};
 ghost use Rattle.actors.specs.Parts.{AreBadOptions};
@@ -31,7 +33,7 @@ use map_updates::MapUpdate;
 use rx_queues::{PutPass, Queues, TakePass};
 use semantics::{Caller, Options, Recording};
 use shard_port::Gate;
-use shards::{Naming, OpenFault, Opened};
+use shards::{Dealer, Naming, OpenFault, Opened, Pass, Shards};
 use std::alloc::Global;
 use std::marker::Brand;
 use std::sync::Wait;
@@ -108,6 +110,49 @@ fn replay_over<'x, B: Naming + Send + Sync, R: Threads + Wait + Sync, G: Gate + 
         Ok(pass) => pass,
         Err(unset) => return Err(given_up(rt, alloc, shards, dealer, unset, updates)),
     };
+    replay_behind::<B, R, G>(
+        rt, alloc, verified, capture, updates, script, size, gate, shards, dealer, pass, starts,
+        queues, put, takes,
+    )
+}
+
+/// The same from the updates on, which the controller's pass has made.
+fn replay_behind<'x, B: Naming + Send + Sync, R: Threads + Wait + Sync, G: Gate + Sync>(
+    rt: &'x R,
+    alloc: Global,
+    verified: &'x Verified,
+    capture: &'x Capture,
+    updates: &'x [MapUpdate],
+    script: &'x Script,
+    size: u32,
+    gate: &'x G,
+    shards: Shards<B>,
+    mut dealer: Dealer<B>,
+    pass: Pass<B>,
+    starts: &[u32],
+    queues: Queues,
+    put: PutPass,
+    takes: Vec<TakePass>,
+) -> Result<Outcome, ReplayFault>
+    requires maps { shards.maps ≡ verified.now.maps }
+    requires workers { (0 < shards.options.workers) × (shards.options.workers ≤ 8) }
+    requires size { IsRingSize size }
+    requires script { ServesScript verified.now.maps size script.now }
+    requires starts { starts.now ≡ map (λ (line : Line). line.frame) script.now }
+    requires alone { dealer ≡ slice_set (replicate (shards.options.workers + 2) false) 0 true }
+    requires who { pass.who ≡ TheController }
+    requires set { HasSet shards.maps shards.options updates.now pass }
+    requires queues { (workers_of queues ≡ shards.options.workers) × (record_count_of queues ≡ length capture.now.records.items) ×
+        (command_count_of queues ≡ length starts.now) }
+    requires put { IsPutPassOf queues put × (jobs_put put ≡ replicate (shards.options.workers + 2) []) }
+    requires take { AreTakePasses queues takes.items }
+    ensures accounted { IfOk result (IsAccounted (program_of verified.now shards.options.shards) script.now shards.options
+        capture.now.records.items) }
+    ensures updates { IfOk result (λ outcome. outcome.updates.items ≡ updates.now) }
+    ensures no_update { IfErr result IsOfNoUpdate }
+    ensures served { ¬ IsErrOf result BadOptions }
+{
+    let workers = shards.options().workers as usize;
     let (controller, count, first) = new_controller(
         alloc,
         rt,
