@@ -28,8 +28,8 @@ use Rattle.abstract_state.specs.declared.broken_rule.BrokenRule.TheVariants.{Unk
 use Rattle.abstract_state.specs.declared.state.State.{State}
 use Rattle.abstract_state.specs.States.{◌>>=◌, with_kind}
 use Rattle.abstract_state.specs.Places.{at_offset, place_within}
-use Rattle.abstract_state.specs.Flow.{writable, array_size, address_in, value_address, address_flow, flow_of}
-use Rattle.abstract_state.specs.Soundness.{GoesOn, FallsOn, Follows, HoldsAfter}
+use Rattle.abstract_state.specs.Flow.{writable, array_size, address_in, checked_value_address, address_flow, flow_of}
+use Rattle.abstract_state.specs.Soundness.{GoesOnAt, FallsOn, Follows, HoldsAfter}
 use Rattle.abstract_state.specs.Abstraction.{Held, Abstracts}
 use Rattle.abstract_state.proofs.shared.Writing.{written}
 use Rattle.abstract_state.proofs.shared.Inverting.{err_not_ok, ok_value, ok_then, place_is}
@@ -68,7 +68,7 @@ array_found program place slot offset kind (Some definition) is e =
       kind_is = sym (ok_value (Value place slot (at_offset at.value)) kind at.next) ∙ ap (λ n. Value place slot (at_offset n)) (sym same);
     }
 
-array_there : (program : Program) (map : ℤ) (slot offset : ℕ) (kind : Kind) → value_address program.maps slot map offset ≡ Ok kind → HasArray program map slot offset kind
+array_there : (program : Program) (map : ℤ) (slot offset : ℕ) (kind : Kind) → checked_value_address program.maps slot map offset ≡ Ok kind → HasArray program map slot offset kind
 array_there program (pos place) slot offset kind e = array_found program place slot offset kind (slice_get program.maps place) refl e
 array_there program (negsuc below) slot offset kind e = absurd (err_not_ok UnknownMap kind e)
 
@@ -113,7 +113,7 @@ addressed program held state machine a sizes dst may place offset definition kno
 
     given : (reply : Reply) → IsReplyTo program (Lookup (place * program.shards) first_key) reply → (held' : Held) →
         HoldsAfter program held held' (Lookup (place * program.shards) first_key) reply →
-        GoesOn program.maps held' (with_kind state dst (Value place machine.slot (at_offset offset))) machine
+        GoesOnAt program.maps held' (with_kind state dst (Value place machine.slot (at_offset offset))) machine
         (at_next_slot (Ldval dst (pos place) offset) (with_register machine dst (meaning.value_address place offset reply)))
         (machine.slot + slot_count (Ldval dst (pos place) offset))
     given (Cell cell) is held' after = record {
@@ -148,8 +148,8 @@ address_sound program held state machine dst map offset flow a sizes e =
     falls_follow program held machine (Ldval dst map offset) (instruction_step program (Ldval dst map offset) machine)
     (address_flow program.maps state machine.slot dst map offset) flow e
     (λ after is.
-    let may = ok_then (writable dst) (λ _. value_address program.maps machine.slot map offset >>= (λ kind. Ok (with_kind state dst kind))) after is
-    in let made = ok_then (value_address program.maps machine.slot map offset) (λ kind. Ok (with_kind state dst kind)) after may.next
+    let may = ok_then (writable dst) (λ _. checked_value_address program.maps machine.slot map offset >>= (λ kind. Ok (with_kind state dst kind))) after is
+    in let made = ok_then (checked_value_address program.maps machine.slot map offset) (λ kind. Ok (with_kind state dst kind)) after may.next
     in let has : HasArray program map machine.slot offset made.value = array_there program map machine.slot offset made.value made.is
     in subst (λ x. Follows program held (Falls x) machine (Ldval dst map offset) (instruction_step program (Ldval dst map offset) machine))
     (ap (with_kind state dst) (sym has.kind_is) ∙ ok_value (with_kind state dst made.value) after made.next)

@@ -38,9 +38,9 @@ use Rattle.abstract_state.specs.declared.state.State.{State}
 use Rattle.abstract_state.specs.States.{◌>>=◌, kind_of, word_of, key_size_of, value_size_of}
 use Rattle.abstract_state.specs.Facts.{told_moved, told_kind, told_word, told}
 use Rattle.abstract_state.specs.Words.{are_bytes_set}
-use Rattle.abstract_state.specs.Calls.{known_helper, map_argument, stack_argument, number_argument, context_argument, is_inside_stack, when_all, key_arguments, update_arguments, head_arguments, returned, any_number, call_of}
+use Rattle.abstract_state.specs.Calls.{known_helper, checked_map_argument, stack_argument, checked_number_argument, checked_context_argument, is_inside_stack, when_all, key_arguments, update_arguments, head_arguments, after_return, any_number, checked_call}
 use Rattle.abstract_state.specs.Flow.{reads_arguments, falls, flow_of}
-use Rattle.abstract_state.specs.Soundness.{IsKeyOf, GoesOn, FallsOn, Follows, HoldsAfter}
+use Rattle.abstract_state.specs.Soundness.{IsKeyOf, GoesOnAt, FallsOn, Follows, HoldsAfter}
 use Rattle.abstract_state.specs.Abstraction.{Held, KindScope, KindCovers, IsNumberIn, IsKnownMap, IsStackPlace, WordCovers, places_of, kind_scope_of, Abstracts}
 use Rattle.abstract_state.proofs.JoinWords.{spilled_covers}
 use Rattle.abstract_state.proofs.shared.Writing.{number_below}
@@ -55,7 +55,7 @@ use Rattle.abstract_state.proofs.LookingUp.{returned_sound, map_kind, stack_kind
 
 answered : (program : Program) (held held' : Held) (state : State) (machine : MachineState) (a : Abstracts program.maps held state machine) (code : ℤ) → FitsSigned w32 code →
     ((map shard cell : ℕ) → IsTrue (held map shard cell) → IsTrue (held' map shard cell)) →
-    GoesOn program.maps held' (returned any_number state) machine (meaning.returned machine (Number (twos_complement 64 code))) (machine.slot + 1)
+    GoesOnAt program.maps held' (after_return any_number state) machine (meaning.returned machine (Number (twos_complement 64 code))) (machine.slot + 1)
 answered program held held' state machine a code fits more = record {
   at = refl;
   counted = refl;
@@ -65,7 +65,7 @@ answered program held held' state machine a code fits more = record {
 
 update_answered : (program : Program) (held : Held) (state : State) (machine : MachineState) (a : Abstracts program.maps held state machine) (shard : ℕ) (key value : List ℕ) (flags : ℕ)
     (reply : Reply) → IsReplyTo program (Update shard key value flags) reply → (held' : Held) → HoldsAfter program held held' (Update shard key value flags) reply →
-    GoesOn program.maps held' (returned any_number state) machine (meaning.returned machine (answer_value reply)) (machine.slot + 1)
+    GoesOnAt program.maps held' (after_return any_number state) machine (meaning.returned machine (answer_value reply)) (machine.slot + 1)
 update_answered program held state machine a shard key value flags (Answer code) fits held' after = answered program held held' state machine a code fits after.kept
 update_answered program held state machine a shard key value flags Entered is held' after = absurd is
 update_answered program held state machine a shard key value flags Left is held' after = absurd is
@@ -77,7 +77,7 @@ update_answered program held state machine a shard key value flags (Freed count)
 
 delete_answered : (program : Program) (held : Held) (state : State) (machine : MachineState) (a : Abstracts program.maps held state machine) (shard : ℕ) (key : List ℕ)
     (reply : Reply) → IsReplyTo program (Delete shard key) reply → (held' : Held) → HoldsAfter program held held' (Delete shard key) reply →
-    GoesOn program.maps held' (returned any_number state) machine (meaning.returned machine (answer_value reply)) (machine.slot + 1)
+    GoesOnAt program.maps held' (after_return any_number state) machine (meaning.returned machine (answer_value reply)) (machine.slot + 1)
 delete_answered program held state machine a shard key (Answer code) fits held' after = answered program held held' state machine a code fits after.kept
 delete_answered program held state machine a shard key Entered is held' after = absurd is
 delete_answered program held state machine a shard key Left is held' after = absurd is
@@ -138,7 +138,7 @@ is_key program machine map f = record { definition = f.definition; known = f.sam
 -- ---- deletions
 
 delete_follows : (program : Program) (held : Held) (state : State) (machine : MachineState) → Abstracts program.maps held state machine →
-    (map : ℕ) → KnowsKey program.maps state map → FallsOn program held (returned any_number state) machine (machine.slot + 1) (delete_step program machine)
+    (map : ℕ) → KnowsKey program.maps state map → FallsOn program held (after_return any_number state) machine (machine.slot + 1) (delete_step program machine)
 delete_follows program held state machine a map k =
     let f = key_found program held state machine a map k
     in rw (f.named, f.known, f.key.read) (
@@ -147,19 +147,19 @@ delete_follows program held state machine a map k =
     )
 
 delete_sound : (program : Program) (held : Held) (state : State) (machine : MachineState) (number : ℤ) (flow : Flow) → Abstracts program.maps held state machine →
-    falls (reads_arguments state MapDeleteElem >>= (λ _. call_of program.maps state machine.slot MapDeleteElem)) ≡ Ok flow →
+    falls (reads_arguments state MapDeleteElem >>= (λ _. checked_call program.maps state machine.slot MapDeleteElem)) ≡ Ok flow →
     Follows program held flow machine (CallHelper number) (delete_step program machine)
 delete_sound program held state machine number flow a e =
-    let made = falls_made (reads_arguments state MapDeleteElem >>= (λ _. call_of program.maps state machine.slot MapDeleteElem)) flow e
-    in let first = ok_then (reads_arguments state MapDeleteElem) (λ _. call_of program.maps state machine.slot MapDeleteElem) made.0 made.1.0
-    in let second = ok_then (key_arguments program.maps state) (λ map. Ok (returned any_number state)) made.0 first.1.1
-    in let same : returned any_number state ≡ made.0 = ok_same (Ok (returned any_number state)) (returned any_number state) made.0 refl second.1.1
-    in settled program held machine (CallHelper number) (delete_step program machine) flow made.0 (returned any_number state) made.1.1 same (one_slot number)
+    let made = falls_made (reads_arguments state MapDeleteElem >>= (λ _. checked_call program.maps state machine.slot MapDeleteElem)) flow e
+    in let first = ok_then (reads_arguments state MapDeleteElem) (λ _. checked_call program.maps state machine.slot MapDeleteElem) made.0 made.1.0
+    in let second = ok_then (key_arguments program.maps state) (λ map. Ok (after_return any_number state)) made.0 first.1.1
+    in let same : after_return any_number state ≡ made.0 = ok_same (Ok (after_return any_number state)) (after_return any_number state) made.0 refl second.1.1
+    in settled program held machine (CallHelper number) (delete_step program machine) flow made.0 (after_return any_number state) made.1.1 same (one_slot number)
     (delete_follows program held state machine a second.0 (knows_key program.maps state second.0 second.1.0))
 
 -- ---- updates
 
-scalar_kind : (kind : Kind) (register : Register) (done : Unit {0}) → number_argument kind register ≡ Ok done → (i : Interval) × (kind ≡ Scalar i)
+scalar_kind : (kind : Kind) (register : Register) (done : Unit {0}) → checked_number_argument kind register ≡ Ok done → (i : Interval) × (kind ≡ Scalar i)
 scalar_kind (Scalar i) register done e = (i, refl)
 scalar_kind Unset register done e = cc
 scalar_kind Ctx register done e = cc
@@ -181,25 +181,25 @@ record KnowsUpdate (maps : List MapDef) (state : State) (map : ℕ) : Type 0 whe
 
 knows_update : (maps : List MapDef) (state : State) (map : ℕ) → update_arguments maps state ≡ Ok map → KnowsUpdate maps state map
 knows_update maps state map e =
-    let first = ok_then (map_argument (kind_of state R1) R1) (λ map.
+    let first = ok_then (checked_map_argument (kind_of state R1) R1) (λ map.
     stack_argument (kind_of state R2) R2 >>= (λ key.
     stack_argument (kind_of state R3) R3 >>= (λ value.
-    number_argument (kind_of state R4) R4 >>= (λ _.
+    checked_number_argument (kind_of state R4) R4 >>= (λ _.
     when_all (is_inside_stack key (key_size_of (slice_get maps map)) && is_inside_stack value (value_size_of (slice_get maps map))) StackBounds >>= (λ _.
     when_all (are_bytes_set state key (key_size_of (slice_get maps map)) && are_bytes_set state value (value_size_of (slice_get maps map))) StackUnset >>= (λ _.
     Ok map)))))) map e
     in let second = ok_then (stack_argument (kind_of state R2) R2) (λ key.
     stack_argument (kind_of state R3) R3 >>= (λ value.
-    number_argument (kind_of state R4) R4 >>= (λ _.
+    checked_number_argument (kind_of state R4) R4 >>= (λ _.
     when_all (is_inside_stack key (key_size_of (slice_get maps first.0)) && is_inside_stack value (value_size_of (slice_get maps first.0))) StackBounds >>= (λ _.
     when_all (are_bytes_set state key (key_size_of (slice_get maps first.0)) && are_bytes_set state value (value_size_of (slice_get maps first.0))) StackUnset >>= (λ _.
     Ok first.0))))) map first.1.1
     in let third = ok_then (stack_argument (kind_of state R3) R3) (λ value.
-    number_argument (kind_of state R4) R4 >>= (λ _.
+    checked_number_argument (kind_of state R4) R4 >>= (λ _.
     when_all (is_inside_stack second.0 (key_size_of (slice_get maps first.0)) && is_inside_stack value (value_size_of (slice_get maps first.0))) StackBounds >>= (λ _.
     when_all (are_bytes_set state second.0 (key_size_of (slice_get maps first.0)) && are_bytes_set state value (value_size_of (slice_get maps first.0))) StackUnset >>= (λ _.
     Ok first.0)))) map second.1.1
-    in let fourth = ok_then (number_argument (kind_of state R4) R4) (λ _.
+    in let fourth = ok_then (checked_number_argument (kind_of state R4) R4) (λ _.
     when_all (is_inside_stack second.0 (key_size_of (slice_get maps first.0)) && is_inside_stack third.0 (value_size_of (slice_get maps first.0))) StackBounds >>= (λ _.
     when_all (are_bytes_set state second.0 (key_size_of (slice_get maps first.0)) && are_bytes_set state third.0 (value_size_of (slice_get maps first.0))) StackUnset >>= (λ _.
     Ok first.0))) map third.1.1
@@ -237,7 +237,7 @@ number_there : (s : KindScope) (kind : Kind) (i : Interval) (v : RegisterValue) 
 number_there s kind i v is c = subst (λ kind. KindCovers s kind v) is c
 
 update_follows : (program : Program) (held : Held) (state : State) (machine : MachineState) → Abstracts program.maps held state machine →
-    (map : ℕ) → KnowsUpdate program.maps state map → FallsOn program held (returned any_number state) machine (machine.slot + 1) (update_step program machine)
+    (map : ℕ) → KnowsUpdate program.maps state map → FallsOn program held (after_return any_number state) machine (machine.slot + 1) (update_step program machine)
 update_follows program held state machine a map k =
     let f = key_found program held state machine a map k.at
     in let size : value_size_of (slice_get program.maps map) ≡ f.definition.value_size = ap value_size_of f.same
@@ -257,14 +257,14 @@ update_follows program held state machine a map k =
     )
 
 update_sound : (program : Program) (held : Held) (state : State) (machine : MachineState) (number : ℤ) (flow : Flow) → Abstracts program.maps held state machine →
-    falls (reads_arguments state MapUpdateElem >>= (λ _. call_of program.maps state machine.slot MapUpdateElem)) ≡ Ok flow →
+    falls (reads_arguments state MapUpdateElem >>= (λ _. checked_call program.maps state machine.slot MapUpdateElem)) ≡ Ok flow →
     Follows program held flow machine (CallHelper number) (update_step program machine)
 update_sound program held state machine number flow a e =
-    let made = falls_made (reads_arguments state MapUpdateElem >>= (λ _. call_of program.maps state machine.slot MapUpdateElem)) flow e
-    in let first = ok_then (reads_arguments state MapUpdateElem) (λ _. call_of program.maps state machine.slot MapUpdateElem) made.0 made.1.0
-    in let second = ok_then (update_arguments program.maps state) (λ _. Ok (returned any_number state)) made.0 first.1.1
-    in let same : returned any_number state ≡ made.0 = ok_same (Ok (returned any_number state)) (returned any_number state) made.0 refl second.1.1
-    in settled program held machine (CallHelper number) (update_step program machine) flow made.0 (returned any_number state) made.1.1 same (one_slot number)
+    let made = falls_made (reads_arguments state MapUpdateElem >>= (λ _. checked_call program.maps state machine.slot MapUpdateElem)) flow e
+    in let first = ok_then (reads_arguments state MapUpdateElem) (λ _. checked_call program.maps state machine.slot MapUpdateElem) made.0 made.1.0
+    in let second = ok_then (update_arguments program.maps state) (λ _. Ok (after_return any_number state)) made.0 first.1.1
+    in let same : after_return any_number state ≡ made.0 = ok_same (Ok (after_return any_number state)) (after_return any_number state) made.0 refl second.1.1
+    in settled program held machine (CallHelper number) (update_step program machine) flow made.0 (after_return any_number state) made.1.1 same (one_slot number)
     (update_follows program held state machine a second.0 (knows_update program.maps state second.0 second.1.0))
 
 -- ---- the packet's start is moved
@@ -339,7 +339,7 @@ answer_fits delta frame = by_test (head_can_move delta frame)
     by_test false = search arith
 
 adjusted_sound : (program : Program) (held : Held) (state : State) (machine : MachineState) (delta : ℤ) → Abstracts program.maps held state machine →
-    GoesOn program.maps held (returned any_number (told HeadMoved state)) machine (adjusted_state machine delta) (machine.slot + 1)
+    GoesOnAt program.maps held (after_return any_number (told HeadMoved state)) machine (adjusted_state machine delta) (machine.slot + 1)
 adjusted_sound program held state machine delta a =
     let moved : Abstracts program.maps held (told HeadMoved state) (head_moved machine delta) = moved_sound program.maps held state machine delta a
     in record {
@@ -351,7 +351,7 @@ adjusted_sound program held state machine delta a =
           (immediate_fits (adjust_answer delta machine.frame) (answer_fits delta machine.frame)));
     }
 
-context_kind : (kind : Kind) (register : Register) (done : Unit {0}) → context_argument kind register ≡ Ok done → kind ≡ Ctx
+context_kind : (kind : Kind) (register : Register) (done : Unit {0}) → checked_context_argument kind register ≡ Ok done → kind ≡ Ctx
 context_kind Ctx register done e = refl
 context_kind Unset register done e = cc
 context_kind (Scalar i) register done e = cc
@@ -363,9 +363,9 @@ context_kind (ValueOrNull m id) register done e = cc
 context_kind (Value m id off) register done e = cc
 
 head_follows : (program : Program) (held : Held) (state : State) (machine : MachineState) → Abstracts program.maps held state machine → (done : Unit {0}) →
-    head_arguments state ≡ Ok done → FallsOn program held (returned any_number (told HeadMoved state)) machine (machine.slot + 1) (adjust_head_step machine)
+    head_arguments state ≡ Ok done → FallsOn program held (after_return any_number (told HeadMoved state)) machine (machine.slot + 1) (adjust_head_step machine)
 head_follows program held state machine a done e =
-    let first = ok_then (context_argument (kind_of state R1) R1) (λ _. number_argument (kind_of state R2) R2) done e
+    let first = ok_then (checked_context_argument (kind_of state R1) R1) (λ _. checked_number_argument (kind_of state R2) R2) done e
     in let context : register_value machine R1 ≡ ContextPointer =
     subst (λ kind. KindCovers (kind_scope_of program.maps held a.ids machine) kind (register_value machine R1)) (context_kind (kind_of state R1) R1 first.0 first.1.0) (a.registers R1)
     in let is_number = scalar_kind (kind_of state R2) R2 done first.1.1
@@ -375,15 +375,15 @@ head_follows program held state machine a done e =
     in rw (e1, e2) (adjusted_sound program held state machine (signed_value 32 (low_half n.number)) a)
 
 head_sound : (program : Program) (held : Held) (state : State) (machine : MachineState) (number : ℤ) (flow : Flow) → Abstracts program.maps held state machine →
-    falls (reads_arguments state XdpAdjustHead >>= (λ _. call_of program.maps state machine.slot XdpAdjustHead)) ≡ Ok flow →
+    falls (reads_arguments state XdpAdjustHead >>= (λ _. checked_call program.maps state machine.slot XdpAdjustHead)) ≡ Ok flow →
     Follows program held flow machine (CallHelper number) (adjust_head_step machine)
 head_sound program held state machine number flow a e =
-    let made = falls_made (reads_arguments state XdpAdjustHead >>= (λ _. call_of program.maps state machine.slot XdpAdjustHead)) flow e
-    in let first = ok_then (reads_arguments state XdpAdjustHead) (λ _. call_of program.maps state machine.slot XdpAdjustHead) made.0 made.1.0
-    in let second = ok_then (head_arguments state) (λ _. Ok (returned any_number (told HeadMoved state))) made.0 first.1.1
-    in let same : returned any_number (told HeadMoved state) ≡ made.0 =
-    ok_same (Ok (returned any_number (told HeadMoved state))) (returned any_number (told HeadMoved state)) made.0 refl second.1.1
-    in settled program held machine (CallHelper number) (adjust_head_step machine) flow made.0 (returned any_number (told HeadMoved state)) made.1.1 same (one_slot number)
+    let made = falls_made (reads_arguments state XdpAdjustHead >>= (λ _. checked_call program.maps state machine.slot XdpAdjustHead)) flow e
+    in let first = ok_then (reads_arguments state XdpAdjustHead) (λ _. checked_call program.maps state machine.slot XdpAdjustHead) made.0 made.1.0
+    in let second = ok_then (head_arguments state) (λ _. Ok (after_return any_number (told HeadMoved state))) made.0 first.1.1
+    in let same : after_return any_number (told HeadMoved state) ≡ made.0 =
+    ok_same (Ok (after_return any_number (told HeadMoved state))) (after_return any_number (told HeadMoved state)) made.0 refl second.1.1
+    in settled program held machine (CallHelper number) (adjust_head_step machine) flow made.0 (after_return any_number (told HeadMoved state)) made.1.1 same (one_slot number)
     (head_follows program held state machine a second.0 second.1.0)
 
 -- ---- each helper
@@ -392,7 +392,7 @@ helper_sound : (program : Program) (held : Held) (state : State) (machine : Mach
     (t1 t2 t3 t5 t8 t44 : Bool) →
     falls (known_helper (if t1 then Some MapLookupElem else (if t2 then Some MapUpdateElem else (if t3 then Some MapDeleteElem else (if t5 then Some KtimeGetNs
     else (if t8 then Some GetSmpProcessorId else (if t44 then Some XdpAdjustHead else None))))))
-    >>= (λ helper. reads_arguments state helper >>= (λ _. call_of program.maps state machine.slot helper))) ≡ Ok flow →
+    >>= (λ helper. reads_arguments state helper >>= (λ _. checked_call program.maps state machine.slot helper))) ≡ Ok flow →
     Follows program held flow machine (CallHelper (pos n))
     (found_helper_step program machine (if t1 then Some MapLookupElem else (if t2 then Some MapUpdateElem else (if t3 then Some MapDeleteElem
     else (if t5 then Some KtimeGetNs else (if t8 then Some GetSmpProcessorId else (if t44 then Some XdpAdjustHead else None)))))))

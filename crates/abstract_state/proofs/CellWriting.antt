@@ -35,9 +35,9 @@ use Rattle.abstract_state.specs.declared.state.State.{State}
 use Rattle.abstract_state.specs.States.{◌>>=◌, kind_of, value_size_of}
 use Rattle.abstract_state.specs.Places.{atomic_access}
 use Rattle.abstract_state.specs.Words.{narrow_storable}
-use Rattle.abstract_state.specs.Access.{with_fetched_kind, expects, atomic_on, atomic_of}
+use Rattle.abstract_state.specs.Access.{with_fetched_kind, expects, checked_atomic, atomic_of}
 use Rattle.abstract_state.specs.Flow.{fetch_writable, reads_atomic, atomic_flow, flow_of}
-use Rattle.abstract_state.specs.Soundness.{GoesOn, FallsOn, Follows, HoldsAfter}
+use Rattle.abstract_state.specs.Soundness.{GoesOnAt, FallsOn, Follows, HoldsAfter}
 use Rattle.abstract_state.specs.Abstraction.{Held, KindCovers, IsNumberIn, kind_scope_of, Abstracts}
 use Rattle.abstract_state.proofs.shared.Writing.{held_more}
 use Rattle.abstract_state.proofs.shared.Following.{moved_on}
@@ -61,7 +61,7 @@ cut n size = mod_below n (256 ^ size_bytes size) (some_numbers size)
 -- the run goes on with no register changed, whatever more is held
 goes_on_as : (program : Program) (held held' : Held) (state : State) (machine : MachineState) (a : Abstracts program.maps held state machine) (insn : Insn) →
     ((map shard cell : ℕ) → IsTrue (held map shard cell) → IsTrue (held' map shard cell)) →
-    GoesOn program.maps held' state machine (at_next_slot insn machine) (machine.slot + slot_count insn)
+    GoesOnAt program.maps held' state machine (at_next_slot insn machine) (machine.slot + slot_count insn)
 goes_on_as program held held' state machine a insn more = record {
   at = refl;
   counted = refl;
@@ -167,7 +167,7 @@ fetches machine (Some register) done e = written_ok register done e machine Unin
 fetched : (program : Program) (held held' : Held) (state : State) (machine : MachineState) (a : Abstracts program.maps held state machine) (insn : Insn) (width : Width)
     (register : Option Register) (old : ℕ) → old < 256 ^ size_bytes (width_size width) →
     ((map shard cell : ℕ) → IsTrue (held map shard cell) → IsTrue (held' map shard cell)) →
-    GoesOn program.maps held' (with_fetched_kind state register width) machine (at_next_slot insn (after_fetch machine register (Number old))) (machine.slot + slot_count insn)
+    GoesOnAt program.maps held' (with_fetched_kind state register width) machine (at_next_slot insn (after_fetch machine register (Number old))) (machine.slot + slot_count insn)
 fetched program held held' state machine a insn width None old small more = goes_on_as program held held' state machine a insn more
 fetched program held held' state machine a insn width (Some register) old small more = record {
   at = refl;
@@ -179,7 +179,7 @@ answered : (program : Program) (held : Held) (state : State) (machine : MachineS
     (register : Option Register) (shard cell offset op n expected : ℕ) (reply : Reply) →
     IsReplyTo program (Atomic (cell_ref shard cell) offset (size_bytes (width_size width)) op n expected) reply → (held' : Held) →
     HoldsAfter program held held' (Atomic (cell_ref shard cell) offset (size_bytes (width_size width)) op n expected) reply →
-    GoesOn program.maps held' (with_fetched_kind state register width) machine
+    GoesOnAt program.maps held' (with_fetched_kind state register width) machine
     (at_next_slot insn (after_fetch machine register (word_value (λ old. old) reply))) (machine.slot + slot_count insn)
 answered program held state machine a insn width register shard cell offset op n expected (Word old) small held' after =
     fetched program held held' state machine a insn width register old small after.kept
@@ -216,7 +216,7 @@ cell_changed program held state machine a insn width op src map shard cell at of
 
 atomic_by_kind : (program : Program) (held : Held) (state : State) (machine : MachineState) (a : Abstracts program.maps held state machine) (insn : Insn) (width : Width) (op : AtomicOp)
     (dst src : Register) (offset : ℤ) (done : Unit {0}) → fetch_writable (fetched_register op src) ≡ Ok done → (known : Kind) (v : RegisterValue) →
-    KindCovers (kind_scope_of program.maps held a.ids machine) known v → (s : State) → atomic_on program.maps state width op known offset dst src ≡ Ok s →
+    KindCovers (kind_scope_of program.maps held a.ids machine) known v → (s : State) → checked_atomic program.maps state width op known offset dst src ≡ Ok s →
     FallsOn program held s machine (machine.slot + slot_count insn) (atomic_step program insn machine width op v src offset)
 atomic_by_kind program held state machine a insn width op dst src offset done may (Value map id off) v c s e =
     let first = ok_then (atomic_access program.maps map off offset (size_bytes (width_size width))) (λ from. narrow_storable (kind_of state src) >>= (λ _.

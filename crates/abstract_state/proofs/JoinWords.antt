@@ -19,7 +19,7 @@ use Rattle.abstract_state.specs.declared.kind.StackWord.{StackWord}
 use Rattle.abstract_state.specs.declared.kind.StackWord.TheVariants.{Spilled, Bytes}
 use Rattle.abstract_state.specs.States.{all_bytes}
 use Rattle.abstract_state.specs.Join.{zip_with, spilled, bytes_of_kind, bytes_of_word, join_kind, join_word}
-use Rattle.abstract_state.specs.Abstraction.{KindScope, IsNumberIn, IsByte, IsSpilled, AreWritten, WordCovers}
+use Rattle.abstract_state.specs.Abstraction.{KindScope, IsNumberIn, IsByte, IsSpilled, AreSetBytesWritten, WordCovers}
 use Rattle.abstract_state.proofs.shared.Opening.{nothing_set}
 use Rattle.abstract_state.proofs.JoinKinds.{join_left, join_right}
 
@@ -56,13 +56,13 @@ stored_of_ok {A = A} a b e = ap held e
     held (Err cause) = a
 
 number_written : (i : Interval) (v : RegisterValue) (places : List StackByte) → IsNumberIn i v → stored_places v U64 ≡ Ok places →
-    AreWritten all_bytes places
+    AreSetBytesWritten all_bytes places
 number_written i v places c stored k h =
     let e : as_written (bytes_of_number 8 c.number) ≡ places =
     stored_of_ok (as_written (bytes_of_number 8 c.number)) places (sym (ap (λ x. stored_places x U64) c.is) ∙ stored)
     in rw (sym e) (number_bytes 8 c.number k (set_within k h))
 
-kind_written : (s : KindScope) (kind : Kind) (places : List StackByte) → IsSpilled s kind places → AreWritten (bytes_of_kind kind) places
+kind_written : (s : KindScope) (kind : Kind) (places : List StackByte) → IsSpilled s kind places → AreSetBytesWritten (bytes_of_kind kind) places
 kind_written s Unset places c = nothing_set places
 kind_written s (Scalar i) places c = number_written i c.value places c.covered c.stored
 kind_written s Ctx places c = nothing_set places
@@ -74,14 +74,14 @@ kind_written s (ValueOrNull map id) places c = nothing_set places
 kind_written s (Value map id off) places c = nothing_set places
 
 -- the bytes of a word that are set were written
-pub word_written : (s : KindScope) (word : StackWord) (places : List StackByte) → WordCovers s word places → AreWritten (bytes_of_word word) places
+pub word_written : (s : KindScope) (word : StackWord) (places : List StackByte) → WordCovers s word places → AreSetBytesWritten (bytes_of_word word) places
 word_written s (Spilled kind) places c = kind_written s kind places c
 word_written s (Bytes set) places c = c
 
-both_written_left : (a b : List Bool) (places : List StackByte) → AreWritten a places → AreWritten (zip_with (λ x y. x && y) a b) places
+both_written_left : (a b : List Bool) (places : List StackByte) → AreSetBytesWritten a places → AreSetBytesWritten (zip_with (λ x y. x && y) a b) places
 both_written_left a b places c k h = c k (set_in_both a b k h).0
 
-both_written_right : (a b : List Bool) (places : List StackByte) → AreWritten b places → AreWritten (zip_with (λ x y. x && y) a b) places
+both_written_right : (a b : List Bool) (places : List StackByte) → AreSetBytesWritten b places → AreSetBytesWritten (zip_with (λ x y. x && y) a b) places
 both_written_right a b places c k h = c k (set_in_both a b k h).1
 
 -- ---- words

@@ -33,7 +33,7 @@ use Rattle.abstract_state.specs.Places.{stack_access, packet_access, value_acces
 use Rattle.abstract_state.specs.Words.{loaded_number, word_loaded}
 use Rattle.abstract_state.specs.Access.{field_kind, context_kind, context_loaded, loaded_kind, load_of}
 use Rattle.abstract_state.specs.Flow.{writable, reads, load_flow, flow_of}
-use Rattle.abstract_state.specs.Soundness.{GoesOn, FallsOn, Follows, HoldsAfter}
+use Rattle.abstract_state.specs.Soundness.{GoesOnAt, FallsOn, Follows, HoldsAfter}
 use Rattle.abstract_state.specs.Abstraction.{Held, KindScope, KindCovers, IsNumberIn, kind_scope_of, Abstracts}
 use Rattle.abstract_state.proofs.shared.Checking.{ok_same, ok_then, falls_made, written_ok, next_setting, covers_next, put, write_follows}
 use Rattle.abstract_state.proofs.shared.Accesses.{IsAligned, IsWithin, range_found, stack_found, value_found, cell_reached}
@@ -120,7 +120,7 @@ cell_follows program held state machine a insn dst done w map shard cell place f
   where
     given : (reply : Reply) → IsReplyTo program (Load (cell_ref shard cell) from (size_bytes size)) reply → (held' : Held) →
         HoldsAfter program held held' (Load (cell_ref shard cell) from (size_bytes size)) reply →
-        GoesOn program.maps held' (with_kind state dst (Scalar i)) machine (at_next_slot insn (with_register machine dst (word_value convert reply))) (machine.slot + slot_count insn)
+        GoesOnAt program.maps held' (with_kind state dst (Scalar i)) machine (at_next_slot insn (with_register machine dst (word_value convert reply))) (machine.slot + slot_count insn)
     given (Word n) small held' after = record {
       at = refl;
       counted = refl;

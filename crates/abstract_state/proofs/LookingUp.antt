@@ -32,9 +32,9 @@ use Rattle.abstract_state.specs.declared.flow.Flow.TheVariants.{Falls}
 use Rattle.abstract_state.specs.declared.state.State.{State}
 use Rattle.abstract_state.specs.States.{◌>>=◌, kind_of, word_of, key_size_of}
 use Rattle.abstract_state.specs.Words.{are_bytes_set}
-use Rattle.abstract_state.specs.Calls.{map_argument, stack_argument, is_inside_stack, when_all, key_arguments, returned, call_of}
+use Rattle.abstract_state.specs.Calls.{checked_map_argument, stack_argument, is_inside_stack, when_all, key_arguments, after_return, checked_call}
 use Rattle.abstract_state.specs.Flow.{reads_arguments, falls}
-use Rattle.abstract_state.specs.Soundness.{GoesOn, FallsOn, Follows, HoldsAfter}
+use Rattle.abstract_state.specs.Soundness.{GoesOnAt, FallsOn, Follows, HoldsAfter}
 use Rattle.abstract_state.specs.Abstraction.{Ids, Held, KindScope, KindCovers, IsKnownMap, IsStackPlace, places_of, kind_scope_of, Abstracts}
 use Rattle.abstract_state.proofs.shared.Writing.{Extends, covers_later, word_later}
 use Rattle.abstract_state.proofs.shared.Checking.{ok_same, ok_then, ok_if, falls_made, next_setting}
@@ -53,7 +53,7 @@ last_kept s kinds values k before =
 
 returned_registers : (s : KindScope) (state : State) (machine : MachineState) (kind : Kind) (v : RegisterValue) →
     ((register : Register) → KindCovers s (kind_of state register) (register_value machine register)) → KindCovers s kind v →
-    (register : Register) → KindCovers s (kind_of (returned kind state) register) (register_value (meaning.returned machine v) register)
+    (register : Register) → KindCovers s (kind_of (after_return kind state) register) (register_value (meaning.returned machine v) register)
 returned_registers s state machine kind v before now R0 = now
 returned_registers s state machine kind v before now R1 = tt
 returned_registers s state machine kind v before now R2 = tt
@@ -71,7 +71,7 @@ pub returned_sound : (maps : List MapDef) (held held' : Held) (state : State) (m
     ((map shard cell : ℕ) → IsTrue (held map shard cell) → IsTrue (held' map shard cell)) →
     ((id : ℕ) → id < machine.slot → ids.base id ≡ a.ids.base id) → ((id : ℕ) → id < machine.slot → ids.found id ≡ a.ids.found id) →
     ((id : ℕ) → ids.base id ≤ 131070 * id) → (kind : Kind) (v : RegisterValue) → KindCovers (next_setting maps held' ids machine 1) kind v →
-    Abstracts maps held' (returned kind state) (meaning.returned machine v)
+    Abstracts maps held' (after_return kind state) (meaning.returned machine v)
 returned_sound maps held held' state machine ids a more same_base same_found bases kind v now =
     let extends : Extends (kind_scope_of maps held a.ids machine) (next_setting maps held' ids machine 1) =
     record { maps = refl; held = more; base = same_base; found = same_found; slot = omega arith; generation = refl; size = refl }
@@ -100,7 +100,7 @@ returned_sound maps held held' state machine ids a more same_base same_found bas
 
 -- ---- the arguments
 
-pub map_kind : (kind : Kind) (map : ℕ) → map_argument kind R1 ≡ Ok map → kind ≡ Map map
+pub map_kind : (kind : Kind) (map : ℕ) → checked_map_argument kind R1 ≡ Ok map → kind ≡ Map map
 map_kind (Map other) map e = ap Map (ok_same (Ok other) other map refl e)
 map_kind Unset map e = cc
 map_kind (Scalar i) map e = cc
@@ -131,7 +131,7 @@ pub record KnowsKey (maps : List MapDef) (state : State) (map : ℕ) : Type 0 wh
 
 pub knows_key : (maps : List MapDef) (state : State) (map : ℕ) → key_arguments maps state ≡ Ok map → KnowsKey maps state map
 knows_key maps state map e =
-    let first = ok_then (map_argument (kind_of state R1) R1) (λ map.
+    let first = ok_then (checked_map_argument (kind_of state R1) R1) (λ map.
     stack_argument (kind_of state R2) R2 >>= (λ key.
     when_all (is_inside_stack key (key_size_of (slice_get maps map))) StackBounds >>= (λ _.
     when_all (are_bytes_set state key (key_size_of (slice_get maps map))) StackUnset >>= (λ _.
@@ -189,7 +189,7 @@ given : (program : Program) (held : Held) (state : State) (machine : MachineStat
     (map : ℕ) (definition : MapDef) → slice_get program.maps map ≡ Some definition → (key : List ℕ) (reply : Reply) →
     IsReplyTo program (Lookup (shard_of_key map definition.kind program.shards key) key) reply → (held' : Held) →
     HoldsAfter program held held' (Lookup (shard_of_key map definition.kind program.shards key) key) reply →
-    GoesOn program.maps held' (returned (ValueOrNull map machine.slot) state) machine (meaning.returned machine (found_value map reply)) (machine.slot + 1)
+    GoesOnAt program.maps held' (after_return (ValueOrNull map machine.slot) state) machine (meaning.returned machine (found_value map reply)) (machine.slot + 1)
 given program held state machine a map definition known key (Cell cell) is held' after = record {
   at = refl;
   counted = refl;
@@ -221,7 +221,7 @@ given program held state machine a map definition known key (Answer code) is hel
 given program held state machine a map definition known key (Freed count) is held' after = absurd is
 
 pub lookup_follows : (program : Program) (held : Held) (state : State) (machine : MachineState) → Abstracts program.maps held state machine →
-    (map : ℕ) → KnowsKey program.maps state map → FallsOn program held (returned (ValueOrNull map machine.slot) state) machine (machine.slot + 1) (lookup_step program machine)
+    (map : ℕ) → KnowsKey program.maps state map → FallsOn program held (after_return (ValueOrNull map machine.slot) state) machine (machine.slot + 1) (lookup_step program machine)
 lookup_follows program held state machine a map k =
     let c : IsKnownMap (kind_scope_of program.maps held a.ids machine) map (register_value machine R1) =
     subst (λ kind. KindCovers (kind_scope_of program.maps held a.ids machine) kind (register_value machine R1)) k.is_map (a.registers R1)
@@ -253,7 +253,7 @@ one_slot number = refl
 -- a number in R0, and no call of a map
 pub number_follows : (program : Program) (held : Held) (state : State) (machine : MachineState) (a : Abstracts program.maps held state machine)
     (kind : Kind) (v : RegisterValue) → KindCovers (next_setting program.maps held a.ids machine 1) kind v →
-    GoesOn program.maps held (returned kind state) machine (meaning.returned machine v) (machine.slot + 1)
+    GoesOnAt program.maps held (after_return kind state) machine (meaning.returned machine v) (machine.slot + 1)
 number_follows program held state machine a kind v now = record {
   at = refl;
   counted = refl;
@@ -268,23 +268,23 @@ settled program held machine insn step flow s known is same one f =
     (subst (λ count. FallsOn program held known machine (machine.slot + count) step) (sym one) f))
 
 pub lookup_sound : (program : Program) (held : Held) (state : State) (machine : MachineState) (number : ℤ) (flow : Flow) → Abstracts program.maps held state machine →
-    falls (reads_arguments state MapLookupElem >>= (λ _. call_of program.maps state machine.slot MapLookupElem)) ≡ Ok flow →
+    falls (reads_arguments state MapLookupElem >>= (λ _. checked_call program.maps state machine.slot MapLookupElem)) ≡ Ok flow →
     Follows program held flow machine (CallHelper number) (lookup_step program machine)
 lookup_sound program held state machine number flow a e =
-    let made = falls_made (reads_arguments state MapLookupElem >>= (λ _. call_of program.maps state machine.slot MapLookupElem)) flow e
-    in let first = ok_then (reads_arguments state MapLookupElem) (λ _. call_of program.maps state machine.slot MapLookupElem) made.0 made.1.0
-    in let second = ok_then (key_arguments program.maps state) (λ map. Ok (returned (ValueOrNull map machine.slot) state)) made.0 first.1.1
-    in let same : returned (ValueOrNull second.0 machine.slot) state ≡ made.0 =
-    ok_same (Ok (returned (ValueOrNull second.0 machine.slot) state)) (returned (ValueOrNull second.0 machine.slot) state) made.0 refl second.1.1
-    in settled program held machine (CallHelper number) (lookup_step program machine) flow made.0 (returned (ValueOrNull second.0 machine.slot) state) made.1.1 same (one_slot number)
+    let made = falls_made (reads_arguments state MapLookupElem >>= (λ _. checked_call program.maps state machine.slot MapLookupElem)) flow e
+    in let first = ok_then (reads_arguments state MapLookupElem) (λ _. checked_call program.maps state machine.slot MapLookupElem) made.0 made.1.0
+    in let second = ok_then (key_arguments program.maps state) (λ map. Ok (after_return (ValueOrNull map machine.slot) state)) made.0 first.1.1
+    in let same : after_return (ValueOrNull second.0 machine.slot) state ≡ made.0 =
+    ok_same (Ok (after_return (ValueOrNull second.0 machine.slot) state)) (after_return (ValueOrNull second.0 machine.slot) state) made.0 refl second.1.1
+    in settled program held machine (CallHelper number) (lookup_step program machine) flow made.0 (after_return (ValueOrNull second.0 machine.slot) state) made.1.1 same (one_slot number)
     (lookup_follows program held state machine a second.0 (knows_key program.maps state second.0 second.1.0))
 
 -- a helper that returns a number
 pub number_sound : (program : Program) (held : Held) (state : State) (machine : MachineState) (a : Abstracts program.maps held state machine) (number : ℤ) (flow : Flow)
-    (kind : Kind) (v : RegisterValue) → falls (Ok (returned kind state)) ≡ Ok flow → KindCovers (next_setting program.maps held a.ids machine 1) kind v →
+    (kind : Kind) (v : RegisterValue) → falls (Ok (after_return kind state)) ≡ Ok flow → KindCovers (next_setting program.maps held a.ids machine 1) kind v →
     Follows program held flow machine (CallHelper number) (Continues (meaning.returned machine v))
 number_sound program held state machine a number flow kind v e now =
-    let made = falls_made (Ok (returned kind state)) flow e
-    in let same : returned kind state ≡ made.0 = ok_same (Ok (returned kind state)) (returned kind state) made.0 refl made.1.0
-    in settled program held machine (CallHelper number) (Continues (meaning.returned machine v)) flow made.0 (returned kind state) made.1.1 same (one_slot number)
+    let made = falls_made (Ok (after_return kind state)) flow e
+    in let same : after_return kind state ≡ made.0 = ok_same (Ok (after_return kind state)) (after_return kind state) made.0 refl made.1.0
+    in settled program held machine (CallHelper number) (Continues (meaning.returned machine v)) flow made.0 (after_return kind state) made.1.1 same (one_slot number)
     (number_follows program held state machine a kind v now)

@@ -25,7 +25,7 @@ use Rattle.abstract_state.specs.declared.kind.Kind.TheVariants.{Unset, Scalar, C
 use Rattle.abstract_state.specs.declared.broken_rule.BrokenRule.TheVariants.{WrongKind, PacketBounds, StackBounds, ValueBounds}
 use Rattle.abstract_state.specs.States.{Checked, ◌>>=◌, stack_size, value_size_of}
 use Rattle.abstract_state.specs.Places.{place_within, offsets_within}
-use Rattle.abstract_state.specs.Arithmetic.{delta_of, moves_pointers, moved_pointer, moved_value, moved_far, pointer_sum, is_movable, combined_pointer}
+use Rattle.abstract_state.specs.Arithmetic.{delta_of, moves_pointers, moved_pointer, moved_address, moved_far, pointer_sum, is_movable, combined_pointer}
 use Rattle.abstract_state.specs.Abstraction.{Ids, KindScope, KindCovers, IsNumberIn, IsStackPlace, IsPacketPlace, IsLiveCell}
 use Rattle.abstract_state.proofs.shared.Between.{IsBetween, between}
 use Rattle.abstract_state.proofs.shared.Inverting.{err_not_ok, ok_value, ok_then, ok_if, place_is}
@@ -157,7 +157,7 @@ SmallValues s = (map : ℕ) → value_size_of (slice_get s.maps map) ≤ 256
 
 -- in version 2 an address in a value moves by each end of the interval
 value_far : (s : KindScope) (version : Version) (slot : ℕ) → SmallValues s → (i : Interval) (u v : RegisterValue) (map id : ℕ) (off : Offsets) (source : Register) (kind : Kind) →
-    IsLiveCell s map id off u → Moves s slot Bits64 Add i v → moved_value s.maps version map id off i source ≡ Ok kind →
+    IsLiveCell s map id off u → Moves s slot Bits64 Add i v → moved_address s.maps version map id off i source ≡ Ok kind →
     Gives s slot kind (combined_value Bits64 Add u v)
 value_far s V1 slot small i u v map id off source kind c m e = absurd (err_not_ok (WrongKind source) kind e)
 value_far s V2 slot small i u v map id off source kind c m e =

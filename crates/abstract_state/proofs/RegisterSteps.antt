@@ -40,7 +40,7 @@ use Rattle.abstract_state.specs.declared.broken_rule.BrokenRule.TheVariants.{Wro
 use Rattle.abstract_state.specs.declared.state.State.{State}
 use Rattle.abstract_state.specs.States.{◌>>=◌, kind_of, with_kind, value_size_of}
 use Rattle.abstract_state.specs.Arithmetic.{source_kind, blamed, alu_kind, after_alu_of}
-use Rattle.abstract_state.specs.Flow.{writable, is_set, reads, reads_operands, alu_flow, number_of, operand_of, unary_flow, number_flow, known_map, map_flow, exit_kind, falls, flow_of}
+use Rattle.abstract_state.specs.Flow.{writable, is_set, reads, reads_operands, alu_flow, checked_number, operand_of, unary_flow, number_flow, known_map, map_flow, exit_kind, falls, flow_of}
 use Rattle.abstract_state.specs.Abstraction.{Held, KindScope, KindCovers, IsNumberIn, kind_scope_of, Abstracts}
 use Rattle.abstract_state.specs.Soundness.{EndsRun, JumpsOn, JumpsForward, Follows}
 use Rattle.abstract_state.proofs.shared.Inverting.{err_not_ok, ok_value, ok_then}
@@ -93,7 +93,7 @@ alu_follows program held state machine width op dst source flow a sizes fits e =
 
 -- ---- one operand
 
-number_is : (s : KindScope) (kind : Kind) (register : Register) (i : Interval) (v : RegisterValue) → number_of kind register ≡ Ok i → KindCovers s kind v → IsNumberIn i v
+number_is : (s : KindScope) (kind : Kind) (register : Register) (i : Interval) (v : RegisterValue) → checked_number kind register ≡ Ok i → KindCovers s kind v → IsNumberIn i v
 number_is s (Scalar j) register i v e c = subst (λ x. IsNumberIn x v) (ok_value j i e) c
 number_is s Unset register i v e c = absurd (err_not_ok (WrongKind register) i e)
 number_is s Ctx register i v e c = absurd (err_not_ok (WrongKind register) i e)
@@ -114,8 +114,8 @@ unary_follows program held state machine insn dst operand change meaning flow a 
     (unary_flow state dst operand change) flow e
     (λ after is.
     let read = ok_then (operand_of state dst operand) (λ i. Ok (with_kind state dst (Scalar (change i)))) after is
-    in let may = ok_then (writable dst) (λ _. reads state operand >>= (λ _. number_of (kind_of state operand) operand)) read.value read.is
-    in let set = ok_then (reads state operand) (λ _. number_of (kind_of state operand) operand) read.value may.next
+    in let may = ok_then (writable dst) (λ _. reads state operand >>= (λ _. checked_number (kind_of state operand) operand)) read.value read.is
+    in let set = ok_then (reads state operand) (λ _. checked_number (kind_of state operand) operand) read.value may.next
     in subst (λ x. Follows program held (Falls x) machine insn (write_step insn machine dst (changed_number (register_value machine operand) meaning)))
     (ok_value (with_kind state dst (Scalar (change read.value))) after read.next)
     (wrote program held state machine insn dst (Scalar (change read.value)) (changed_number (register_value machine operand) meaning) a may.is

@@ -16,7 +16,7 @@ use Rattle.abstract_state.specs.declared.state.State.{State}
 use Rattle.abstract_state.specs.States.{kind_of, word_of, with_word}
 use Rattle.abstract_state.specs.Join.{bytes_of_word}
 use Rattle.abstract_state.specs.Words.{with_set}
-use Rattle.abstract_state.specs.Abstraction.{Held, KindScope, IsByte, AreWritten, WordCovers, places_of, kind_scope_of, Abstracts}
+use Rattle.abstract_state.specs.Abstraction.{Held, KindScope, IsByte, AreSetBytesWritten, WordCovers, places_of, kind_scope_of, Abstracts}
 use Rattle.abstract_state.proofs.shared.Writing.{Extends, covers_later, word_later}
 use Rattle.abstract_state.proofs.shared.Checking.{next_setting}
 use Rattle.abstract_state.proofs.shared.ByteNumbers.{as_written_length, written_place}
@@ -61,7 +61,7 @@ stored_word stack places from long inside start eight =
 -- bytes of a word that are stored: the others stay as they are known
 pub stored_part : (s : KindScope) (word : StackWord) (stack : List StackByte) (from count : ℕ) (bytes : List ℕ) → length stack ≡ 512 → from + count ≤ 512 → from % 8 + count ≤ 8 →
     length bytes ≡ count → AllByRecursion (λ byte. byte < 256) bytes → length (bytes_of_word word) ≡ 8 → WordCovers s word (places_of (from / 8) stack) →
-    AreWritten (with_set (bytes_of_word word) (from % 8) count) (places_of (from / 8) (stack_with stack from (as_written bytes)))
+    AreSetBytesWritten (with_set (bytes_of_word word) (from % 8) count) (places_of (from / 8) (stack_with stack from (as_written bytes)))
 stored_part s word stack from count bytes long inside part size small eight c k t =
     let places_size : length (as_written bytes) ≡ count = as_written_length bytes ∙ size
     in let room : from + length (as_written bytes) ≤ length stack = omega arith

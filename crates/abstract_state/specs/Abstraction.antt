@@ -80,13 +80,13 @@ pub record IsLiveCell (scope : KindScope) (map id : ℕ) (off : Offsets) (value 
   pub earlier : id < scope.slot
 
 -- what a lookup of an earlier slot found: 0, or a cell that is held
-pub record IsNoCell (scope : KindScope) (id : ℕ) (value : RegisterValue) : Type 0 where
+pub record IsNoCellFound (scope : KindScope) (id : ℕ) (value : RegisterValue) : Type 0 where
   pub found : scope.ids.found id ≡ None
   pub is : value ≡ Number 0
   pub earlier : id < scope.slot
 
 abbrev pub IsLookedUp : KindScope → ℕ → ℕ → RegisterValue → Type 0
-IsLookedUp scope map id value = IsNoCell scope id value ⊎ IsLiveCell scope map id (at_offset 0) value
+IsLookedUp scope map id value = IsNoCellFound scope id value ⊎ IsLiveCell scope map id (at_offset 0) value
 
 -- the value is one that the kind represents
 abbrev pub KindCovers : KindScope → Kind → RegisterValue → Type 0
@@ -115,12 +115,12 @@ pub record IsSpilled (scope : KindScope) (kind : Kind) (places : List StackByte)
   pub stored : stored_places value U64 ≡ Ok places
 
 -- the bytes that are set were written
-abbrev pub AreWritten : List Bool → List StackByte → Type 0
-AreWritten set places = (k : ℕ) → slice_index_or set k false ≡ true → IsByte (slice_index_or places k Unwritten)
+abbrev pub AreSetBytesWritten : List Bool → List StackByte → Type 0
+AreSetBytesWritten set places = (k : ℕ) → slice_index_or set k false ≡ true → IsByte (slice_index_or places k Unwritten)
 
 abbrev pub WordCovers : KindScope → StackWord → List StackByte → Type 0
 WordCovers scope (Spilled kind) places = IsSpilled scope kind places
-WordCovers scope (Bytes set) places = AreWritten set places
+WordCovers scope (Bytes set) places = AreSetBytesWritten set places
 
 -- the eight places of a word
 abbrev pub places_of : ℕ → List StackByte → List StackByte

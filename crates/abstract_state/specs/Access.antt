@@ -100,13 +100,13 @@ abbrev pub expects : AtomicOp → Kind → Checked (Unit {0})
 expects CompareExchange kind = if is_number kind then Ok tt else Err (WrongKind R0)
 expects op kind = Ok tt
 
-abbrev pub atomic_on : List MapDef → State → Width → AtomicOp → Kind → ℤ → Register → Register → Checked State
-atomic_on maps state width op (Value map id off) offset dst src =
+abbrev pub checked_atomic : List MapDef → State → Width → AtomicOp → Kind → ℤ → Register → Register → Checked State
+checked_atomic maps state width op (Value map id off) offset dst src =
     atomic_access maps map off offset (size_bytes (width_size width)) >>= (λ from.
     narrow_storable (kind_of state src) >>= (λ _.
     expects op (kind_of state R0) >>= (λ _.
     Ok (with_fetched_kind state (fetched_register op src) width))))
-atomic_on maps state width op other offset dst src = Err (WrongKind dst)
+checked_atomic maps state width op other offset dst src = Err (WrongKind dst)
 
 abbrev pub atomic_of : List MapDef → State → Width → AtomicOp → Register → Register → ℤ → Checked State
-atomic_of maps state width op dst src offset = atomic_on maps state width op (kind_of state dst) offset dst src
+atomic_of maps state width op dst src offset = checked_atomic maps state width op (kind_of state dst) offset dst src

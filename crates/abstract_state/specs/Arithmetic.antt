@@ -67,16 +67,16 @@ moved_pointer maps (Value map id off) delta dst =
 moved_pointer maps other delta dst = Err (WrongKind dst)
 
 -- by a number that is known only as an interval, an address in a value moves in version 2 alone: by each end of it
-abbrev pub moved_value : List MapDef → Version → ℕ → ℕ → Offsets → Interval → Register → Checked Kind
-moved_value maps V1 map id off i source = Err (WrongKind source)
-moved_value maps V2 map id off i source =
+abbrev pub moved_address : List MapDef → Version → ℕ → ℕ → Offsets → Interval → Register → Checked Kind
+moved_address maps V1 map id off i source = Err (WrongKind source)
+moved_address maps V2 map id off i source =
     offsets_within maps map (pos (off.low + i.low)) (pos (off.high + i.high)) >>= (λ to. Ok (Value map id to))
 
 -- a packet pointer gets a base of its own, with no known range
 abbrev pub moved_far : List MapDef → Version → ℕ → AluOp → Kind → Interval → Register → Checked Kind
 moved_far maps version slot Add (Packet id off range) i source =
     if nat_le i.high 65535 then Ok (Packet slot 0 0) else Err PacketBounds
-moved_far maps version slot Add (Value map id off) i source = moved_value maps version map id off i source
+moved_far maps version slot Add (Value map id off) i source = moved_address maps version map id off i source
 moved_far maps version slot op other i source = Err (WrongKind source)
 
 abbrev pub pointer_sum : List MapDef → Version → ℕ → AluOp → Kind → Kind → Register → Register → Checked Kind

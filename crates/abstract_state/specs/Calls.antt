@@ -30,21 +30,21 @@ helper_at number = known_helper (helper_of number)
 
 -- ---- arguments; R1 is the first
 
-abbrev pub map_argument : Kind → Register → Checked ℕ
-map_argument (Map map) register = Ok map
-map_argument other register = Err (BadArgument register)
+abbrev pub checked_map_argument : Kind → Register → Checked ℕ
+checked_map_argument (Map map) register = Ok map
+checked_map_argument other register = Err (BadArgument register)
 
 abbrev pub stack_argument : Kind → Register → Checked ℕ
 stack_argument (Stack place) register = Ok place
 stack_argument other register = Err (BadArgument register)
 
-abbrev pub number_argument : Kind → Register → Checked (Unit {0})
-number_argument (Scalar i) register = Ok tt
-number_argument other register = Err (BadArgument register)
+abbrev pub checked_number_argument : Kind → Register → Checked (Unit {0})
+checked_number_argument (Scalar i) register = Ok tt
+checked_number_argument other register = Err (BadArgument register)
 
-abbrev pub context_argument : Kind → Register → Checked (Unit {0})
-context_argument Ctx register = Ok tt
-context_argument other register = Err (BadArgument register)
+abbrev pub checked_context_argument : Kind → Register → Checked (Unit {0})
+checked_context_argument Ctx register = Ok tt
+checked_context_argument other register = Err (BadArgument register)
 
 -- this many bytes of the stack lie inside it
 abbrev pub is_inside_stack : ℕ → ℕ → Bool
@@ -56,7 +56,7 @@ when_all holds why = if holds then Ok tt else Err why
 -- a key alone, as a lookup or a deletion takes it
 abbrev pub key_arguments : List MapDef → State → Checked ℕ
 key_arguments maps state =
-    map_argument (kind_of state R1) R1 >>= (λ map.
+    checked_map_argument (kind_of state R1) R1 >>= (λ map.
     stack_argument (kind_of state R2) R2 >>= (λ key.
     when_all (is_inside_stack key (key_size_of (slice_get maps map))) StackBounds >>= (λ _.
     when_all (are_bytes_set state key (key_size_of (slice_get maps map))) StackUnset >>= (λ _.
@@ -65,10 +65,10 @@ key_arguments maps state =
 -- a key and a value, as an update takes them: both are inside the stack before the bytes of either are looked at
 abbrev pub update_arguments : List MapDef → State → Checked ℕ
 update_arguments maps state =
-    map_argument (kind_of state R1) R1 >>= (λ map.
+    checked_map_argument (kind_of state R1) R1 >>= (λ map.
     stack_argument (kind_of state R2) R2 >>= (λ key.
     stack_argument (kind_of state R3) R3 >>= (λ value.
-    number_argument (kind_of state R4) R4 >>= (λ _.
+    checked_number_argument (kind_of state R4) R4 >>= (λ _.
     when_all (is_inside_stack key (key_size_of (slice_get maps map)) && is_inside_stack value (value_size_of (slice_get maps map)))
     StackBounds >>= (λ _.
     when_all (are_bytes_set state key (key_size_of (slice_get maps map)) && are_bytes_set state value (value_size_of (slice_get maps map)))
@@ -76,21 +76,21 @@ update_arguments maps state =
     Ok map))))))
 
 abbrev pub head_arguments : State → Checked (Unit {0})
-head_arguments state = context_argument (kind_of state R1) R1 >>= (λ _. number_argument (kind_of state R2) R2)
+head_arguments state = checked_context_argument (kind_of state R1) R1 >>= (λ _. checked_number_argument (kind_of state R2) R2)
 
 -- ---- what a call leaves
 
 -- R0 has the answer, and R1 to R5 nothing
-abbrev pub returned : Kind → State → State
-returned answer state = record state { registers = answer ∷ Unset ∷ Unset ∷ Unset ∷ Unset ∷ Unset ∷ drop 6 state.registers }
+abbrev pub after_return : Kind → State → State
+after_return answer state = record state { registers = answer ∷ Unset ∷ Unset ∷ Unset ∷ Unset ∷ Unset ∷ drop 6 state.registers }
 
 abbrev pub any_number : Kind
 any_number = Scalar (full_of 64)
 
-abbrev pub call_of : List MapDef → State → ℕ → Helper → Checked State
-call_of maps state slot MapLookupElem = key_arguments maps state >>= (λ map. Ok (returned (ValueOrNull map slot) state))
-call_of maps state slot MapUpdateElem = update_arguments maps state >>= (λ _. Ok (returned any_number state))
-call_of maps state slot MapDeleteElem = key_arguments maps state >>= (λ _. Ok (returned any_number state))
-call_of maps state slot KtimeGetNs = Ok (returned any_number state)
-call_of maps state slot GetSmpProcessorId = Ok (returned (Scalar (interval_of 0 7)) state)
-call_of maps state slot XdpAdjustHead = head_arguments state >>= (λ _. Ok (returned any_number (told HeadMoved state)))
+abbrev pub checked_call : List MapDef → State → ℕ → Helper → Checked State
+checked_call maps state slot MapLookupElem = key_arguments maps state >>= (λ map. Ok (after_return (ValueOrNull map slot) state))
+checked_call maps state slot MapUpdateElem = update_arguments maps state >>= (λ _. Ok (after_return any_number state))
+checked_call maps state slot MapDeleteElem = key_arguments maps state >>= (λ _. Ok (after_return any_number state))
+checked_call maps state slot KtimeGetNs = Ok (after_return any_number state)
+checked_call maps state slot GetSmpProcessorId = Ok (after_return (Scalar (interval_of 0 7)) state)
+checked_call maps state slot XdpAdjustHead = head_arguments state >>= (λ _. Ok (after_return any_number (told HeadMoved state)))

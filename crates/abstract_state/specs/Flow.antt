@@ -37,7 +37,7 @@ use Rattle.abstract_state.specs.Places.{place_within, at_offset}
 use Rattle.abstract_state.specs.Arithmetic.{source_kind, after_alu_of}
 use Rattle.abstract_state.specs.Refinement.{allowed_test, refine_state}
 use Rattle.abstract_state.specs.Access.{load_of, signed_load_of, store_of, atomic_of}
-use Rattle.abstract_state.specs.Calls.{helper_at, call_of}
+use Rattle.abstract_state.specs.Calls.{helper_at, checked_call}
 
 -- ---- the rules that come first: R10 is not written, the helper and the map are known, and no register that is read is unset
 
@@ -93,12 +93,12 @@ alu_flow maps state slot width op dst source =
     writable dst >>= (λ _. reads_operands state op dst source >>= (λ _. after_alu_of maps state slot width op dst source))
 
 -- the number that an operation with one operand reads
-abbrev pub number_of : Kind → Register → Checked Interval
-number_of (Scalar i) register = Ok i
-number_of other register = Err (WrongKind register)
+abbrev pub checked_number : Kind → Register → Checked Interval
+checked_number (Scalar i) register = Ok i
+checked_number other register = Err (WrongKind register)
 
 abbrev pub operand_of : State → Register → Register → Checked Interval
-operand_of state dst operand = writable dst >>= (λ _. reads state operand >>= (λ _. number_of (kind_of state operand) operand))
+operand_of state dst operand = writable dst >>= (λ _. reads state operand >>= (λ _. checked_number (kind_of state operand) operand))
 
 abbrev pub unary_flow : State → Register → Register → (Interval → Interval) → Checked State
 unary_flow state dst operand change = operand_of state dst operand >>= (λ i. Ok (with_kind state dst (Scalar (change i))))
@@ -146,17 +146,17 @@ address_in (Some definition) map slot offset =
     place_within (pos offset) size ValueBounds >>= (λ at. Ok (Value map slot (at_offset at))))
 address_in None map slot offset = Err UnknownMap
 
-abbrev pub value_address : List MapDef → ℕ → ℤ → ℕ → Checked Kind
-value_address maps slot (pos map) offset = address_in (slice_get maps map) map slot offset
-value_address maps slot (negsuc below) offset = Err UnknownMap
+abbrev pub checked_value_address : List MapDef → ℕ → ℤ → ℕ → Checked Kind
+checked_value_address maps slot (pos map) offset = address_in (slice_get maps map) map slot offset
+checked_value_address maps slot (negsuc below) offset = Err UnknownMap
 
 abbrev pub address_flow : List MapDef → State → ℕ → Register → ℤ → ℕ → Checked State
 address_flow maps state slot dst map offset =
-    writable dst >>= (λ _. value_address maps slot map offset >>= (λ kind. Ok (with_kind state dst kind)))
+    writable dst >>= (λ _. checked_value_address maps slot map offset >>= (λ kind. Ok (with_kind state dst kind)))
 
 abbrev pub call_flow : List MapDef → State → ℕ → ℤ → Checked State
 call_flow maps state slot number =
-    helper_at number >>= (λ helper. reads_arguments state helper >>= (λ _. call_of maps state slot helper))
+    helper_at number >>= (λ helper. reads_arguments state helper >>= (λ _. checked_call maps state slot helper))
 
 -- a conditional jump
 abbrev pub test_flow : State → Width → Test → Register → SourceOperand → Checked Flow

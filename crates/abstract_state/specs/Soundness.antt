@@ -27,7 +27,7 @@ use Rattle.abstract_state.specs.Abstraction.{Held, Abstracts}
 -- ---- where a run goes on
 
 -- at a slot, after one more instruction, and what is known there is sound
-pub record GoesOn (maps : List MapDef) (held : Held) (state : State) (before after : MachineState) (slot : ℕ) : Type 0 where
+pub record GoesOnAt (maps : List MapDef) (held : Held) (state : State) (before after : MachineState) (slot : ℕ) : Type 0 where
   pub at : after.slot ≡ slot
   pub counted : after.steps ≡ before.steps + 1
   pub sound : Abstracts maps held state after
@@ -39,15 +39,15 @@ IsTarget machine distance slot = pos slot ≡ pos (machine.slot + 1) +ℤ distan
 pub record Lands (maps : List MapDef) (held : Held) (state : State) (before after : MachineState) (distance : ℤ) : Type 0 where
   pub slot : ℕ
   pub target : IsTarget before distance slot
-  pub goes_on : GoesOn maps held state before after slot
+  pub goes_on : GoesOnAt maps held state before after slot
 
 -- what flows on to the next instruction: after a call, for every reply to it
 abbrev pub FallsOn : Program → Held → State → MachineState → ℕ → Step → Type 0
-FallsOn program held state before slot (Continues after) = GoesOn program.maps held state before after slot
+FallsOn program held state before slot (Continues after) = GoesOnAt program.maps held state before after slot
 FallsOn program held state before slot (CallsMap call next) =
     IsServed program held call ×
     ((reply : Reply) → IsReplyTo program call reply → (held' : Held) → HoldsAfter program held held' call reply →
-    GoesOn program.maps held' state before (next reply) slot)
+    GoesOnAt program.maps held' state before (next reply) slot)
 FallsOn program held state before slot step = ⊥
 
 abbrev pub JumpsOn : Program → Held → State → MachineState → ℤ → Step → Type 0
@@ -57,7 +57,7 @@ JumpsOn program held state before distance step = ⊥
 -- on one of the two edges
 abbrev pub SplitsOn : Program → Held → State → State → MachineState → ℤ → Step → Type 0
 SplitsOn program held taken fallen before distance (Continues after) =
-    Lands program.maps held taken before after distance ⊎ GoesOn program.maps held fallen before after (before.slot + 1)
+    Lands program.maps held taken before after distance ⊎ GoesOnAt program.maps held fallen before after (before.slot + 1)
 SplitsOn program held taken fallen before distance step = ⊥
 
 abbrev pub EndsRun : MachineState → Step → Type 0

@@ -6,7 +6,7 @@ ghost use Rattle.isa.specs.Words.{signed_value};
 ghost use Rattle.abstract_scalar.specs.Transfer.{transfer_of};
 ghost use Rattle.abstract_state.specs.InPlace.{kept};
 ghost use Rattle.abstract_state.specs.Arithmetic.{source_kind, blamed, number_kind, moved_kind, delta_of, moves_pointers, moved_pointer};
-ghost use Rattle.abstract_state.specs.Arithmetic.{moved_value, moved_far, pointer_sum, is_movable, combined_pointer, combined_kind};
+ghost use Rattle.abstract_state.specs.Arithmetic.{moved_address, moved_far, pointer_sum, is_movable, combined_pointer, combined_kind};
 ghost use Rattle.abstract_state.specs.Arithmetic.{alu_kind, after_alu_of};
 
 use crate::broken_rule::BrokenRule;
@@ -111,7 +111,7 @@ fn moved_value(
     i: Interval,
     source: Register,
 ) -> Result<Kind, BrokenRule>
-    ensures { result ≡ moved_value maps.now version map id off i source }
+    ensures { result ≡ moved_address maps.now version map id off i source }
 {
     match version {
         Version::V1 => Err(BrokenRule::WrongKind(source)),

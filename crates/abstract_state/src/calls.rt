@@ -2,8 +2,9 @@
 
 ghost use Rattle.std.specs.Prelude.{◌≡◌};
 ghost use Rattle.abstract_state.specs.InPlace.{kept};
-ghost use Rattle.abstract_state.specs.Calls.{helper_at, map_argument, stack_argument, number_argument, context_argument, is_inside_stack};
-ghost use Rattle.abstract_state.specs.Calls.{key_arguments, update_arguments, head_arguments, returned, any_number, call_of};
+ghost use Rattle.abstract_state.specs.Calls.{helper_at, checked_map_argument, stack_argument, checked_number_argument, checked_context_argument};
+ghost use Rattle.abstract_state.specs.Calls.{is_inside_stack};
+ghost use Rattle.abstract_state.specs.Calls.{key_arguments, update_arguments, head_arguments, after_return, any_number, checked_call};
 
 use crate::broken_rule::BrokenRule;
 use crate::fact::Fact;
@@ -28,7 +29,7 @@ pub(crate) fn helper_at(number: i32) -> Result<Helper, BrokenRule>
 
 /// The map that an argument names.
 fn map_argument(kind: Kind, register: Register) -> Result<u32, BrokenRule>
-    ensures { result ≡ map_argument kind register }
+    ensures { result ≡ checked_map_argument kind register }
 {
     match kind {
         Kind::Map(map) => Ok(map),
@@ -48,7 +49,7 @@ fn stack_argument(kind: Kind, register: Register) -> Result<u16, BrokenRule>
 
 /// An argument that is a number.
 fn number_argument(kind: Kind, register: Register) -> Result<(), BrokenRule>
-    ensures { result ≡ number_argument kind register }
+    ensures { result ≡ checked_number_argument kind register }
 {
     match kind {
         Kind::Scalar(_) => Ok(()),
@@ -58,7 +59,7 @@ fn number_argument(kind: Kind, register: Register) -> Result<(), BrokenRule>
 
 /// An argument that is the context.
 fn context_argument(kind: Kind, register: Register) -> Result<(), BrokenRule>
-    ensures { result ≡ context_argument kind register }
+    ensures { result ≡ checked_context_argument kind register }
 {
     match kind {
         Kind::Ctx => Ok(()),
@@ -122,7 +123,7 @@ impl State {
 
     /// After a call R0 has the answer, and R1 to R5 nothing.
     fn return_with(&mut self, answer: Kind)
-        ensures { self.new ≡ returned answer self.old }
+        ensures { self.new ≡ after_return answer self.old }
     {
         let unset = Kind::Unset;
         self.registers = [
@@ -142,7 +143,7 @@ impl State {
 
     /// Calls a helper whose arguments are set (RFC 9669, section 4.3.1).
     pub(crate) fn call_helper(&mut self, site: Site<'_>, helper: Helper) -> Result<(), BrokenRule>
-        ensures { kept result self.new ≡ call_of site.entry.maps.now self.old site.entry.slot helper }
+        ensures { kept result self.new ≡ checked_call site.entry.maps.now self.old site.entry.slot helper }
     {
         let any_number = Kind::Scalar(Interval::full(Width::Bits64));
         let answer = match helper {

@@ -35,14 +35,14 @@
 //! unknown helper or map; then an unset register, the destination before the source; then the rule of the instruction's class.
 
 ghost use Rattle.std.specs.Prelude.{◌≡◌, Some};
-ghost use Rattle.abstract_state.specs.Access.{load_of, signed_load_of, with_fetched_kind, expects, atomic_on};
+ghost use Rattle.abstract_state.specs.Access.{load_of, signed_load_of, with_fetched_kind, expects, checked_atomic};
 ghost use Rattle.abstract_state.specs.States.{kind_of};
 ghost use Rattle.abstract_state.specs.Unary.{unary_change};
 ghost use Rattle.abstract_state.specs.InPlace.{kept, flow_kept, edge_state};
 ghost use Rattle.abstract_state.specs.Flow.{writable, fetch_writable, is_set, reads, reads_source, reads_both, reads_operands};
-ghost use Rattle.abstract_state.specs.Flow.{reads_expected, reads_atomic, reads_arguments, alu_flow, number_of, operand_of, unary_flow};
+ghost use Rattle.abstract_state.specs.Flow.{reads_expected, reads_atomic, reads_arguments, alu_flow, checked_number, operand_of, unary_flow};
 ghost use Rattle.abstract_state.specs.Flow.{load_flow, store_flow, store_register_flow, atomic_flow, known_map, map_flow, array_size};
-ghost use Rattle.abstract_state.specs.Flow.{address_in, value_address, address_flow, number_flow, call_flow, verdict_kind, flow_of};
+ghost use Rattle.abstract_state.specs.Flow.{address_in, checked_value_address, address_flow, number_flow, call_flow, verdict_kind, flow_of};
 
 use crate::access::narrow_storable;
 use crate::broken_rule::BrokenRule;
@@ -142,7 +142,7 @@ fn address_in(definition: &MapDef, map: u32, slot: u16, offset: u32) -> Result<K
 
 /// The same by the map's place in the image's list.
 fn value_address(site: Site<'_>, map: i32, offset: u32) -> Result<Kind, BrokenRule>
-    ensures { result ≡ value_address site.entry.maps.now site.entry.slot map offset }
+    ensures { result ≡ checked_value_address site.entry.maps.now site.entry.slot map offset }
 {
     if map < 0 {
         return Err(BrokenRule::UnknownMap);
@@ -360,7 +360,7 @@ impl State {
         at: Address,
         src: Register,
     ) -> Result<(), BrokenRule>
-        ensures { kept result self.new ≡ atomic_on site.entry.maps.now self.old width op at.base at.offset at.register src }
+        ensures { kept result self.new ≡ checked_atomic site.entry.maps.now self.old width op at.base at.offset at.register src }
     {
         match at.base {
             Kind::Value { map, off, .. } => {
@@ -528,7 +528,7 @@ impl Unary {
 
 /// The number that an operation with one operand reads.
 fn number_of(kind: Kind, register: Register) -> Result<Interval, BrokenRule>
-    ensures { result ≡ number_of kind register }
+    ensures { result ≡ checked_number kind register }
 {
     match kind {
         Kind::Scalar(i) => Ok(i),

@@ -3,7 +3,7 @@ use Rattle.std.specs.Prelude.{◌≡◌, ℕ, Bool, true, false, List, [], ◌�
 use Rattle.rx_queues.specs.declared.job.Job.{Job}
 use Rattle.rx_queues.specs.declared.job.Job.TheVariants.{Command as CommandJob, Note, End}
 use Rattle.rx_queues.specs.declared.passes.Queues.{Queues}
-use Rattle.rx_queues.specs.Passes.{workers_of, commands_of}
+use Rattle.rx_queues.specs.Passes.{workers_of, command_count_of}
 use Rattle.control.specs.declared.command.Command.{Command}
 use Rattle.semantics.specs.declared.plan.ShardPlan.{ShardPlan}
 use Rattle.shards.specs.Passes.{PassView}
@@ -14,7 +14,7 @@ use Rattle.actors.specs.Rounds.{AreReclaimed}
 
 -- the queue at the place is the controller's, of queues for as many commands as the script has
 abbrev pub IsForCommands : List Command → Queues → ℕ → Type 0
-IsForCommands script queues place = (place ≡ workers_of queues) × (commands_of queues ≡ length script)
+IsForCommands script queues place = (place ≡ workers_of queues) × (command_count_of queues ≡ length script)
 
 -- the jobs that commands were handed over by
 abbrev pub command_jobs : List Applied → List Job

@@ -26,7 +26,7 @@ use Rattle.control.specs.MapUpdates.{UpdateBytes, map_update}
 use Rattle.control.specs.Controlling.{ControllerState, IsTable, refusal_of, first_updates, up_after, updates_of, opened_controller}
 use Rattle.actors.specs.declared.outcome.Applied.{Applied}
 use Rattle.actors.specs.FirstUpdates.{update_bytes}
-use Rattle.actors.specs.SharedUpdates.{UpdatesView, shard_of, update_call}
+use Rattle.actors.specs.SharedUpdates.{UpdatesView, shard_of, controller_update}
 
 -- ---- updates with their answers
 
@@ -46,13 +46,13 @@ abbrev pub all_set : List MapUpdate → List AnsweredUpdate
 all_set updates = map (λ (update : MapUpdate). record { update = update_bytes update; answer = success }) updates
 
 -- the entry that an update makes in its shard's history
-abbrev pub update_entry : ℕ → AnsweredUpdate → Entry
-update_entry number made = record { who = Controller; call = update_call number made.update; reply = Answer made.answer }
+abbrev pub controller_entry : ℕ → AnsweredUpdate → Entry
+controller_entry number made = record { who = Controller; call = controller_update number made.update; reply = Answer made.answer }
 
 -- the history of the shard of a number, newest entry first, with the entry of an update, if the update's key is the shard's
 abbrev pub with_update : List MapDef → Options → ℕ → AnsweredUpdate → List Entry → List Entry
 with_update maps options number made history =
-    if shard_of maps options made.update == number then update_entry number made ∷ history else history
+    if shard_of maps options made.update == number then controller_entry number made ∷ history else history
 
 -- with those of several, one after the other
 abbrev pub with_updates : List MapDef → Options → ℕ → List AnsweredUpdate → List Entry → List Entry
@@ -75,12 +75,12 @@ pub record CommandDone : Type 0 where
 
 -- each update on the shard of its key, with its answer
 abbrev pub made_deeds : List MapDef → Options → List AnsweredUpdate → List Deed
-made_deeds maps options made = map (λ (one : AnsweredUpdate). Wrote (update_entry (shard_of maps options one.update) one)) made
+made_deeds maps options made = map (λ (one : AnsweredUpdate). Wrote (controller_entry (shard_of maps options one.update) one)) made
 
 -- the look at a full journal, if an update met one
 abbrev pub stop_deeds : List MapDef → Options → Option UpdateBytes → List Deed
 stop_deeds maps options None = []
-stop_deeds maps options (Some update) = MetFull Controller (update_call (shard_of maps options update) update) ∷ []
+stop_deeds maps options (Some update) = MetFull Controller (controller_update (shard_of maps options update) update) ∷ []
 
 -- a command's updates in their order, and then the look at a full journal that stopped it, if one did
 abbrev pub command_deeds : List MapDef → Options → CommandDone → List Deed
@@ -93,7 +93,7 @@ commands_deeds maps options done = flat_map (command_deeds maps options) done
 -- ---- what a command makes of the controller
 
 -- all its updates were made, and the backends are up as it says
-pub record IsCarriedOut (state : ControllerState) (one : CommandDone) (state' : ControllerState) : Type 0 where
+pub record IsFullyDone (state : ControllerState) (one : CommandDone) (state' : ControllerState) : Type 0 where
   pub owners : List ℕ
   pub table : IsTable state.size (up_after state.up one.action) owners
   pub state_is : state' ≡ record { size = state.size; up = up_after state.up one.action; owners = owners; is_full = false }
@@ -139,11 +139,11 @@ IsRefusedFor state one state' BadSize = ⊥
 IsRefusedFor state one state' (BadLine line) = ⊥
 
 abbrev pub IsDoneBy : Option ControlFault → ControllerState → CommandDone → ControllerState → Type 0
-IsDoneBy None state one state' = IsCarriedOut state one state'
+IsDoneBy None state one state' = IsFullyDone state one state'
 IsDoneBy (Some fault) state one state' = IsRefusedFor state one state' fault
 
 -- the command did this in this state and left that one
-pub record IsDone (state : ControllerState) (one : CommandDone) (state' : ControllerState) : Type 0 where
+pub record IsCommandDone (state : ControllerState) (one : CommandDone) (state' : ControllerState) : Type 0 where
   pub did : IsDoneBy one.fault state one state'
   -- what refuses it before anything is asked is its fault
   pub first : (fault : ControlFault) → refusal_of state one.action ≡ Some fault → one.fault ≡ Some fault
@@ -151,7 +151,7 @@ pub record IsDone (state : ControllerState) (one : CommandDone) (state' : Contro
 -- command after command
 abbrev pub AreDone : ControllerState → List CommandDone → ControllerState → Type 0
 AreDone state [] state' = state ≡ state'
-AreDone state (one ∷ later) state' = (middle : ControllerState) × IsDone state one middle × AreDone middle later state'
+AreDone state (one ∷ later) state' = (middle : ControllerState) × IsCommandDone state one middle × AreDone middle later state'
 
 -- ---- the account of a script
 
@@ -173,11 +173,11 @@ abbrev pub made_in : List CommandDone → List AnsweredUpdate
 made_in done = flat_map (λ (one : CommandDone). one.made) done
 
 -- the update is one of a map that there is, and the journal of its shard is full for it at the end of what the pass has seen
-pub record IsFullFor (plan : ℕ → ShardPlan) (maps : List MapDef) (options : Options) (pass : PassView) (update : UpdateBytes) : Type 0 where
+pub record IsShardFullForUpdate (plan : ℕ → ShardPlan) (maps : List MapDef) (options : Options) (pass : PassView) (update : UpdateBytes) : Type 0 where
   pub of_map : IsTrue (is_some (slice_get maps update.map))
   pub full :
       IsJournalFull (plan (shard_of maps options update)) (seen_at pass (shard_of maps options update))
-      (update_call (shard_of maps options update) update)
+      (controller_update (shard_of maps options update) update)
 
 -- Updates one after the other lead from one state of a port to another: each adds its entry to the history of the shard of its key, and
 -- what the controller has seen of each shard grows.
@@ -194,9 +194,9 @@ pub record HasEffect (plan : ℕ → ShardPlan) (state : ControllerState) (actio
   pub one : CommandDone
   pub action_is : one.action ≡ action
   pub fault_is : one.fault ≡ fault
-  pub done : IsDone state one state'
+  pub done : IsCommandDone state one state'
   pub moved : IsMoved before after one.made
-  pub full : IfSome one.stopped (IsFullFor plan before.maps before.options after.pass)
+  pub full : IfSome one.stopped (IsShardFullForUpdate plan before.maps before.options after.pass)
   -- over all shards its updates come one after the other, and the look at a full journal last
   pub did : after.pass.deeds ≡ reverse (command_deeds before.maps before.options one) ++ before.pass.deeds
 
@@ -214,7 +214,7 @@ pub record IsScriptAccount (plan : ℕ → ShardPlan) (maps : List MapDef) (opti
   pub are_noted : AreNotedOf script noted done
   pub are_done : AreDone (opened_controller size) done state
   pub own : (number : ℕ) → own_at pass number ≡ with_updates maps options number (all_set updates ++ made_in done) []
-  pub full : AllByRecursion (λ (one : CommandDone). IfSome one.stopped (IsFullFor plan maps options pass)) done
+  pub full : AllByRecursion (λ (one : CommandDone). IfSome one.stopped (IsShardFullForUpdate plan maps options pass)) done
   pub did : pass.deeds ≡ reverse (made_deeds maps options (all_set updates) ++ commands_deeds maps options done)
 
 -- ---- the actor

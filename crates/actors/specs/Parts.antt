@@ -21,7 +21,7 @@ use Rattle.control.specs.declared.command.Command.{Command}
 use Rattle.control.specs.Controlling.{ControllerState, opened_controller}
 use Rattle.control.specs.MapUpdates.{UpdateBytes}
 use Rattle.actors.specs.declared.outcome.Applied.{Applied}
-use Rattle.actors.specs.SharedUpdates.{shard_of, update_call}
+use Rattle.actors.specs.SharedUpdates.{shard_of, controller_update}
 use Rattle.actors.specs.Commands.{CommanderView, CommandDone, AreNotedOf, AreDone, IsScriptAccount, ServesScript}
 use Rattle.actors.specs.Commands.{all_set, made_in, with_updates, made_deeds, commands_deeds}
 use Rattle.actors.specs.ActorJobs.{AreCommandsTaken, AreRoundsMade, IsActorAccounted as IsControllersAccount}
@@ -88,7 +88,7 @@ pub record IsFullInJournal (plan : ℕ → ShardPlan) (maps : List MapDef) (opti
   pub within : shard_of maps options update < count
   pub full :
       IsJournalFull (plan (shard_of maps options update)) (reverse (entries_at journals (shard_of maps options update)))
-      (update_call (shard_of maps options update) update)
+      (controller_update (shard_of maps options update) update)
 
 -- Each command of the script was applied once, in the script's order, and did what it says in the state that the one before it left, for a
 -- lookup table of a size that is served, the one that the maps have (without commands any served size does); the controller's entries in

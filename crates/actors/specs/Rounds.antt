@@ -88,8 +88,8 @@ pub record IsReclaimersPort (count : ℕ) (plan : ℕ → ShardPlan) (maps : Lis
   pub who : pass.who ≡ Reclaimer
 
 -- one Reclaim was asked: it was served, or the journal was full for it
-abbrev pub IsAsked : ShardPlan → ℕ → PassView → PassView → Type 0
-IsAsked plan number before after =
+abbrev pub IsReclaimAsked : ShardPlan → ℕ → PassView → PassView → Type 0
+IsReclaimAsked plan number before after =
     ((freed : ℕ) × PassIsServed plan number before after (Reclaim number) (Freed freed)) ⊎
     PassIsRefused plan number before after (Reclaim number)
 

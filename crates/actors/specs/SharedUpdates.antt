@@ -50,8 +50,8 @@ abbrev pub shard_for : UpdatesView → UpdateBytes → ℕ
 shard_for port update = shard_of port.maps port.options update
 
 -- an update is made whether or not its key is present
-abbrev pub update_call : ℕ → UpdateBytes → Call
-update_call number update = Update number update.key update.value (flags_number Any)
+abbrev pub controller_update : ℕ → UpdateBytes → Call
+controller_update number update = Update number update.key update.value (flags_number Any)
 
 -- the update is one Update of the shard that its key has, with this answer, and nothing else; the controller did that last
 pub record IsUpdated (plan : ℕ → ShardPlan) (before : UpdatesView) (update : UpdateBytes) (answer : ℤ) (after : UpdatesView) : Type 0 where
@@ -60,9 +60,9 @@ pub record IsUpdated (plan : ℕ → ShardPlan) (before : UpdatesView) (update :
   pub of_map : slice_get before.maps update.map ≡ Some (plan (shard_for before update)).definition
   pub elsewhere : IsElsewhereSame (shard_for before update) before.pass after.pass
   pub answered : PassIsServed (plan (shard_for before update)) (shard_for before update) before.pass after.pass
-      (update_call (shard_for before update) update) (Answer answer)
+      (controller_update (shard_for before update) update) (Answer answer)
   pub did :
-      after.pass.deeds ≡ Wrote (entry_of Controller (update_call (shard_for before update) update) (Answer answer)) ∷ before.pass.deeds
+      after.pass.deeds ≡ Wrote (entry_of Controller (controller_update (shard_for before update) update) (Answer answer)) ∷ before.pass.deeds
 
 -- the journal of the shard that its key has is full for it at the end of what the controller has then seen; and nothing was changed:
 -- the controller met the full journal last
@@ -72,5 +72,5 @@ pub record IsTurnedAway (plan : ℕ → ShardPlan) (before : UpdatesView) (updat
   pub of_map : slice_get before.maps update.map ≡ Some (plan (shard_for before update)).definition
   pub elsewhere : IsElsewhereSame (shard_for before update) before.pass after.pass
   pub refused : PassIsRefused (plan (shard_for before update)) (shard_for before update) before.pass after.pass
-      (update_call (shard_for before update) update)
-  pub did : after.pass.deeds ≡ MetFull Controller (update_call (shard_for before update) update) ∷ before.pass.deeds
+      (controller_update (shard_for before update) update)
+  pub did : after.pass.deeds ≡ MetFull Controller (controller_update (shard_for before update) update) ∷ before.pass.deeds

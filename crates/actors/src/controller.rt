@@ -1,7 +1,7 @@
 //! The controller of a replay: it applies the commands of the script, those of its queue until the end.
 
 ghost use Rattle.std.specs.Prelude.{◌≡◌, ◌<◌, ◌∷◌, ◌++◌, [], length, Option, Some, slice_get, IfOk, IfErr, OnOk, OnErr, false, MatchOption};
-ghost use Rattle.rx_queues.specs.Passes.{IsTakePassOf, jobs_taken, place_taken_from, workers_of, commands_of};
+ghost use Rattle.rx_queues.specs.Passes.{IsTakePassOf, jobs_taken, place_taken_from, workers_of, command_count_of};
 ghost use Rattle.rx_queues.specs.declared.job.Job.TheVariants.{Command as CommandJob, End};
 ghost use Rattle.actors.specs.ActorJobs.{AreCommandsTaken, IsActorAccounted, IsForCommands};
 ghost use Rattle.actors.specs.Actors.{HasEndLast, IsUnused};
@@ -243,7 +243,7 @@ fn next_command<W: Wait>(rt: &W, queues: &Queues, take: &mut TakePass) -> Option
     requires of_controller { place_taken_from take.old ≡ workers_of queues.now }
     ensures take { IsTakePassOf queues.now take.new × (place_taken_from take.new ≡ place_taken_from take.old) }
     ensures taken { MatchOption result (jobs_taken take.new ≡ jobs_taken take.old ++ End ∷ [])
-        (λ number. (number < commands_of queues.now) × (jobs_taken take.new ≡ jobs_taken take.old ++ CommandJob number ∷ [])) }
+        (λ number. (number < command_count_of queues.now) × (jobs_taken take.new ≡ jobs_taken take.old ++ CommandJob number ∷ [])) }
 {
     match queues.take_waiting(rt, take) {
         Job::Command(number) => Some(number),

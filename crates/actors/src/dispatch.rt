@@ -2,7 +2,7 @@
 //! notes to the reclaimer.
 
 ghost use Rattle.std.specs.Prelude.{◌≡◌, ◌<◌, ◌≤◌, ◌+◌, ◌∷◌, [], length, ◌%◌, ◌==◌, slice_index, if◌then◌else◌};
-ghost use Rattle.rx_queues.specs.Passes.{IsPutPassOf, HasQueue, queue_of, with_job_at, workers_of, records_of, commands_of, jobs_put};
+ghost use Rattle.rx_queues.specs.Passes.{IsPutPassOf, HasQueue, queue_of, with_job_at, workers_of, record_count_of, command_count_of, jobs_put};
 ghost use Rattle.actors.specs.Shares.{frames_of, frame_at, is_short, worker_of_frame};
 ghost use Rattle.actors.specs.Actors.{AreDispatched, ArePutAt, AreHandedOver, AreDue, AreBothEnded};
 ghost use Rattle.actors.specs.Puts.{ArePutWithEnd, with_record};
@@ -44,7 +44,7 @@ fn hand<R: Wait>(
     number: usize,
 )
     requires number { number < length capture.now.records.items }
-    requires fits { number < records_of queues.now }
+    requires fits { number < record_count_of queues.now }
     requires workers { (workers_of queues.now ≡ workers) × (0 < workers) × (workers ≤ 8) }
     requires pass { IsPutPassOf queues.now put.old }
     ensures pass { IsPutPassOf queues.now put.new }
@@ -80,7 +80,7 @@ pub fn due(starts: &[u32], next: usize, number: usize) -> usize
 /// Hands the commands from `next` on to the controller, up to `end`.
 fn hand_commands<R: Wait>(rt: &R, queues: &Queues, put: &mut PutPass, next: usize, end: usize)
     requires up { next ≤ end }
-    requires fit { end ≤ commands_of queues.now }
+    requires fit { end ≤ command_count_of queues.now }
     requires pass { IsPutPassOf queues.now put.old }
     ensures pass { IsPutPassOf queues.now put.new }
     ensures put { AreHandedOver (workers_of queues.now) next end (jobs_put put.old) (jobs_put put.new) }
@@ -121,7 +121,7 @@ pub struct Dispatch<'a> {
     pub first: usize,
     pub workers: usize,
     pub ghost few: { (workers_of queues.now ≡ workers) × (0 < workers) × (workers ≤ 8) },
-    pub ghost for_all: { (records_of queues.now ≡ length capture.now.records.items) × (commands_of queues.now ≡ length starts.now) },
+    pub ghost for_all: { (record_count_of queues.now ≡ length capture.now.records.items) × (command_count_of queues.now ≡ length starts.now) },
 }
 
 impl<'a> Dispatch<'a> {

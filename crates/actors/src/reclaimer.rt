@@ -6,7 +6,7 @@ ghost use Rattle.semantics.specs.declared.call.Caller.TheVariants.{Reclaimer};
 ghost use Rattle.shards.specs.Passes.{IsElsewhereSame};
 ghost use Rattle.actors.specs.ActorJobs.{AreRoundsMade, round_job};
 ghost use Rattle.actors.specs.Actors.{HasEndLast, IsUnused};
-ghost use Rattle.actors.specs.Rounds.{AreReclaimed, IsReclaimedAt, IsAsked, HasAsked, HasTurned};
+ghost use Rattle.actors.specs.Rounds.{AreReclaimed, IsReclaimedAt, IsReclaimAsked, HasAsked, HasTurned};
 ghost use Rattle.semantics.specs.Replay.{is_keyed};
 
 use crate::actor::{Actor, ActorEnded};
@@ -104,7 +104,7 @@ impl<'a, B: Naming, W: Wait, G: Gate> Reclaiming<'a, B, W, G> {
     fn reclaim(&mut self, number: u32)
         requires { number < B.count }
         ensures others { IsElsewhereSame number self.old self.new }
-        ensures here { IsAsked (B.plan number) number self.old self.new }
+        ensures here { IsReclaimAsked (B.plan number) number self.old self.new }
         ensures did { HasAsked number self.old self.new }
     {
         match self.shards.reclaim(self.rt, &mut self.pass, number) {

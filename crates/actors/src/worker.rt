@@ -3,7 +3,7 @@
 ghost use Rattle.std.specs.Prelude.{◌≡◌, ◌<◌, ◌≤◌, ◌∷◌, ◌++◌, [], length, true, Some, IsTrue, IfOk, IfSome, MatchOption};
 ghost use Rattle.machine.specs.Running.{program_of};
 ghost use Rattle.rx_queues.specs.declared.job.Job.TheVariants.{Frame as Record, End};
-ghost use Rattle.rx_queues.specs.Passes.{IsTakePassOf, place_taken_from, jobs_taken, workers_of, records_of};
+ghost use Rattle.rx_queues.specs.Passes.{IsTakePassOf, place_taken_from, jobs_taken, workers_of, record_count_of};
 ghost use Rattle.actors.specs.Actors.{HasEndLast};
 ghost use Rattle.actors.specs.RunsInOrder.{IsRunAt, IsOneMore, HasDoneItsJobs};
 ghost use Rattle.actors.specs.RunsOverShards.{IsIdle, IsSentOf, IsTold, IsRunOf, steps_in, time_of};
@@ -173,7 +173,7 @@ fn next_record<R: Wait>(rt: &R, queues: &Queues, take: &mut TakePass) -> Option<
     requires of_worker { place_taken_from take.old < workers_of queues.now }
     ensures take { IsTakePassOf queues.now take.new × (place_taken_from take.new ≡ place_taken_from take.old) }
     ensures taken { MatchOption result (jobs_taken take.new ≡ jobs_taken take.old ++ End ∷ [])
-        (λ number. (number < records_of queues.now) × (jobs_taken take.new ≡ jobs_taken take.old ++ Record number ∷ [])) }
+        (λ number. (number < record_count_of queues.now) × (jobs_taken take.new ≡ jobs_taken take.old ++ Record number ∷ [])) }
 {
     match queues.take_waiting(rt, take) {
         Job::Frame(number) => Some(number),
@@ -196,7 +196,7 @@ fn work<S: Drop, W: Runner<S>, R: Wait>(
     mut state: S,
 ) -> WorkerEnded<S>
     requires take { IsTakePassOf queues.now take × (place_taken_from take ≡ worker) × (jobs_taken take ≡ []) }
-    requires jobs { (worker < workers_of queues.now) × (records_of queues.now ≡ length capture.now.records.items) }
+    requires jobs { (worker < workers_of queues.now) × (record_count_of queues.now ≡ length capture.now.records.items) }
     requires state { W.is_new runner.now worker state × W.is_idle runner.now worker state }
     ensures take { IsTakePassOf queues.now result.take × (place_taken_from result.take ≡ worker) }
     ensures ended { HasEndLast (jobs_taken result.take) }
@@ -269,7 +269,7 @@ pub fn start<'s, E, S: Drop + Send + 's, W: Runner<S> + Sync + 's, R: Wait + Syn
     state: S,
 ) -> Option<Lane<'s, S, W>>
     requires take { IsTakePassOf queues.now take × (place_taken_from take ≡ worker) × (jobs_taken take ≡ []) }
-    requires jobs { (worker < workers_of queues.now) × (records_of queues.now ≡ length capture.now.records.items) }
+    requires jobs { (worker < workers_of queues.now) × (record_count_of queues.now ≡ length capture.now.records.items) }
     requires state { W.is_new runner.now worker state × W.is_idle runner.now worker state }
     ensures { IfSome result (λ lane. (lane.queues.now ≡ queues.now) × (lane.capture.now ≡ capture.now) × (lane.runner.now ≡ runner.now) ×
         (lane.worker ≡ worker)) }
@@ -284,7 +284,7 @@ pub fn start<'s, E, S: Drop + Send + 's, W: Runner<S> + Sync + 's, R: Wait + Syn
             },
             move || -> WorkerEnded<S>
                 requires take { IsTakePassOf queues.now take × (place_taken_from take ≡ worker) × (jobs_taken take ≡ []) }
-                requires jobs { (worker < workers_of queues.now) × (records_of queues.now ≡ length capture.now.records.items) }
+                requires jobs { (worker < workers_of queues.now) × (record_count_of queues.now ≡ length capture.now.records.items) }
                 requires state { W.is_new runner.now worker state × W.is_idle runner.now worker state }
                 ensures take { IsTakePassOf queues.entry.now result.take × (place_taken_from result.take ≡ worker) }
                 ensures worked { HasDoneItsJobs (W.is_new runner.entry.now worker) (W.runs runner.entry.now worker)

@@ -8,11 +8,11 @@ use Rattle.semantics.specs.declared.plan.ShardPlan.{ShardPlan}
 use Rattle.semantics.specs.ShardPlan.{plan_at}
 use Rattle.semantics.specs.History.{IsLegalStep, IsLegalHistory, IsLegalJournal}
 use Rattle.journals.specs.JournalsView.{JournalsView, entries_at}
-use Rattle.shard_core.specs.JournaledShard.{JournaledShard, with_entry}
+use Rattle.shard_core.specs.JournaledShard.{JournaledShard, shard_with_entry}
 use Rattle.audit.specs.declared.held_cells.HeldSoFar.{HeldSoFar}
 use Rattle.audit.specs.HeldCells.{AreHeld}
 use Rattle.journals.specs.LegalJournals.{IsLegalShard, AreLegal}
-use Rattle.audit.specs.Audited.{IsFirstIllegal, IsFirstFault}
+use Rattle.audit.specs.Audited.{IsFirstIllegal, IsFirstIllegalShard}
 
 take_step : (xs : List Entry) (i : ℕ) (entry : Entry) → slice_get xs i ≡ Some entry → take (suc i) xs ≡ take i xs ++ entry ∷ []
 take_step [] i entry is = absurd cc
@@ -24,9 +24,9 @@ take_one xs i entry is = let e : i + 1 ≡ suc i = omega arith in ap (λ (n : �
 
 -- a shard that is the beginning of a journal, made one entry longer
 pub made_one : (plan : ShardPlan) (xs : List Entry) (i : ℕ) (entry : Entry) (old new : JournaledShard) → slice_get xs i ≡ Some entry → old ≡ record { plan = plan; journal = take i xs }
-    → new ≡ with_entry old entry → new ≡ record { plan = plan; journal = take (i + 1) xs }
+    → new ≡ shard_with_entry old entry → new ≡ record { plan = plan; journal = take (i + 1) xs }
 made_one plan xs i entry old new is old_is new_is =
-    new_is ∙ ap (λ (s : JournaledShard). with_entry s entry) old_is ∙ ap (λ (j : List Entry). record { plan = plan; journal = j }) (sym (take_one xs i entry is))
+    new_is ∙ ap (λ (s : JournaledShard). shard_with_entry s entry) old_is ∙ ap (λ (j : List Entry). record { plan = plan; journal = j }) (sym (take_one xs i entry is))
 
 -- no step, no legal journal
 pub not_with : (plan : ShardPlan) (xs : List Entry) (i : ℕ) (entry : Entry) → slice_get xs i ≡ Some entry → (IsLegalStep plan (reverse (take i xs)) entry → ⊥) → IsLegalJournal plan (take (i + 1) xs) → ⊥
@@ -90,7 +90,7 @@ legal_more journals number before here k lt = decided journals k number before h
 
 -- the first entry that is not legal is the journals' first fault
 pub first_fault : (journals : JournalsView) (number place : ℕ) (plan : ShardPlan) (entries : List Entry) → number < length journals.shards → ((k : ℕ) → k < number → IsLegalShard journals k)
-    → plan_at journals.maps journals.options number ≡ Some plan → entries ≡ entries_at journals number → IsFirstIllegal plan entries place → IsFirstFault journals number place × (AreLegal journals → ⊥)
+    → plan_at journals.maps journals.options number ≡ Some plan → entries ≡ entries_at journals number → IsFirstIllegal plan entries place → IsFirstIllegalShard journals number place × (AreLegal journals → ⊥)
 first_fault journals number place plan entries exists before is same illegal = (
   record { exists = exists; legal_before = before; plan = plan; plan_is = is; illegal = rw (← same) illegal },
   λ legal. let here : IsLegalJournal plan entries = rw same (legal number exists plan is) in illegal.not_with (prefix_legal plan entries (place + 1) here),

@@ -16,7 +16,7 @@ pub record IsFirstIllegal (plan : ShardPlan) (entries : List Entry) (place : ℕ
   pub not_with : ¬ IsLegalJournal plan (take (place + 1) entries)
 
 -- the shards before this one have legal journals, and its own is legal up to the entry at this place
-pub record IsFirstFault (journals : JournalsView) (shard place : ℕ) : Type 0 where
+pub record IsFirstIllegalShard (journals : JournalsView) (shard place : ℕ) : Type 0 where
   pub exists : shard < length journals.shards
   pub legal_before : (number : ℕ) → number < shard → IsLegalShard journals number
   pub plan : ShardPlan
@@ -24,6 +24,6 @@ pub record IsFirstFault (journals : JournalsView) (shard place : ℕ) : Type 0 w
   pub illegal : IsFirstIllegal plan (entries_at journals shard) place
 
 -- why the journals were refused: the first entry that is not legal, or memory was refused
-abbrev pub Explains : JournalsView → AuditFault → Type 0
-Explains journals Memory = ⊤
-Explains journals (Illegal shard place) = IsFirstFault journals shard place × ¬ AreLegal journals
+abbrev pub ExplainsJournals : JournalsView → AuditFault → Type 0
+ExplainsJournals journals Memory = ⊤
+ExplainsJournals journals (Illegal shard place) = IsFirstIllegalShard journals shard place × ¬ AreLegal journals

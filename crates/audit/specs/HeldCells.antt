@@ -12,8 +12,8 @@ abbrev pub place_found : Findings → ℕ → ℕ
 place_found findings cell = slice_index_or findings.found.items cell 0
 
 -- a Lookup found it since the worker's newest Enter or Leave
-abbrev pub is_found : Findings → ℕ → Bool
-is_found findings cell = nat_lt findings.since (place_found findings cell)
+abbrev pub is_found_since : Findings → ℕ → Bool
+is_found_since findings cell = nat_lt findings.since (place_found findings cell)
 
 -- the place of the newest Enter or Leave, once there is one entry more
 abbrev pub since_after : HeldChange → ℕ → ℕ → ℕ
@@ -27,7 +27,7 @@ found_after change place cell before = before
 
 -- what is kept of this worker says which cells it holds after this history
 pub record Tells (worker : ℕ) (history : List Entry) (findings : Findings) : Type 0 where
-  pub holding : (cell : ℕ) → is_found findings cell ≡ holds worker cell history
+  pub holding : (cell : ℕ) → is_found_since findings cell ≡ holds worker cell history
   pub since_within : findings.since ≤ length history
   pub found_within : (cell : ℕ) → place_found findings cell ≤ length history
 

@@ -5,10 +5,10 @@ ghost use Rattle.std.specs.Option.{MatchOption};
 ghost use Rattle.semantics.specs.ShardPlan.{KeepsRows};
 ghost use Rattle.semantics.specs.PlanLimits.{IsPlan};
 ghost use Rattle.semantics.specs.History.{IsLegalStep, IsLegalJournal};
-ghost use Rattle.shard_core.specs.JournaledShard.{with_entry};
+ghost use Rattle.shard_core.specs.JournaledShard.{shard_with_entry};
 ghost use Rattle.audit.specs.declared.fault.AuditFault.TheVariants.{Memory};
 ghost use Rattle.journals.specs.LegalJournals.{AreLegal};
-ghost use Rattle.audit.specs.Audited.{IsFirstIllegal, Explains};
+ghost use Rattle.audit.specs.Audited.{IsFirstIllegal, ExplainsJournals};
 ghost use Rattle.audit.specs.HeldCells.{AreHeld};
 
 use crate::fault::AuditFault;
@@ -25,7 +25,7 @@ use std::alloc::{AllocError, Global};
 fn is_made_again(shard: &mut Shard, held: &HeldSoFar, entry: &Entry) -> bool
     requires { AreHeld held.now (reverse shard.old.journal) }
     ensures legal { IsLegalJournal shard.old.plan shard.old.journal }
-    ensures made { result ≡ true → shard.new ≡ with_entry shard.old entry.now }
+    ensures made { result ≡ true → shard.new ≡ shard_with_entry shard.old entry.now }
     ensures illegal { result ≡ false → ¬ IsLegalStep shard.old.plan (reverse shard.old.journal) entry.now }
 {
     let _ = shard.journal();
@@ -68,7 +68,7 @@ fn first_illegal(
 pub fn audit(alloc: Global, journals: &Journals) -> Result<(), AuditFault>
     requires { KeepsRows journals.now.options.journal }
     ensures legal { OnOk result (AreLegal journals.now) }
-    ensures refused { IfErr result (λ fault. Explains journals.now fault) }
+    ensures refused { IfErr result (λ fault. ExplainsJournals journals.now fault) }
     ensures accepts { AreLegal journals.now → IfErr result (λ fault. fault ≡ Memory) }
 {
     let options = journals.options();

@@ -3,7 +3,7 @@
 ghost use Rattle.std.specs.Prelude.{◌≡◌, ◌+◌, ◌<◌, ◌==◌, ℕ, List, [], ◌∷◌, IfOk, OnOk, length, cond};
 ghost use Rattle.semantics.specs.declared.call.Entry.{Entry as Told};
 ghost use Rattle.semantics.specs.Reclamation.{holds};
-ghost use Rattle.audit.specs.HeldCells.{place_found, is_found, since_after, found_after, Tells, AreHeld};
+ghost use Rattle.audit.specs.HeldCells.{place_found, is_found_since, since_after, found_after, Tells, AreHeld};
 
 use semantics::{Caller, Entry, HeldChange, MOST_WORKERS};
 use std::alloc::{AllocError, Global};
@@ -30,7 +30,7 @@ impl Findings {
 
     /// Whether a Lookup found the cell since the worker's newest Enter or Leave.
     fn has(&self, cell: u64) -> bool
-        ensures { result ≡ is_found self.now cell }
+        ensures { result ≡ is_found_since self.now cell }
     {
         match self.found.get(cell as usize) {
             Some(place) => self.since < *place,

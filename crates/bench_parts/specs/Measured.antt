@@ -30,15 +30,15 @@ pub record IsOfWorker (count : ℕ) (plan : ℕ → ShardPlan) (pass : PassView)
   pub few : number_of pass.who < 4
 
 -- it has done nothing there
-pub record IsReady (count : ℕ) (plan : ℕ → ShardPlan) (pass : PassView) (shard : ℕ) : Type 0 where
+pub record IsPassReady (count : ℕ) (plan : ℕ → ShardPlan) (pass : PassView) (shard : ℕ) : Type 0 where
   pub of_worker : IsOfWorker count plan pass shard
   pub fresh : own_at pass shard ≡ []
 
 -- it is inside
-pub record IsAtWork (count : ℕ) (plan : ℕ → ShardPlan) (pass : PassView) (shard : ℕ) : Type 0 where
+pub record IsPassAtWork (count : ℕ) (plan : ℕ → ShardPlan) (pass : PassView) (shard : ℕ) : Type 0 where
   pub of_worker : IsOfWorker count plan pass shard
   pub inside : is_inside (number_of pass.who) (own_at pass shard) ≡ true
 
 -- and holds the cell
-abbrev pub HoldsThere : PassView → ℕ → ℕ → Type 0
-HoldsThere pass shard cell = holds (number_of pass.who) cell (own_at pass shard) ≡ true
+abbrev pub PassHoldsThere : PassView → ℕ → ℕ → Type 0
+PassHoldsThere pass shard cell = holds (number_of pass.who) cell (own_at pass shard) ≡ true

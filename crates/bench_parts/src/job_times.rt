@@ -1,7 +1,7 @@
 //! What a job costs from one thread to another through a receive queue: nanoseconds a job.
 
 ghost use Rattle.std.specs.Prelude.{◌≡◌, ◌/◌, ◌<◌, ◌≤◌};
-ghost use Rattle.rx_queues.specs.Passes.{HasQueue, workers_of, records_of, IsPutPassOf, IsTakePassOf};
+ghost use Rattle.rx_queues.specs.Passes.{HasQueue, workers_of, record_count_of, IsPutPassOf, IsTakePassOf};
 
 use anyhow::Error;
 use rx_queues::{Caller, Job, PutPass, Queues, TakePass};
@@ -22,7 +22,7 @@ fn per_job(nanoseconds: u128) -> u128
 
 /// Puts all jobs for worker 0, and the end.
 fn put_all<R: Wait>(rt: &R, queues: &Queues, mut pass: PutPass)
-    requires queue { (0 < workers_of queues.now) × (JOBS ≤ records_of queues.now) }
+    requires queue { (0 < workers_of queues.now) × (JOBS ≤ record_count_of queues.now) }
     requires pass { IsPutPassOf queues.now pass }
 {
     let who = Caller::Worker { number: 0 };
@@ -46,14 +46,14 @@ fn take_all<R: Wait>(rt: &R, queues: &Queues, mut pass: TakePass)
 
 /// Sends all jobs from one thread to another.
 fn pass_all<R: Threads + Wait + Sync>(rt: &R, queues: &Queues, put: PutPass, take: TakePass)
-    requires queue { (0 < workers_of queues.now) × (JOBS ≤ records_of queues.now) }
+    requires queue { (0 < workers_of queues.now) × (JOBS ≤ record_count_of queues.now) }
     requires put { IsPutPassOf queues.now put }
     requires take { IsTakePassOf queues.now take }
 {
     thread::join(
         rt,
         move ||
-            requires queue { (0 < workers_of queues.now) × (JOBS ≤ records_of queues.now) }
+            requires queue { (0 < workers_of queues.now) × (JOBS ≤ record_count_of queues.now) }
             requires put { IsPutPassOf queues.now put }
         { put_all(rt, queues, put) },
         move ||

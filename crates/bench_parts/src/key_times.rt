@@ -1,7 +1,7 @@
 //! Look-ups and updates of keyed shards: a row a line, a name and tenths of a nanosecond.
 
 ghost use Rattle.std.specs.Prelude.{◌≡◌, ◌<◌, ℕ, List, None, length};
-ghost use Rattle.lru_maps.specs.LruTable.{cell_of_key};
+ghost use Rattle.lru_maps.specs.LruTable.{cell_of_lru_key};
 
 use anyhow::Error;
 use lru_maps::LruShard;
@@ -117,7 +117,7 @@ fn round(shard: &HashShard, keys: &[KeyBytes]) -> u64
 /// Evicts a key where there is no room for another.
 fn make_room(shard: &mut LruShard) -> u64
     ensures size { shard.new.size ≡ shard.old.size }
-    ensures absent { (q : List ℕ) → cell_of_key shard.old q ≡ None → cell_of_key shard.new q ≡ None }
+    ensures absent { (q : List ℕ) → cell_of_lru_key shard.old q ≡ None → cell_of_lru_key shard.new q ≡ None }
 {
     if shard.len() == shard.capacity() {
         return shard.evict();
@@ -128,7 +128,7 @@ fn make_room(shard: &mut LruShard) -> u64
 /// Puts a key that is not there, where there is room.
 fn put_new(shard: &mut LruShard, key: &KeyBytes, id: u64)
     requires size { shard.old.size ≡ 16 }
-    requires absent { cell_of_key shard.old key.now ≡ None }
+    requires absent { cell_of_lru_key shard.old key.now ≡ None }
     ensures { shard.new.size ≡ 16 }
 {
     if shard.len() < shard.capacity() {

@@ -5,7 +5,7 @@ mod shared_calls;
 
 ghost use Rattle.std.specs.Prelude.{◌≡◌, ◌<◌, IfOk};
 ghost use Rattle.shards.specs.NewShards.{IsNamed};
-ghost use Rattle.bench_parts.specs.Measured.{IsReady};
+ghost use Rattle.bench_parts.specs.Measured.{IsPassReady};
 
 use anyhow::Error;
 use core_calls::timed_core;
@@ -39,16 +39,16 @@ fn two<B: Naming + Send + Sync, R: Threads + Wait + Sync>(
     first: CallTask<B>,
     second: CallTask<B>,
 ) -> u64
-    requires first { IsReady B.count B.plan first.pass first.shard }
-    requires second { IsReady B.count B.plan second.pass second.shard }
+    requires first { IsPassReady B.count B.plan first.pass first.shard }
+    requires second { IsPassReady B.count B.plan second.pass second.shard }
 {
     let (one, other) = join(
         rt,
         move ||
-            requires { IsReady B.count B.plan first.pass first.shard }
+            requires { IsPassReady B.count B.plan first.pass first.shard }
         { work(rt, shards, first) },
         move ||
-            requires { IsReady B.count B.plan second.pass second.shard }
+            requires { IsPassReady B.count B.plan second.pass second.shard }
         { work(rt, shards, second) },
     );
     one.wrapping_add(other)
@@ -63,20 +63,20 @@ fn four<B: Naming + Send + Sync, R: Threads + Wait + Sync>(
     third: CallTask<B>,
     fourth: CallTask<B>,
 ) -> u64
-    requires first { IsReady B.count B.plan first.pass first.shard }
-    requires second { IsReady B.count B.plan second.pass second.shard }
-    requires third { IsReady B.count B.plan third.pass third.shard }
-    requires fourth { IsReady B.count B.plan fourth.pass fourth.shard }
+    requires first { IsPassReady B.count B.plan first.pass first.shard }
+    requires second { IsPassReady B.count B.plan second.pass second.shard }
+    requires third { IsPassReady B.count B.plan third.pass third.shard }
+    requires fourth { IsPassReady B.count B.plan fourth.pass fourth.shard }
 {
     let (one, other) = join(
         rt,
         move ||
-            requires first { IsReady B.count B.plan first.pass first.shard }
-            requires second { IsReady B.count B.plan second.pass second.shard }
+            requires first { IsPassReady B.count B.plan first.pass first.shard }
+            requires second { IsPassReady B.count B.plan second.pass second.shard }
         { two(rt, shards, first, second) },
         move ||
-            requires third { IsReady B.count B.plan third.pass third.shard }
-            requires fourth { IsReady B.count B.plan fourth.pass fourth.shard }
+            requires third { IsPassReady B.count B.plan third.pass third.shard }
+            requires fourth { IsPassReady B.count B.plan fourth.pass fourth.shard }
         { two(rt, shards, third, fourth) },
     );
     one.wrapping_add(other)

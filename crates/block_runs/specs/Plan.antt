@@ -23,17 +23,17 @@ either false one other = other
 -- ---- outcomes
 
 -- how a run ended, or that it did not
-pub data Ending : Type 0 where
-  Ended : (verdict : Verdict) → (frame : FrameView) → Ending
+pub data PlanEnding : Type 0 where
+  Ended : (verdict : Verdict) → (frame : FrameView) → PlanEnding
   -- it waits for the reply to the last of its calls
-  Waiting : Ending
+  Waiting : PlanEnding
   -- it trapped, or had no end within the instructions that were looked at
-  Stuck : Ending
+  Stuck : PlanEnding
 
 -- the calls that were made, and the ending
 pub record RunOutcome : Type 0 where
   pub calls : List Call
-  pub ending : Ending
+  pub ending : PlanEnding
 
 abbrev pub asked : Call → RunOutcome → RunOutcome
 asked call outcome = record { calls = call ∷ outcome.calls; ending = outcome.ending }
@@ -51,7 +51,7 @@ plan_after (Ends verdict frame) (reply ∷ replies) = Ends verdict frame
 plan_after (Asks call onward) (reply ∷ replies) = plan_after (onward reply) replies
 
 -- of a run
-abbrev pub ending_of : RunStand → Ending
+abbrev pub ending_of : RunStand → PlanEnding
 ending_of (HasExited verdict last) = Ended verdict last.frame
 ending_of (Waits state) = Waiting
 ending_of (HasTrapped cause) = Stuck

@@ -26,7 +26,7 @@ use Rattle.command_line.specs.declared.words.AskedWords.TheVariants as asks
 use Rattle.command_line.specs.declared.words.AskedWords.TheVariants.{Command, NoSuchFault, ImageAndScript, ImageAndProgram, NoUpdate}
 use Rattle.faults.specs.Explanations.{is_fault}
 use Rattle.faults.specs.FaultTable.{IsRowOf, row_of}
-use Rattle.map_updates.specs.UpdateWords.{IsWritten, IsMistaken}
+use Rattle.map_updates.specs.UpdateWords.{IsWritten, AreMistakenWords}
 use Rattle.map_updates.specs.declared.reading.Mistake.{Mistake}
 use Rattle.map_updates.specs.declared.reading.Mistake.TheVariants.{Memory}
 use Rattle.map_updates.specs.declared.update.MapUpdate.{MapUpdate}
@@ -36,8 +36,8 @@ abbrev pub text_of : Option (Bor (List ℕ)) → Option (List ℕ)
 text_of word = option_map (λ (w : Bor (List ℕ)). w.now) word
 
 -- the word of an argument, which the parser found
-abbrev pub word_of : Text → List Row → Text
-word_of id rows = unwrap_or (first_of id rows) []
+abbrev pub argument_word : Text → List Row → Text
+argument_word id rows = unwrap_or (first_of id rows) []
 
 -- the number that the argument's text writes, where it writes one below 2 ^ bits
 abbrev pub IsNumberOf : ℕ → Text → List Row → ℕ → Type 0
@@ -86,9 +86,9 @@ abbrev pub has_journals : List Row → Bool
 has_journals rows = is_some (first_of (codes "journals") rows)
 
 -- the first of two options that is given, if one is
-abbrev pub either : Option Text → Option Text → Option Text
-either (Some word) other = Some word
-either None other = other
+abbrev pub first_given : Option Text → Option Text → Option Text
+first_given (Some word) other = Some word
+first_given None other = other
 
 -- the word writes this number
 abbrev pub Writes : Text → ℕ → Type 0
@@ -104,8 +104,8 @@ abbrev pub IsFirstName : Text → ℕ → Type 0
 IsFirstName word number = IsName word number × ((lower : ℕ) → lower < number → ¬ IsName word lower)
 
 -- the word says this fault, by its number or by its name
-abbrev pub Says : Text → ℕ → Type 0
-Says word number = Writes word number ⊎ IsFirstName word number
+abbrev pub SaysFault : Text → ℕ → Type 0
+SaysFault word number = Writes word number ⊎ IsFirstName word number
 
 -- the word is neither the number nor the name of a fault
 abbrev pub SaysNone : Text → Type 0
@@ -113,8 +113,8 @@ SaysNone word = (number : ℕ) → is_fault number ≡ true → ¬ Writes word n
 
 -- the files of a run are what was found for its arguments
 abbrev pub AreRunFiles : List Row → RunFiles → Type 0
-AreRunFiles rows files = (files.image.now ≡ word_of (codes "IMAGE") rows)
-    × (files.frame.now ≡ word_of (codes "FRAME") rows)
+AreRunFiles rows files = (files.image.now ≡ argument_word (codes "IMAGE") rows)
+    × (files.frame.now ≡ argument_word (codes "FRAME") rows)
     × (text_of files.journals ≡ first_of (codes "journals") rows)
 
 -- the words of an option that may be given any number of times, those of all uses
@@ -139,13 +139,13 @@ pub record IsBadUpdate (words : List Text) (place : ℕ) (mistake : Mistake) : T
   pub within : place < length words / 3
   pub earlier : (before : ℕ) → before < place → (update : MapUpdate) × IsUpdateAt words before update
   pub mistaken :
-      IsMistaken (word_at words (3 * place)) (word_at words (3 * place + 1)) (word_at words (3 * place + 2)) mistake
+      AreMistakenWords (word_at words (3 * place)) (word_at words (3 * place + 1)) (word_at words (3 * place + 2)) mistake
 
 -- the files of a replay are what was found for its arguments
 abbrev pub AreReplayFiles : List Row → ReplayFiles → Type 0
-AreReplayFiles rows files = (files.capture.now ≡ word_of (codes "CAPTURE") rows)
-    × (files.sent.now ≡ word_of (codes "SENT") rows)
-    × (text_of files.image ≡ either (first_of (codes "image") rows) (first_of (codes "program") rows))
+AreReplayFiles rows files = (files.capture.now ≡ argument_word (codes "CAPTURE") rows)
+    × (files.sent.now ≡ argument_word (codes "SENT") rows)
+    × (text_of files.image ≡ first_given (first_of (codes "image") rows) (first_of (codes "program") rows))
     × (files.is_steering ≡ is_none (first_of (codes "image") rows))
     × (text_of files.script ≡ first_of (codes "script") rows)
     × (text_of files.journals ≡ first_of (codes "journals") rows)
@@ -264,7 +264,7 @@ pub record AreSomeUpdates (rows : List Row) : Type 0 where
 -- the settings are those of the command of this name, with what was found for its arguments
 abbrev pub IsReadFrom : Text → List Row → Settings → Type 0
 IsReadFrom name rows (Check image explain) = is_named name (codes "check")
-    × (image.now ≡ word_of (codes "IMAGE") rows)
+    × (image.now ≡ argument_word (codes "IMAGE") rows)
     × IsSwitchOf (codes "explain") rows explain
 IsReadFrom name rows (Run files now worker updates) = is_named name (codes "run")
     × AreRunFiles rows files
@@ -272,34 +272,34 @@ IsReadFrom name rows (Run files now worker updates) = is_named name (codes "run"
     × IsNumberOf 32 (codes "worker") rows worker
     × AreUpdates (words_of (codes "update") rows) updates.items
 IsReadFrom name rows (Disasm image source) = is_named name (codes "disasm")
-    × (image.now ≡ word_of (codes "IMAGE") rows)
+    × (image.now ≡ argument_word (codes "IMAGE") rows)
     × IsSwitchOf (codes "source") rows source
 IsReadFrom name rows (Audit image journals) = is_named name (codes "audit")
-    × (image.now ≡ word_of (codes "IMAGE") rows)
-    × (journals.now ≡ word_of (codes "JOURNALS") rows)
+    × (image.now ≡ argument_word (codes "IMAGE") rows)
+    × (journals.now ≡ argument_word (codes "JOURNALS") rows)
 IsReadFrom name rows (Explain about) = is_named name (codes "explain")
-    × Says (word_of (codes "FAULT") rows) about.number
+    × SaysFault (argument_word (codes "FAULT") rows) about.number
     × IsRowOf about.number about
     × (is_fault about.number ≡ true)
 IsReadFrom name rows (Asm text out source) = is_named name (codes "asm")
-    × (text.now ≡ word_of (codes "TEXT") rows)
-    × (out.now ≡ word_of (codes "OUT") rows)
+    × (text.now ≡ argument_word (codes "TEXT") rows)
+    × (out.now ≡ argument_word (codes "OUT") rows)
     × IsSwitchOf (codes "source") rows source
 IsReadFrom name rows (Shipped out ring) = is_named name (codes "shipped")
-    × (out.now ≡ word_of (codes "OUT") rows)
+    × (out.now ≡ argument_word (codes "OUT") rows)
     × IsNumberOf 32 (codes "ring") rows ring
 IsReadFrom name rows (Table script ring) = is_named name (codes "table")
-    × (script.now ≡ word_of (codes "SCRIPT") rows)
+    × (script.now ≡ argument_word (codes "SCRIPT") rows)
     × IsNumberOf 32 (codes "ring") rows ring
 IsReadFrom name rows (Script capture timed) = is_named name (codes "script")
-    × (capture.now ≡ word_of (codes "CAPTURE") rows)
-    × (timed.now ≡ word_of (codes "TIMED") rows)
+    × (capture.now ≡ argument_word (codes "CAPTURE") rows)
+    × (timed.now ≡ argument_word (codes "TIMED") rows)
 IsReadFrom name rows (Compare first second) = is_named name (codes "compare")
-    × (first.now ≡ word_of (codes "FIRST") rows)
-    × (second.now ≡ word_of (codes "SECOND") rows)
+    × (first.now ≡ argument_word (codes "FIRST") rows)
+    × (second.now ≡ argument_word (codes "SECOND") rows)
 IsReadFrom name rows (Flows report script) = is_named name (codes "flows")
-    × (report.now ≡ word_of (codes "REPORT") rows)
-    × (script.now ≡ word_of (codes "SCRIPT") rows)
+    × (report.now ≡ argument_word (codes "REPORT") rows)
+    × (script.now ≡ argument_word (codes "SCRIPT") rows)
 IsReadFrom name rows (Replay asked) = is_named name (codes "replay")
     × AreReplayFiles rows asked.files
     × AreReplayOptions rows asked.options
@@ -321,7 +321,7 @@ IsReadFrom name rows (Replay asked) = is_named name (codes "replay")
 abbrev pub IsAsked : Text → List Row → AskedWords → Type 0
 IsAsked name rows (Command settings) = IsReadFrom name rows settings
 IsAsked name rows (NoSuchFault word) = is_named name (codes "explain")
-    × (word.now ≡ word_of (codes "FAULT") rows)
+    × (word.now ≡ argument_word (codes "FAULT") rows)
     × SaysNone word.now
 IsAsked name rows ImageAndScript = is_named name (codes "replay") × IsTrue (are_both_given (codes "image") (codes "script") rows)
 IsAsked name rows ImageAndProgram = is_named name (codes "replay")
@@ -372,14 +372,14 @@ abbrev pub kind_of_mistake : Mistake → ErrorKind
 kind_of_mistake Memory = OutOfMemory
 kind_of_mistake mistake = ValueValidation
 
-abbrev pub kind_in : WordsFault → ErrorKind
-kind_in (Parser error) = kind_of error
-kind_in (UnknownFault word) = ValueValidation
-kind_in Both = ArgumentConflict
-kind_in TwoImages = ArgumentConflict
-kind_in UpdatesAlone = ArgumentConflict
-kind_in JournalsOfNone = ArgumentConflict
-kind_in (Update place mistake) = kind_of_mistake mistake
-kind_in (NoPart word) = ValueValidation
-kind_in LostAlone = ArgumentConflict
-kind_in (NoLoss word) = ValueValidation
+abbrev pub kind_of_fault : WordsFault → ErrorKind
+kind_of_fault (Parser error) = kind_of error
+kind_of_fault (UnknownFault word) = ValueValidation
+kind_of_fault Both = ArgumentConflict
+kind_of_fault TwoImages = ArgumentConflict
+kind_of_fault UpdatesAlone = ArgumentConflict
+kind_of_fault JournalsOfNone = ArgumentConflict
+kind_of_fault (Update place mistake) = kind_of_mistake mistake
+kind_of_fault (NoPart word) = ValueValidation
+kind_of_fault LostAlone = ArgumentConflict
+kind_of_fault (NoLoss word) = ValueValidation

@@ -7,14 +7,14 @@ ghost use Rattle.faults.specs.Explanations.{is_fault};
 ghost use Rattle.faults.specs.FaultTable.{IsRowOf};
 ghost use Rattle.clap.specs.Kinds.{FailsBy, IsAmong};
 ghost use Rattle.clap.specs.Walk.{first_of, texts};
-ghost use Rattle.map_updates.specs.UpdateWords.{IsWritten, IsMistaken};
+ghost use Rattle.map_updates.specs.UpdateWords.{IsWritten, AreMistakenWords};
 ghost use Rattle.clap.specs.Words.{Row, Text, fault_of, found_of, rows_of, subcommand_of};
 ghost use Rattle.command_line.specs.CommandLine.{program};
 ghost use Rattle.command_line.specs.Reading.{IsReadFrom, IsAsked, IsBadUpdate, IsCommand, IsSwitchOf, AreRunFiles, AreUpdates};
-ghost use Rattle.command_line.specs.Reading.{IsFirstName, IsName, Says, SaysNone, Writes};
+ghost use Rattle.command_line.specs.Reading.{IsFirstName, IsName, SaysFault, SaysNone, Writes};
 ghost use Rattle.command_line.specs.Reading.{AreReplayFiles, AreReplayOptions, AsksInVain, IsNumberOf, IsOfOneProgram, IsReadingOf};
-ghost use Rattle.command_line.specs.Reading.{are_both_given, are_updates_alone, either, has_journals, has_updates, kind_in, text_of, word_at};
-ghost use Rattle.command_line.specs.Reading.{word_of, words_of, AsksNoPart, IsLossAsked, IsPartAsked};
+ghost use Rattle.command_line.specs.Reading.{are_both_given, are_updates_alone, first_given, has_journals, has_updates, kind_of_fault, text_of, word_at};
+ghost use Rattle.command_line.specs.Reading.{argument_word, words_of, AsksNoPart, IsLossAsked, IsPartAsked};
 ghost use Rattle.clap.specs.declared.error.kind.ErrorKind.TheVariants.{DisplayHelp, DisplayVersion, OutOfMemory};
 
 use crate::commands::{DEFAULT_RING, Reading, ReplayFiles, ReplaySettings, RunFiles, Settings};
@@ -102,8 +102,8 @@ enum AskedWords<'a> {
 impl WordsFault<'_> {
     /// The status that the program ends with: 0 where help or the version was asked for, 2 for a mistake.
     pub fn status(&self) -> u8
-        ensures shown { (kind_in self.now ≡ DisplayHelp) ⊎ (kind_in self.now ≡ DisplayVersion) → result ≡ 0 }
-        ensures mistake { (kind_in self.now ≢ DisplayHelp) → (kind_in self.now ≢ DisplayVersion) → result ≡ 2 }
+        ensures shown { (kind_of_fault self.now ≡ DisplayHelp) ⊎ (kind_of_fault self.now ≡ DisplayVersion) → result ≡ 0 }
+        ensures mistake { (kind_of_fault self.now ≢ DisplayHelp) → (kind_of_fault self.now ≢ DisplayVersion) → result ≡ 2 }
     {
         match self {
             WordsFault::Parser(error) => { if error.use_stderr() { 2 } else { 0 } }
@@ -169,8 +169,8 @@ pub fn settings<'a, S: AsStr>(alloc: Global, words: &'a [S]) -> Result<Settings<
     ensures found { IfOk result (λ settings. (name : Text) × (rows : List Row)
         × (subcommand_of program (map S.text words.entry.now) ≡ Some (name, rows)) × IsReadFrom name rows settings) }
     ensures faultless { IfOk result (λ _. fault_of program (map S.text words.entry.now) ≡ []) }
-    ensures faulty { IfErr result (λ fault. (kind_in fault ≡ OutOfMemory)
-        ⊎ IsAmong (kind_in fault) (fault_of program (map S.text words.entry.now))
+    ensures faulty { IfErr result (λ fault. (kind_of_fault fault ≡ OutOfMemory)
+        ⊎ IsAmong (kind_of_fault fault) (fault_of program (map S.text words.entry.now))
         ⊎ ((name : Text) × (rows : List Row) × (subcommand_of program (map S.text words.entry.now) ≡ Some (name, rows))
         × AsksInVain name rows fault)) }
 {
@@ -249,7 +249,7 @@ fn explain_of<'a>(found: &ArgMatches<'a>) -> AskedWords<'a>
 /// The fault that a word says, by its number or by its name.
 fn fault_said(word: &str) -> Option<Explanation>
     ensures { MatchOption result (SaysNone word.now) (λ about.
-        Says word.now about.number × IsRowOf about.number about × (is_fault about.number ≡ true)) }
+        SaysFault word.now about.number × IsRowOf about.number about × (is_fault about.number ≡ true)) }
 {
     match fault_numbered(word) {
         Some(about) => Some(about),
@@ -474,7 +474,7 @@ fn are_both_given(found: &ArgMatches<'_>, one: &str, other: &str) -> bool
 
 /// The first of two options that is given, if one is.
 fn either<'a>(one: Option<&'a str>, other: Option<&'a str>) -> Option<&'a str>
-    ensures { text_of result ≡ either (text_of one.entry) (text_of other.entry) }
+    ensures { text_of result ≡ first_given (text_of one.entry) (text_of other.entry) }
 {
     match one {
         Some(word) => Some(word),
@@ -674,7 +674,7 @@ fn update_at(alloc: Global, words: &[&str], place: usize) -> Result<MapUpdate, M
     requires { place < length words.now / 3 }
     ensures read { IfOk result (IsWritten (word_at (texts words.now) (3 * place))
         (word_at (texts words.now) (3 * place + 1)) (word_at (texts words.now) (3 * place + 2))) }
-    ensures mistaken { IfErr result (IsMistaken (word_at (texts words.now) (3 * place))
+    ensures mistaken { IfErr result (AreMistakenWords (word_at (texts words.now) (3 * place))
         (word_at (texts words.now) (3 * place + 1)) (word_at (texts words.now) (3 * place + 2))) }
 {
     let first = 3 * place;
@@ -705,7 +705,7 @@ fn run_files_of<'a>(found: &ArgMatches<'a>) -> RunFiles<'a>
 
 /// The word of a required argument.
 fn word<'a>(found: &ArgMatches<'a>, id: &str) -> &'a str
-    ensures { result.now ≡ word_of id.now (rows_of (found_of found.now)) }
+    ensures { result.now ≡ argument_word id.now (rows_of (found_of found.now)) }
 {
     found.get_str(id).unwrap_or("")
 }

@@ -6,7 +6,7 @@ use Rattle.std.specs.Str.{bytes_eq}
 use Rattle.std.specs.Cmp.Lexicographic.{bytes_decides, nat_list_eq_equiv}
 use Rattle.std.specs.Prelude.{count_by, fold, if◌then◌else◌, zero, suc}
 use Rattle.comparison.specs.Changes.{change_at}
-use Rattle.comparison.specs.Kinds.{HasNoZero, HasOneMore, count_of, how_many, one_if_same}
+use Rattle.comparison.specs.Kinds.{HasNoZero, HasOneMore, count_of, how_many_changed, one_if_same}
 
 module _ {Y : Type 0} {old new : BTreeMap (String Y) ℕ} {change : List ℕ} where
   -- setting a change's count to one more; each fact is proved by cases on whether the other change is this one
@@ -47,7 +47,7 @@ one_at_most false = omega arith
 abbrev pub AreCounted : {Y : Type 0} → List (List ℕ) → List (List ℕ) → List ℕ → BTreeMap (String Y) ℕ → ℕ → Type 0
 AreCounted first second places table index =
     HasNoZero table × ((change : List ℕ) →
-    (count_of table change ≡ how_many first second change (take index places)) × (count_of table change ≤ index))
+    (count_of table change ≡ how_many_changed first second change (take index places)) × (count_of table change ≤ index))
 
 module _ {Y : Type 0} (first second : List (List ℕ)) (places : List ℕ) (old new : BTreeMap (String Y) ℕ) where
   -- one record more

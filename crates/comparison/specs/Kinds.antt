@@ -11,8 +11,8 @@ abbrev pub one_if_same : List ℕ → List ℕ → ℕ
 one_if_same first second = if bytes_eq first second then 1 else 0
 
 -- how many of the records at these places are changed so
-abbrev pub how_many : List (List ℕ) → List (List ℕ) → List ℕ → List ℕ → ℕ
-how_many first second change places = count_by (λ place. bytes_eq change (change_at first second place)) places
+abbrev pub how_many_changed : List (List ℕ) → List (List ℕ) → List ℕ → List ℕ → ℕ
+how_many_changed first second change places = count_by (λ place. bytes_eq change (change_at first second place)) places
 
 module _ {Y : Type 0} where
   -- the number that a table has for a kind, and 0 for a kind that is not listed
@@ -31,7 +31,7 @@ module _ {Y : Type 0} where
   -- a table with the kinds of the records at these places, each once, with how many they are
   pub record IsTableOf (first second : List (List ℕ)) (places : List ℕ) (table : BTreeMap (String Y) ℕ) : Type 0 where
     pub no_zero : HasNoZero table
-    pub counts : (change : List ℕ) → count_of table change ≡ how_many first second change places
+    pub counts : (change : List ℕ) → count_of table change ≡ how_many_changed first second change places
 
   -- the kinds of a table, the most frequent first
   pub record IsByCount (table : BTreeMap (String Y) ℕ) (kinds : List (String Y × ℕ)) : Type 0 where

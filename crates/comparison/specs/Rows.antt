@@ -14,12 +14,12 @@ abbrev pub head_line : List ℕ
 head_line = codes "number,moment,worker,verdict,steps,case,backend,address,source,source_port,destination,destination_port,protocol\n"
 
 -- the parts of a text between marks
-abbrev pub parts_at : ℕ → List ℕ → List (List ℕ)
-parts_at mark text = slice_split (λ b. b == mark) text
+abbrev pub parts_between : ℕ → List ℕ → List (List ℕ)
+parts_between mark text = slice_split (λ b. b == mark) text
 
 -- the parts of a text between its line feeds
 abbrev pub lines_of : List ℕ → List (List ℕ)
-lines_of text = parts_at 10 text
+lines_of text = parts_between 10 text
 
 -- the lines that a line feed ends, and what comes behind the last line feed
 abbrev pub ended_lines : List (List ℕ) → List (List ℕ)

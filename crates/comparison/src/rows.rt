@@ -2,7 +2,7 @@
 
 ghost use Rattle.std.specs.Prelude.{◌≡◌, ◌≢◌, ◌<◌, ◌++◌, ℕ, List, IfErr, IfNone, IfOk, IfSome, false, map, true};
 ghost use Rattle.comparison.specs.Rows.{BeginsAsJson, IsReport, IsRowCount, IsUnread, field, fields_from, first_field, head_line, is_row};
-ghost use Rattle.comparison.specs.Rows.{ended_lines, last_line, later_fields, parts_at, row_at};
+ghost use Rattle.comparison.specs.Rows.{ended_lines, last_line, later_fields, parts_between, row_at};
 
 use crate::fault::{Unlike, Which};
 use std::alloc::{AllocError, Global};
@@ -60,7 +60,7 @@ pub fn field(line: &str, place: usize) -> &str
 /// The parts of a text between marks.
 pub fn parts_at(alloc: Global, text: &str, mark: char) -> Result<Vec<&str>, AllocError>
     requires { mark < 128 }
-    ensures { IfOk result (λ parts. map (λ part. part.now) parts.items ≡ parts_at mark text.now) }
+    ensures { IfOk result (λ parts. map (λ part. part.now) parts.items ≡ parts_between mark text.now) }
 {
     text.split(mark).collect(alloc)
 }

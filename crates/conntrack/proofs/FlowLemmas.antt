@@ -18,7 +18,7 @@ use Rattle.conntrack.specs.declared.choosing.Assigned.{Assigned}
 use Rattle.conntrack.specs.declared.choosing.Records.{Records}
 use Rattle.conntrack.specs.declared.choosing.Choice.{Choice}
 use Rattle.conntrack.specs.declared.choosing.Choice.TheVariants as C
-use Rattle.conntrack.specs.Layouts.{vip_of, flow_of, backend_of, tunnel_of, service_of, service_key}
+use Rattle.conntrack.specs.Layouts.{vip_of, flow_record_of, backend_of, tunnel_of, service_of, service_key}
 use Rattle.conntrack.specs.SteeringRule.{fits_tunnel, tracked_choice, ring_choice}
 use Rattle.conntrack.specs.Steering.{SteeringSizes, steering, ending, choice_in, has_flow, service_bytes_of, read_service, read_tunnel}
 use Rattle.conntrack.specs.Steering.{read_note, read_slot, read_backend, unless_tracked, finish, no_records, record_of, read}
@@ -65,7 +65,7 @@ on_state sizes frame vip cell state =
 abbrev on_note : SteeringSizes → FrameView → VipRecord → TunnelRecord → Plan
 on_note sizes frame vip tunnel =
     record_of sizes Flows (flow_bytes_of frame.bytes)
-    (λ word. read_backend sizes (flow_of (bytes_of_number 8 word)).backend (λ assigned.
+    (λ word. read_backend sizes (flow_record_of (bytes_of_number 8 word)).backend (λ assigned.
     unless_tracked sizes frame (records_of vip tunnel (Some assigned)) (tracked_choice vip (records_of vip tunnel (Some assigned)))))
     (read_slot sizes frame (records_of vip tunnel None))
 
@@ -76,7 +76,7 @@ goes_on : (sizes : SteeringSizes) (frame : FrameView) (number : ℕ) (backend : 
 goes_on sizes frame number backend tunnel replies flow fits ready up finds =
     let vip : VipRecord = vip_of (bytes_of_number 8 finds.flags) in
     let set : TunnelRecord = tunnel_of (bytes_of_number 8 finds.source ++ (bytes_of_number 8 finds.macs ++ bytes_of_number 8 finds.state)) in
-    let note : ℕ = (flow_of (bytes_of_number 8 finds.note)).backend in
+    let note : ℕ = (flow_record_of (bytes_of_number 8 finds.note)).backend in
     let target : BackendRecord = backend_of (bytes_of_number 8 finds.word) in
     let ready_set : set.is_ready ≡ true = ap (λ (t : TunnelRecord). t.is_ready) (sym finds.tunnel_is) ∙ ready in
     let up_target : target.is_up ≡ true = ap (λ (b : BackendRecord). b.is_up) (sym finds.backend_is) ∙ up in

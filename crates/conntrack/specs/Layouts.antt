@@ -55,8 +55,8 @@ tunnel_bytes tunnel =
 -- ---- what bytes say
 
 -- the number in four bytes from a place on
-abbrev pub word_at : ℕ → List ℕ → ℕ
-word_at place bytes = number_of_bytes (take 4 (drop place bytes))
+abbrev pub record_word_at : ℕ → List ℕ → ℕ
+record_word_at place bytes = number_of_bytes (take 4 (drop place bytes))
 
 abbrev pub part_of : ℕ → ℕ → List ℕ → List ℕ
 part_of place count bytes = take count (drop place bytes)
@@ -64,23 +64,23 @@ part_of place count bytes = take count (drop place bytes)
 abbrev pub vip_of : List ℕ → VipRecord
 vip_of bytes = record { is_notrack = slice_index bytes 0 % 2 == 1 }
 
-abbrev pub flow_of : List ℕ → FlowRecord
-flow_of bytes = record { backend = word_at 0 bytes }
+abbrev pub flow_record_of : List ℕ → FlowRecord
+flow_record_of bytes = record { backend = record_word_at 0 bytes }
 
 abbrev pub owner_of : ℕ → Option ℕ
 owner_of zero = None
 owner_of (suc number) = Some number
 
 abbrev pub ring_of : List ℕ → RingRecord
-ring_of bytes = record { owner = owner_of (word_at 0 bytes) }
+ring_of bytes = record { owner = owner_of (record_word_at 0 bytes) }
 
 abbrev pub backend_of : List ℕ → BackendRecord
-backend_of bytes = record { address = record { 0 = part_of 0 4 bytes }; is_up = word_at 4 bytes == 1 }
+backend_of bytes = record { address = record { 0 = part_of 0 4 bytes }; is_up = record_word_at 4 bytes == 1 }
 
 abbrev pub tunnel_of : List ℕ → TunnelRecord
 tunnel_of bytes = record {
   source = record { 0 = part_of 0 4 bytes };
   source_mac = record { 0 = part_of 4 6 bytes };
   destination_mac = record { 0 = part_of 10 6 bytes };
-  is_ready = word_at 16 bytes == 1;
+  is_ready = record_word_at 16 bytes == 1;
 }

@@ -22,7 +22,7 @@ use Rattle.conntrack.specs.declared.records.VipRecord.{VipRecord}
 use Rattle.conntrack.specs.declared.choosing.Records.{Records}
 use Rattle.conntrack.specs.declared.choosing.Choice.{Choice}
 use Rattle.conntrack.specs.SteeringRule.{IsSteered, fits_tunnel, is_set_up, flow_update, frame_after, verdict_of_choice}
-use Rattle.conntrack.specs.Steering.{SteeringSizes, shard_of, has_flow, count_call}
+use Rattle.conntrack.specs.Steering.{SteeringSizes, steering_shard, has_flow, count_call}
 
 -- ---- changes of the maps
 
@@ -39,7 +39,7 @@ changes_in (exchange ∷ later) = change_of exchange.call ++ changes_in later
 -- the note of the chosen backend, made with the flag ANY
 abbrev pub note_call : SteeringSizes → Option (List ℕ × List ℕ) → List Call
 note_call sizes None = []
-note_call sizes (Some note) = Update (shard_of sizes Flows note.0) note.0 note.1 (flags_number Any) ∷ []
+note_call sizes (Some note) = Update (steering_shard sizes Flows note.0) note.0 note.1 (flags_number Any) ∷ []
 
 -- ---- the verdict's count
 
@@ -47,7 +47,7 @@ abbrev pub count_key : Verdict → List ℕ
 count_key verdict = bytes_of_number 4 (verdict_number verdict)
 
 abbrev pub count_lookup : SteeringSizes → Verdict → Call
-count_lookup sizes verdict = Lookup (shard_of sizes Stats (count_key verdict)) (count_key verdict)
+count_lookup sizes verdict = Lookup (steering_shard sizes Stats (count_key verdict)) (count_key verdict)
 
 -- the verdict's count is looked up, and one is added to it
 pub record IsRaised (sizes : SteeringSizes) (verdict : Verdict) (exchanges : List Exchange) : Type 0 where

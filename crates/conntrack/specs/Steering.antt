@@ -30,7 +30,7 @@ use Rattle.conntrack.specs.declared.choosing.Assigned.{Assigned}
 use Rattle.conntrack.specs.declared.choosing.Records.{Records}
 use Rattle.conntrack.specs.declared.choosing.Choice.{Choice}
 use Rattle.conntrack.specs.declared.choosing.Choice.TheVariants.{Pass}
-use Rattle.conntrack.specs.Layouts.{vip_of, flow_of, backend_of, tunnel_of, owner_of}
+use Rattle.conntrack.specs.Layouts.{vip_of, flow_record_of, backend_of, tunnel_of, owner_of}
 use Rattle.conntrack.specs.SteeringMaps.{map_place, map_kind}
 use Rattle.conntrack.specs.SteeringRule.{choice_for_service, tracked_choice, fits_tunnel, flow_update, frame_after, verdict_of_choice}
 use Rattle.block_runs.specs.Plan.{Plan, Asks, Ends, either}
@@ -43,8 +43,8 @@ pub record SteeringSizes : Type 0 where
 -- ---- calls on the maps
 
 -- the number of the shard that has a key
-abbrev pub shard_of : SteeringSizes → SteeringMap → List ℕ → ℕ
-shard_of sizes map key = shard_of_key (map_place map) (map_kind map) sizes.shards key
+abbrev pub steering_shard : SteeringSizes → SteeringMap → List ℕ → ℕ
+steering_shard sizes map key = shard_of_key (map_place map) (map_kind map) sizes.shards key
 
 -- a lookup: the plan goes on with the cell that was found, or without one
 abbrev pub found_or : (CellRef → Plan) → Plan → Reply → Plan
@@ -52,7 +52,7 @@ found_or found absent (Cell cell) = found cell
 found_or found absent reply = absent
 
 abbrev pub look : SteeringSizes → SteeringMap → List ℕ → (CellRef → Plan) → Plan → Plan
-look sizes map key found absent = Asks (Lookup (shard_of sizes map key) key) (found_or found absent)
+look sizes map key found absent = Asks (Lookup (steering_shard sizes map key) key) (found_or found absent)
 
 abbrev pub read : CellRef → ℕ → ℕ → (ℕ → Plan) → Plan
 read cell offset size on = Asks (Load cell offset size) (λ reply. on (word_in reply))
@@ -81,8 +81,8 @@ abbrev pub count_call : CellRef → Call
 count_call cell = Atomic cell 0 8 0 1 0
 
 -- the verdict's count is raised by one, and the run ends
-abbrev pub counted : SteeringSizes → Verdict → FrameView → Plan
-counted sizes verdict frame =
+abbrev pub counted_end : SteeringSizes → Verdict → FrameView → Plan
+counted_end sizes verdict frame =
     look sizes Stats (bytes_of_number 4 (verdict_number verdict))
     (λ cell. Asks (count_call cell) (λ reply. Ends verdict frame)) (Ends verdict frame)
 
@@ -93,12 +93,12 @@ choice_in frame records = if has_flow frame then choice_for_service (fits_tunnel
 -- the chosen backend is noted for the flow, where the rule says so
 abbrev pub noting : SteeringSizes → Option (List ℕ × List ℕ) → Plan → Plan
 noting sizes None onward = onward
-noting sizes (Some note) onward = Asks (Update (shard_of sizes Flows note.0) note.0 note.1 (flags_number Any)) (λ reply. onward)
+noting sizes (Some note) onward = Asks (Update (steering_shard sizes Flows note.0) note.0 note.1 (flags_number Any)) (λ reply. onward)
 
 -- a choice carried out: the note, the verdict's count, the verdict and the frame
 abbrev pub ending : SteeringSizes → FrameView → Option TunnelRecord → Choice → Plan
 ending sizes frame tunnel choice =
-    noting sizes (flow_update frame.bytes choice) (counted sizes (verdict_of_choice choice) (frame_after tunnel choice frame))
+    noting sizes (flow_update frame.bytes choice) (counted_end sizes (verdict_of_choice choice) (frame_after tunnel choice frame))
 
 abbrev pub finish : SteeringSizes → FrameView → Records → Plan
 finish sizes frame records = ending sizes frame records.tunnel (choice_in frame.bytes records)
@@ -136,7 +136,7 @@ abbrev pub read_note : SteeringSizes → FrameView → VipRecord → Records →
 read_note sizes frame vip records =
     either vip.is_notrack (read_slot sizes frame records)
     (record_of sizes Flows (flow_bytes_of frame.bytes)
-    (λ word. read_backend sizes (flow_of (bytes_of_number 8 word)).backend (λ assigned.
+    (λ word. read_backend sizes (flow_record_of (bytes_of_number 8 word)).backend (λ assigned.
     unless_tracked sizes frame (record records { tracked = Some assigned })
     (tracked_choice vip (record records { tracked = Some assigned }))))
     (read_slot sizes frame records))

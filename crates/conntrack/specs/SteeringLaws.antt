@@ -18,14 +18,14 @@ use Rattle.conntrack.specs.declared.records.BackendRecord.{BackendRecord}
 use Rattle.conntrack.specs.declared.records.TunnelRecord.{TunnelRecord}
 use Rattle.conntrack.specs.declared.choosing.Records.{Records}
 use Rattle.conntrack.specs.declared.choosing.Choice.TheVariants.{Tx}
-use Rattle.conntrack.specs.Layouts.{service_of, service_key, vip_of, flow_of, backend_of, tunnel_of}
+use Rattle.conntrack.specs.Layouts.{service_of, service_key, vip_of, flow_record_of, backend_of, tunnel_of}
 use Rattle.conntrack.specs.SteeringRule.{IsSteered, fits_tunnel}
 use Rattle.conntrack.specs.Steering.{SteeringSizes, steering, ending, choice_in, service_bytes_of}
 use Rattle.conntrack.specs.Results.{IsResult, count_lookup}
 
 -- the plan chooses by the records that it has read as the rule does, for every frame and all records
-abbrev pub FollowsRule : Type 0
-FollowsRule = (frame : List ℕ) (records : Records) → IsSteered frame records (choice_in frame records)
+abbrev pub PlanFollowsRule : Type 0
+PlanFollowsRule = (frame : List ℕ) (records : Records) → IsSteered frame records (choice_in frame records)
 
 -- the service is looked up under the key of the frame's flow
 abbrev pub AsksForTheService : Type 0
@@ -43,7 +43,7 @@ FinishedRunsAreResults =
 -- ---- wrong counts
 
 -- the call is among the exchanges
-pub record Asked (call : Call) (exchanges : List Exchange) : Type 0 where
+pub record IsAskedAmong (call : Call) (exchanges : List Exchange) : Type 0 where
   pub front : List Exchange
   pub reply : Reply
   pub back : List Exchange
@@ -53,14 +53,14 @@ pub record Asked (call : Call) (exchanges : List Exchange) : Type 0 where
 abbrev pub UncountedRunsAreNoResults : Type 0
 UncountedRunsAreNoResults =
     (sizes : SteeringSizes) (frame : FrameView) (exchanges : List Exchange) (verdict : Verdict) (left : FrameView) →
-    ¬ Asked (count_lookup sizes verdict) exchanges → ¬ IsResult sizes frame exchanges verdict left
+    ¬ IsAskedAmong (count_lookup sizes verdict) exchanges → ¬ IsResult sizes frame exchanges verdict left
 
 -- nor is a run that stores, as one that counts by a Load and a Store
 abbrev pub StoringRunsAreNoResults : Type 0
 StoringRunsAreNoResults =
     (sizes : SteeringSizes) (frame : FrameView) (exchanges : List Exchange) (verdict : Verdict) (left : FrameView)
     (cell : CellRef) (offset size value : ℕ) →
-    Asked (Store cell offset size value) exchanges → ¬ IsResult sizes frame exchanges verdict left
+    IsAskedAmong (Store cell offset size value) exchanges → ¬ IsResult sizes frame exchanges verdict left
 
 -- ---- sticky flows
 
@@ -85,7 +85,7 @@ pub record FindsNote (tunnel : TunnelRecord) (number : ℕ) (backend : BackendRe
       ∷ Cell backend_cell ∷ Word word ∷ []
   pub is_tracked : (vip_of (bytes_of_number 8 flags)).is_notrack ≡ false
   pub tunnel_is : tunnel ≡ tunnel_of (bytes_of_number 8 source ++ (bytes_of_number 8 macs ++ bytes_of_number 8 state))
-  pub number_is : number ≡ (flow_of (bytes_of_number 8 note)).backend
+  pub number_is : number ≡ (flow_record_of (bytes_of_number 8 note)).backend
   pub backend_is : backend ≡ backend_of (bytes_of_number 8 word)
 
 -- a run that gets past the guards and finds a backend that is up noted for its flow sends the frame to that backend, and does not change

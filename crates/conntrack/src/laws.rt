@@ -1,12 +1,12 @@
 //! What holds of the steering rule as a plan, as contracts of functions that do nothing.
 
-ghost use Rattle.conntrack.specs.SteeringLaws.{FollowsRule, AsksForTheService, FinishedRunsAreResults, FlowsStick};
+ghost use Rattle.conntrack.specs.SteeringLaws.{PlanFollowsRule, AsksForTheService, FinishedRunsAreResults, FlowsStick};
 ghost use Rattle.conntrack.specs.SteeringLaws.{UncountedRunsAreNoResults, StoringRunsAreNoResults};
 
 /// The plan of reading chooses by the rule that `choose` follows, for every frame and all records; it looks the service up under the key
 /// of the frame's flow.
 pub fn reads_follow_the_rule()
-    ensures rule { FollowsRule }
+    ensures rule { PlanFollowsRule }
     ensures service { AsksForTheService }
 {}
 

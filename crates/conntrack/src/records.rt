@@ -3,7 +3,7 @@
 
 ghost use Rattle.std.specs.Prelude.{◌≡◌, ◌<◌, ◌^◌, ◌+◌, IfSome};
 ghost use Rattle.conntrack.specs.Layouts.{padded_word, flag_number, owner_word, vip_bytes, flow_bytes, ring_bytes, backend_bytes};
-ghost use Rattle.conntrack.specs.Layouts.{tunnel_bytes, vip_of, flow_of, ring_of, backend_of, tunnel_of, word_at, owner_of};
+ghost use Rattle.conntrack.specs.Layouts.{tunnel_bytes, vip_of, flow_record_of, ring_of, backend_of, tunnel_of, record_word_at, owner_of};
 ghost use Rattle.semantics.specs.LittleEndian.{bytes_of_number};
 
 use wire::{Ipv4Address, MacAddress};
@@ -76,7 +76,7 @@ impl FlowRecord {
 
     /// What the bytes say.
     pub fn of(bytes: &[u8; 8]) -> FlowRecord
-        ensures { result ≡ flow_of bytes.now }
+        ensures { result ≡ flow_record_of bytes.now }
     {
         let [a, b, c, d, ..] = *bytes;
         FlowRecord {

@@ -11,7 +11,7 @@ use Rattle.control.specs.declared.command.Action.{Action}
 use Rattle.control.specs.declared.command.Action.TheVariants.{Vip, Up, Down, Gateway}
 use Rattle.control.specs.declared.command.Command.{Command}
 use Rattle.text_lines.specs.Digits.{hex_digit}
-use Rattle.control.specs.ScriptText.{AreBytes, ActionFits, CommandFits, address_text, hex_pair, colon_pair, mac_text, transport_text, notrack_text, vip_text, gateway_text, action_text, line_of}
+use Rattle.control.specs.ScriptText.{AreBytesOfLength, ActionFits, CommandFits, address_text, hex_pair, colon_pair, mac_text, transport_text, notrack_text, vip_text, gateway_text, action_text, script_line}
 
 wider : (low high low' high' b : ℕ) → low' ≤ low → high ≤ high' → within low high b ≡ true → within low' high' b ≡ true
 wider low high low' high' b before after a = grind (arith, nat_tests)
@@ -29,13 +29,13 @@ decimal_within n small =
     decimal_by_steps (λ m ds. all_bytes (within 48 58) ds ≡ true) (λ m lt. digit_within m lt)
     (λ m ds le a. all_append (within 48 58) ds ((48 + m % 10) ∷ []) a (digit_within (m % 10) (omega arith))) n small
 
-part_within : (bytes : List ℕ) → AreBytes 4 bytes → (place : ℕ) → place < 4 → all_bytes (within 46 58) (decimal (get_or bytes place 0)) ≡ true
+part_within : (bytes : List ℕ) → AreBytesOfLength 4 bytes → (place : ℕ) → place < 4 → all_bytes (within 46 58) (decimal (get_or bytes place 0)) ≡ true
 part_within bytes fits place lt =
     let small : get_or bytes place 0 < 256 = fits.each place lt in
     widen 48 58 46 58 (decimal (get_or bytes place 0)) (omega arith) (omega arith) (decimal_within (get_or bytes place 0) (omega arith))
 
 -- an address has digits and dots
-pub address_within : (bytes : List ℕ) → AreBytes 4 bytes → all_bytes (within 46 58) (address_text bytes) ≡ true
+pub address_within : (bytes : List ℕ) → AreBytesOfLength 4 bytes → all_bytes (within 46 58) (address_text bytes) ≡ true
 unfolding address_text
 address_within bytes fits =
     let p = within 46 58 in
@@ -57,7 +57,7 @@ colon_within : (byte : ℕ) → byte < 256 → all_bytes (within 48 103) (colon_
 colon_within byte lt = all_more (within 48 103) 58 (hex_pair byte) refl (pair_within byte lt)
 
 -- an Ethernet address has digits, letters and colons
-pub mac_within : (bytes : List ℕ) → AreBytes 6 bytes → all_bytes (within 48 103) (mac_text bytes) ≡ true
+pub mac_within : (bytes : List ℕ) → AreBytesOfLength 6 bytes → all_bytes (within 48 103) (mac_text bytes) ≡ true
 unfolding mac_text
 mac_within bytes fits =
     let p = within 48 103 in
@@ -89,20 +89,20 @@ spaced xs ys a b = all_append printed xs (32 ∷ ys) a (all_more printed 32 ys r
 decimal_printed : (n : ℕ) → n < 2 ^ 64 → all_bytes printed (decimal n) ≡ true
 decimal_printed n lt = widen 48 58 32 128 (decimal n) (omega arith) (omega arith) (decimal_within n lt)
 
-address_printed : (bytes : List ℕ) → AreBytes 4 bytes → all_bytes printed (address_text bytes) ≡ true
+address_printed : (bytes : List ℕ) → AreBytesOfLength 4 bytes → all_bytes printed (address_text bytes) ≡ true
 address_printed bytes fits = widen 46 58 32 128 (address_text bytes) (omega arith) (omega arith) (address_within bytes fits)
 
-mac_printed : (bytes : List ℕ) → AreBytes 6 bytes → all_bytes printed (mac_text bytes) ≡ true
+mac_printed : (bytes : List ℕ) → AreBytesOfLength 6 bytes → all_bytes printed (mac_text bytes) ≡ true
 mac_printed bytes fits = widen 48 103 32 128 (mac_text bytes) (omega arith) (omega arith) (mac_within bytes fits)
 
-vip_printed : (service : Service) (is_notrack : Bool) → AreBytes 4 service.address.0 → service.port < 2 ^ 16 → all_bytes printed (vip_text service is_notrack) ≡ true
+vip_printed : (service : Service) (is_notrack : Bool) → AreBytesOfLength 4 service.address.0 → service.port < 2 ^ 16 → all_bytes printed (vip_text service is_notrack) ≡ true
 unfolding vip_text
 vip_printed service is_notrack address port =
     let ending = all_append printed (transport_text service.transport) (notrack_text is_notrack) (widen 33 128 32 128 (transport_text service.transport) (omega arith) (omega arith) (transport_within service.transport)) (notrack_within is_notrack) in
     spaced (address_text service.address.0) (decimal service.port ++ 32 ∷ (transport_text service.transport ++ notrack_text is_notrack)) (address_printed service.address.0 address)
     (spaced (decimal service.port) (transport_text service.transport ++ notrack_text is_notrack) (decimal_printed service.port (omega arith)) ending)
 
-gateway_printed : (source source_mac destination_mac : List ℕ) → AreBytes 4 source → AreBytes 6 source_mac → AreBytes 6 destination_mac → all_bytes printed (gateway_text source source_mac destination_mac) ≡ true
+gateway_printed : (source source_mac destination_mac : List ℕ) → AreBytesOfLength 4 source → AreBytesOfLength 6 source_mac → AreBytesOfLength 6 destination_mac → all_bytes printed (gateway_text source source_mac destination_mac) ≡ true
 unfolding gateway_text
 gateway_printed source source_mac destination_mac a b c =
     spaced (address_text source) (mac_text source_mac ++ 32 ∷ mac_text destination_mac) (address_printed source a) (spaced (mac_text source_mac) (mac_text destination_mac) (mac_printed source_mac b) (mac_printed destination_mac c))
@@ -114,6 +114,6 @@ action_printed (Up backend address) fits = spaced (decimal backend) (address_tex
 action_printed (Down backend) fits = decimal_printed backend (omega (arith, fits))
 action_printed (Gateway source source_mac destination_mac) fits = gateway_printed source.0 source_mac.0 destination_mac.0 fits.0 fits.1 fits.2
 
-pub line_printed : (command : Command) → CommandFits command → all_bytes (within 32 128) (line_of command) ≡ true
-unfolding line_of
+pub line_printed : (command : Command) → CommandFits command → all_bytes (within 32 128) (script_line command) ≡ true
+unfolding script_line
 line_printed command fits = spaced (decimal command.frame) (action_text command.action) (decimal_printed command.frame (omega (arith, fits.frame))) (action_printed command.action fits.action)

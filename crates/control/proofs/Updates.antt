@@ -10,7 +10,7 @@ use Rattle.control.specs.declared.update.Update.{Update}
 use Rattle.control.specs.declared.update.Update.TheVariants.{Vip, Ring, Backend, Tunnel}
 use Rattle.control.specs.declared.ring_changes.Slot.{Slot}
 use Rattle.control.specs.MapUpdates.{UpdateBytes, map_update, StandsInArray, IsInArray, AreMade, AreCutShort}
-use Rattle.control.specs.RingChanges.{is_same_owner, change_at, changes_below, slot_update, slot_updates, IsServedSlot}
+use Rattle.control.specs.RingChanges.{is_same_owner, slot_change, changes_below, slot_update, slot_updates, IsServedSlot}
 use Rattle.control.specs.Controlling.{ControllerState, IsTable, IsCarriedOut, IsStopped}
 
 -- four bytes give back a number of 32 bits
@@ -108,8 +108,8 @@ owner_below (owner ∷ owners) (suc place) all = owner_below owners place (λ k 
 pub served_slots : (size : ℕ) (old new : List ℕ) → size < 65538 → All (λ owner. owner < 256) new → (count : ℕ) → count ≤ size → All (IsServedSlot size) (changes_below old new count)
 served_slots size old new few numbers zero le = λ k d lt. absurd (omega arith)
 served_slots size old new few numbers (suc place) le =
-    All-append (IsServedSlot size) (changes_below old new place) (change_at old new place) (served_slots size old new few numbers place (omega arith)) (by_test (is_same_owner (slice_get old place) (slice_get new place)) refl) where
-      by_test : (t : Bool) → is_same_owner (slice_get old place) (slice_get new place) ≡ t → All (IsServedSlot size) (change_at old new place)
+    All-append (IsServedSlot size) (changes_below old new place) (slot_change old new place) (served_slots size old new few numbers place (omega arith)) (by_test (is_same_owner (slice_get old place) (slice_get new place)) refl) where
+      by_test : (t : Bool) → is_same_owner (slice_get old place) (slice_get new place) ≡ t → All (IsServedSlot size) (slot_change old new place)
       by_test true is = rw is (λ k d lt. absurd (omega arith))
       by_test false is = rw is (All-cons (IsServedSlot size) (record { place = place; owner = slice_get new place }) [] (record { inside = omega arith; few = few; owner = owner_below new place numbers }) (λ k d lt. absurd (omega arith)))
 

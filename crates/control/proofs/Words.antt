@@ -11,7 +11,7 @@ use Rattle.control.specs.declared.command.Action.{Action}
 use Rattle.control.specs.declared.command.Action.TheVariants.{Vip, Up, Down, Gateway}
 use Rattle.text_lines.specs.Lines.{Lacks}
 use Rattle.text_lines.specs.Digits.{hex_digit}
-use Rattle.control.specs.ScriptText.{AreBytes, ActionFits, address_text, mac_text, transport_text, notrack_text, vip_text, gateway_text, action_text}
+use Rattle.control.specs.ScriptText.{AreBytesOfLength, ActionFits, address_text, mac_text, transport_text, notrack_text, vip_text, gateway_text, action_text}
 use Rattle.text_lines.proofs.shared.ByteLemmas.{all_bytes, within, lacks_from}
 use Rattle.control.proofs.Bytes.{decimal_within, address_within, mac_within, transport_within}
 
@@ -20,10 +20,10 @@ use Rattle.control.proofs.Bytes.{decimal_within, address_within, mac_within, tra
 pub decimal_lacks : (mark n : ℕ) → mark < 48 → n < 2 ^ 64 → Lacks mark (decimal n)
 decimal_lacks mark n low lt = lacks_from (within 48 58) mark (decimal n) (decimal_within n lt) (grind (arith, nat_tests))
 
-pub address_lacks : (bytes : List ℕ) → AreBytes 4 bytes → Lacks 32 (address_text bytes)
+pub address_lacks : (bytes : List ℕ) → AreBytesOfLength 4 bytes → Lacks 32 (address_text bytes)
 address_lacks bytes fits = lacks_from (within 46 58) 32 (address_text bytes) (address_within bytes fits) refl
 
-pub mac_lacks : (bytes : List ℕ) → AreBytes 6 bytes → Lacks 32 (mac_text bytes)
+pub mac_lacks : (bytes : List ℕ) → AreBytesOfLength 6 bytes → Lacks 32 (mac_text bytes)
 mac_lacks bytes fits = lacks_from (within 48 103) 32 (mac_text bytes) (mac_within bytes fits) refl
 
 pub transport_lacks : (transport : Transport) → Lacks 32 (transport_text transport)
@@ -95,7 +95,7 @@ vip_case text rest result cut reads (Down backend) fits is letter = absurd (omeg
 vip_case text rest result cut reads (Gateway source source_mac destination_mac) fits is letter = absurd (omega (arith, letter))
 
 pub up_case : (text rest : List ℕ) (result : Action) → ((more : List ℕ) → text ≡ codes "up " ++ more → rest ≡ more)
-    → ((backend : ℕ) (address : List ℕ) → backend < 2 ^ 32 → AreBytes 4 address → rest ≡ decimal backend ++ 32 ∷ address_text address → result ≡ Up backend (record { 0 = address }))
+    → ((backend : ℕ) (address : List ℕ) → backend < 2 ^ 32 → AreBytesOfLength 4 address → rest ≡ decimal backend ++ 32 ∷ address_text address → result ≡ Up backend (record { 0 = address }))
     → (action : Action) → ActionFits action → text ≡ action_text action → 117 ≡ first_letter action → result ≡ action
 unfolding action_text ActionFits
 up_case text rest result cut reads (Vip service is_notrack) fits is letter = absurd (omega (arith, letter))
@@ -113,7 +113,7 @@ down_case text rest number cut reads (Down backend) fits is letter = ap Down (re
 down_case text rest number cut reads (Gateway source source_mac destination_mac) fits is letter = absurd (omega (arith, letter))
 
 pub gateway_case : (text rest : List ℕ) (result : Action) → ((more : List ℕ) → text ≡ codes "gateway " ++ more → rest ≡ more)
-    → ((source source_mac destination_mac : List ℕ) → AreBytes 4 source → AreBytes 6 source_mac → AreBytes 6 destination_mac → rest ≡ gateway_text source source_mac destination_mac
+    → ((source source_mac destination_mac : List ℕ) → AreBytesOfLength 4 source → AreBytesOfLength 6 source_mac → AreBytesOfLength 6 destination_mac → rest ≡ gateway_text source source_mac destination_mac
     → result ≡ Gateway (record { 0 = source }) (record { 0 = source_mac }) (record { 0 = destination_mac }))
     → (letter : ℕ) → letter ≢ 118 → letter ≢ 117 → letter ≢ 100 → (action : Action) → ActionFits action → text ≡ action_text action → letter ≡ first_letter action → result ≡ action
 unfolding action_text ActionFits
@@ -125,7 +125,7 @@ gateway_case text rest result cut reads letter v u d (Gateway source source_mac 
 
 -- ---- bytes that a type holds
 
-pub four_fit : (a b c d : ℕ) → a < 256 → b < 256 → c < 256 → d < 256 → AreBytes 4 (a ∷ b ∷ c ∷ d ∷ [])
+pub four_fit : (a b c d : ℕ) → a < 256 → b < 256 → c < 256 → d < 256 → AreBytesOfLength 4 (a ∷ b ∷ c ∷ d ∷ [])
 four_fit a b c d x y z w = record { long = refl; each = each } where
   each : (place : ℕ) → place < 4 → get_or (a ∷ b ∷ c ∷ d ∷ []) place 0 < 256
   each zero lt = x
@@ -134,7 +134,7 @@ four_fit a b c d x y z w = record { long = refl; each = each } where
   each (suc (suc (suc zero))) lt = w
   each (suc (suc (suc (suc place)))) lt = absurd (omega arith)
 
-pub six_fit : (a b c d e f : ℕ) → a < 256 → b < 256 → c < 256 → d < 256 → e < 256 → f < 256 → AreBytes 6 (a ∷ b ∷ c ∷ d ∷ e ∷ f ∷ [])
+pub six_fit : (a b c d e f : ℕ) → a < 256 → b < 256 → c < 256 → d < 256 → e < 256 → f < 256 → AreBytesOfLength 6 (a ∷ b ∷ c ∷ d ∷ e ∷ f ∷ [])
 six_fit a b c d e f x y z w u v = record { long = refl; each = each } where
   each : (place : ℕ) → place < 6 → get_or (a ∷ b ∷ c ∷ d ∷ e ∷ f ∷ []) place 0 < 256
   each zero lt = x

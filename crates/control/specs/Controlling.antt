@@ -155,7 +155,7 @@ pub record IsUnchanged {P : Type 0} (state : ControllerState) (before : P) (stat
   pub port_is : after ≡ before
 
 -- the map of services gave this answer to the one update, and the controller is as it was
-pub record IsAnswered {P : Type 0} (gives : P → UpdateBytes → ℤ → P → Type 0) (state : ControllerState) (before : P)
+pub record IsServiceAnswered {P : Type 0} (gives : P → UpdateBytes → ℤ → P → Type 0) (state : ControllerState) (before : P)
     (firsts : List Update) (answer : ℤ)
     (state' : ControllerState) (after : P) : Type 0 where
   pub update : Update
@@ -172,7 +172,7 @@ IsLeft gives refuses state before action state' after UnknownBackend =
 IsLeft gives refuses state before action state' after BackendTwice =
     IsUnchanged state before state' after × (refusal_of state action ≡ Some BackendTwice)
 IsLeft gives refuses state before action state' after (Refused answer) =
-    IsAnswered gives state before (first_updates state.up action) answer state' after
+    IsServiceAnswered gives state before (first_updates state.up action) answer state' after
 IsLeft gives refuses state before action state' after JournalFull =
     (IsUnchanged state before state' after × (refusal_of state action ≡ Some JournalFull))
     ⊎ IsStopped gives refuses state before (first_updates state.up action) (up_after state.up action) state' after

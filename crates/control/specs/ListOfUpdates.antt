@@ -60,7 +60,7 @@ made_of state update = record {
 }
 
 -- the update is answered and noted
-pub record IsNoted (before : UpdateListState) (update : UpdateBytes) (answer : ℤ) (after : UpdateListState) : Type 0 where
+pub record IsUpdateNoted (before : UpdateListState) (update : UpdateBytes) (answer : ℤ) (after : UpdateListState) : Type 0 where
   pub answer_is : answer ≡ answer_if (is_taken before update)
   pub state_is : after ≡ record { maps = before.maps; room = before.room; made = before.made ++ made_of before update ∷ [] }
 

@@ -13,18 +13,18 @@ is_same_owner None (Some other) = false
 is_same_owner (Some owner) None = false
 
 -- this slot, where its owner changes; a table without owners has none anywhere
-abbrev pub change_at : List ℕ → List ℕ → ℕ → List Slot
-change_at old new place =
+abbrev pub slot_change : List ℕ → List ℕ → ℕ → List Slot
+slot_change old new place =
     if is_same_owner (slice_get old place) (slice_get new place) then [] else (record { place = place; owner = slice_get new place } ∷ [])
 
 -- the slots below this one whose owner changes, rising, each with its owner in the second table
 abbrev pub changes_below : List ℕ → List ℕ → ℕ → List Slot
 changes_below old new zero = []
-changes_below old new (suc place) = changes_below old new place ++ change_at old new place
+changes_below old new (suc place) = changes_below old new place ++ slot_change old new place
 
-abbrev pub option_list : Option Slot → List Slot
-option_list None = []
-option_list (Some slot) = slot ∷ []
+abbrev pub slot_list : Option Slot → List Slot
+slot_list None = []
+slot_list (Some slot) = slot ∷ []
 
 -- a slot of a table of this size, with an owner's number that can be kept as one more
 pub record IsServedSlot (size : ℕ) (slot : Slot) : Type 0 where

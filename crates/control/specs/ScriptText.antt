@@ -59,24 +59,24 @@ action_text (Down backend) = codes "down " ++ decimal backend
 action_text (Gateway source source_mac destination_mac) = codes "gateway " ++ gateway_text source.0 source_mac.0 destination_mac.0
 
 -- the line without its line feed
-unfoldable pub line_of : Command → List ℕ
-line_of command = decimal command.frame ++ 32 ∷ action_text command.action
+unfoldable pub script_line : Command → List ℕ
+script_line command = decimal command.frame ++ 32 ∷ action_text command.action
 
 abbrev pub script_text : List Command → List ℕ
-script_text commands = flat_map (λ command. ended (line_of command)) commands
+script_text commands = flat_map (λ command. ended (script_line command)) commands
 
 -- ---- which commands there are
 
 -- this many bytes
-pub record AreBytes (count : ℕ) (bytes : List ℕ) : Type 0 where
+pub record AreBytesOfLength (count : ℕ) (bytes : List ℕ) : Type 0 where
   pub long : length bytes ≡ count
   pub each : (place : ℕ) → place < count → slice_index bytes place < 256
 
 unfoldable pub ActionFits : Action → Type 0
-ActionFits (Vip service is_notrack) = AreBytes 4 service.address.0 × (service.port < 2 ^ 16)
-ActionFits (Up backend address) = (backend < 2 ^ 32) × AreBytes 4 address.0
+ActionFits (Vip service is_notrack) = AreBytesOfLength 4 service.address.0 × (service.port < 2 ^ 16)
+ActionFits (Up backend address) = (backend < 2 ^ 32) × AreBytesOfLength 4 address.0
 ActionFits (Down backend) = backend < 2 ^ 32
-ActionFits (Gateway source source_mac destination_mac) = AreBytes 4 source.0 × AreBytes 6 source_mac.0 × AreBytes 6 destination_mac.0
+ActionFits (Gateway source source_mac destination_mac) = AreBytesOfLength 4 source.0 × AreBytesOfLength 6 source_mac.0 × AreBytesOfLength 6 destination_mac.0
 
 -- each of its numbers fits its field
 pub record CommandFits (command : Command) : Type 0 where
@@ -86,7 +86,7 @@ pub record CommandFits (command : Command) : Type 0 where
 -- the line, without its line feed, is the command's
 pub record IsCommandLine (command : Command) (line : List ℕ) : Type 0 where
   pub fits : CommandFits command
-  pub spelled : line ≡ line_of command
+  pub spelled : line ≡ script_line command
 
 -- ---- scripts
 

@@ -11,7 +11,7 @@ ghost use Rattle.control.specs.declared.fault.ControlFault.TheVariants as faults
 ghost use Rattle.control.specs.MapUpdates.{map_update, StandsInArray, HasOwner};
 ghost use Rattle.control.specs.Controlling.{ControllerState, IsController, AreUp, IsTable, has_number, has_address};
 ghost use Rattle.control.specs.Controlling.{action_refusal, refusal_of, first_updates, up_after};
-ghost use Rattle.control.specs.Controlling.{IsCarriedOut, IsStopped, IsUnchanged, IsAnswered, IsLeft};
+ghost use Rattle.control.specs.Controlling.{IsCarriedOut, IsStopped, IsUnchanged, IsServiceAnswered, IsLeft};
 
 use crate::backends_up::{
     backend_of, is_address_up, is_number_up, owners, ring_of, with_backend, without_backend,

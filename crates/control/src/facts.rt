@@ -2,19 +2,19 @@
 
 ghost use Rattle.std.specs.Prelude.{◌<◌, ◌^◌};
 ghost use Rattle.std.specs.List.{AllByRecursion};
-ghost use Rattle.control.specs.ScriptText.{AreBytes, ActionFits, CommandFits, IsScriptText, NeverFalls, script_text};
+ghost use Rattle.control.specs.ScriptText.{AreBytesOfLength, ActionFits, CommandFits, IsScriptText, NeverFalls, script_text};
 
 use crate::command::{Action, Command, Script};
 use wire::{Ipv4Address, MacAddress};
 
 fn address_fits(address: Ipv4Address)
-    ensures { AreBytes 4 address.0 }
+    ensures { AreBytesOfLength 4 address.0 }
 {
     let [_a, _b, _c, _d] = address.0;
 }
 
 fn mac_fits(mac: MacAddress)
-    ensures { AreBytes 6 mac.0 }
+    ensures { AreBytesOfLength 6 mac.0 }
 {
     let [_a, _b, _c, _d, _e, _f] = mac.0;
 }

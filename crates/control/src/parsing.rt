@@ -7,7 +7,7 @@ ghost use Rattle.control.specs.declared.command.Command.{Command as Line};
 ghost use Rattle.control.specs.declared.fault.ControlFault.{ControlFault as Fault};
 ghost use Rattle.control.specs.declared.fault.ControlFault.TheVariants.{BadLine, Memory};
 ghost use Rattle.control.specs.ScriptText.{IsScriptText};
-ghost use Rattle.control.specs.ScriptReading.{TellsCommand, BeginsWithNoCommand, IsFirstCommand, AreRead, IsBadLine, Explains};
+ghost use Rattle.control.specs.ScriptReading.{TellsCommand, BeginsWithNoCommand, IsFirstCommand, AreCommandsRead, IsBadScriptLine, ExplainsScript};
 
 use crate::command::{Command, Script};
 use crate::facts::script_is_of_its_text;
@@ -45,7 +45,7 @@ fn first_command(alloc: Global, text: &str) -> Result<Option<(Command, &str)>, A
 
 /// The commands of as many first lines as are commands' with frames that never fall, and what comes after them.
 fn commands_of(alloc: Global, text: &str) -> Result<(Vec<Command>, &str), AllocError>
-    ensures { IfOk result (λ read. AreRead text.now read.0.items read.1.now) }
+    ensures { IfOk result (λ read. AreCommandsRead text.now read.0.items read.1.now) }
 {
     let mut commands = Vec::new(alloc);
     let mut rest = text;
@@ -74,7 +74,7 @@ fn bad_line_after(commands: &[Command]) -> ControlFault
 fn script_of(alloc: Global, text: &str) -> Result<Script, ControlFault>
     requires { IsUtf8 text.now }
     ensures found { IfOk result (λ script. IsScriptText text.now script) }
-    ensures refused { IfErr result (λ fault. Explains text.now fault) }
+    ensures refused { IfErr result (λ fault. ExplainsScript text.now fault) }
     ensures only { (script : List Line) → IsScriptText text.now script → IfOk result (λ made. made ≡ script) }
     ensures accepts { (script : List Line) → IsScriptText text.now script → IfErr result (λ fault. fault ≡ Memory) }
 {
@@ -94,7 +94,7 @@ fn script_of(alloc: Global, text: &str) -> Result<Script, ControlFault>
 pub fn parse_script(alloc: Global, bytes: &[u8]) -> Result<Script, ControlFault>
     // What is accepted prints back to the same bytes.
     ensures found { IfOk result (λ script. IsScriptText bytes.now script) }
-    ensures refused { IfErr result (λ fault. Explains bytes.now fault) }
+    ensures refused { IfErr result (λ fault. ExplainsScript bytes.now fault) }
     // Every text of the form is accepted, as the script whose text it is.
     ensures only { (script : List Line) → IsScriptText bytes.now script → IfOk result (λ made. made ≡ script) }
     ensures accepts { (script : List Line) → IsScriptText bytes.now script → IfErr result (λ fault. fault ≡ Memory) }

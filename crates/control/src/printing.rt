@@ -3,7 +3,7 @@
 ghost use Rattle.std.specs.Prelude.{◌≡◌, ◌++◌, ◌∷◌, ◌<◌, [], string_bytes, OnOk, IfOk};
 ghost use Rattle.std.specs.Fmt.{decimal};
 ghost use Rattle.control.specs.ScriptText.{address_text, hex_pair, colon_pair, mac_text, transport_text, notrack_text, vip_text};
-ghost use Rattle.control.specs.ScriptText.{gateway_text, action_text, line_of, script_text, IsCommandLine};
+ghost use Rattle.control.specs.ScriptText.{gateway_text, action_text, script_line, script_text, IsCommandLine};
 
 use crate::command::{Action, Command, Script};
 use crate::facts::command_fits;
@@ -164,9 +164,9 @@ fn put_action(alloc: Global, out: &mut String, action: Action) -> Result<(), All
 }
 
 /// Writes the line of a command, without a line feed.
-#[tactic(auto, unfolding(crate::specs::ScriptText::line_of))]
+#[tactic(auto, unfolding(crate::specs::ScriptText::script_line))]
 pub(crate) fn put_line(alloc: Global, out: &mut String, command: Command) -> Result<(), AllocError>
-    ensures { OnOk result (string_bytes out.new ≡ string_bytes out.old ++ line_of command) }
+    ensures { OnOk result (string_bytes out.new ≡ string_bytes out.old ++ script_line command) }
 {
     put_number(alloc, out, command.frame)?;
     out.push_str(" ")?;

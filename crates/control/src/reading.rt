@@ -8,7 +8,7 @@ ghost use Rattle.control.specs.declared.command.Action.{Action as Act};
 ghost use Rattle.control.specs.declared.command.Action.TheVariants as acts;
 ghost use Rattle.control.specs.declared.command.Command.{Command as Line};
 ghost use Rattle.text_lines.specs.Digits.{hex_digit};
-ghost use Rattle.control.specs.ScriptText.{AreBytes, ActionFits, IsCommandLine, address_text, mac_text, transport_text, notrack_text};
+ghost use Rattle.control.specs.ScriptText.{AreBytesOfLength, ActionFits, IsCommandLine, address_text, mac_text, transport_text, notrack_text};
 ghost use Rattle.control.specs.ScriptText.{vip_text, gateway_text, action_text};
 
 use crate::command::{Action, Command};
@@ -45,7 +45,7 @@ fn part_of(text: &str) -> u8
 }
 
 fn address_of(text: &str) -> Ipv4Address
-    ensures { (bytes : List ℕ) → AreBytes 4 bytes → text.now ≡ address_text bytes → result.0 ≡ bytes }
+    ensures { (bytes : List ℕ) → AreBytesOfLength 4 bytes → text.now ≡ address_text bytes → result.0 ≡ bytes }
 {
     let (a, others) = cut(text, '.');
     let (b, later) = cut(others, '.');
@@ -79,7 +79,7 @@ fn pair_at(bytes: &[u8], place: usize) -> u8
 }
 
 fn mac_of(text: &str) -> MacAddress
-    ensures { (bytes : List ℕ) → AreBytes 6 bytes → text.now ≡ mac_text bytes → result.0 ≡ bytes }
+    ensures { (bytes : List ℕ) → AreBytesOfLength 6 bytes → text.now ≡ mac_text bytes → result.0 ≡ bytes }
 {
     let letters = text.as_bytes();
     MacAddress([
@@ -127,7 +127,7 @@ fn vip_of(text: &str) -> Action
 }
 
 fn up_of(text: &str) -> Action
-    ensures { (backend : ℕ) (address : List ℕ) → backend < 2 ^ 32 → AreBytes 4 address →
+    ensures { (backend : ℕ) (address : List ℕ) → backend < 2 ^ 32 → AreBytesOfLength 4 address →
         text.now ≡ decimal backend ++ 32 ∷ address_text address
         → result ≡ acts.Up backend (record { 0 = address }) }
 {
@@ -139,7 +139,7 @@ fn up_of(text: &str) -> Action
 }
 
 fn gateway_of(text: &str) -> Action
-    ensures { (source source_mac destination_mac : List ℕ) → AreBytes 4 source → AreBytes 6 source_mac → AreBytes 6 destination_mac
+    ensures { (source source_mac destination_mac : List ℕ) → AreBytesOfLength 4 source → AreBytesOfLength 6 source_mac → AreBytesOfLength 6 destination_mac
         → text.now ≡ gateway_text source source_mac destination_mac
         → result ≡ acts.Gateway (record { 0 = source }) (record { 0 = source_mac }) (record { 0 = destination_mac }) }
 {

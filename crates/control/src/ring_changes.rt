@@ -1,7 +1,7 @@
 //! Which slots of the lookup table change hands.
 
 ghost use Rattle.std.specs.Prelude.{◌≡◌, length, slice_get, IfOk};
-ghost use Rattle.control.specs.RingChanges.{is_same_owner, change_at, changes_below, option_list};
+ghost use Rattle.control.specs.RingChanges.{is_same_owner, slot_change, changes_below, slot_list};
 
 use maglev::Ring;
 use std::alloc::{AllocError, Global};
@@ -33,7 +33,7 @@ fn owner_at(owners: &[u32], place: u32) -> Option<u32>
 
 /// The slot, if its owner changes.
 fn change_at(old: &[u32], new: &[u32], place: u32) -> Option<Slot>
-    ensures { option_list result ≡ change_at old.now new.now place }
+    ensures { slot_list result ≡ slot_change old.now new.now place }
 {
     let owner = owner_at(new, place);
     if is_same_owner(owner_at(old, place), owner) {

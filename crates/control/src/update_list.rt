@@ -4,7 +4,7 @@ ghost use Rattle.std.specs.Prelude.{◌≡◌, ◌+◌, ◌==◌, ◌&&◌, nat_
 ghost use Rattle.std.specs.List.{list_any};
 ghost use Rattle.semantics.specs.LittleEndian.{number_of_bytes};
 ghost use Rattle.control.specs.MapUpdates.{IsUpdateOf};
-ghost use Rattle.control.specs.ListOfUpdates.{is_new_in, is_known, is_taken_by, made_of, answer_if, IsNoted, IsWithoutRoom};
+ghost use Rattle.control.specs.ListOfUpdates.{is_new_in, is_known, is_taken_by, made_of, answer_if, IsUpdateNoted, IsWithoutRoom};
 
 use crate::update_port::UpdatePort;
 use ebpf_decode::{MapDef, MapKind};
@@ -110,7 +110,7 @@ impl UpdateList {
     /// Answers an update and notes it, if there is room.
     fn note(&mut self, map: u32, key: &Key, value: &Value) -> Result<i32, JournalFull>
         requires { IsUpdateOf self.old.maps (record { map = map; key = key.now; value = value.now }) }
-        ensures noted { IfOk result (λ answer. IsNoted self.old (record { map = map; key = key.now; value = value.now }) answer self.new) }
+        ensures noted { IfOk result (λ answer. IsUpdateNoted self.old (record { map = map; key = key.now; value = value.now }) answer self.new) }
         ensures no_room { OnErr result (IsWithoutRoom self.old self.new) }
     {
         let count = self.made.len();
@@ -143,12 +143,12 @@ impl UpdateList {
 }
 
 impl UpdatePort for UpdateList {
-    ghost use Rattle.control.specs.ListOfUpdates.{IsNoted, IsWithoutRoom};
-    ghost use Rattle.control.specs.ListLaws.{same_maps, still_maps, array_takes};
+    ghost use Rattle.control.specs.ListOfUpdates.{IsUpdateNoted, IsWithoutRoom};
+    ghost use Rattle.control.specs.ListLaws.{same_maps, still_maps, listed_array_takes};
 
     ghost serves = { λ list. list.maps };
 
-    ghost gives = { λ before update answer after. IsNoted before update answer after };
+    ghost gives = { λ before update answer after. IsUpdateNoted before update answer after };
 
     ghost refuses = { λ before update after. IsWithoutRoom before after };
 
@@ -156,7 +156,7 @@ impl UpdatePort for UpdateList {
 
     ghost stays = { λ before after update refused. still_maps before after refused };
 
-    ghost arrays_answer = { λ before after update answer stands noted. array_takes before update answer after stands noted };
+    ghost arrays_answer = { λ before after update answer stands noted. listed_array_takes before update answer after stands noted };
 
     fn update(&mut self, map: u32, key: &Key, value: &Value) -> Result<i32, JournalFull> {
         self.note(map, key, value)

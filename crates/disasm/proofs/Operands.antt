@@ -10,7 +10,7 @@ use Rattle.disasm.specs.declared.operand.Operands.{Operands}
 use Rattle.disasm.specs.declared.operand.Operands.TheVariants.{Zero, One, Two, Three}
 use Rattle.disasm.specs.AssemblyText.{register_text, with_sign, hex_digits, operand_text, list_text}
 use Rattle.text_lines.specs.Lines.{Lacks}
-use Rattle.disasm.specs.LineReading.{OperandFits, OperandsFit, as_read, AreRead}
+use Rattle.disasm.specs.LineReading.{OperandFits, OperandsFit, as_read, AreOperandsRead}
 use Rattle.text_lines.proofs.shared.ByteLemmas.{all_bytes, all_append, lacks_from, mid_passes}
 use Rattle.disasm.proofs.shared.Bytes.{word_byte, widen, signed_word, sign_word, widest_fits, far_fits, hex_word, register_word, register_tail}
 
@@ -111,8 +111,8 @@ pub operands_case : (list a more b c b_text c_text : List ℕ) (x y z : Operand)
     → ((xs ys : List ℕ) → more ≡ xs ++ 44 ∷ ys → Lacks 44 xs → (b ≡ xs) × (c ≡ ys)) → (Lacks 44 more → (b ≡ more) × (c ≡ []))
     → ((rest : List ℕ) → b ≡ 32 ∷ rest → b_text ≡ rest) → ((rest : List ℕ) → c ≡ 32 ∷ rest → c_text ≡ rest)
     → ((o : Operand) → OperandFits o → a ≡ operand_text o → x ≡ as_read o) → ((o : Operand) → OperandFits o → b_text ≡ operand_text o → y ≡ as_read o) → ((o : Operand) → OperandFits o → c_text ≡ operand_text o → z ≡ as_read o)
-    → (os : Operands) → OperandsFit os → list ≡ list_text os → AreRead os x y z
-unfolding list_text AreRead OperandsFit
+    → (os : Operands) → OperandsFit os → list ≡ list_text os → AreOperandsRead os x y z
+unfolding list_text AreOperandsRead OperandsFit
 operands_case list a more b c b_text c_text x y z cut whole cut_more whole_more after_b after_c read_x read_y read_z Zero fits is = tt
 operands_case list a more b c b_text c_text x y z cut whole cut_more whole_more after_b after_c read_x read_y read_z (One o) fits is =
     read_x o fits ((whole (rw is (lacks_comma o fits))).0 ∙ is)

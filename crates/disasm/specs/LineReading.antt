@@ -43,11 +43,11 @@ OperandsFit (Two a b) = OperandFits a × OperandFits b
 OperandsFit (Three a b c) = OperandFits a × OperandFits b × OperandFits c
 
 -- the operands that there are were read as these
-unfoldable pub AreRead : Operands → Operand → Operand → Operand → Type 0
-AreRead Zero x y z = Unit {0}
-AreRead (One a) x y z = x ≡ as_read a
-AreRead (Two a b) x y z = (x ≡ as_read a) × (y ≡ as_read b)
-AreRead (Three a b c) x y z = (x ≡ as_read a) × (y ≡ as_read b) × (z ≡ as_read c)
+unfoldable pub AreOperandsRead : Operands → Operand → Operand → Operand → Type 0
+AreOperandsRead Zero x y z = Unit {0}
+AreOperandsRead (One a) x y z = x ≡ as_read a
+AreOperandsRead (Two a b) x y z = (x ≡ as_read a) × (y ≡ as_read b)
+AreOperandsRead (Three a b c) x y z = (x ≡ as_read a) × (y ≡ as_read b) × (z ≡ as_read c)
 
 -- ---- what an operand returns, or zero
 
@@ -56,31 +56,31 @@ register_in (operands.Register r) = r
 register_in (operands.Place r offset) = r
 register_in o = R0
 
-abbrev pub number_in : Operand → ℤ
-number_in (operands.Number value) = value
-number_in o = pos 0
+abbrev pub operand_number : Operand → ℤ
+operand_number (operands.Number value) = value
+operand_number o = pos 0
 
-abbrev pub offset_in : Operand → ℤ
-offset_in (operands.Place r offset) = offset
-offset_in o = pos 0
+abbrev pub operand_offset : Operand → ℤ
+operand_offset (operands.Place r offset) = offset
+operand_offset o = pos 0
 
 abbrev pub wide_in : Operand → ℕ
 wide_in (operands.Wide value) = value
 wide_in o = 0
 
 -- a number that fits 32 bits, or zero
-abbrev pub word_in : ℤ → ℤ
-word_in (pos n) = if nat_lt n 0x8000_0000 then pos n else pos 0
-word_in (negsuc n) = if nat_lt n 0x8000_0000 then negsuc n else pos 0
+abbrev pub word_or_zero : ℤ → ℤ
+word_or_zero (pos n) = if nat_lt n 0x8000_0000 then pos n else pos 0
+word_or_zero (negsuc n) = if nat_lt n 0x8000_0000 then negsuc n else pos 0
 
 -- an unsigned number that fits 32 bits, or zero
-abbrev pub count_in : ℤ → ℕ
-count_in (pos n) = if nat_lt n 0x1_0000_0000 then n else 0
-count_in (negsuc n) = 0
+abbrev pub count_or_zero : ℤ → ℕ
+count_or_zero (pos n) = if nat_lt n 0x1_0000_0000 then n else 0
+count_or_zero (negsuc n) = 0
 
-abbrev pub source_in : Operand → SourceOperand
-source_in (operands.Register r) = Reg r
-source_in o = Imm (word_in (number_in o))
+abbrev pub operand_source : Operand → SourceOperand
+operand_source (operands.Register r) = Reg r
+operand_source o = Imm (word_or_zero (operand_number o))
 
 -- a number that fits 16 bits, or zero
 abbrev pub short_in : ℤ → ℤ
@@ -88,21 +88,21 @@ short_in (pos n) = if nat_lt n 32768 then pos n else pos 0
 short_in (negsuc n) = if nat_lt n 32768 then negsuc n else pos 0
 
 unfoldable pub insn_made : Head → Operand → Operand → Operand → Insn
-insn_made (Alu width op) x y z = insns.Alu width op (register_in x) (source_in y)
+insn_made (Alu width op) x y z = insns.Alu width op (register_in x) (operand_source y)
 insn_made (Neg width) x y z = insns.Neg width (register_in x)
 insn_made (Movsx extension) x y z = insns.Movsx extension (register_in x) (register_in y)
 insn_made (Movsx32 extension) x y z = insns.Movsx32 extension (register_in x) (register_in y)
 insn_made (End order swap_width) x y z = insns.End order swap_width (register_in x)
-insn_made Ja x y z = insns.Ja (short_in (number_in x))
-insn_made Ja32 x y z = insns.Ja32 (word_in (number_in x))
-insn_made (JumpIf width test) x y z = insns.JumpIf width test (register_in x) (source_in y) (short_in (number_in z))
-insn_made (Ldx size) x y z = insns.Ldx size (register_in x) (register_in y) (offset_in y)
-insn_made (Ldxs extension) x y z = insns.Ldxs extension (register_in x) (register_in y) (offset_in y)
-insn_made (St size) x y z = insns.St size (register_in x) (offset_in x) (word_in (number_in y))
-insn_made (Stx size) x y z = insns.Stx size (register_in x) (register_in y) (offset_in x)
-insn_made (Atomic width op) x y z = insns.AtomicUpdate width op (register_in x) (register_in y) (offset_in x)
+insn_made Ja x y z = insns.Ja (short_in (operand_number x))
+insn_made Ja32 x y z = insns.Ja32 (word_or_zero (operand_number x))
+insn_made (JumpIf width test) x y z = insns.JumpIf width test (register_in x) (operand_source y) (short_in (operand_number z))
+insn_made (Ldx size) x y z = insns.Ldx size (register_in x) (register_in y) (operand_offset y)
+insn_made (Ldxs extension) x y z = insns.Ldxs extension (register_in x) (register_in y) (operand_offset y)
+insn_made (St size) x y z = insns.St size (register_in x) (operand_offset x) (word_or_zero (operand_number y))
+insn_made (Stx size) x y z = insns.Stx size (register_in x) (register_in y) (operand_offset x)
+insn_made (Atomic width op) x y z = insns.AtomicUpdate width op (register_in x) (register_in y) (operand_offset x)
 insn_made Lddw x y z = insns.Lddw (register_in x) (wide_in y)
-insn_made Ldmap x y z = insns.Ldmap (register_in x) (word_in (number_in y))
-insn_made Ldval x y z = insns.Ldval (register_in x) (word_in (number_in y)) (count_in (number_in z))
-insn_made Call x y z = insns.CallHelper (word_in (number_in x))
+insn_made Ldmap x y z = insns.Ldmap (register_in x) (word_or_zero (operand_number y))
+insn_made Ldval x y z = insns.Ldval (register_in x) (word_or_zero (operand_number y)) (count_or_zero (operand_number z))
+insn_made Call x y z = insns.CallHelper (word_or_zero (operand_number x))
 insn_made Exit x y z = insns.Exit

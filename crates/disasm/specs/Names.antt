@@ -47,10 +47,10 @@ width_suffix Bits64 = []
 width_suffix Bits32 = codes "32"
 
 -- sign-extending moves
-abbrev pub extension_bits : Extension → List ℕ
-extension_bits I8 = codes "8"
-extension_bits I16 = codes "16"
-extension_bits I32 = codes "32"
+abbrev pub extension_bits_text : Extension → List ℕ
+extension_bits_text I8 = codes "8"
+extension_bits_text I16 = codes "16"
+extension_bits_text I32 = codes "32"
 
 -- in 32 bits
 abbrev pub short_bits : ShortExtension → List ℕ
@@ -63,10 +63,10 @@ order_name ToLittle = codes "le"
 order_name ToBig = codes "be"
 order_name Swapped = codes "swap"
 
-abbrev pub swap_bits : SwapWidth → List ℕ
-swap_bits Swap16 = codes "16"
-swap_bits Swap32 = codes "32"
-swap_bits Swap64 = codes "64"
+abbrev pub swap_bits_text : SwapWidth → List ℕ
+swap_bits_text Swap16 = codes "16"
+swap_bits_text Swap32 = codes "32"
+swap_bits_text Swap64 = codes "64"
 
 -- conditional jumps (section 4.3)
 abbrev pub test_name : Test → List ℕ
@@ -125,9 +125,9 @@ head_stem Exit = codes "exit"
 abbrev pub head_suffix : Head → List ℕ
 head_suffix (Alu width op) = width_suffix width
 head_suffix (Neg width) = width_suffix width
-head_suffix (Movsx extension) = extension_bits extension
+head_suffix (Movsx extension) = extension_bits_text extension
 head_suffix (Movsx32 extension) = short_bits extension
-head_suffix (End order swap_width) = swap_bits swap_width
+head_suffix (End order swap_width) = swap_bits_text swap_width
 head_suffix Ja32 = codes "32"
 head_suffix (JumpIf width test) = width_suffix width
 head_suffix (Ldx size) = size_letters size

@@ -37,8 +37,8 @@ BeginsWithNoMap text = (m : MapDef) (line more : List ℕ) → IsMapLine m line 
 abbrev pub IsKnownInstruction : Insn → Type 0
 IsKnownInstruction insn = TellsInstruction (line_of insn) (Some insn)
 
-abbrev pub IsKnownMap : MapDef → Type 0
-IsKnownMap m = TellsMap (map_line_of m) (Some m)
+abbrev pub IsMapOfText : MapDef → Type 0
+IsMapOfText m = TellsMap (map_line_of m) (Some m)
 
 -- the first line is this instruction's
 pub record IsFirstInstruction (text : List ℕ) (insn : Insn) (rest : List ℕ) : Type 0 where
@@ -46,7 +46,7 @@ pub record IsFirstInstruction (text : List ℕ) (insn : Insn) (rest : List ℕ) 
   pub text_is : text ≡ ended (line_of insn) ++ rest
 
 pub record IsFirstMap (text : List ℕ) (m : MapDef) (rest : List ℕ) : Type 0 where
-  pub known : IsKnownMap m
+  pub known : IsMapOfText m
   pub text_is : text ≡ ended (map_line_of m) ++ rest
 
 -- as many instructions' lines as there are, and the rest
@@ -56,14 +56,14 @@ pub record IsCodeRead (text : List ℕ) (code : List Insn) (rest : List ℕ) : T
   pub stops : BeginsWithNoInstruction rest
 
 pub record AreMapsRead (text : List ℕ) (maps : List MapDef) (rest : List ℕ) : Type 0 where
-  pub known : AllByRecursion IsKnownMap maps
+  pub known : AllByRecursion IsMapOfText maps
   pub text_is : text ≡ maps_text maps ++ rest
   pub stops : BeginsWithNoMap rest
 
 -- ---- a whole text
 
 -- after these lines of maps and these of instructions comes a line that is misspelled there
-pub record IsBadAfter (text : List ℕ) (line : ℕ) : Type 0 where
+pub record IsBadAfterParts (text : List ℕ) (line : ℕ) : Type 0 where
   pub version : Version
   pub maps : List MapDef
   pub code : List Insn
@@ -78,7 +78,7 @@ pub record IsBadAfter (text : List ℕ) (line : ℕ) : Type 0 where
 
 -- the line, counted from 1, is the first that is misspelled
 abbrev pub IsFirstBadLine : List ℕ → ℕ → Type 0
-IsFirstBadLine text line = ((line ≡ 1) × ((version : Version) (rest : List ℕ) → text ≢ version_text version ++ rest)) ⊎ IsBadAfter text line
+IsFirstBadLine text line = ((line ≡ 1) × ((version : Version) (rest : List ℕ) → text ≢ version_text version ++ rest)) ⊎ IsBadAfterParts text line
 
 -- all lines are spelled right, and spell parts that no image of the version has
 pub record IsFaultyText (text : List ℕ) (fault : DecodeFault) : Type 0 where
@@ -91,7 +91,7 @@ pub record IsFaultyText (text : List ℕ) (fault : DecodeFault) : Type 0 where
   pub fault_is : first_part_fault version maps code ≡ Some fault
 
 -- why the text spells no image
-abbrev pub Explains : List ℕ → AsmFault → Type 0
-Explains text (BadLine line) = IsFirstBadLine text line
-Explains text (Image fault) = IsFaultyText text fault
-Explains text Memory = Unit {0}
+abbrev pub ExplainsText : List ℕ → AsmFault → Type 0
+ExplainsText text (BadLine line) = IsFirstBadLine text line
+ExplainsText text (Image fault) = IsFaultyText text fault
+ExplainsText text Memory = Unit {0}

@@ -4,7 +4,7 @@ ghost use Rattle.std.specs.Prelude.{◌≡◌, ◌≢◌, ◌+◌, ◌++◌, ℕ
 ghost use Rattle.ebpf_decode.specs.ImageContents.{Contents};
 ghost use Rattle.ebpf_decode.specs.declared.version.Version.{Version as VersionName};
 ghost use Rattle.disasm.specs.AssemblyText.{version_text, IsAssemblyText};
-ghost use Rattle.disasm.specs.TextReading.{IsCodeRead, AreMapsRead, Explains};
+ghost use Rattle.disasm.specs.TextReading.{IsCodeRead, AreMapsRead, ExplainsText};
 ghost use Rattle.disasm.specs.declared.fault.AsmFault.TheVariants.{BadLine, Memory};
 
 use crate::fault::AsmFault;
@@ -52,7 +52,7 @@ fn bad_line_after(maps: &[MapDef], code: &[Insn]) -> AsmFault
 fn image_of(alloc: Global, version: Version, text: &str, body: &str) -> Result<Image, AsmFault>
     requires { text.now ≡ version_text version ++ body.now }
     ensures found { IfOk result (λ image. IsAssemblyText text.now image) }
-    ensures refused { IfErr result (Explains text.now) }
+    ensures refused { IfErr result (ExplainsText text.now) }
     ensures only { (image : Contents) → IsAssemblyText text.now image → IfOk result (λ made. made ≡ image) }
     ensures accepts { (image : Contents) → IsAssemblyText text.now image → IfErr result (λ fault. fault ≡ Memory) }
 {
@@ -87,7 +87,7 @@ fn first_line(text: &str) -> Option<(Version, &str)>
 /// memory is refused.
 pub fn assemble(alloc: Global, text: &str) -> Result<Image, AsmFault>
     ensures found { IfOk result (λ image. IsAssemblyText text.now image) }
-    ensures refused { IfErr result (Explains text.now) }
+    ensures refused { IfErr result (ExplainsText text.now) }
     // Another first line is answered before any memory is asked for.
     ensures version { ((version : VersionName) (body : List ℕ) → text.now ≢ version_text version ++ body) → result ≡ Err (BadLine 1) }
     ensures only { (image : Contents) → IsAssemblyText text.now image → IfOk result (λ made. made ≡ image) }

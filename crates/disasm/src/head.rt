@@ -3,7 +3,7 @@
 ghost use Rattle.std.specs.Prelude.{◌≡◌, ◌++◌, string_bytes, OnOk, true};
 ghost use Rattle.std.specs.List.{find};
 ghost use Rattle.std.specs.Str.{bytes_eq};
-ghost use Rattle.disasm.specs.Names.{alu_name, width_suffix, extension_bits, short_bits, order_name, swap_bits, test_name, size_letters};
+ghost use Rattle.disasm.specs.Names.{alu_name, width_suffix, extension_bits_text, short_bits, order_name, swap_bits_text, test_name, size_letters};
 ghost use Rattle.disasm.specs.Names.{atomic_name, head_stem, head_suffix, head_name, Spells};
 
 use isa::{AluOp, AtomicOp, ByteOrder, Extension, ShortExtension, Size, SwapWidth, Test, Width};
@@ -109,7 +109,7 @@ fn width_suffix(of: Width) -> &'static str
 }
 
 fn extension_bits(of: Extension) -> &'static str
-    ensures { result.now ≡ extension_bits of }
+    ensures { result.now ≡ extension_bits_text of }
 {
     match of {
         Extension::I8 => "8",
@@ -138,7 +138,7 @@ fn order_name(of: ByteOrder) -> &'static str
 }
 
 fn swap_bits(of: SwapWidth) -> &'static str
-    ensures { result.now ≡ swap_bits of }
+    ensures { result.now ≡ swap_bits_text of }
 {
     match of {
         SwapWidth::Swap16 => "16",

@@ -8,8 +8,8 @@ ghost use Rattle.std.specs.Str.{bytes_eq};
 ghost use Rattle.isa.specs.declared.operation.Register.{Register as RegisterName};
 ghost use Rattle.disasm.specs.declared.operand.Operands.{Operands as OperandList};
 ghost use Rattle.disasm.specs.AssemblyText.{register_text, with_sign, hex_digits, operand_text, list_text};
-ghost use Rattle.disasm.specs.LineReading.{OperandFits, OperandsFit, as_read, AreRead, begins_with_register, register_in, number_in};
-ghost use Rattle.disasm.specs.LineReading.{short_in, word_in, count_in, offset_in, wide_in, source_in, insn_made};
+ghost use Rattle.disasm.specs.LineReading.{OperandFits, OperandsFit, as_read, AreOperandsRead, begins_with_register, register_in, operand_number};
+ghost use Rattle.disasm.specs.LineReading.{short_in, word_or_zero, count_or_zero, operand_offset, wide_in, operand_source, insn_made};
 
 use crate::operand::{Operand, register_text};
 use isa::operation::REGISTERS;
@@ -66,7 +66,7 @@ fn number_of(text: &str) -> i64
 
 /// A number of 32 bits, or 0 where it doesn't fit.
 pub(crate) fn word(value: i64) -> i32
-    ensures { result ≡ word_in value }
+    ensures { result ≡ word_or_zero value }
 {
     if value < -0x8000_0000 {
         return 0;
@@ -79,7 +79,7 @@ pub(crate) fn word(value: i64) -> i32
 
 /// An unsigned number of 32 bits, or 0 where it doesn't fit.
 pub(crate) fn count(value: i64) -> u32
-    ensures { result ≡ count_in value }
+    ensures { result ≡ count_or_zero value }
 {
     if value < 0 {
         return 0;
@@ -139,7 +139,7 @@ fn operand_of(text: &str) -> Operand
 
 /// Up to three operands.
 pub(crate) fn operands_of(list: &str) -> (Operand, Operand, Operand)
-    ensures { (os : OperandList) → OperandsFit os → list.now ≡ list_text os → AreRead os result.0 result.1 result.2 }
+    ensures { (os : OperandList) → OperandsFit os → list.now ≡ list_text os → AreOperandsRead os result.0 result.1 result.2 }
 {
     let (a, more) = cut(list, ',');
     let (b, c) = cut(more, ',');
@@ -162,7 +162,7 @@ impl Operand {
     }
 
     pub(crate) fn number(self) -> i64
-        ensures { result ≡ number_in self }
+        ensures { result ≡ operand_number self }
     {
         match self {
             Operand::Number(value) => value,
@@ -171,7 +171,7 @@ impl Operand {
     }
 
     pub(crate) fn offset(self) -> i16
-        ensures { result ≡ offset_in self }
+        ensures { result ≡ operand_offset self }
     {
         match self {
             Operand::Place(_, offset) => offset,
@@ -189,7 +189,7 @@ impl Operand {
     }
 
     pub(crate) fn source(self) -> SourceOperand
-        ensures { result ≡ source_in self }
+        ensures { result ≡ operand_source self }
     {
         match self {
             Operand::Register(register) => SourceOperand::Reg(register),

@@ -37,7 +37,7 @@ use Rattle.ebpf_decode.specs.declared.version.Version.{Version}
 use Rattle.ebpf_decode.specs.SlotForm.{same_slot}
 use Rattle.isa.specs.InstructionCodes.{register_number}
 use Rattle.ebpf_decode.specs.InstructionEncoding.{slot_of, more_slots_of}
-use Rattle.ebpf_decode.specs.InstructionReading.{◌>>=◌, register_at, alu_op_at, extension_at, short_extension_at, order_at, swap_width_at, test_at, size_at, extension_size_at, width_at, atomic_op_at, source_at, exactly, binary_at, neg_at, movsx_at, end_at, arithmetic_at, conditional_at, call_at, jump_at, ldx_at, ldxs_at, st_at, stx_at, atomic_at, load_at, store_immediate_at, store_at, head_at, mode_of, whole, begun, reading_in, step_at}
+use Rattle.ebpf_decode.specs.InstructionReading.{◌>>=◌, register_at, alu_op_at, extension_at, short_extension_at, order_at, swap_width_at, test_at, size_at, extension_size_at, width_at, atomic_op_at, source_at, exactly, binary_at, neg_at, movsx_at, byte_swap_at, arithmetic_at, conditional_at, call_at, jump_at, ldx_at, ldxs_at, st_at, stx_at, atomic_at, load_at, store_immediate_at, store_at, head_at, mode_of, whole, begun, reading_in, step_at}
 use Rattle.ebpf_decode.proofs.shared.SlotLaws.{equal_from_same, same_itself}
 
 -- ---- what is read is encoded so
@@ -81,8 +81,8 @@ unfolding movsx_at more_slots_of
 movsx_reads Bits64 s = reads_bind s (extension_at s.offset) _ (λ e. reads_bind s (register_at s.dst) _ (λ dst. reads_bind s (register_at s.src) _ (λ src. reads_exactly s (Movsx e dst src) refl)))
 movsx_reads Bits32 s = reads_bind s (short_extension_at s.offset) _ (λ e. reads_bind s (register_at s.dst) _ (λ dst. reads_bind s (register_at s.src) _ (λ src. reads_exactly s (Movsx32 e dst src) refl)))
 
-end_reads : (s : CodeSlot) → Reads s (end_at s)
-unfolding end_at more_slots_of
+end_reads : (s : CodeSlot) → Reads s (byte_swap_at s)
+unfolding byte_swap_at more_slots_of
 end_reads s = reads_bind s (order_at s.opcode) _ (λ order. reads_bind s (swap_width_at s.immediate) _ (λ width. reads_bind s (register_at s.dst) _ (λ dst. reads_exactly s (End order width dst) refl)))
 
 arithmetic_reads : (width : Width) (s : CodeSlot) → Reads s (arithmetic_at width s)
@@ -224,7 +224,7 @@ movsx32_again Short8 dst src = λ version place. rw (register_again dst, registe
 movsx32_again extension dst src = λ version place. rw (register_again dst, register_again src, exactly_again (Movsx32 extension dst src)) refl
 
 end_again : (order : ByteOrder) (width : SwapWidth) (dst : Register) → IsReadWhole (End order width dst)
-unfolding step_at reading_in arithmetic_at end_at order_at swap_width_at slot_of
+unfolding step_at reading_in arithmetic_at byte_swap_at order_at swap_width_at slot_of
 end_again ToLittle Swap16 dst = λ version place. rw (register_again dst, exactly_again (End ToLittle Swap16 dst)) refl
 end_again ToBig Swap16 dst = λ version place. rw (register_again dst, exactly_again (End ToBig Swap16 dst)) refl
 end_again Swapped Swap16 dst = λ version place. rw (register_again dst, exactly_again (End Swapped Swap16 dst)) refl

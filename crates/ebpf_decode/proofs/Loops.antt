@@ -11,7 +11,7 @@ use Rattle.ebpf_decode.specs.declared.wide.SlotReading.{SlotReading}
 use Rattle.ebpf_decode.specs.declared.version.Version.{Version}
 use Rattle.ebpf_decode.specs.SlotForm.{slot_at, slots_at}
 use Rattle.ebpf_decode.specs.InstructionReading.{◌>>=◌, step_at, code_from, pending_of, finished_by}
-use Rattle.ebpf_decode.specs.MapForm.{map_at}
+use Rattle.ebpf_decode.specs.MapForm.{map_in_bytes}
 use Rattle.ebpf_decode.specs.ImageFormat.{maps_at}
 
 -- ---- maps
@@ -24,7 +24,7 @@ regroup : (front : List MapDef) (m : MapDef) (read : Result (List MapDef × List
 regroup front m (Ok x) = ap (λ (ms : List MapDef). Ok (ms, x.1)) (simp append_assoc)
 regroup front m (Err f) = refl
 
-pub map_more : (version : Version) (front : List MapDef) (count i : ℕ) (bytes : List ℕ) (m : MapDef) (total : Result (List MapDef × List ℕ) DecodeFault) → i < count → map_at version bytes ≡ Some m
+pub map_more : (version : Version) (front : List MapDef) (count i : ℕ) (bytes : List ℕ) (m : MapDef) (total : Result (List MapDef × List ℕ) DecodeFault) → i < count → map_in_bytes version bytes ≡ Some m
     → with_front front (maps_at version i (count - i) bytes) ≡ total → with_front (front ++ m ∷ []) (maps_at version (i + 1) (count - (i + 1)) (drop 16 bytes)) ≡ total
 unfolding maps_at
 map_more version front count i bytes m total lt found so_far =
@@ -32,7 +32,7 @@ map_more version front count i bytes m total lt found so_far =
     let one : with_front front (maps_at version i (count - i) bytes) ≡ with_front (front ++ m ∷ []) (maps_at version (i + 1) (count - (i + 1)) (drop 16 bytes)) = rw (k, found) (regroup front m (maps_at version (i + 1) (count - (i + 1)) (drop 16 bytes))) in
     sym one ∙ so_far
 
-pub map_refused : (version : Version) (front : List MapDef) (count i : ℕ) (bytes : List ℕ) (total : Result (List MapDef × List ℕ) DecodeFault) → i < count → map_at version bytes ≡ None
+pub map_refused : (version : Version) (front : List MapDef) (count i : ℕ) (bytes : List ℕ) (total : Result (List MapDef × List ℕ) DecodeFault) → i < count → map_in_bytes version bytes ≡ None
     → with_front front (maps_at version i (count - i) bytes) ≡ total → total ≡ Err (BadMap i)
 unfolding maps_at
 map_refused version front count i bytes total lt none so_far =

@@ -15,7 +15,7 @@ use Rattle.ebpf_decode.specs.declared.map.MapKind.{MapKind}
 use Rattle.ebpf_decode.specs.declared.map.MapKind.TheVariants.{Hash, Array, LruHash}
 use Rattle.ebpf_decode.specs.declared.map.MapDef.{MapDef}
 use Rattle.ebpf_decode.specs.InstructionReading.{◌>>=◌}
-use Rattle.ebpf_decode.specs.MapForm.{map_type, is_key_size, is_value_size, is_entry_count, is_allowed_map, map_bytes, map_kind_at, map_of_kind, map_at}
+use Rattle.ebpf_decode.specs.MapForm.{map_type, is_key_size, is_value_size, is_entry_count, is_allowed_map, map_bytes, map_kind_at, map_of_kind, map_in_bytes}
 use Rattle.ebpf_decode.specs.ImageContents.{IsAllowedMap}
 use Rattle.ebpf_decode.specs.ImageFormat.{maps_at}
 use Rattle.ebpf_decode.proofs.shared.SlotLaws.{IsBytes, IsBytes-drop, four_bytes, both}
@@ -61,8 +61,8 @@ four_pieces a a' b b' c c' d d' ea eb ec ed = rw (ea, eb, ec, ed) refl
 word_is : (a b c d n : ℕ) → a < 256 → b < 256 → c < 256 → d < 256 → from_le_bytes w32 (a ∷ b ∷ c ∷ d ∷ []) ≡ n → to_le_bytes w32 n ≡ a ∷ b ∷ c ∷ d ∷ []
 word_is a b c d n fa fb fc fd e = le_bytes_4 (a ∷ b ∷ c ∷ d ∷ []) n refl (four_bytes a b c d fa fb fc fd) (sym e)
 
-pub map_takes : (version : Version) (bytes : List ℕ) (m : MapDef) → IsBytes bytes → 16 ≤ length bytes → map_at version bytes ≡ Some m → (bytes ≡ map_bytes m ++ drop 16 bytes) × IsAllowedMap version m
-unfolding map_at
+pub map_takes : (version : Version) (bytes : List ℕ) (m : MapDef) → IsBytes bytes → 16 ≤ length bytes → map_in_bytes version bytes ≡ Some m → (bytes ≡ map_bytes m ++ drop 16 bytes) × IsAllowedMap version m
+unfolding map_in_bytes
 map_takes version (b0 ∷ b1 ∷ b2 ∷ b3 ∷ b4 ∷ b5 ∷ b6 ∷ b7 ∷ b8 ∷ b9 ∷ b10 ∷ b11 ∷ b12 ∷ b13 ∷ b14 ∷ b15 ∷ rest) m fits long h =
     let p = map_parts version (map_kind_at (from_le_bytes w32 (b0 ∷ b1 ∷ b2 ∷ b3 ∷ []))) (from_le_bytes w32 (b4 ∷ b5 ∷ b6 ∷ b7 ∷ [])) (from_le_bytes w32 (b8 ∷ b9 ∷ b10 ∷ b11 ∷ [])) (from_le_bytes w32 (b12 ∷ b13 ∷ b14 ∷ b15 ∷ [])) m h in
     let kind = word_is b0 b1 b2 b3 (map_type m.kind) (fits 0) (fits 1) (fits 2) (fits 3) (kind_takes (from_le_bytes w32 (b0 ∷ b1 ∷ b2 ∷ b3 ∷ [])) m.kind p.0) in
@@ -106,8 +106,8 @@ same_map version o o' k k' v v' e e' eo ek ev ee = rw (eo, ek, ev, ee) refl
 allowed_again : (version : Version) (m : MapDef) → IsAllowedMap version m → map_of_kind version (Some m.kind) m.key_size m.value_size m.max_entries ≡ Some m
 allowed_again version m h = rw h refl
 
-pub map_again : (version : Version) (m : MapDef) (rest : List ℕ) → IsAllowedMap version m → map_at version (map_bytes m ++ rest) ≡ Some m
-unfolding map_at
+pub map_again : (version : Version) (m : MapDef) (rest : List ℕ) → IsAllowedMap version m → map_in_bytes version (map_bytes m ++ rest) ≡ Some m
+unfolding map_in_bytes
 map_again version m rest h =
     let two = both (is_key_size m.kind m.key_size && is_value_size version m.value_size) (is_entry_count m.max_entries) h in
     let one = both (is_key_size m.kind m.key_size) (is_value_size version m.value_size) two.0 in
@@ -140,9 +140,9 @@ unfolding maps_at
 maps_take version place zero bytes maps rest fits long e =
     subst (λ (x : List MapDef × List ℕ). TakesMaps version bytes 0 x.0 x.1) (same_ok ([], bytes) (maps, rest) e) (no_maps version bytes fits)
 maps_take version place (suc n) bytes maps rest fits long e =
-    let b = bind_ok (ok_or (map_at version bytes) (BadMap place)) (λ first. maps_at version (place + 1) n (drop 16 bytes) >>= λ others. Ok (first ∷ others.0, others.1)) (maps, rest) e in
+    let b = bind_ok (ok_or (map_in_bytes version bytes) (BadMap place)) (λ first. maps_at version (place + 1) n (drop 16 bytes) >>= λ others. Ok (first ∷ others.0, others.1)) (maps, rest) e in
     let c = bind_ok (maps_at version (place + 1) n (drop 16 bytes)) (λ others. Ok (b.0 ∷ others.0, others.1)) (maps, rest) b.2 in
-    let one = map_takes version bytes b.0 fits (omega arith) (ok_some (map_at version bytes) (BadMap place) b.0 b.1) in
+    let one = map_takes version bytes b.0 fits (omega arith) (ok_some (map_in_bytes version bytes) (BadMap place) b.0 b.1) in
     let others = maps_take version (place + 1) n (drop 16 bytes) c.0.0 c.0.1 (IsBytes-drop 16 bytes fits) (omega (arith, length-drop 16 bytes)) c.1 in
     let whole : TakesMaps version bytes (suc n) (b.0 ∷ c.0.0) c.0.1 = record {
       parts = one.0 ∙ ap (λ (x : List ℕ). map_bytes b.0 ++ x) others.parts ∙ sym (append_assoc (map_bytes b.0) (flat_map map_bytes c.0.0) c.0.1);

@@ -18,7 +18,7 @@ use Rattle.ebpf_decode.specs.Versions.{version_number, version_of, is_in_version
 use Rattle.ebpf_decode.specs.SlotForm.{slots_at}
 use Rattle.ebpf_decode.specs.InstructionEncoding.{instruction_bytes, slot_count, total_slots}
 use Rattle.ebpf_decode.specs.InstructionReading.{◌>>=◌, code_from}
-use Rattle.ebpf_decode.specs.MapForm.{map_bytes, map_at, is_allowed_map}
+use Rattle.ebpf_decode.specs.MapForm.{map_bytes, map_in_bytes, is_allowed_map}
 use Rattle.ebpf_decode.specs.ImageContents.{Contents, IsEncodable}
 
 -- the first eight bytes
@@ -53,7 +53,7 @@ has_head bytes =
 unfoldable pub maps_at : Version → ℕ → ℕ → List ℕ → Result (List MapDef × List ℕ) DecodeFault
 maps_at version place zero bytes = Ok ([], bytes)
 maps_at version place (suc n) bytes = do
-  first ← ok_or (map_at version bytes) (BadMap place)
+  first ← ok_or (map_in_bytes version bytes) (BadMap place)
   others ← maps_at version (place + 1) n (drop 16 bytes)
   Ok (first ∷ others.0, others.1)
 

@@ -60,8 +60,8 @@ class_of s = class_of_opcode s.opcode
 abbrev pub source_bit_of : CodeSlot → ℕ
 source_bit_of s = s.opcode / 8 % 2
 
-abbrev pub code_of : CodeSlot → ℕ
-code_of s = s.opcode / 16
+abbrev pub operation_of_slot : CodeSlot → ℕ
+operation_of_slot s = s.opcode / 16
 
 abbrev pub size_of : CodeSlot → ℕ
 size_of s = s.opcode / 8 % 4
@@ -119,7 +119,7 @@ exactly s insn = if same_slot s (slot_of insn) then Ok insn else Err FieldNotZer
 
 unfoldable pub binary_at : Width → CodeSlot → Result Insn SlotFault
 binary_at width s = do
-  op ← alu_op_at (code_of s) s.offset
+  op ← alu_op_at (operation_of_slot s) s.offset
   dst ← register_at s.dst
   source ← source_at s
   exactly s (Alu width op dst source)
@@ -141,8 +141,8 @@ movsx_at Bits32 s = do
   src ← register_at s.src
   exactly s (Movsx32 extension dst src)
 
-unfoldable pub end_at : CodeSlot → Result Insn SlotFault
-end_at s = do
+unfoldable pub byte_swap_at : CodeSlot → Result Insn SlotFault
+byte_swap_at s = do
   order ← order_at s.opcode
   width ← swap_width_at s.immediate
   dst ← register_at s.dst
@@ -152,14 +152,14 @@ end_at s = do
 unfoldable pub arithmetic_at : Width → CodeSlot → Result Insn SlotFault
 arithmetic_at width s =
     if s.opcode == neg_opcode width then neg_at width s else
-    if code_of s == end_code then end_at s else
+    if operation_of_slot s == end_code then byte_swap_at s else
     if (s.opcode == movsx_opcode width) && not (int_eq s.offset (pos 0)) then movsx_at width s else binary_at width s
 
 -- ---- jumps
 
 unfoldable pub conditional_at : Width → CodeSlot → Result Insn SlotFault
 conditional_at width s = do
-  test ← test_at (code_of s)
+  test ← test_at (operation_of_slot s)
   dst ← register_at s.dst
   source ← source_at s
   exactly s (JumpIf width test dst source s.offset)
@@ -317,17 +317,17 @@ reading_in version classes.Jmp32 s = whole (jump_at Bits32 s)
 
 -- ---- all slots
 
-abbrev pub fault_at : ℕ → SlotFault → DecodeFault
-fault_at place UnknownOpcode = faults.UnknownOpcode place
-fault_at place NotInProfile = faults.NotInProfile place
-fault_at place BadRegister = faults.BadRegister place
-fault_at place FieldNotZero = faults.FieldNotZero place
-fault_at place WideCut = faults.WideCut place
+abbrev pub decode_fault_at : ℕ → SlotFault → DecodeFault
+decode_fault_at place UnknownOpcode = faults.UnknownOpcode place
+decode_fault_at place NotInProfile = faults.NotInProfile place
+decode_fault_at place BadRegister = faults.BadRegister place
+decode_fault_at place FieldNotZero = faults.FieldNotZero place
+decode_fault_at place WideCut = faults.WideCut place
 
 -- a slot's outcome, with its place in the fault
 abbrev pub at_slot : {A : Type 0} → ℕ → Result A SlotFault → Result A DecodeFault
 at_slot place (Ok x) = Ok x
-at_slot place (Err fault) = Err (fault_at place fault)
+at_slot place (Err fault) = Err (decode_fault_at place fault)
 
 -- what one slot returns, after the head of a wide instruction or nothing; a fault of a wide instruction names its first slot
 unfoldable pub step_at : Version → ℕ → Option WideHead → CodeSlot → Result SlotReading DecodeFault

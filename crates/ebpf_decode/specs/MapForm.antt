@@ -40,8 +40,8 @@ abbrev pub map_kind_at : ℕ → Option MapKind
 map_kind_at number = if number == 1 then Some Hash else (if number == 2 then Some Array else (if number == 9 then Some LruHash else None))
 
 -- the number of 32 bits at a place
-abbrev pub word_of : ℕ → ℕ → ℕ → ℕ → ℕ
-word_of a b c d = from_le_bytes w32 (a ∷ b ∷ c ∷ d ∷ [])
+abbrev pub word_of_bytes : ℕ → ℕ → ℕ → ℕ → ℕ
+word_of_bytes a b c d = from_le_bytes w32 (a ∷ b ∷ c ∷ d ∷ [])
 
 abbrev pub allowed : Version → MapDef → Option MapDef
 allowed version m = if is_allowed_map version m then Some m else None
@@ -52,9 +52,9 @@ map_of_kind version (Some kind) key_size value_size max_entries =
     allowed version (record { kind = kind; key_size = key_size; value_size = value_size; max_entries = max_entries })
 
 -- the map at the front of the bytes, if it is one that images of this version may have
-unfoldable pub map_at : Version → List ℕ → Option MapDef
-map_at version bytes = map_of_kind version
-    (map_kind_at (word_of (slice_index bytes 0) (slice_index bytes 1) (slice_index bytes 2) (slice_index bytes 3)))
-    (word_of (slice_index bytes 4) (slice_index bytes 5) (slice_index bytes 6) (slice_index bytes 7))
-    (word_of (slice_index bytes 8) (slice_index bytes 9) (slice_index bytes 10) (slice_index bytes 11))
-    (word_of (slice_index bytes 12) (slice_index bytes 13) (slice_index bytes 14) (slice_index bytes 15))
+unfoldable pub map_in_bytes : Version → List ℕ → Option MapDef
+map_in_bytes version bytes = map_of_kind version
+    (map_kind_at (word_of_bytes (slice_index bytes 0) (slice_index bytes 1) (slice_index bytes 2) (slice_index bytes 3)))
+    (word_of_bytes (slice_index bytes 4) (slice_index bytes 5) (slice_index bytes 6) (slice_index bytes 7))
+    (word_of_bytes (slice_index bytes 8) (slice_index bytes 9) (slice_index bytes 10) (slice_index bytes 11))
+    (word_of_bytes (slice_index bytes 12) (slice_index bytes 13) (slice_index bytes 14) (slice_index bytes 15))

@@ -1,7 +1,7 @@
 //! Arithmetic, byte swaps and moves as they are in a slot (classes ALU and ALU64; RFC 9669, sections 4.1 and 4.2).
 
 ghost use Rattle.std.specs.Prelude.{◌≡◌};
-ghost use Rattle.ebpf_decode.specs.InstructionReading.{binary_at, neg_at, movsx_at, end_at, arithmetic_at};
+ghost use Rattle.ebpf_decode.specs.InstructionReading.{binary_at, neg_at, movsx_at, byte_swap_at, arithmetic_at};
 
 use crate::fault::SlotFault;
 use crate::insn::Insn;
@@ -88,9 +88,9 @@ impl CodeSlot {
         })
     }
 
-    #[tactic(auto, unfolding(crate::specs::InstructionReading::end_at))]
+    #[tactic(auto, unfolding(crate::specs::InstructionReading::byte_swap_at))]
     fn byte_swap(self) -> Result<Insn, SlotFault>
-        ensures { result ≡ end_at self }
+        ensures { result ≡ byte_swap_at self }
     {
         let order = codes::order_at(self.opcode)?;
         let swap_width = codes::swap_width_at(self.immediate)?;

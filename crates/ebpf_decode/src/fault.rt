@@ -2,7 +2,7 @@
 
 ghost use Rattle.std.specs.Prelude.{◌≡◌, true};
 ghost use Rattle.ebpf_decode.specs.declared.fault.DecodeFault.TheVariants.{Memory};
-ghost use Rattle.ebpf_decode.specs.InstructionReading.{fault_at};
+ghost use Rattle.ebpf_decode.specs.InstructionReading.{decode_fault_at};
 ghost use Rattle.faults.specs.Explanations.{is_fault};
 ghost use Rattle.ebpf_decode.specs.ImageFormat.{fault_number, fault_fields};
 
@@ -66,7 +66,7 @@ pub enum DecodeFault {
 impl SlotFault {
     /// The fault of the slot at this place.
     pub(crate) fn at(self, slot: u32) -> DecodeFault
-        ensures { result ≡ fault_at slot self }
+        ensures { result ≡ decode_fault_at slot self }
     {
         match self {
             SlotFault::UnknownOpcode => DecodeFault::UnknownOpcode { slot },

@@ -2,7 +2,7 @@
 
 ghost use Rattle.std.specs.Prelude.{◌≡◌, ◌≤◌, length};
 ghost use Rattle.ebpf_decode.specs.MapForm.{map_type, map_kind_at, is_key_size, is_value_size, is_entry_count, is_allowed_map, allowed};
-ghost use Rattle.ebpf_decode.specs.MapForm.{map_at};
+ghost use Rattle.ebpf_decode.specs.MapForm.{map_in_bytes};
 
 use crate::version::Version;
 
@@ -77,10 +77,10 @@ impl MapDef {
     }
 
     /// The map at the front of the bytes, if it is one that an image of this version may have.
-    #[tactic(auto, unfolding(crate::specs::MapForm::map_at))]
+    #[tactic(auto, unfolding(crate::specs::MapForm::map_in_bytes))]
     pub(crate) fn of(version: Version, bytes: &[u8]) -> Option<MapDef>
         requires { 16 ≤ length bytes.now }
-        ensures { result ≡ map_at version bytes.now }
+        ensures { result ≡ map_in_bytes version bytes.now }
     {
         let number = u32::from_le_bytes([bytes[0], bytes[1], bytes[2], bytes[3]]);
         let key_size = u32::from_le_bytes([bytes[4], bytes[5], bytes[6], bytes[7]]);

@@ -1,7 +1,7 @@
 //! One slot read as an instruction, by its class.
 
 ghost use Rattle.std.specs.Prelude.{◌≡◌};
-ghost use Rattle.ebpf_decode.specs.InstructionReading.{class_of, source_bit_of, code_of, size_of, mode_of, source_at, exactly, whole};
+ghost use Rattle.ebpf_decode.specs.InstructionReading.{class_of, source_bit_of, operation_of_slot, size_of, mode_of, source_at, exactly, whole};
 ghost use Rattle.ebpf_decode.specs.InstructionReading.{begun, reading_in};
 
 use crate::fault::SlotFault;
@@ -59,7 +59,7 @@ impl CodeSlot {
 
     /// The operation of arithmetic or a jump: the high four bits of the opcode.
     pub(crate) fn code(self) -> u8
-        ensures { result ≡ code_of self }
+        ensures { result ≡ operation_of_slot self }
     {
         self.opcode / 16
     }

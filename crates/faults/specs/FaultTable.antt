@@ -131,5 +131,5 @@ named_text row (fields.Two first second) =
 named_text row (fields.Signed first) = row.name ++ field_text row.first (signed_decimal first)
 
 -- the line of a fault of this number: the number, its name, and each field by its name and its number
-abbrev pub line_of : ℕ → Fields → List ℕ
-line_of number fields = codes "fault " ++ (decimal number ++ (codes " " ++ named_text (row_of number) fields))
+abbrev pub line_of_fault : ℕ → Fields → List ℕ
+line_of_fault number fields = codes "fault " ++ (decimal number ++ (codes " " ++ named_text (row_of number) fields))

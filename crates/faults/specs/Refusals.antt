@@ -29,13 +29,13 @@ front_of true = 32 ∷ 32 ∷ []
 front_of false = []
 
 -- what ends the last line, where it is not ended
-abbrev pub end_of : Bool → List ℕ
-end_of true = []
-end_of false = 10 ∷ []
+abbrev pub last_line_end : Bool → List ℕ
+last_line_end true = []
+last_line_end false = 10 ∷ []
 
 -- notes with two blanks at the front of each line and the last line ended, from the front of a line on or from within one
 abbrev pub indented : Bool → List ℕ → List ℕ
-indented is_start [] = end_of is_start
+indented is_start [] = last_line_end is_start
 indented is_start (byte ∷ rest) = front_of is_start ++ byte ∷ indented (byte == 10) rest
 
 abbrev pub is_line_start : Place → Bool

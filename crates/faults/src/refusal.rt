@@ -1,7 +1,7 @@
 //! The text of a refusal: the fault's line, and lines below it for people.
 
 ghost use Rattle.std.specs.Prelude.{◌≡◌, ◌==◌, ◌++◌, ◌∷◌, [], true, IfOk, OnOk};
-ghost use Rattle.faults.specs.Refusals.{IsRefusalText, end_of, front_of, indented, is_line_start, next_place, note_lines, one_line};
+ghost use Rattle.faults.specs.Refusals.{IsRefusalText, last_line_end, front_of, indented, is_line_start, next_place, note_lines, one_line};
 ghost use Rattle.faults.specs.Refusals.{place_after};
 ghost use Rattle.faults.specs.declared.refusal.Place.TheVariants.{LineStart, Within};
 
@@ -90,7 +90,7 @@ fn begin(lines: &mut Vec<u8>, is_start: bool) -> Result<(), AllocError>
 
 /// Ends the last line.
 fn end(lines: &mut Vec<u8>, is_start: bool) -> Result<(), AllocError>
-    ensures { OnOk result (lines.new.items ≡ lines.old.items ++ end_of is_start) }
+    ensures { OnOk result (lines.new.items ≡ lines.old.items ++ last_line_end is_start) }
 {
     if is_start {
         Ok(())

@@ -6,17 +6,18 @@ use mathlib.Core.Logic.{⊎_elim}
 use Rattle.wire.specs.declared.records.Sent.{Sent}
 use Rattle.wire.specs.FlowForm.{flow_bytes_of}
 use Rattle.fleet.specs.declared.part.Loss.{Loss}
-use Rattle.fleet.specs.Parts.{CanLose, has_flow, heir_of_frame, heir_place, other_part, part_behind, part_by, part_of_frame, part_of_record, salt, second_salt}
+use Rattle.fleet.specs.Parts.{CanLose, has_flow_key, heir_of_frame, heir_place, other_part, part_behind, part_by, part_of_frame, part_of_record, salt}
+use Rattle.fleet.specs.Parts.{second_salt}
 
 -- each frame is in one of the parts
 pub part_below : (of : ℕ) (frame : List ℕ) → 0 < of → part_of_frame of frame < of
-part_below of frame some = by_test (has_flow frame) where
+part_below of frame some = by_test (has_flow_key frame) where
   by_test : (test : Bool) → cond test (part_by salt of (flow_bytes_of frame)) 0 < of
   by_test true = omega (arith, some)
   by_test false = some
 
 place_below : (others : ℕ) (frame : List ℕ) → 0 < others → heir_place others frame < others
-place_below others frame some = by_test (has_flow frame) where
+place_below others frame some = by_test (has_flow_key frame) where
   by_test : (test : Bool) → cond test (part_by second_salt others (flow_bytes_of frame)) 0 < others
   by_test true = omega (arith, some)
   by_test false = some
@@ -91,25 +92,25 @@ only_lost_moves of loss place sent = (
 
 -- ---- two frames of a flow
 
-pub same_part : (of : ℕ) (frame other : List ℕ) → has_flow frame ≡ true → has_flow other ≡ true → flow_bytes_of frame ≡ flow_bytes_of other
+pub same_part : (of : ℕ) (frame other : List ℕ) → has_flow_key frame ≡ true → has_flow_key other ≡ true → flow_bytes_of frame ≡ flow_bytes_of other
     → part_of_frame of frame ≡ part_of_frame of other
 same_part of frame other has has' same =
     ap (λ b. cond b (part_by salt of (flow_bytes_of frame)) 0) has ∙ ap (part_by salt of) same
     ∙ sym (ap (λ b. cond b (part_by salt of (flow_bytes_of other)) 0) has')
 
-same_place : (others : ℕ) (frame other : List ℕ) → has_flow frame ≡ true → has_flow other ≡ true → flow_bytes_of frame ≡ flow_bytes_of other
+same_place : (others : ℕ) (frame other : List ℕ) → has_flow_key frame ≡ true → has_flow_key other ≡ true → flow_bytes_of frame ≡ flow_bytes_of other
     → heir_place others frame ≡ heir_place others other
 same_place others frame other has has' same =
     ap (λ b. cond b (part_by second_salt others (flow_bytes_of frame)) 0) has ∙ ap (part_by second_salt others) same
     ∙ sym (ap (λ b. cond b (part_by second_salt others (flow_bytes_of other)) 0) has')
 
-same_behind : (of lost : ℕ) (frame other : List ℕ) → has_flow frame ≡ true → has_flow other ≡ true → flow_bytes_of frame ≡ flow_bytes_of other
+same_behind : (of lost : ℕ) (frame other : List ℕ) → has_flow_key frame ≡ true → has_flow_key other ≡ true → flow_bytes_of frame ≡ flow_bytes_of other
     → part_behind of lost frame ≡ part_behind of lost other
 same_behind of lost frame other has has' same =
     ap (λ (part : ℕ). cond (part == lost) (heir_of_frame of lost frame) part) (same_part of frame other has has' same)
     ∙ ap (λ (place : ℕ). cond (part_of_frame of other == lost) (other_part lost place) (part_of_frame of other)) (same_place (of - 1) frame other has has' same)
 
-pub same_side : (of : ℕ) (loss : Loss) (place then : ℕ) (sent other : Sent) → has_flow sent.bytes.items ≡ true → has_flow other.bytes.items ≡ true
+pub same_side : (of : ℕ) (loss : Loss) (place then : ℕ) (sent other : Sent) → has_flow_key sent.bytes.items ≡ true → has_flow_key other.bytes.items ≡ true
     → flow_bytes_of sent.bytes.items ≡ flow_bytes_of other.bytes.items → ((place < loss.from) ↔ (then < loss.from))
     → part_of_record of (Some loss) place sent ≡ part_of_record of (Some loss) then other
 same_side of loss place then sent other has has' same side = ⊎_elim

@@ -3,7 +3,7 @@ use Rattle.std.specs.Prelude.{◌≡◌, ◌≢◌, ◌↔◌, ℕ, zero, suc, �
 use Rattle.wire.specs.declared.records.Sent.{Sent}
 use Rattle.wire.specs.FlowForm.{flow_bytes_of}
 use Rattle.fleet.specs.declared.part.Loss.{Loss}
-use Rattle.fleet.specs.Parts.{CanLose, has_flow, is_in_part, number_in_part, other_part, part_of_frame, part_of_record, records_of_part}
+use Rattle.fleet.specs.Parts.{CanLose, has_flow_key, is_in_part, number_in_part, other_part, part_of_frame, part_of_record, records_of_part}
 
 -- ---- a partition
 
@@ -28,15 +28,15 @@ PartsAreAPartition = (of : ℕ) (lost : Option Loss) (records : List Sent) → 0
 
 -- two frames of one flow are in one part
 abbrev pub FlowsAreInOnePart : Type 0
-FlowsAreInOnePart = (of : ℕ) (frame other : List ℕ) → has_flow frame ≡ true → has_flow other ≡ true
+FlowsAreInOnePart = (of : ℕ) (frame other : List ℕ) → has_flow_key frame ≡ true → has_flow_key other ≡ true
     → flow_bytes_of frame ≡ flow_bytes_of other → part_of_frame of frame ≡ part_of_frame of other
 
 -- ---- a loss
 
 -- two records of one flow, both before the loss or both behind it, are in one part
 abbrev pub FlowsMoveOnlyAtTheLoss : Type 0
-FlowsMoveOnlyAtTheLoss = (of : ℕ) (loss : Loss) (place then : ℕ) (sent other : Sent) → has_flow sent.bytes.items ≡ true
-    → has_flow other.bytes.items ≡ true → flow_bytes_of sent.bytes.items ≡ flow_bytes_of other.bytes.items
+FlowsMoveOnlyAtTheLoss = (of : ℕ) (loss : Loss) (place then : ℕ) (sent other : Sent) → has_flow_key sent.bytes.items ≡ true
+    → has_flow_key other.bytes.items ≡ true → flow_bytes_of sent.bytes.items ≡ flow_bytes_of other.bytes.items
     → ((place < loss.from) ↔ (then < loss.from)) → part_of_record of (Some loss) place sent ≡ part_of_record of (Some loss) then other
 
 -- before the loss, and in the other parts, each record is where it is with no loss; behind it none is in the lost part

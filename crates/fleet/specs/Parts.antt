@@ -8,8 +8,8 @@ use Rattle.wire.specs.FlowForm.{be_word_at, flow_bytes_of}
 use Rattle.wire.specs.Fnv.{fnv1a64_of}
 
 -- the frame has a flow (as `HasFlow` says)
-abbrev pub has_flow : List ℕ → Bool
-has_flow frame =
+abbrev pub has_flow_key : List ℕ → Bool
+has_flow_key frame =
     not (nat_lt (length frame) 42) && (slice_index frame 12 == 0x08) && (slice_index frame 13 == 0x00) && (slice_index frame 14 == 0x45)
     && not (nat_lt (be_word_at 16 frame) 28) && not (nat_lt (length frame) (14 + be_word_at 16 frame))
     && (bit_and (be_word_at 20 frame) 0x3fff == 0) && ((slice_index frame 23 == 6) || (slice_index frame 23 == 17))
@@ -29,7 +29,7 @@ part_by byte of key = (fnv1a64_of (key ++ byte ∷ []) / 2 ^ 32) % of
 
 -- the part of a frame: that of its flow, or the first one where it has none
 abbrev pub part_of_frame : ℕ → List ℕ → ℕ
-part_of_frame of frame = if has_flow frame then part_by salt of (flow_bytes_of frame) else 0
+part_of_frame of frame = if has_flow_key frame then part_by salt of (flow_bytes_of frame) else 0
 
 -- ---- a loss
 
@@ -45,7 +45,7 @@ other_part lost place = if nat_lt place lost then place else place + 1
 -- has none. A number of parts and that of the others have no common divisor, so that the frames of one part are spread over all others,
 -- though of these hashes the upper halves too are near each other.
 abbrev pub heir_place : ℕ → List ℕ → ℕ
-heir_place others frame = if has_flow frame then part_by second_salt others (flow_bytes_of frame) else 0
+heir_place others frame = if has_flow_key frame then part_by second_salt others (flow_bytes_of frame) else 0
 
 -- that part
 abbrev pub heir_of_frame : ℕ → ℕ → List ℕ → ℕ

@@ -5,7 +5,8 @@ use Rattle.byteorder.specs.Endian.{little_from}
 use Rattle.wire.specs.declared.records.Sent.{Sent}
 use Rattle.wire.specs.declared.capture_fault.CaptureFault.{CaptureFault}
 use Rattle.wire.specs.declared.capture_fault.CaptureFault.TheVariants.{BadMagic, BadVersion, BadLink, CutHead, CutFrame, FrameTooLong, Device, Memory}
-use Rattle.wire.specs.CaptureFormat.{le16_at, le32_at, BeginsWithHeader, BeginsWithRecord, IsHeaderFault, RefusesRecord, Refuses, IsFirstFault, IsNoCaptureFile}
+use Rattle.wire.specs.CaptureFormat.{le16_at, le32_at, BeginsWithHeader, BeginsWithRecord, IsHeaderFault, RefusesRecord, RefusesCapture, IsFirstCaptureFault}
+use Rattle.wire.specs.CaptureFormat.{IsNoCaptureFile}
 
 -- a number in the front
 little_from-append : (i n : ℕ) (xs ys : List ℕ) → i + n ≤ length xs → little_from i n (xs ++ ys) ≡ little_from i n xs
@@ -82,11 +83,11 @@ refuses_record xs ys number Device ended cause = absurd cause
 refuses_record xs ys number Memory ended cause = tt
 
 -- what is wrong with the header of a whole file
-no_header : (xs : List ℕ) (fault : CaptureFault) → IsHeaderFault xs fault → (BeginsWithHeader xs → ⊥) → IsFirstFault xs fault × IsNoCaptureFile xs
+no_header : (xs : List ℕ) (fault : CaptureFault) → IsHeaderFault xs fault → (BeginsWithHeader xs → ⊥) → IsFirstCaptureFault xs fault × IsNoCaptureFile xs
 no_header xs fault cause none = (inl cause, λ sents file. none file.header)
 
 -- what is wrong with the header, where the bytes end or there are as many as a record can have
-pub refuses_header : (xs ys : List ℕ) (fault : CaptureFault) → (length xs < 2064 → length ys ≡ 0) → IsHeaderFault xs fault → Refuses (xs ++ ys) fault
+pub refuses_header : (xs ys : List ℕ) (fault : CaptureFault) → (length xs < 2064 → length ys ≡ 0) → IsHeaderFault xs fault → RefusesCapture (xs ++ ys) fault
 refuses_header xs ys BadMagic ended cause =
     let same = le32_at-append 0 xs ys (omega (arith, cause.0)) in
     let P : ℕ → Type 0 = λ x. x ≡ 0xa1b2c3d4 → ⊥ in

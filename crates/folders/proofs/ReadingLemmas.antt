@@ -8,7 +8,8 @@ use Rattle.wire.specs.declared.capture_fault.CaptureFault.TheVariants.{Memory}
 use Rattle.wire.specs.CaptureFormat.{le32_at, BeginsWithHeader, BeginsWithRecord, AreRecords, IsHeaderFault, RefusesRecord}
 use Rattle.wire.proofs.shared.CaptureLemmas.{AreRecords-more, refused_record}
 use Rattle.folders.specs.Filling.{IsFilled}
-use Rattle.folders.specs.PieceReading.{ReaderView, cut_at_front, cut_of, HasRecords, IsReadTo, IsReadWhole, IsRefused, ReadsOn, ReadsToEnd, RefusesNext}
+use Rattle.folders.specs.PieceReading.{ReaderView, cut_at_front, cut_record_count, HasRecords, IsReadTo, IsReadWhole, IsFileRefused, ReadsOn, ReadsToEnd}
+use Rattle.folders.specs.PieceReading.{RefusesNext}
 use Rattle.folders.proofs.CaptureFronts.{le32_at-append, begins_header, begins_record, refuses_record, refuses_header}
 
 -- a whole record is unread, or nothing is left
@@ -52,7 +53,7 @@ opened_read has was_left is_left unread opened filled begins =
     }
 
 -- the file was opened, and does not begin with a header
-pub opened_refused : (has was_left is_left : List ℕ → Type 0) (unread : List ℕ) (fault : CaptureFault) → IsOpened has was_left → IsFilled was_left is_left [] unread → IsEnough is_left unread → IsHeaderFault unread fault → IsRefused has fault
+pub opened_refused : (has was_left is_left : List ℕ → Type 0) (unread : List ℕ) (fault : CaptureFault) → IsOpened has was_left → IsFilled was_left is_left [] unread → IsEnough is_left unread → IsHeaderFault unread fault → IsFileRefused has fault
 opened_refused has was_left is_left unread fault opened filled enough cause =
     let next = filled.came.some opened.bytes opened.left in
     let some = behind is_left unread next.0 next.1 enough in
@@ -77,15 +78,15 @@ filled_read has was_left is_left records reader unread read filled =
     }
 
 -- how many records were cut, with one more
-cut_of-more : (bytes : List ℕ) (records : List Sent) (rest : List ℕ) (sent : Sent) → AreRecords bytes records rest → cut_of bytes (records ++ sent ∷ []) ≡ cut_of bytes records + cut_at_front rest sent
+cut_of-more : (bytes : List ℕ) (records : List Sent) (rest : List ℕ) (sent : Sent) → AreRecords bytes records rest → cut_record_count bytes (records ++ sent ∷ []) ≡ cut_record_count bytes records + cut_at_front rest sent
 cut_of-more bytes [] rest sent same =
     let at : List ℕ → ℕ = λ xs. cut_at_front xs sent in
     let here : at bytes ≡ at rest = ap at same in
     omega (arith, here)
 cut_of-more bytes (first ∷ records) rest sent are =
     let later = drop (16 + length first.bytes.items) bytes in
-    let more : cut_of later (records ++ sent ∷ []) ≡ cut_of later records + cut_at_front rest sent = cut_of-more later records rest sent are.1 in
-    ap (λ n. cut_at_front bytes first + n) more ∙ sym (add_assoc (cut_at_front bytes first) (cut_of later records) (cut_at_front rest sent))
+    let more : cut_record_count later (records ++ sent ∷ []) ≡ cut_record_count later records + cut_at_front rest sent = cut_of-more later records rest sent are.1 in
+    ap (λ n. cut_at_front bytes first + n) more ∙ sym (add_assoc (cut_at_front bytes first) (cut_record_count later records) (cut_at_front rest sent))
 
 -- one more record was read
 pub sent_read : (has is_left : List ℕ → Type 0) (records : List Sent) (reader after : ReaderView) (sent : Sent) → IsReadTo has is_left records reader → BeginsWithRecord reader.unread sent → after ≡ record { unread = drop (16 + length sent.bytes.items) reader.unread; count = reader.count + 1; cut = reader.cut + cut_at_front reader.unread sent } → IsReadTo has is_left (records ++ sent ∷ []) after
@@ -111,7 +112,7 @@ sent_read has is_left records reader after sent read begins is_after =
             held = before.held;
             header = before.header;
             are = subst P (drop-append-le past unread rest whole) (AreRecords-more (drop 24 before.all) records (unread ++ rest) sent before.are (begins_record unread rest sent begins));
-            cut_is = ap (λ n. n + cut_at_front unread sent) before.cut_is ∙ ap (λ n. cut_of (drop 24 before.all) records + n) (sym same) ∙ sym sum;
+            cut_is = ap (λ n. n + cut_at_front unread sent) before.cut_is ∙ ap (λ n. cut_record_count (drop 24 before.all) records + n) (sym same) ∙ sym sum;
           };
     })
 
@@ -134,7 +135,7 @@ read_whole has is_left records reader read none enough =
     }
 
 -- the next record is refused
-pub read_refused : (has is_left : List ℕ → Type 0) (records : List Sent) (reader : ReaderView) (fault : CaptureFault) → IsReadTo has is_left records reader → IsEnough is_left reader.unread → RefusesRecord reader.unread (reader.count + 1) fault → IsRefused has fault
+pub read_refused : (has is_left : List ℕ → Type 0) (records : List Sent) (reader : ReaderView) (fault : CaptureFault) → IsReadTo has is_left records reader → IsEnough is_left reader.unread → RefusesRecord reader.unread (reader.count + 1) fault → IsFileRefused has fault
 read_refused has is_left records reader fault read enough cause =
     let some = behind is_left reader.unread read.rest read.left enough in
     let before = read.file some.bytes some.left in

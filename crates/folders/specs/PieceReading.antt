@@ -2,7 +2,7 @@
 use Rattle.std.specs.Prelude.{◌≡◌, ℕ, ◌+◌, nat_lt, if◌then◌else◌, List, [], ◌∷◌, ◌++◌, length, drop}
 use Rattle.wire.specs.declared.records.Sent.{Sent}
 use Rattle.wire.specs.declared.capture_fault.CaptureFault.{CaptureFault}
-use Rattle.wire.specs.CaptureFormat.{le32_at, BeginsWithHeader, AreRecords, IsCaptureFile, Refuses}
+use Rattle.wire.specs.CaptureFormat.{le32_at, BeginsWithHeader, AreRecords, IsCaptureFile, RefusesCapture}
 
 -- what a contract sees of a reader: the bytes that its folder returned and that are still unread, how many records it read, and how many
 -- of these were cut
@@ -16,9 +16,9 @@ abbrev pub cut_at_front : List ℕ → Sent → ℕ
 cut_at_front bytes sent = if nat_lt (length sent.bytes.items) (le32_at 12 bytes) then 1 else 0
 
 -- how many of the records that the bytes begin with keep fewer bytes than their frames had
-abbrev pub cut_of : List ℕ → List Sent → ℕ
-cut_of bytes [] = 0
-cut_of bytes (sent ∷ sents) = cut_at_front bytes sent + cut_of (drop (16 + length sent.bytes.items) bytes) sents
+abbrev pub cut_record_count : List ℕ → List Sent → ℕ
+cut_record_count bytes [] = 0
+cut_record_count bytes (sent ∷ sents) = cut_at_front bytes sent + cut_record_count (drop (16 + length sent.bytes.items) bytes) sents
 
 -- the file begins with a header and these records, with this number of cut ones among them, and behind them it has these bytes
 pub record HasRecords (has : List ℕ → Type 0) (records : List Sent) (cut : ℕ) (behind : List ℕ) : Type 0 where
@@ -26,7 +26,7 @@ pub record HasRecords (has : List ℕ → Type 0) (records : List Sent) (cut : �
   pub held : has all
   pub header : BeginsWithHeader all
   pub are : AreRecords (drop 24 all) records behind
-  pub cut_is : cut ≡ cut_of (drop 24 all) records
+  pub cut_is : cut ≡ cut_record_count (drop 24 all) records
 
 -- the file has these records so far: something is left of it, and whatever that is, it comes behind them and the unread bytes
 pub record IsReadTo (has : List ℕ → Type 0) (is_left : List ℕ → Type 0) (records : List Sent) (reader : ReaderView) : Type 0 where
@@ -40,13 +40,13 @@ pub record IsReadWhole (has : List ℕ → Type 0) (records : List Sent) (cut : 
   pub all : List ℕ
   pub held : has all
   pub capture : IsCaptureFile all records
-  pub cut_is : cut ≡ cut_of (drop 24 all) records
+  pub cut_is : cut ≡ cut_record_count (drop 24 all) records
 
 -- the file is refused with this fault
-pub record IsRefused (has : List ℕ → Type 0) (fault : CaptureFault) : Type 0 where
+pub record IsFileRefused (has : List ℕ → Type 0) (fault : CaptureFault) : Type 0 where
   pub all : List ℕ
   pub held : has all
-  pub refused : Refuses all fault
+  pub refused : RefusesCapture all fault
 
 -- from the one state to the other these records were read: behind whatever records a file has in the one, it has these in the other
 abbrev pub ReadsOn : {F : Type 0} → (F → List ℕ → List ℕ → Type 0) → (List ℕ → Type 0) → (List ℕ → Type 0) → ReaderView → ReaderView
@@ -65,4 +65,4 @@ ReadsToEnd holds was_left was sents cut =
 abbrev pub RefusesNext : {F : Type 0} → (F → List ℕ → List ℕ → Type 0) → (List ℕ → Type 0) → ReaderView → CaptureFault → Type 0
 RefusesNext holds was_left was fault =
     (opened : _) (name : List ℕ) (records : List Sent) → IsReadTo (holds opened name) was_left records was →
-    IsRefused (holds opened name) fault
+    IsFileRefused (holds opened name) fault

@@ -5,7 +5,7 @@ ghost use Rattle.std.specs.Prelude.{ℕ, [], List, length, drop, nat_lt, option_
 ghost use Rattle.std.specs.Prelude.{IfErr, IfNone, IfOk, IfSome, IsErrOf, OnErr, OnOk};
 ghost use Rattle.wire.specs.declared.records.Sent.{Sent};
 ghost use Rattle.wire.specs.CaptureFormat.{le32_at, BeginsWithRecord, RefusesRecord};
-ghost use Rattle.folders.specs.PieceReading.{cut_at_front, IsReadTo, IsReadWhole, IsRefused, ReadsOn, ReadsToEnd};
+ghost use Rattle.folders.specs.PieceReading.{cut_at_front, IsReadTo, IsReadWhole, IsFileRefused, ReadsOn, ReadsToEnd};
 ghost use Rattle.folders.specs.PieceReading.{RefusesNext};
 
 use crate::folder::{Folder, FolderFault};
@@ -61,7 +61,7 @@ impl CaptureReader {
         ensures start { IfOk result (λ found. IfSome found (λ reader. reader.count ≡ 0)) }
         ensures room { IfOk result (λ found. IfSome found (λ reader. length reader.unread + D.most_left folder.new ≤ 2 ^ 40)) }
         ensures fault { IfErr result (λ fault.
-            fault ≡ CaptureFault.Device ⊎ fault ≡ CaptureFault.Memory ⊎ IsRefused (D.holds folder.old name.now) fault) }
+            fault ≡ CaptureFault.Device ⊎ fault ≡ CaptureFault.Memory ⊎ IsFileRefused (D.holds folder.old name.now) fault) }
         ensures kept { (other held : List ℕ) → (D.holds folder.old other held ↔ D.holds folder.new other held) }
         ensures begun_kept { (other held : List ℕ) → (D.is_begun folder.old other held ↔ D.is_begun folder.new other held) }
         ensures device { IsErrOf result CaptureFault.Device ↔ (D.failure_count folder.new ≡ D.failure_count folder.old + 1) }

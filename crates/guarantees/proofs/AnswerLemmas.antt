@@ -5,7 +5,7 @@ use Rattle.std.proofs.lemmas.Bool.{false≢true}
 use Rattle.semantics.specs.declared.call.Call.{Call}
 use Rattle.semantics.specs.declared.call.Reply.{Reply}
 use Rattle.semantics.specs.System.{Setting, SystemState, SystemEvent, BeginsRun, DoesInstruction, CallsShard, LeavesShard, Controls, Reclaims, after_event}
-use Rattle.semantics.specs.Events.{Input, Ending, begun_by, controlled, reclaimed, answer_in, answered, ending_in, ended_by}
+use Rattle.semantics.specs.Events.{Input, Ending, begun_by, controlled, reclaimed, answers_of_event, answered, ending_in, ended_by}
 use Rattle.guarantees.specs.Moves.{is_event_of}
 use Rattle.guarantees.proofs.EndLemmas.{no_end}
 use Rattle.guarantees.proofs.MergeEvents.{HappenFrom, AreOwn, not_anothers}
@@ -25,9 +25,9 @@ pub then_answered : (setting : Setting) (one two : SystemState) (first second : 
     answered setting one (first ++ second) ≡ answered setting one first ++ answered setting two second
 then_answered setting one two [] second happen = ap (λ (here : SystemState). answered setting here second) happen
 then_answered setting one two (event ∷ first) second happen =
-    ap (λ (list : List (Option Reply)). answer_in setting one event ++ list)
+    ap (λ (list : List (Option Reply)). answers_of_event setting one event ++ list)
     (then_answered setting (after_event setting one event) two first second happen.1)
-    ∙ sym (append_assoc (answer_in setting one event) (answered setting (after_event setting one event) first) (answered setting two second))
+    ∙ sym (append_assoc (answers_of_event setting one event) (answered setting (after_event setting one event) first) (answered setting two second))
 
 pub then_controlled : (first second : List SystemEvent) → controlled (first ++ second) ≡ controlled first ++ controlled second
 then_controlled [] second = refl
@@ -50,7 +50,7 @@ then_reclaimed (Reclaims shard ∷ first) second = ap (λ (list : List ℕ). sha
 -- ---- a worker's events are no other's
 
 no_answer : (setting : Setting) (worker : ℕ) (system : SystemState) (event : SystemEvent) → is_event_of worker event ≡ true →
-    answer_in setting system event ≡ []
+    answers_of_event setting system event ≡ []
 no_answer setting worker system (BeginsRun one frame now told) own = refl
 no_answer setting worker system (DoesInstruction one) own = refl
 no_answer setting worker system (CallsShard one) own = refl

@@ -12,7 +12,7 @@ use Rattle.semantics.specs.History.{shard_of_call}
 use Rattle.semantics.specs.RunTrace.{RunTrace, HasExited, GoesOn, trace_of, trace_from, with_call}
 use Rattle.semantics.specs.Step.{CallsMap, Exits}
 use Rattle.semantics.specs.Semantics.{next_step}
-use Rattle.semantics.specs.System.{Setting, program_of, WorkerState, Idle, Runs, Leaves, is_entered, run_over, without_shard, input_frame}
+use Rattle.semantics.specs.System.{Setting, program_of_setting, WorkerState, Idle, Runs, Leaves, is_entered, run_over, without_shard, input_frame}
 use Rattle.semantics.proofs.shared.SystemSteps.{gone}
 use Rattle.map_port.specs.Exchanges.{Exchange, calls_in, replies_in}
 use Rattle.shards.specs.Passes.{own_at}
@@ -33,10 +33,10 @@ record Traced (setting : Setting) (count worker : ℕ) (state : MachineState) (e
   exchanges : List Exchange
   instructions : ℕ
   trace :
-      trace_of instructions (program_of setting) state (replies_in exchanges)
+      trace_of instructions (program_of_setting setting) state (replies_in exchanges)
       ≡ record { calls = calls_in exchanges; stand = HasExited verdict last }
   within : AreCallsWithin count exchanges
-  formed : AreFormed (program_of setting) exchanges
+  formed : AreFormed (program_of_setting setting) exchanges
   writes : (number : ℕ) → entries_on number moves ≡ since (is_entered number entered) worker number (exchange_entries worker number exchanges)
   stays : (number : ℕ) → is_entered number after ≡ (is_entered number entered || is_some_entry (exchange_entries worker number exchanges))
 
@@ -88,9 +88,9 @@ asks_first program state call next verdict last (suc instructions) (exchange ∷
 
 enters_before : (setting : Setting) (count worker : ℕ) (state : MachineState) (entered : List ℕ) (call : Call) (next : Reply → MachineState)
     (moves : List Move) (verdict : Verdict) (last : MachineState) (after : List ℕ) →
-    next_step (program_of setting) state ≡ CallsMap call next → is_entered (shard_of_call call) entered ≡ false →
+    next_step (program_of_setting setting) state ≡ CallsMap call next → is_entered (shard_of_call call) entered ≡ false →
     (rest : Traced setting count worker state (shard_of_call call ∷ entered) moves verdict last after) →
-    AsksFirst (program_of setting) state call next verdict last rest.exchanges →
+    AsksFirst (program_of_setting setting) state call next verdict last rest.exchanges →
     Traced setting count worker state entered ((asks worker (Writes (enter_by worker (shard_of_call call)))) ∷ moves) verdict
     last after
 enters_before setting count worker state entered call next moves verdict last after is outside rest first =
@@ -123,7 +123,7 @@ back setting count worker verdict last after later one move two (RunBegins frame
 back setting count worker verdict last after later one move two (RunGoesOn state next entered is) rest here there is_run = record {
   exchanges = rest.exchanges;
   instructions = suc rest.instructions;
-  trace = ap (λ step. trace_from (trace_of rest.instructions (program_of setting)) state step (replies_in rest.exchanges)) is ∙ rest.trace;
+  trace = ap (λ step. trace_from (trace_of rest.instructions (program_of_setting setting)) state step (replies_in rest.exchanges)) is ∙ rest.trace;
   within = rest.within;
   formed = rest.formed;
   writes = rest.writes;
@@ -137,7 +137,7 @@ back setting count worker verdict last after later one move two (CallIsServed st
       exchanges = exchange ∷ rest.exchanges;
       instructions = suc rest.instructions;
       trace =
-          ap (λ step. trace_from (trace_of rest.instructions (program_of setting)) state step (reply ∷ replies_in rest.exchanges)) is
+          ap (λ step. trace_from (trace_of rest.instructions (program_of_setting setting)) state step (reply ∷ replies_in rest.exchanges)) is
           ∙ ap (λ (trace : RunTrace). with_call call trace) rest.trace;
       within = (within, rest.within);
       formed = (formed, rest.formed);
@@ -146,7 +146,7 @@ back setting count worker verdict last after later one move two (CallIsServed st
     }
 back setting count worker verdict last after later one move two (ShardIsEntered state entered call next is within outside) rest here there is_run =
     enters_before setting count worker state entered call next later verdict last after is outside rest
-    (asks_first (program_of setting) state call next verdict last rest.instructions rest.exchanges is rest.trace)
+    (asks_first (program_of_setting setting) state call next verdict last rest.instructions rest.exchanges is rest.trace)
 back setting count worker verdict last after later one move two (CallIsRefused state entered call next is within inside) rest here there is_run =
     absurd (over_is_no_run setting count worker verdict last after later entered rest)
 back setting count worker verdict last after later one move two (EnterIsRefused state entered call next is within outside) rest here there is_run =
@@ -154,13 +154,13 @@ back setting count worker verdict last after later one move two (EnterIsRefused 
 back setting count worker verdict last after later one move two (ShardIsLeft shard entered within inside) rest here there is_run = absurd cc
 
 traced : (setting : Setting) (count worker : ℕ) (verdict : Verdict) (last : MachineState) (ending : InRun) →
-    next_step (program_of setting) ending.state ≡ Exits verdict last → (moves : List Move) (here : InRun) →
+    next_step (program_of_setting setting) ending.state ≡ Exits verdict last → (moves : List Move) (here : InRun) →
     AreStepsOfRun setting count worker here moves ending → Traced setting count worker here.state here.entered moves verdict last ending.entered
 traced setting count worker verdict last ending is [] here steps = record {
   exchanges = [];
   instructions = suc zero;
-  trace = ap (λ step. trace_from (trace_of zero (program_of setting)) here.state step [])
-      (ap (λ (one : InRun). next_step (program_of setting) one.state) steps ∙ is);
+  trace = ap (λ step. trace_from (trace_of zero (program_of_setting setting)) here.state step [])
+      (ap (λ (one : InRun). next_step (program_of_setting setting) one.state) steps ∙ is);
   within = tt;
   formed = tt;
   writes = λ number. nothing_since worker number (is_entered number here.entered);

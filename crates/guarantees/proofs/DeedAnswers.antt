@@ -21,7 +21,7 @@ use Rattle.control.specs.MapUpdates.{UpdateBytes}
 use Rattle.actors.specs.Commands.{AnsweredUpdate, CommandDone, made_deeds, stop_deeds, command_deeds, commands_deeds}
 use Rattle.actors.specs.Rounds.{keyed_below, IsReclaimDeed, AreReclaimDeeds, AreRoundsDone}
 use Rattle.semantics.specs.Replay.{is_keyed, is_of_keyed, keyed_shards, rounds_over}
-use Rattle.guarantees.specs.ReplayOf.{call_of, calls_made, stopped_call, command_calls, answers_made, stopped_answer, command_answers}
+use Rattle.guarantees.specs.ReplayOf.{call_of_shared_update, calls_made, stopped_call, command_calls, answers_made, stopped_answer, command_answers}
 use Rattle.guarantees.proofs.DeedLemmas.{chosen_reversed}
 use Rattle.guarantees.proofs.EveryEntry.{all_both}
 use Rattle.guarantees.proofs.Merge.{is_askable, heard, call_of_deed, answer_of_deed}
@@ -84,7 +84,7 @@ module _ (plan : ℕ → ShardPlan) (maps : List MapDef) (options : Options) whe
 module _ (maps : List MapDef) (options : Options) where
   made_calls : (made : List AnsweredUpdate) → map call_of_deed (made_deeds maps options made) ≡ calls_made maps options made
   made_calls [] = refl
-  made_calls (one ∷ made) = ap (λ (list : List Call). call_of maps options one.update ∷ list) (made_calls made)
+  made_calls (one ∷ made) = ap (λ (list : List Call). call_of_shared_update maps options one.update ∷ list) (made_calls made)
 
   made_answers : (made : List AnsweredUpdate) → map answer_of_deed (made_deeds maps options made) ≡ answers_made made
   made_answers [] = refl

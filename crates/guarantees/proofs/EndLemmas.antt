@@ -10,7 +10,7 @@ use Rattle.semantics.specs.ShardPlan.{plan_at}
 use Rattle.semantics.specs.History.{shard_of_call, journal_is_full}
 use Rattle.semantics.specs.Step.{CallsMap}
 use Rattle.semantics.specs.Semantics.{next_step}
-use Rattle.semantics.specs.System.{Setting, program_of, SystemState, SystemEvent, BeginsRun, DoesInstruction, CallsShard, LeavesShard, Controls, Reclaims, WorkerState, Idle, Runs, worker_state, history_of, is_entered}
+use Rattle.semantics.specs.System.{Setting, program_of_setting, SystemState, SystemEvent, BeginsRun, DoesInstruction, CallsShard, LeavesShard, Controls, Reclaims, WorkerState, Idle, Runs, worker_state, history_of, is_entered}
 use Rattle.semantics.specs.Events.{Ending, Stopped, stop_for, stop_at, stop_of, exit_of, ending_in}
 use Rattle.guarantees.specs.Steps.{AskedOfShard, Nothing, Writes, Refused, Move, IsStep, RunBegins, RunGoesOn, RunEnds, CallIsServed, ShardIsEntered, CallIsRefused, EnterIsRefused, ShardIsLeft, AreSteps}
 use Rattle.guarantees.specs.Moves.{IsAskedSo, is_event_of}
@@ -47,7 +47,7 @@ instruction setting system worker before stands =
     ap (λ (test : Bool). if test then exit_of setting (worker_state system worker) else []) (own_event worker) ∙ ap (exit_of setting) stands
 
 asking : (setting : Setting) (system : SystemState) (worker : ℕ) (state : MachineState) (entered : List ℕ) (call : Call) (next : Reply → MachineState)
-    (inside : Bool) → worker_state system worker ≡ Runs state entered → next_step (program_of setting) state ≡ CallsMap call next →
+    (inside : Bool) → worker_state system worker ≡ Runs state entered → next_step (program_of_setting setting) state ≡ CallsMap call next →
     is_entered (shard_of_call call) entered ≡ inside →
     ending_in setting worker system (CallsShard worker)
     ≡ (if inside then stop_for (plan_at setting.maps setting.options (shard_of_call call)) system call

@@ -157,7 +157,7 @@ pub record Reaches (said : MachineState → Type 0) (setting : Setting) (count w
 
 -- one instruction that calls nothing
 pub reach_on : (said : MachineState → Type 0) (setting : Setting) (count worker : ℕ) (state next : MachineState) (entered : List ℕ)
-    (exchanges : List Exchange) → next_step (model.program_of setting) state ≡ Continues next →
+    (exchanges : List Exchange) → next_step (model.program_of_setting setting) state ≡ Continues next →
     Reaches said setting count worker next entered exchanges → Reaches said setting count worker state entered exchanges
 reach_on said setting count worker state next entered exchanges is rest = record {
   run = does worker ∷ rest.run;
@@ -174,8 +174,8 @@ reach_on said setting count worker state next entered exchanges is rest = record
 
 -- one call inside its shard
 reach_call : (said : MachineState → Type 0) (setting : Setting) (count worker : ℕ) (state : MachineState) (next : Reply → MachineState)
-    (entered : List ℕ) (exchange : Exchange) (later : List Exchange) → next_step (model.program_of setting) state ≡ CallsMap exchange.call next →
-    shard_of_call exchange.call < count → IsReplyTo (model.program_of setting) exchange.call exchange.reply →
+    (entered : List ℕ) (exchange : Exchange) (later : List Exchange) → next_step (model.program_of_setting setting) state ≡ CallsMap exchange.call next →
+    shard_of_call exchange.call < count → IsReplyTo (model.program_of_setting setting) exchange.call exchange.reply →
     is_entered (shard_of_call exchange.call) entered ≡ true →
     Reaches said setting count worker (next exchange.reply) entered later →
     Reaches said setting count worker state entered (exchange ∷ later)
@@ -198,7 +198,7 @@ reach_call said setting count worker state next entered exchange later is within
 
 -- the first call of a shard: the run enters it before
 reach_enter : (said : MachineState → Type 0) (setting : Setting) (count worker : ℕ) (state : MachineState) (next : Reply → MachineState)
-    (entered : List ℕ) (exchange : Exchange) (later : List Exchange) → next_step (model.program_of setting) state ≡ CallsMap exchange.call next →
+    (entered : List ℕ) (exchange : Exchange) (later : List Exchange) → next_step (model.program_of_setting setting) state ≡ CallsMap exchange.call next →
     shard_of_call exchange.call < count → is_entered (shard_of_call exchange.call) entered ≡ false →
     Reaches said setting count worker state (shard_of_call exchange.call ∷ entered) (exchange ∷ later) →
     Reaches said setting count worker state entered (exchange ∷ later)
@@ -228,8 +228,8 @@ reach_enter said setting count worker state next entered exchange later is withi
 
 pub reach_here : (said : MachineState → Type 0) (setting : Setting) (count worker : ℕ) (state : MachineState) (next : Reply → MachineState)
     (entered : List ℕ) (exchange : Exchange) (later : List Exchange) (inside : Bool) →
-    next_step (model.program_of setting) state ≡ CallsMap exchange.call next → shard_of_call exchange.call < count →
-    IsReplyTo (model.program_of setting) exchange.call exchange.reply → is_entered (shard_of_call exchange.call) entered ≡ inside →
+    next_step (model.program_of_setting setting) state ≡ CallsMap exchange.call next → shard_of_call exchange.call < count →
+    IsReplyTo (model.program_of_setting setting) exchange.call exchange.reply → is_entered (shard_of_call exchange.call) entered ≡ inside →
     AreEntered count entered →
     ((now : List ℕ) → AreEntered count now → Reaches said setting count worker (next exchange.reply) now later) →
     Reaches said setting count worker state entered (exchange ∷ later)
@@ -251,19 +251,19 @@ or_false true = refl
 or_false false = refl
 
 abbrev pub Exited : Setting → Verdict → MachineState → MachineState → Type 0
-Exited setting verdict last ending = next_step (model.program_of setting) ending ≡ Exits verdict last
+Exited setting verdict last ending = next_step (model.program_of_setting setting) ending ≡ Exits verdict last
 
 abbrev IsReached : Setting → ℕ → ℕ → ℕ → Verdict → MachineState → Type 0
 IsReached setting count worker steps verdict last =
     (state : MachineState) (entered : List ℕ) (exchanges : List Exchange) → AreEntered count entered → AreCallsWithin count exchanges →
-    AreFormed (model.program_of setting) exchanges →
-    trace_of steps (model.program_of setting) state (replies_in exchanges) ≡ record { calls = calls_in exchanges; stand = HasExited verdict last } →
+    AreFormed (model.program_of_setting setting) exchanges →
+    trace_of steps (model.program_of_setting setting) state (replies_in exchanges) ≡ record { calls = calls_in exchanges; stand = HasExited verdict last } →
     Reaches (Exited setting verdict last) setting count worker state entered exchanges
 
 by_step : (setting : Setting) (count worker steps : ℕ) (verdict : Verdict) (last : MachineState) → IsReached setting count worker steps verdict last →
     (state : MachineState) (entered : List ℕ) (exchanges : List Exchange) → AreEntered count entered → AreCallsWithin count exchanges →
-    AreFormed (model.program_of setting) exchanges → (step : Step) → next_step (model.program_of setting) state ≡ step →
-    trace_from (trace_of steps (model.program_of setting)) state step (replies_in exchanges)
+    AreFormed (model.program_of_setting setting) exchanges → (step : Step) → next_step (model.program_of_setting setting) state ≡ step →
+    trace_from (trace_of steps (model.program_of_setting setting)) state step (replies_in exchanges)
     ≡ record { calls = calls_in exchanges; stand = HasExited verdict last } →
     Reaches (Exited setting verdict last) setting count worker state entered exchanges
 by_step setting count worker steps verdict last later state entered exchanges distinct within formed (Continues next) is trace =
@@ -271,7 +271,7 @@ by_step setting count worker steps verdict last later state entered exchanges di
 by_step setting count worker steps verdict last later state entered [] distinct within formed (CallsMap call next) is trace =
     absurd (let made : call ∷ [] ≡ [] = ap (λ (one : RunTrace). one.calls) trace in cc)
 by_step setting count worker steps verdict last later state entered (exchange ∷ more) distinct within formed (CallsMap call next) is trace =
-    let rest : RunTrace = trace_of steps (model.program_of setting) (next exchange.reply) (replies_in more) in
+    let rest : RunTrace = trace_of steps (model.program_of_setting setting) (next exchange.reply) (replies_in more) in
     let made : call ∷ rest.calls ≡ exchange.call ∷ calls_in more = ap (λ (one : RunTrace). one.calls) trace in
     let stands : rest.stand ≡ HasExited verdict last = ap (λ (one : RunTrace). one.stand) trace in
     let same : call ≡ exchange.call = cc in
@@ -309,7 +309,7 @@ reached setting count worker zero verdict last state entered exchanges distinct 
     absurd (let stands : GoesOn ≡ HasExited verdict last = ap (λ (one : RunTrace). one.stand) trace in cc)
 reached setting count worker (suc steps) verdict last state entered exchanges distinct within formed trace =
     by_step setting count worker steps verdict last (reached setting count worker steps verdict last) state entered exchanges distinct within formed
-    (next_step (model.program_of setting) state) refl trace
+    (next_step (model.program_of_setting setting) state) refl trace
 
 -- ---- from idle to idle
 

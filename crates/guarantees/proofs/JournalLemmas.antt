@@ -9,7 +9,7 @@ use Rattle.semantics.specs.System.{history_of}
 use Rattle.shard_core.specs.JournaledShard.{JournaledShard}
 use Rattle.shard_port.specs.PortView.{AreShardsOf, ServesMaps}
 use Rattle.guarantees.specs.Guarantees.{EntriesAreAnswered}
-use Rattle.guarantees.specs.Runs.{AreLegal}
+use Rattle.guarantees.specs.Runs.{AreLegalShards}
 use Rattle.guarantees.proofs.LegalEntries.{entry_is_legal}
 
 pub entries_answered : EntriesAreAnswered
@@ -20,6 +20,6 @@ entries_answered setting system plan earlier later entry known legal history =
 
 -- shards that serve their maps have legal journals
 pub are_legal : (maps : List MapDef) (options : Options) (shards : List JournaledShard) → ServesMaps maps options shards →
-    ∥ AreLegal shards ∥₁
+    ∥ AreLegalShards shards ∥₁
 are_legal maps options shards serve = ∥∥₁_map serve (λ (are : AreShardsOf maps options shards). λ number shard known.
     (are.each number shard known).legal)

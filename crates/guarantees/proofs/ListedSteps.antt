@@ -9,13 +9,13 @@ use Rattle.semantics.specs.MachineState.{MachineState}
 use Rattle.semantics.specs.History.{shard_of_call}
 use Rattle.semantics.specs.Step.{Step, Continues, CallsMap, Exits, Traps}
 use Rattle.semantics.specs.Semantics.{next_step}
-use Rattle.semantics.specs.System.{Setting, program_of, LeavesShard, BeginsRun, WorkerState, Idle, Runs, Leaves, is_entered, run_over, without_shard}
+use Rattle.semantics.specs.System.{Setting, program_of_setting, LeavesShard, BeginsRun, WorkerState, Idle, Runs, Leaves, is_entered, run_over, without_shard}
 use Rattle.shard_port.specs.Asking.{enter_by, asked_entry}
 use Rattle.guarantees.specs.Steps.{Writes, Refused, Move, RunBegins, RunGoesOn, RunEnds, CallIsServed, ShardIsEntered, CallIsRefused, EnterIsRefused, ShardIsLeft}
 use Rattle.guarantees.specs.StepLaws.{IsCallNext, IsEnterNext, IsNextOf, IsListedNext, StepsAreListed, MovesLeadToOne}
 
 by_step : (setting : Setting) (worker : ℕ) (state : MachineState) (entered : List ℕ) (step : Step) (move : Move) (after : WorkerState) →
-    next_step (program_of setting) state ≡ step → IsNextOf worker state entered step move after →
+    next_step (program_of_setting setting) state ≡ step → IsNextOf worker state entered step move after →
     IsListedNext setting worker (Runs state entered) move after
 by_step setting worker state entered step move after is next = subst (λ one. IsNextOf worker state entered one move after) (sym is) next
 
@@ -127,7 +127,7 @@ one_listed setting worker Idle move one other first second =
     let told : first.told ≡ second.told = cc in
     first.after_is ∙ rw (frame, now, told) refl ∙ sym second.after_is
 one_listed setting worker (Runs state entered) move one other first second =
-    one_next worker state entered (next_step (program_of setting) state) move one other first second
+    one_next worker state entered (next_step (program_of_setting setting) state) move one other first second
 one_listed setting worker (Leaves entered) move one other first second =
     let event : LeavesShard worker first.shard ≡ LeavesShard worker second.shard = event_of _ _ (sym first.move_is ∙ second.move_is) in
     let shard : first.shard ≡ second.shard = cc in

@@ -24,7 +24,7 @@ use Rattle.shards.specs.declared.deeds.Deed.{Deed}
 use Rattle.shards.specs.declared.deeds.Deed.TheVariants.{Wrote, MetFull}
 use Rattle.shards.specs.declared.deeds.OrderPart.TheVariants.{ByCaller}
 use Rattle.shards.specs.Deeds.{shard_of_deed, is_deed_of, entries_made, made_on}
-use Rattle.semantics.specs.Events.{Ending, controlled, reclaimed, answer_in, answered, ended_by}
+use Rattle.semantics.specs.Events.{Ending, controlled, reclaimed, answers_of_event, answered, ended_by}
 use Rattle.guarantees.specs.Steps.{AskedOfShard, Nothing, Writes, Refused, Move, AreSteps, entries_asked, deeds_asked, deeds_in}
 use Rattle.guarantees.specs.Moves.{IsAskedSo, after_asked, is_event_of}
 use Rattle.guarantees.specs.Merging.{IsOrderOfMoves, IsWrittenNext, AreWrittenInOrder, events_of, IsOneList, OneOrderIsOneList}
@@ -160,7 +160,7 @@ go_on setting plan count worker deeds whole later system after rest ends moves l
 record IsHeardSo (setting : Setting) (plan : ℕ → ShardPlan) (system : SystemState) (event : SystemEvent) (whole later : List Deed) : Type 0 where
   nobody : (worker : ℕ) → is_event_of worker event ≡ false
   calls : controlled (event ∷ []) ++ map call_of_deed (heard plan Controller later) ≡ map call_of_deed (heard plan Controller whole)
-  answers : answer_in setting system event ++ map answer_of_deed (heard plan Controller later) ≡ map answer_of_deed (heard plan Controller whole)
+  answers : answers_of_event setting system event ++ map answer_of_deed (heard plan Controller later) ≡ map answer_of_deed (heard plan Controller whole)
   rounds : reclaimed (event ∷ []) ++ map shard_of_deed (heard plan Reclaimer later) ≡ map shard_of_deed (heard plan Reclaimer whole)
 
 -- an event of no worker, and then the rest
@@ -182,7 +182,7 @@ go_by setting plan count deeds whole later system rest ends event first can writ
       (no_end setting worker system event (is.nobody worker))
       ∙ merged.ended worker;
   called = then_controlled (event ∷ []) merged.events ∙ ap (λ (list : List Call). controlled (event ∷ []) ++ list) merged.called ∙ is.calls;
-  answers = ap (λ (list : List (Option Reply)). answer_in setting system event ++ list) merged.answers ∙ is.answers;
+  answers = ap (λ (list : List (Option Reply)). answers_of_event setting system event ++ list) merged.answers ∙ is.answers;
   gone_over = then_reclaimed (event ∷ []) merged.events ∙ ap (λ (list : List ℕ). reclaimed (event ∷ []) ++ list) merged.gone_over ∙ is.rounds;
   histories = merged.histories;
   idle = merged.idle;

@@ -16,7 +16,7 @@ use Rattle.semantics.specs.Semantics.{next_step}
 use Rattle.semantics.specs.declared.plan.ShardPlan.{ShardPlan}
 use Rattle.semantics.specs.ShardPlan.{plan_for_map, plan_at}
 use Rattle.semantics.specs.History.{shard_of_call}
-use Rattle.semantics.specs.System.{Setting, program_of, SystemState, WorkerState, Idle, Runs, Leaves, worker_state, with_worker, with_entry, is_entered, IsInputFrame, input_frame, is_local, calls_map, DoesNext, MayLeave, run_over, without_shard, after_local, after_instruction, entry_for, after_run_call, after_asking, after_shard_call, after_leaving}
+use Rattle.semantics.specs.System.{Setting, program_of_setting, SystemState, WorkerState, Idle, Runs, Leaves, worker_state, with_worker, with_entry, is_entered, IsInputFrame, input_frame, is_local, calls_map, DoesNext, MayLeave, run_over, without_shard, after_local, after_instruction, entry_for, after_run_call, after_asking, after_shard_call, after_leaving}
 use Rattle.shard_port.specs.Asking.{enter_by, asked_entry}
 use Rattle.guarantees.specs.Steps.{Writes, Refused, does, begins, asks, leave, RunBegins, RunGoesOn, RunEnds, CallIsServed, ShardIsEntered, CallIsRefused, EnterIsRefused, ShardIsLeft}
 use Rattle.guarantees.specs.Moves.{Answers, TurnsAway, IsMove, StepsAreMoves}
@@ -72,7 +72,7 @@ begins_so setting worker now told frame few input early low = record {
 }
 
 goes_on : (setting : Setting) (worker : ℕ) (state next : MachineState) (entered : List ℕ) →
-    next_step (program_of setting) state ≡ Continues next → IsMove setting worker (Runs state entered) (does worker) (Runs next entered)
+    next_step (program_of_setting setting) state ≡ Continues next → IsMove setting worker (Runs state entered) (does worker) (Runs next entered)
 goes_on setting worker state next entered is = record {
   own = own_event worker;
   can = λ system stands asked. subst (λ one. DoesNext setting one is_local) (sym stands) (ap is_local is);
@@ -82,7 +82,7 @@ goes_on setting worker state next entered is = record {
 }
 
 ends : (setting : Setting) (worker : ℕ) (state last : MachineState) (verdict : Verdict) (entered : List ℕ) →
-    next_step (program_of setting) state ≡ Exits verdict last → IsMove setting worker (Runs state entered) (does worker) (run_over entered)
+    next_step (program_of_setting setting) state ≡ Exits verdict last → IsMove setting worker (Runs state entered) (does worker) (run_over entered)
 ends setting worker state last verdict entered is = record {
   own = own_event worker;
   can = λ system stands asked. subst (λ one. DoesNext setting one is_local) (sym stands) (ap is_local is);
@@ -94,7 +94,7 @@ ends setting worker state last verdict entered is = record {
 -- the event in which a run calls a shard that it has entered, or enters it
 asking : (setting : Setting) (system : SystemState) (worker : ℕ) (state : MachineState) (entered : List ℕ) (call : Call)
     (next : Reply → MachineState) (inside : Bool) → worker_state system worker ≡ Runs state entered →
-    next_step (program_of setting) state ≡ CallsMap call next → is_entered (shard_of_call call) entered ≡ inside →
+    next_step (program_of_setting setting) state ≡ CallsMap call next → is_entered (shard_of_call call) entered ≡ inside →
     after_shard_call setting system worker (worker_state system worker)
     ≡ (if inside then after_run_call (plan_at setting.maps setting.options (shard_of_call call)) system worker call entered
     (λ reply. Runs (next reply) entered)
@@ -109,12 +109,12 @@ asking setting system worker state entered call next inside stands is there =
 
 can_ask : (setting : Setting) (system : SystemState) (worker : ℕ) (state : MachineState) (entered : List ℕ) (call : Call)
     (next : Reply → MachineState) → worker_state system worker ≡ Runs state entered →
-    next_step (program_of setting) state ≡ CallsMap call next → DoesNext setting (worker_state system worker) calls_map
+    next_step (program_of_setting setting) state ≡ CallsMap call next → DoesNext setting (worker_state system worker) calls_map
 can_ask setting system worker state entered call next stands is =
     subst (λ one. DoesNext setting one calls_map) (sym stands) (ap calls_map is)
 
 calls : (setting : Setting) (worker : ℕ) (state : MachineState) (entered : List ℕ) (call : Call) (next : Reply → MachineState)
-    (reply : Reply) → next_step (program_of setting) state ≡ CallsMap call next → is_entered (shard_of_call call) entered ≡ true →
+    (reply : Reply) → next_step (program_of_setting setting) state ≡ CallsMap call next → is_entered (shard_of_call call) entered ≡ true →
     IsMove setting worker (Runs state entered) (asks worker (Writes (asked_entry worker call reply))) (Runs (next reply) entered)
 calls setting worker state entered call next reply is inside = record {
   own = own_event worker;
@@ -125,7 +125,7 @@ calls setting worker state entered call next reply is inside = record {
 }
 
 enters : (setting : Setting) (worker : ℕ) (state : MachineState) (entered : List ℕ) (call : Call) (next : Reply → MachineState) →
-    next_step (program_of setting) state ≡ CallsMap call next → is_entered (shard_of_call call) entered ≡ false →
+    next_step (program_of_setting setting) state ≡ CallsMap call next → is_entered (shard_of_call call) entered ≡ false →
     IsMove setting worker (Runs state entered) (asks worker (Writes (enter_by worker (shard_of_call call))))
     (Runs state (shard_of_call call ∷ entered))
 enters setting worker state entered call next is outside = record {
@@ -137,7 +137,7 @@ enters setting worker state entered call next is outside = record {
 }
 
 is_refused : (setting : Setting) (worker : ℕ) (state : MachineState) (entered : List ℕ) (call : Call) (next : Reply → MachineState) →
-    next_step (program_of setting) state ≡ CallsMap call next → is_entered (shard_of_call call) entered ≡ true →
+    next_step (program_of_setting setting) state ≡ CallsMap call next → is_entered (shard_of_call call) entered ≡ true →
     IsMove setting worker (Runs state entered) (asks worker (Refused call)) (run_over entered)
 is_refused setting worker state entered call next is inside = record {
   own = own_event worker;
@@ -148,7 +148,7 @@ is_refused setting worker state entered call next is inside = record {
 }
 
 cannot_enter : (setting : Setting) (worker : ℕ) (state : MachineState) (entered : List ℕ) (call : Call) (next : Reply → MachineState) →
-    next_step (program_of setting) state ≡ CallsMap call next → is_entered (shard_of_call call) entered ≡ false →
+    next_step (program_of_setting setting) state ≡ CallsMap call next → is_entered (shard_of_call call) entered ≡ false →
     IsMove setting worker (Runs state entered) (asks worker (Refused (Enter (shard_of_call call)))) (run_over entered)
 cannot_enter setting worker state entered call next is outside = record {
   own = own_event worker;

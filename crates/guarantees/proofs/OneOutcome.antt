@@ -14,7 +14,7 @@ use Rattle.semantics.specs.History.{shard_of_call}
 use Rattle.semantics.specs.RunTrace.{RunTrace, HasExited, HasTrapped, GoesOn, trace_of, trace_from, with_call}
 use Rattle.semantics.specs.Step.{Step, Continues, CallsMap, Exits, Traps}
 use Rattle.semantics.specs.Semantics.{next_step}
-use Rattle.semantics.specs.System.{program_of, input_frame}
+use Rattle.semantics.specs.System.{program_of_setting, input_frame}
 use Rattle.map_port.specs.Exchanges.{Exchange, calls_in, replies_in}
 use Rattle.shards.specs.Passes.{own_at}
 use Rattle.shard_port.specs.Asking.{leave_by}
@@ -140,7 +140,7 @@ pub runs_have_one_outcome : RunsHaveOneOutcome
 runs_have_one_outcome setting worker told now frame count before after verdict verdict' last last' run run' =
     let first = runs_are_traces setting worker told now frame count before after verdict last run in
     let second = runs_are_traces setting worker told now frame count before after verdict' last' run' in
-    one_trace (program_of setting) worker count verdict verdict' last last' first.instructions second.instructions
+    one_trace (program_of_setting setting) worker count verdict verdict' last last' first.instructions second.instructions
     (initial_state (input_frame frame) told now) first.exchanges second.exchanges first.trace second.trace first.within
     (λ number below. same_entries worker number first.exchanges second.exchanges (own_at before number) (own_at after number)
     (first.written number below) (second.written number below))

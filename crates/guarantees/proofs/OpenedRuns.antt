@@ -34,7 +34,7 @@ use Rattle.actors.specs.Shares.{is_short}
 use Rattle.actors.specs.RunsOverShards.{IsTold, IsExit, start_of, time_of}
 use Rattle.guarantees.specs.SameRuns.{RunsTheSame, stand_of_any, trace_of_any}
 use Rattle.guarantees.specs.ReaderRuns.{is_read, is_quiet, AreReads, AreQuiet, OnlyReads, IsReadAtOpening, opening_reply, stand_with}
-use Rattle.guarantees.specs.ReaderReplays.{answer_in, opening_answer, options_of, sent_for, sent_where}
+use Rattle.guarantees.specs.ReaderReplays.{opening_answer_in, opening_answer, options_of, sent_by_verdict, sent_where}
 use Rattle.actors.specs.Captured.{IsCaptured}
 use Rattle.guarantees.proofs.Answered.{AreOf, ends_alike}
 use Rattle.guarantees.proofs.EveryEntry.{all_both, all_parts, all_reverse, all_reversed, all_session, in_session, all_entries, each_exchange}
@@ -53,7 +53,7 @@ same_opening number part parts workers other journal room definition LruHash is 
 same_opening number part parts workers other journal room definition kind is call read = absurd cc
 
 answer_of : (options : Options) (number : ℕ) (plan : ShardPlan) (call : Call) → IsTrue (is_read call) → (found : Option MapDef) →
-    plan_for_map options number found ≡ Some plan → opening_reply plan call ≡ answer_in (plan_for_map (options_of options.shards) number found) call
+    plan_for_map options number found ≡ Some plan → opening_reply plan call ≡ opening_answer_in (plan_for_map (options_of options.shards) number found) call
 answer_of options number plan call read None is = absurd cc
 answer_of options number plan call read (Some definition) is =
     let same : (record {
@@ -177,13 +177,13 @@ module _ (maps : List MapDef) (code : List Insn) (options : Options) (count : �
   -- ---- what is sent
 
   told_as : (end : RunEnd) (verdict : Verdict) (frame : FrameView) → IsTold captured verdict frame end →
-      sent_by (Some end) ≡ sent_for captured verdict frame.bytes
+      sent_by (Some end) ≡ sent_by_verdict captured verdict frame.bytes
   told_as Stopped verdict frame told = absurd told
-  told_as (Exited steps Aborted) verdict frame told = subst (λ (v : Verdict). [] ≡ sent_for captured v frame.bytes) (sym told) refl
-  told_as (Exited steps Dropped) verdict frame told = subst (λ (v : Verdict). [] ≡ sent_for captured v frame.bytes) (sym told) refl
-  told_as (Exited steps Passed) verdict frame told = subst (λ (v : Verdict). [] ≡ sent_for captured v frame.bytes) (sym told) refl
+  told_as (Exited steps Aborted) verdict frame told = subst (λ (v : Verdict). [] ≡ sent_by_verdict captured v frame.bytes) (sym told) refl
+  told_as (Exited steps Dropped) verdict frame told = subst (λ (v : Verdict). [] ≡ sent_by_verdict captured v frame.bytes) (sym told) refl
+  told_as (Exited steps Passed) verdict frame told = subst (λ (v : Verdict). [] ≡ sent_by_verdict captured v frame.bytes) (sym told) refl
   told_as (Exited steps (IsSent sent)) verdict frame told =
-      subst (λ (v : Verdict). sent_by (Some (Exited steps (IsSent sent))) ≡ sent_for captured v frame.bytes) (sym told.0)
+      subst (λ (v : Verdict). sent_by (Some (Exited steps (IsSent sent))) ≡ sent_by_verdict captured v frame.bytes) (sym told.0)
       (λ i. record { seconds = told.1.seconds i; micros = told.1.micros i; bytes = told.1.bytes_are i } ∷ [])
 
   any_sends : (stand : RunStand) → sent_where captured (stand_of_any stand) ≡ sent_where captured stand
@@ -203,7 +203,7 @@ module _ (maps : List MapDef) (code : List Insn) (options : Options) (count : �
       let stands : (trace_at worker).stand ≡ HasExited exit.verdict exit.run.last = ap (λ (trace : RunTrace). trace.stand) exit.run.trace in
       let frames : exit.frame.bytes ≡ exit.run.last.frame.bytes = ap (λ (frame : FrameView). frame.bytes) exit.run.sent in
       told_as end exit.verdict exit.frame exit.told
-      ∙ ap (sent_for captured exit.verdict) frames
+      ∙ ap (sent_by_verdict captured exit.verdict) frames
       ∙ sym (ap (sent_where captured) stands)
       ∙ sym (any_sends (trace_at worker).stand)
       ∙ ap (λ (trace : RunTrace). sent_where captured trace.stand) alike

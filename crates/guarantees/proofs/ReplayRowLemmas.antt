@@ -10,7 +10,7 @@ use Rattle.semantics.proofs.shared.ConditionLemmas.{tested_bytes}
 use Rattle.semantics.proofs.shared.SystemSteps.{same_everywhere}
 use Rattle.semantics.specs.Events.{begun_by, ended_by}
 use Rattle.semantics.specs.Replay.{inputs_of, ends_by, IsReplay}
-use Rattle.guarantees.specs.ReplayRows.{row_setting, held_asked, held_events, held_result, held_ending, full_asked, full_events, full_result, ReplayRows}
+use Rattle.guarantees.specs.ReplayRows.{replay_setting, held_asked, held_events, held_result, held_ending, full_asked, full_events, full_result, ReplayRows}
 
 input_of : (bytes : List ℕ) → 14 ≤ length bytes → length bytes ≤ 2048 → All (λ byte. byte < 256) bytes → IsInputFrame bytes
 input_of bytes least greatest all = record { least = least; greatest = greatest; bytes = all }
@@ -28,17 +28,17 @@ held_begun : (worker : ℕ) → begun_by worker (held_events) ≡ inputs_of held
 held_begun zero = refl
 held_begun (suc worker) = rw (another worker) refl
 
-held_ended : (worker : ℕ) → ended_by row_setting worker (opening_system row_setting) (held_events) ≡ ends_by worker (held_result held_ending).ends
+held_ended : (worker : ℕ) → ended_by replay_setting worker (opening_system replay_setting) (held_events) ≡ ends_by worker (held_result held_ending).ends
 unfolding slot_count
 held_ended zero = refl
 held_ended (suc worker) = rw (another worker) refl
 
-held_left : (shard : ℕ) → shard < 1 → reverse (history_of (system_after row_setting (reverse (held_events))) shard) ≡ (held_result held_ending).journals shard
+held_left : (shard : ℕ) → shard < 1 → reverse (history_of (system_after replay_setting (reverse (held_events))) shard) ≡ (held_result held_ending).journals shard
 unfolding slot_count
 held_left zero below = refl
 held_left (suc shard) below = absurd (omega (arith, below))
 
-held_is : IsReplay row_setting held_asked (held_result held_ending) (held_events)
+held_is : IsReplay replay_setting held_asked (held_result held_ending) (held_events)
 unfolding slot_count
 held_is = record {
   can = (refl, (refl, (refl, (refl, (refl, (refl, ((refl, refl), ((refl, refl), (refl, (refl, (refl, (refl, (refl, (refl, ((omega arith, refl, frame_zero, omega arith, omega arith), ((refl, refl), tt))))))))))))))));
@@ -52,24 +52,24 @@ held_is = record {
   answers = refl;
   of_calls = record { first = refl; each = refl };
   left = held_left;
-  idle = λ worker. all_idle (system_after row_setting (reverse (held_events))) worker refl;
+  idle = λ worker. all_idle (system_after replay_setting (reverse (held_events))) worker refl;
 }
 
 full_begun : (worker : ℕ) → begun_by worker (full_events (Reclaims 0 ∷ [])) ≡ inputs_of full_asked worker
 full_begun zero = refl
 full_begun (suc worker) = rw (another worker) refl
 
-full_ended : (worker : ℕ) → ended_by row_setting worker (opening_system row_setting) (full_events (Reclaims 0 ∷ [])) ≡ ends_by worker (full_result).ends
+full_ended : (worker : ℕ) → ended_by replay_setting worker (opening_system replay_setting) (full_events (Reclaims 0 ∷ [])) ≡ ends_by worker (full_result).ends
 unfolding slot_count
 full_ended zero = refl
 full_ended (suc worker) = rw (another worker) refl
 
-full_left : (shard : ℕ) → shard < 1 → reverse (history_of (system_after row_setting (reverse (full_events (Reclaims 0 ∷ [])))) shard) ≡ (full_result).journals shard
+full_left : (shard : ℕ) → shard < 1 → reverse (history_of (system_after replay_setting (reverse (full_events (Reclaims 0 ∷ [])))) shard) ≡ (full_result).journals shard
 unfolding slot_count
 full_left zero below = refl
 full_left (suc shard) below = absurd (omega (arith, below))
 
-full_is : IsReplay row_setting full_asked (full_result) (full_events (Reclaims 0 ∷ []))
+full_is : IsReplay replay_setting full_asked (full_result) (full_events (Reclaims 0 ∷ []))
 unfolding slot_count
 full_is = record {
   can = (refl, (refl, (refl, ((refl, refl), ((refl, refl), ((refl, refl), ((refl, refl), ((refl, refl), ((refl, refl), ((refl, refl), ((refl, refl), ((refl, refl), ((refl, refl), ((refl, refl), ((refl, refl), ((refl, refl), ((refl, refl), ((refl, refl), (refl, (refl, (refl, (refl, (refl, ((omega arith, refl, frame_zero, omega arith, omega arith), tt))))))))))))))))))))))));
@@ -83,7 +83,7 @@ full_is = record {
   answers = refl;
   of_calls = record { first = refl; each = refl };
   left = full_left;
-  idle = λ worker. all_idle (system_after row_setting (reverse (full_events (Reclaims 0 ∷ [])))) worker refl;
+  idle = λ worker. all_idle (system_after replay_setting (reverse (full_events (Reclaims 0 ∷ [])))) worker refl;
 }
 
 -- ---- what is none

@@ -12,8 +12,8 @@ use Rattle.semantics.specs.History.{IsLegalJournal}
 use Rattle.semantics.specs.MachineState.{MachineState}
 use Rattle.semantics.specs.RunTrace.{RunStand, HasExited, Waits, HasTrapped, GoesOn, trace_of}
 use Rattle.semantics.specs.ShardPlan.{AreOptions}
-use Rattle.semantics.specs.System.{program_of, IsInputFrame}
-use Rattle.semantics.specs.SystemRows.{frame_of, key_of}
+use Rattle.semantics.specs.System.{program_of_setting, IsInputFrame}
+use Rattle.semantics.specs.SystemRows.{frame_of, key_of_byte}
 use Rattle.semantics.proofs.shared.ConditionLemmas.{tested_bytes}
 use Rattle.journals.specs.JournalsView.{JournalsView, entries_at}
 use Rattle.machine.specs.declared.exit.Stop.TheVariants.{JournalFull}
@@ -21,7 +21,7 @@ use Rattle.map_port.specs.Exchanges.{Exchange, replies_in}
 use Rattle.shard_port.specs.Asking.{enter_by, leave_by}
 use Rattle.shard_port.specs.PassSessions.{session_at}
 use Rattle.runs.specs.ShardRuns.{HasEnded, HasWaited}
-use Rattle.runs.specs.SingleRuns.{IsLegalAt, AreJournalsOf, HasRunAlone, IsCutBehind, HasStoppedAlone}
+use Rattle.runs.specs.SingleRuns.{IsLegalAt, AreLegalJournalsOf, HasRunAlone, IsCutBehind, HasStoppedAlone}
 use Rattle.runs.specs.Updates.{served_by, updates_at}
 use Rattle.guarantees.specs.RunRows.{row_setting, row_plan}
 use Rattle.guarantees.specs.RunsAlone.{IsAskedAlone, RunsAloneAreOfTheSystem, StoppedRunsAloneAreOfTheSystem}
@@ -59,10 +59,10 @@ state_of (HasTrapped cause) = row_start
 state_of GoesOn = row_start
 
 abbrev last_state : List Exchange → MachineState
-last_state exchanges = state_of (trace_of 17 (program_of row_setting) row_start (replies_in exchanges)).stand
+last_state exchanges = state_of (trace_of 17 (program_of_setting row_setting) row_start (replies_in exchanges)).stand
 
 journals_of : (journal : JournalsView) → journal.maps ≡ row_setting.maps → journal.options ≡ row_setting.options → length journal.shards ≡ 1 →
-    IsLegalJournal row_plan (entries_at journal 0) → AreJournalsOf row_setting.maps row_setting.options journal
+    IsLegalJournal row_plan (entries_at journal 0) → AreLegalJournalsOf row_setting.maps row_setting.options journal
 journals_of journal maps options count legal = record {
   maps_are = maps;
   options_are = options;
@@ -89,7 +89,7 @@ ended_legal = (
   ),
 )
 
-ended : HasEnded (program_of row_setting) row_start read_two Tx (last_state read_two).steps (last_state read_two).frame
+ended : HasEnded (program_of_setting row_setting) row_start read_two Tx (last_state read_two).steps (last_state read_two).frame
 unfolding slot_count
 ended = record {
   last = last_state read_two;
@@ -100,7 +100,7 @@ ended = record {
   sent = refl;
 }
 
-ran : HasRunAlone (program_of row_setting) row_start row_setting.options 0 (set_to 2 ∷ []) Tx (last_state read_two).steps (last_state read_two).frame
+ran : HasRunAlone (program_of_setting row_setting) row_start row_setting.options 0 (set_to 2 ∷ []) Tx (last_state read_two).steps (last_state read_two).frame
     (row_journals ended_journal)
 ran = record {
   journals_are = journals_of (row_journals ended_journal) refl refl refl ended_legal;
@@ -162,22 +162,22 @@ stopped_legal = (
   ),
 )
 
-waited : HasWaited (program_of row_setting) row_start [] (Lookup 0 (key_of 0)) (last_state []).frame
+waited : HasWaited (program_of_setting row_setting) row_start [] (Lookup 0 (key_of_byte 0)) (last_state []).frame
 unfolding slot_count
 waited = record { waiting = last_state []; trace = refl; formed = tt; kept_back = refl }
 
-stops : HasStoppedAlone (program_of row_setting) row_start row_setting.options 0 (replicate 14 (set_to 5)) (last_state []).frame (JournalFull 0)
+stops : HasStoppedAlone (program_of_setting row_setting) row_start row_setting.options 0 (replicate 14 (set_to 5)) (last_state []).frame (JournalFull 0)
     (row_journals stopped_journal)
 stops = record {
   journals_are = journals_of (row_journals stopped_journal) refl refl refl stopped_legal;
   exchanges = [];
-  refused = Lookup 0 (key_of 0);
+  refused = Lookup 0 (key_of_byte 0);
   named = refl;
   waited = waited;
   within = tt;
   refused_within = omega arith;
   written = only_zero (λ (n : ℕ). IsCutBehind (updates_at (served_by row_setting.maps row_setting.options) n (replicate 14 (set_to 5))) 0 n []
-      (Lookup 0 (key_of 0)) (entries_at (row_journals stopped_journal) n))
+      (Lookup 0 (key_of_byte 0)) (entries_at (row_journals stopped_journal) n))
       (record { own = enter_by 0 0 ∷ leave_by 0 0 ∷ []; session = inr (record { own_shard = refl; first_call = refl; visit = refl }); both = refl });
   plan = row_plan;
   planned = refl;

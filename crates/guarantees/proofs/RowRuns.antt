@@ -15,14 +15,14 @@ use Rattle.semantics.specs.History.{shard_of_call}
 use Rattle.semantics.specs.RunTrace.{RunStand, RunTrace, HasExited, Waits, HasTrapped, GoesOn, trace_of, trace_from}
 use Rattle.semantics.specs.Step.{Step, Continues, CallsMap, Exits, Traps}
 use Rattle.semantics.specs.Semantics.{next_step}
-use Rattle.semantics.specs.System.{program_of, IsInputFrame, input_frame}
-use Rattle.semantics.specs.SystemRows.{frame_of, by_worker, key_of, cell_at}
+use Rattle.semantics.specs.System.{program_of_setting, IsInputFrame, input_frame}
+use Rattle.semantics.specs.SystemRows.{frame_of, by_worker, key_of_byte, cell_at}
 use Rattle.semantics.proofs.shared.ConditionLemmas.{tested_bytes}
 use Rattle.map_port.specs.Exchanges.{Exchange, calls_in, replies_in}
 use Rattle.shards.specs.Passes.{own_at, seen_at}
 use Rattle.shard_port.specs.Sessions.{exchange_entry, exchange_entries}
 use Rattle.shard_port.specs.PassSessions.{session_at, AreCallsWithin, HasSessions, HasRefusedSessions}
-use Rattle.guarantees.specs.RunRows.{row_setting, pass_with, lookup_entry, row_entries, IsRow, row_plan, full_history, pass_that_saw, RunRows}
+use Rattle.guarantees.specs.RunRows.{row_setting, pass_with, lookup_of_row, row_entries, IsRow, row_plan, full_history, pass_that_saw, RunRows}
 use Rattle.guarantees.specs.SystemRuns.{IsStoppedInSystem}
 use Rattle.guarantees.proofs.StopLemmas.{stopped_is_of_system}
 use Rattle.guarantees.specs.StepLaws.{IsOwnTrace}
@@ -34,13 +34,13 @@ use Rattle.guarantees.proofs.OneOutcome.{same_entries, entries_there, runs_have_
 
 abbrev row_exchanges : List Exchange
 row_exchanges =
-    (record { call = Lookup 0 (key_of 0); reply = Cell (cell_at 0) }) ∷ (record { call = Load (cell_at 0) 0 8; reply = Word 0 }) ∷ []
+    (record { call = Lookup 0 (key_of_byte 0); reply = Cell (cell_at 0) }) ∷ (record { call = Load (cell_at 0) 0 8; reply = Word 0 }) ∷ []
 
 abbrev start : ℕ → MachineState
 start byte = initial_state (input_frame (frame_of byte)) 0 0
 
 abbrev stand_at : ℕ → List Exchange → RunStand
-stand_at byte exchanges = (trace_of 17 (program_of row_setting) (start byte) (replies_in exchanges)).stand
+stand_at byte exchanges = (trace_of 17 (program_of_setting row_setting) (start byte) (replies_in exchanges)).stand
 
 -- the machine's state in that of a run
 abbrev state_of : RunStand → MachineState
@@ -68,7 +68,7 @@ row_sessions = record {
 }
 
 row_at : (byte : ℕ) (verdict : Verdict) (last : MachineState) → IsInputFrame (frame_of byte) →
-    trace_of 17 (program_of row_setting) (start byte) (replies_in row_exchanges)
+    trace_of 17 (program_of_setting row_setting) (start byte) (replies_in row_exchanges)
     ≡ record { calls = calls_in row_exchanges; stand = HasExited verdict last } → IsRow byte row_entries verdict last
 row_at byte verdict last input trace =
     run_is_of_system row_setting 0 0 0 (frame_of byte) 1 17 (pass_with []) (pass_with row_entries) row_exchanges verdict last (omega arith) input
@@ -141,19 +141,19 @@ no_run entries exchanges among are waiting waits verdict last run =
     let same : trace.exchanges ≡ exchanges =
     one_shard trace.exchanges exchanges trace.within among
     (same_entries 0 0 trace.exchanges exchanges [] entries (trace.written 0 (omega arith)) are) in
-    never_both (program_of row_setting) verdict last waiting trace.instructions 17 (start 3) (replies_in exchanges)
-    (ap (λ (list : List Exchange). (trace_of trace.instructions (program_of row_setting) (start 3) (replies_in list)).stand) (sym same)
+    never_both (program_of_setting row_setting) verdict last waiting trace.instructions 17 (start 3) (replies_in exchanges)
+    (ap (λ (list : List Exchange). (trace_of trace.instructions (program_of_setting row_setting) (start 3) (replies_in list)).stand) (sym same)
     ∙ ap (λ (one : RunTrace). one.stand) trace.trace)
     waits
 
 abbrev looked_up : List Exchange
-looked_up = (record { call = Lookup 0 (key_of 0); reply = Cell (cell_at 0) }) ∷ []
+looked_up = (record { call = Lookup 0 (key_of_byte 0); reply = Cell (cell_at 0) }) ∷ []
 
 without_load : (verdict : Verdict) (last : MachineState) →
-    IsRow 3 (by_worker (Leave 0) Left ∷ lookup_entry ∷ by_worker (Enter 0) Entered ∷ []) verdict last → ⊥
+    IsRow 3 (by_worker (Leave 0) Left ∷ lookup_of_row ∷ by_worker (Enter 0) Entered ∷ []) verdict last → ⊥
 unfolding slot_count
 without_load verdict last run =
-    no_run (by_worker (Leave 0) Left ∷ lookup_entry ∷ by_worker (Enter 0) Entered ∷ []) looked_up (omega arith, tt) refl (state_of (stand_at 3 looked_up))
+    no_run (by_worker (Leave 0) Left ∷ lookup_of_row ∷ by_worker (Enter 0) Entered ∷ []) looked_up (omega arith, tt) refl (state_of (stand_at 3 looked_up))
     refl verdict last run
 
 without_all : (verdict : Verdict) (last : MachineState) → IsRow 3 [] verdict last → ⊥
@@ -162,7 +162,7 @@ without_all verdict last run = no_run [] [] tt refl (state_of (stand_at 3 [])) r
 
 -- ---- a run that stops
 
-stopped_sessions : HasRefusedSessions (λ number. row_plan) 1 0 [] (Lookup 0 (key_of 0)) (pass_with []) (pass_that_saw full_history)
+stopped_sessions : HasRefusedSessions (λ number. row_plan) 1 0 [] (Lookup 0 (key_of_byte 0)) (pass_with []) (pass_that_saw full_history)
 stopped_sessions = record {
   same_caller = refl;
   within = tt;
@@ -177,10 +177,10 @@ stopped_sessions = record {
 }
 
 row_stops : IsStoppedInSystem row_setting 0 0 0 (frame_of 3) (λ number. row_plan) 1 (pass_with []) (pass_that_saw full_history)
-    (Lookup 0 (key_of 0)) (state_of (stand_at 3 []))
+    (Lookup 0 (key_of_byte 0)) (state_of (stand_at 3 []))
 unfolding slot_count
 row_stops =
-    stopped_is_of_system row_setting 0 0 0 (frame_of 3) (λ number. row_plan) 1 17 (pass_with []) (pass_that_saw full_history) [] (Lookup 0 (key_of 0))
+    stopped_is_of_system row_setting 0 0 0 (frame_of 3) (λ number. row_plan) 1 17 (pass_with []) (pass_that_saw full_history) [] (Lookup 0 (key_of_byte 0))
     (state_of (stand_at 3 [])) (omega arith) (input_of (frame_of 3) (omega arith) (omega arith) (tested_bytes (frame_of 3) refl)) (omega arith)
     (omega arith) refl tt stopped_sessions
 

@@ -25,7 +25,7 @@ use Rattle.abstract_state.specs.declared.state.State.{State}
 use Rattle.abstract_state.specs.States.{opening_state, with_kind}
 use Rattle.abstract_state.specs.Words.{loaded_number}
 use Rattle.abstract_state.specs.Access.{stack_stored}
-use Rattle.abstract_state.specs.Calls.{returned}
+use Rattle.abstract_state.specs.Calls.{after_return}
 use Rattle.abstract_state.specs.Facts.{told}
 use Rattle.abstract_state.specs.Join.{join_of}
 use Rattle.abstract_state.specs.Flow.{flow_of}
@@ -76,7 +76,7 @@ abbrev state_12 : State
 state_12 = with_kind state_10 R1 (Map 0)
 
 abbrev state_13 : State
-state_13 = returned (ValueOrNull 0 12) state_12
+state_13 = after_return (ValueOrNull 0 12) state_12
 
 abbrev state_14 : State
 state_14 = told (Null 12 false) state_13

@@ -11,7 +11,7 @@ use Rattle.semantics.specs.MachineState.{MachineState}
 use Rattle.semantics.specs.History.{shard_of_call}
 use Rattle.semantics.specs.Step.{Step, Exits}
 use Rattle.semantics.specs.Semantics.{next_step}
-use Rattle.semantics.specs.System.{Setting, program_of, SystemEvent, WorkerState, Idle, run_over}
+use Rattle.semantics.specs.System.{Setting, program_of_setting, SystemEvent, WorkerState, Idle, run_over}
 use Rattle.verifier.specs.Verified.{Verified}
 use Rattle.machine.specs.declared.exit.Stop.{Stop}
 use Rattle.machine.specs.declared.exit.Stop.TheVariants.{JournalFull}
@@ -143,7 +143,7 @@ run_on setting count worker told now frame run final here ending own first goes_
 
 -- the instruction that ends a run, and leaving
 pub exit_walk : (setting : Setting) (count worker : ℕ) (here : InRun) (verdict : Verdict) (last : MachineState) (left : List ℕ) →
-    next_step (program_of setting) here.state ≡ Exits verdict last → IsStep setting count worker (running here) (does worker) (run_over here.entered) →
+    next_step (program_of_setting setting) here.state ≡ Exits verdict last → IsStep setting count worker (running here) (does worker) (run_over here.entered) →
     AreSteps setting count worker (run_over here.entered) (leavings worker left) Idle →
     Walk setting count worker (running here) (does worker ∷ leavings worker left) (Exited verdict last.frame.bytes last.steps ∷ [])
 exit_walk setting count worker here verdict last left exits ends leaves = record {

@@ -25,7 +25,8 @@ use Rattle.shard_port.specs.Sessions.{WritesSessions, WritesRefusedSessions, Sta
 use Rattle.machine.specs.declared.exit.Stop.{Stop}
 use Rattle.machine.specs.declared.exit.Stop.TheVariants.{JournalFull}
 use Rattle.machine.specs.Running.{program_of, Ends, Stops, StopsSo}
-use Rattle.guarantees.specs.Runs.{IsOutside, Start, state_at, IsStoppedBeginning, IsPortOver, IsFinished, Ran, AreWritten, AreWrittenBut, WasFull, IsTheMeaning}
+use Rattle.guarantees.specs.Runs.{IsOutside, Start, state_at, IsStoppedBeginning, IsPortOver, IsFinished, Ran, AreExchangesWritten, AreWrittenBut}
+use Rattle.guarantees.specs.Runs.{WasFullForCall, IsTheMeaning}
 use Rattle.guarantees.specs.Guarantees.{RunsAreTheirMeaning, StoppedRunsAreBeginnings, RunsLeaveOthersAlone}
 use Rattle.guarantees.proofs.JournalLemmas.{are_legal}
 
@@ -45,7 +46,7 @@ left_outside outside worker options port after same finished = λ number shard k
 
 written_by : WritesSessions → (worker : ℕ) (maps : List MapDef) (options : Options) (before after : List JournaledShard) (port later : PlainPort)
     (exchanges : List Exchange) → IsPortOver maps options worker before port → IsChain PortGives port exchanges later →
-    IsFinished options later after → IsOutside worker before → AreWritten worker exchanges before after
+    IsFinished options later after → IsOutside worker before → AreExchangesWritten worker exchanges before after
 written_by writes worker maps options before after port later exchanges over chain finished outside number shard known =
     let there : slice_get port.shards.now number ≡ Some shard =
     subst (λ (shards : List JournaledShard). slice_get shards number ≡ Some shard) (sym over.same_shards) known in
@@ -154,7 +155,7 @@ same_found found one two first second = cc (first, second)
 was_full : WritesSessions → (worker : ℕ) (maps : List MapDef) (options : Options) (before : List JournaledShard) (port middle later : PlainPort) (exchanges : List Exchange)
     (call : Call) → IsPortOver maps options worker before port → IsChain PortGives port exchanges middle → middle.worker ≡ worker →
     PortRefuses middle call later → IsOutside worker before → (one : JournaledShard) → slice_get before (shard_of_call call) ≡ Some one →
-    WasFull call worker exchanges one
+    WasFullForCall call worker exchanges one
 was_full writes worker maps options before port middle later exchanges call over chain same refuses outside one known =
     let number : ℕ = shard_of_call call in
     let there : slice_get port.shards.now number ≡ Some one =

@@ -26,7 +26,7 @@ use Rattle.semantics.specs.MachineState.{MachineState, initial_state}
 use Rattle.semantics.specs.Program.{part_of_key, shard_in_map, shard_number_of_key}
 use Rattle.semantics.specs.Reclamation.{is_worker}
 use Rattle.semantics.specs.ShardPlan.{plan_at}
-use Rattle.semantics.specs.System.{Setting, program_of, SystemEvent, Controls, Idle, run_over, is_entered, input_frame}
+use Rattle.semantics.specs.System.{Setting, program_of_setting, SystemEvent, Controls, Idle, run_over, is_entered, input_frame}
 use Rattle.semantics.proofs.shared.PlanLemmas.{some_shards, below_count}
 use Rattle.journals.specs.JournalsView.{JournalsView, entries_at}
 use Rattle.machine.specs.declared.exit.Stop.TheVariants.{JournalFull}
@@ -42,7 +42,7 @@ use Rattle.shard_port.specs.PassDeeds.{rising}
 use Rattle.shard_port.specs.PassSessions.{session_at, AreCallsWithin}
 use Rattle.shard_port.specs.Sessions.{exchange_entries, behind_enter, session}
 use Rattle.runs.specs.ShardRuns.{IsVisit, IsFullForEnter, IsFullForCall, IsFullAfter}
-use Rattle.runs.specs.SingleRuns.{AreJournalsOf, HasRunAlone, IsCutBehind, WasRefusedAlone}
+use Rattle.runs.specs.SingleRuns.{AreLegalJournalsOf, HasRunAlone, IsCutBehind, WasRefusedAlone}
 use Rattle.runs.specs.Updates.{served_by, call_of_update, entry_of_update, updates_at, updated_shard}
 use Rattle.guarantees.specs.Merging.{IsSetBefore, NoneRefused, is_refusal, moves_of, set_and_done, events_of}
 use Rattle.guarantees.specs.RunsAlone.{input_at, all_taken, IsAloneInSystem, IsAskedAlone, RunsAloneAreOfTheSystem, StoppedRunsAloneAreOfTheSystem}
@@ -286,7 +286,7 @@ plan_or (Some plan) = plan
 plan_or None = no_plan
 
 module _ (setting : Setting) (worker now : ℕ) (frame : List ℕ) (updates : List MapUpdate) (journals : JournalsView)
-    (asked : IsAskedAlone setting worker now frame updates) (are : AreJournalsOf setting.maps setting.options journals) where
+    (asked : IsAskedAlone setting worker now frame updates) (are : AreLegalJournalsOf setting.maps setting.options journals) where
   abbrev served : Maps
   served = served_by setting.maps setting.options
 
@@ -383,7 +383,7 @@ module _ (setting : Setting) (worker now : ℕ) (frame : List ℕ) (updates : Li
   -- ---- a run that ended
 
   pub ended_alone : (verdict : Verdict) (steps : ℕ) (sent : FrameView) →
-      HasRunAlone (program_of setting) start setting.options worker updates verdict steps sent journals → IsAlone (Exited verdict sent.bytes steps)
+      HasRunAlone (program_of_setting setting) start setting.options worker updates verdict steps sent journals → IsAlone (Exited verdict sent.bytes steps)
   ended_alone verdict steps sent ran =
       let last : MachineState = ran.ended.last in
       let within : AreCallsWithin count ran.exchanges = subst (λ (n : ℕ). AreCallsWithin n ran.exchanges) are.count ran.within in
@@ -557,7 +557,7 @@ module _ (setting : Setting) (worker now : ℕ) (frame : List ℕ) (updates : Li
     by_inside true is = inside_stop is
     by_inside false is = outside_stop is
 
-  pub refused_alone : (left : FrameView) (shard : ℕ) → WasRefusedAlone (program_of setting) start setting.options worker updates left journals shard →
+  pub refused_alone : (left : FrameView) (shard : ℕ) → WasRefusedAlone (program_of_setting setting) start setting.options worker updates left journals shard →
       IsAlone (Stopped shard)
   refused_alone left shard was =
       let call : Call = was.refused in

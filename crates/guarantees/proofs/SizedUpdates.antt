@@ -33,12 +33,12 @@ use Rattle.control.specs.declared.update.Update.{Update as Change}
 use Rattle.control.specs.declared.update.Update.TheVariants.{Vip, Ring, Backend, Tunnel}
 use Rattle.control.specs.MapUpdates.{UpdateBytes, map_update}
 use Rattle.control.specs.RingChanges.{changes_below, slot_updates}
-use Rattle.control.specs.ScriptText.{AreBytes as HasBytes, ActionFits, CommandFits}
+use Rattle.control.specs.ScriptText.{AreBytesOfLength as HasBytes, ActionFits, CommandFits}
 use Rattle.control.specs.Controlling.{ControllerState, has_number, up_after, down_update, first_updates, updates_of}
 use Rattle.actors.specs.declared.outcome.Applied.{Applied}
 use Rattle.actors.specs.SharedUpdates.{shard_of}
-use Rattle.actors.specs.Commands.{CommandDone, IsDoneBy, AreDone, AreNotedOf, IsCarriedOut, IsNothing, IsTurnedDown, IsCutShort}
-use Rattle.guarantees.specs.ReplayOf.{call_of}
+use Rattle.actors.specs.Commands.{CommandDone, IsDoneBy, AreDone, AreNotedOf, IsFullyDone, IsNothing, IsTurnedDown, IsCutShort}
+use Rattle.guarantees.specs.ReplayOf.{call_of_shared_update}
 use Rattle.guarantees.proofs.EveryEntry.{all_both, all_parts}
 
 -- ---- bytes, as a test
@@ -179,7 +179,7 @@ same_test a b same = grind (arith, nat_tests)
 
 -- the controller may make the call, whatever has happened
 abbrev pub IsAskable : (ℕ → ShardPlan) → List MapDef → Options → UpdateBytes → Type 0
-IsAskable plan maps options update = meets (plan (shard_of maps options update)) [] Controller (call_of maps options update) ≡ true
+IsAskable plan maps options update = meets (plan (shard_of maps options update)) [] Controller (call_of_shared_update maps options update) ≡ true
 
 askable : (plan : ℕ → ShardPlan) (maps : List MapDef) (options : Options) (count : ℕ) → ArePlans maps options count plan → AreOptions maps options →
     (update : UpdateBytes) → Fits maps update → IsAskable plan maps options update
@@ -258,7 +258,7 @@ module _ (plan : ℕ → ShardPlan) (options : Options) (count size : ℕ) (plan
   }
 
   carried_out : (state : ControllerState) (one : CommandDone) (state' : ControllerState) → AreSized state.up → ActionFits one.action →
-      IsCarriedOut state one state' → Leaves one state'
+      IsFullyDone state one state' → Leaves one state'
   carried_out state one state' all sized is = record {
     may = not_stopped one is.not_stopped;
     up = subst (λ (here : ControllerState). AreSized here.up) (sym is.state_is) (up_sized state.up one.action all sized);

@@ -36,20 +36,20 @@ use Rattle.guarantees.proofs.EventLemmas.{is_some_entry, append_on, append_deeds
 pub record WaitsFor (setting : Setting) (call : Call) (waiting ending : MachineState) : Type 0 where
   pub is : ending ≡ waiting
   pub next : Reply → MachineState
-  pub asks_it : next_step (model.program_of setting) waiting ≡ CallsMap call next
+  pub asks_it : next_step (model.program_of_setting setting) waiting ≡ CallsMap call next
 
 abbrev IsLed : Setting → ℕ → ℕ → ℕ → Call → MachineState → Type 0
 IsLed setting count worker steps call waiting =
     (state : MachineState) (entered : List ℕ) (exchanges : List Exchange) → AreEntered count entered → AreCallsWithin count exchanges →
-    AreFormed (model.program_of setting) exchanges →
-    trace_of steps (model.program_of setting) state (replies_in exchanges)
+    AreFormed (model.program_of_setting setting) exchanges →
+    trace_of steps (model.program_of_setting setting) state (replies_in exchanges)
     ≡ record { calls = calls_in exchanges ++ call ∷ []; stand = Waits waiting } →
     Reaches (WaitsFor setting call waiting) setting count worker state entered exchanges
 
 by_step : (setting : Setting) (count worker steps : ℕ) (call : Call) (waiting : MachineState) → IsLed setting count worker steps call waiting →
     (state : MachineState) (entered : List ℕ) (exchanges : List Exchange) → AreEntered count entered → AreCallsWithin count exchanges →
-    AreFormed (model.program_of setting) exchanges → (step : Step) → next_step (model.program_of setting) state ≡ step →
-    trace_from (trace_of steps (model.program_of setting)) state step (replies_in exchanges)
+    AreFormed (model.program_of_setting setting) exchanges → (step : Step) → next_step (model.program_of_setting setting) state ≡ step →
+    trace_from (trace_of steps (model.program_of_setting setting)) state step (replies_in exchanges)
     ≡ record { calls = calls_in exchanges ++ call ∷ []; stand = Waits waiting } →
     Reaches (WaitsFor setting call waiting) setting count worker state entered exchanges
 by_step setting count worker steps call waiting later state entered exchanges distinct within formed (Continues next) is trace =
@@ -68,7 +68,7 @@ by_step setting count worker steps call waiting later state entered [] distinct 
       ended = record {
         is = here;
         next = next;
-        asks_it = ap (λ (one : MachineState). next_step (model.program_of setting) one) (sym here) ∙ is
+        asks_it = ap (λ (one : MachineState). next_step (model.program_of_setting setting) one) (sym here) ∙ is
             ∙ ap (λ (one : Call). CallsMap one next) same;
       };
       distinct = distinct;
@@ -78,7 +78,7 @@ by_step setting count worker steps call waiting later state entered [] distinct 
       enters = refl;
     }
 by_step setting count worker steps call waiting later state entered (exchange ∷ more) distinct within formed (CallsMap made next) is trace =
-    let rest : RunTrace = trace_of steps (model.program_of setting) (next exchange.reply) (replies_in more) in
+    let rest : RunTrace = trace_of steps (model.program_of_setting setting) (next exchange.reply) (replies_in more) in
     let calls_made : made ∷ rest.calls ≡ exchange.call ∷ (calls_in more ++ call ∷ []) = ap (λ (one : RunTrace). one.calls) trace in
     let stands : rest.stand ≡ Waits waiting = ap (λ (one : RunTrace). one.stand) trace in
     let same : made ≡ exchange.call = cc in
@@ -103,7 +103,7 @@ led setting count worker zero call waiting state entered exchanges distinct with
     absurd (let stands : GoesOn ≡ Waits waiting = ap (λ (one : RunTrace). one.stand) trace in cc)
 led setting count worker (suc steps) call waiting state entered exchanges distinct within formed trace =
     by_step setting count worker steps call waiting (led setting count worker steps call waiting) state entered exchanges distinct within formed
-    (next_step (model.program_of setting) state) refl trace
+    (next_step (model.program_of_setting setting) state) refl trace
 
 -- ---- the refusal, and leaving
 

@@ -16,7 +16,7 @@ use Rattle.shard_port.specs.Asking.{is_in}
 use Rattle.shard_port.specs.PortView.{ServesMaps}
 use Rattle.machine.specs.Running.{program_of}
 use Rattle.guarantees.specs.Moves.{Answers}
-use Rattle.guarantees.specs.Runs.{IsOutside, AreLegal, Start, Ran, WasStopped, IsTheMeaning, IsTheBeginning}
+use Rattle.guarantees.specs.Runs.{IsOutside, AreLegalShards, Start, Ran, WasStopped, IsTheMeaning, IsTheBeginning}
 
 -- a run over shards in which its worker was not inside is the meaning of its program on the replies that are in the journals
 abbrev pub RunsAreTheirMeaning : Type 0
@@ -43,7 +43,7 @@ EntriesAreSteps =
 abbrev pub OpenedShardsAreReady : Type 0
 OpenedShardsAreReady =
     (maps : List MapDef) (options : Options) (shards : List JournaledShard) → AreOpened maps options shards →
-    ServesMaps maps options shards × ∥ AreLegal shards ∥₁ × ((worker : ℕ) → IsOutside worker shards)
+    ServesMaps maps options shards × ∥ AreLegalShards shards ∥₁ × ((worker : ℕ) → IsOutside worker shards)
 
 -- a run leaves every other worker inside or outside each shard, as it was: so runs of several workers can follow one another
 abbrev pub RunsLeaveOthersAlone : Type 0

@@ -31,23 +31,23 @@ use Rattle.guarantees.specs.ReaderRuns.{opening_reply, stand_with}
 abbrev pub options_of : ℕ → Options
 options_of shards = record { workers = 1; shards = shards; journal = 16 }
 
-abbrev pub answer_in : Option ShardPlan → Call → Reply
-answer_in (Some plan) call = opening_reply plan call
-answer_in None call = Null
+abbrev pub opening_answer_in : Option ShardPlan → Call → Reply
+opening_answer_in (Some plan) call = opening_reply plan call
+opening_answer_in None call = Null
 
 -- what the program's maps answer as they were opened
 abbrev pub opening_answer : Program → Call → Reply
-opening_answer program call = answer_in (plan_at program.maps (options_of program.shards) (shard_of_call call)) call
+opening_answer program call = opening_answer_in (plan_at program.maps (options_of program.shards) (shard_of_call call)) call
 
 -- ---- what is sent
 
 -- the frame of a run that ends with this verdict, at its record's moment
-abbrev pub sent_for : Sent → Verdict → List ℕ → List SentFrame
-sent_for captured Tx bytes = record { seconds = captured.seconds; micros = captured.micros; bytes = bytes } ∷ []
-sent_for captured verdict bytes = []
+abbrev pub sent_by_verdict : Sent → Verdict → List ℕ → List SentFrame
+sent_by_verdict captured Tx bytes = record { seconds = captured.seconds; micros = captured.micros; bytes = bytes } ∷ []
+sent_by_verdict captured verdict bytes = []
 
 abbrev pub sent_where : Sent → RunStand → List SentFrame
-sent_where captured (HasExited verdict last) = sent_for captured verdict last.frame.bytes
+sent_where captured (HasExited verdict last) = sent_by_verdict captured verdict last.frame.bytes
 sent_where captured stand = []
 
 -- what is sent of a record, by the program's run on its frame over maps in which nothing has happened

@@ -14,7 +14,7 @@ use Rattle.actors.specs.declared.outcome.Outcome.{Outcome}
 use Rattle.actors.specs.declared.outcome.RecordEnd.{RecordEnd as Told}
 use Rattle.actors.specs.declared.outcome.RecordEnd.TheVariants as told
 use Rattle.actors.specs.Commands.{AnsweredUpdate, CommandDone, all_set}
-use Rattle.actors.specs.SharedUpdates.{shard_of, update_call}
+use Rattle.actors.specs.SharedUpdates.{shard_of, controller_update}
 use Rattle.actors.specs.Shares.{worker_of_frame}
 use Rattle.semantics.specs.Events.{Exited, Stopped}
 use Rattle.semantics.specs.Replay.{Captured, Asked, RecordEnd, Short, Ran, Totals, Result}
@@ -25,16 +25,16 @@ abbrev pub captured_of : Sent → Captured
 captured_of sent = record { seconds = sent.seconds; micros = sent.micros; bytes = sent.bytes.items }
 
 -- an update is a call on the shard that its key has
-abbrev pub call_of : List MapDef → Options → UpdateBytes → Call
-call_of maps options update = update_call (shard_of maps options update) update
+abbrev pub call_of_shared_update : List MapDef → Options → UpdateBytes → Call
+call_of_shared_update maps options update = controller_update (shard_of maps options update) update
 
 abbrev pub calls_made : List MapDef → Options → List AnsweredUpdate → List Call
-calls_made maps options made = map (λ (one : AnsweredUpdate). call_of maps options one.update) made
+calls_made maps options made = map (λ (one : AnsweredUpdate). call_of_shared_update maps options one.update) made
 
 -- the call that met a full journal, if one did
 abbrev pub stopped_call : List MapDef → Options → Option UpdateBytes → List Call
 stopped_call maps options None = []
-stopped_call maps options (Some update) = call_of maps options update ∷ []
+stopped_call maps options (Some update) = call_of_shared_update maps options update ∷ []
 
 -- the calls of a command: its updates, in order, the one that met a full journal last
 abbrev pub command_calls : List MapDef → Options → CommandDone → List Call

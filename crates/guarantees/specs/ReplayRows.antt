@@ -7,23 +7,23 @@ use Rattle.semantics.specs.declared.call.Reply.{Reply}
 use Rattle.semantics.specs.declared.call.Reply.TheVariants.{Entered, Left, Cell, Word, Answer, Freed}
 use Rattle.semantics.specs.declared.verdict.Verdict.TheVariants.{Pass}
 use Rattle.semantics.specs.System.{Setting, SystemEvent, BeginsRun, DoesInstruction, CallsShard, LeavesShard, Controls, Reclaims}
-use Rattle.semantics.specs.SystemRows.{setting_over, looking_up, frame_of, key_of, value_of, cell_at, instructions}
+use Rattle.semantics.specs.SystemRows.{setting_over, looking_up, frame_of, key_of_byte, value_of, cell_at, instructions}
 use Rattle.semantics.specs.SystemRows.{by_worker, by_controller, by_reclaimer}
 use Rattle.semantics.specs.Events.{Ending, Exited, Stopped}
 use Rattle.semantics.specs.Replay.{Captured, Asked, Short, Ran, Totals, Result, IsReplay}
 
-abbrev pub row_setting : Setting
-row_setting = setting_over Hash looking_up
+abbrev pub replay_setting : Setting
+replay_setting = setting_over Hash looking_up
 
 -- a captured frame of 14 bytes, seven microseconds after the clock's zero, and one that is short
 abbrev pub one_frame : Captured
 one_frame = record { seconds = 0; micros = 7; bytes = frame_of 0 }
 
 abbrev pub short_frame : Captured
-short_frame = record { seconds = 0; micros = 8; bytes = key_of 0 }
+short_frame = record { seconds = 0; micros = 8; bytes = key_of_byte 0 }
 
 abbrev pub put : ℕ → ℕ → Call
-put key value = Update 0 (key_of key) (value_of value) 0
+put key value = Update 0 (key_of_byte key) (value_of value) 0
 
 abbrev pub answer : Option Reply
 answer = Some (Answer (pos 0))
@@ -38,14 +38,14 @@ held_asked = record {
   records = short_frame ∷ one_frame ∷ [];
   worker_of = λ frame. 0;
   updates = put 1 5 ∷ [];
-  commands = (Delete 0 (key_of 1) ∷ put 2 9 ∷ []) ∷ [];
+  commands = (Delete 0 (key_of_byte 1) ∷ put 2 9 ∷ []) ∷ [];
 }
 
 abbrev pub held_run : List SystemEvent
 held_run = BeginsRun 0 (frame_of 0) 7000 0 ∷ instructions 4 ++ CallsShard 0 ∷ CallsShard 0 ∷ []
 
 abbrev pub held_command : List SystemEvent
-held_command = Controls (Delete 0 (key_of 1)) ∷ Controls (put 2 9) ∷ []
+held_command = Controls (Delete 0 (key_of_byte 1)) ∷ Controls (put 2 9) ∷ []
 
 abbrev pub held_end : List SystemEvent
 held_end = DoesInstruction 0 ∷ CallsShard 0 ∷ instructions 2 ++ LeavesShard 0 0 ∷ []
@@ -62,7 +62,7 @@ held_result ending = record {
   first_answers = answer ∷ [];
   answers = (answer ∷ answer ∷ []) ∷ [];
   journals = λ shard. by_controller (put 1 5) (Answer (pos 0)) ∷ by_worker (Enter 0) Entered ∷
-      by_worker (Lookup 0 (key_of 1)) (Cell (cell_at 0)) ∷ by_controller (Delete 0 (key_of 1)) (Answer (pos 0)) ∷
+      by_worker (Lookup 0 (key_of_byte 1)) (Cell (cell_at 0)) ∷ by_controller (Delete 0 (key_of_byte 1)) (Answer (pos 0)) ∷
       by_controller (put 2 9) (Answer (pos 0)) ∷ by_worker (Load (cell_at 0) 0 8) (Word 5) ∷ by_worker (Leave 0) Left ∷
       by_reclaimer (Reclaim 0) (Freed 1) ∷ [];
 }
@@ -98,21 +98,21 @@ full_result = record {
 -- ---- what is a replay, and what is none
 
 pub record ReplayRows : Type 0 where
-  pub held : IsReplay row_setting held_asked (held_result held_ending) held_events
-  pub full : IsReplay row_setting full_asked full_result (full_events (Reclaims 0 ∷ []))
+  pub held : IsReplay replay_setting held_asked (held_result held_ending) held_events
+  pub full : IsReplay replay_setting full_asked full_result (full_events (Reclaims 0 ∷ []))
   -- without the run, or with the run twice
-  pub no_run : IsReplay row_setting held_asked (held_result held_ending) (Controls (put 1 5) ∷ held_command ++ Reclaims 0 ∷ []) → ⊥
+  pub no_run : IsReplay replay_setting held_asked (held_result held_ending) (Controls (put 1 5) ∷ held_command ++ Reclaims 0 ∷ []) → ⊥
   pub run_twice :
-      IsReplay row_setting held_asked (held_result held_ending) (held_events ++ BeginsRun 0 (frame_of 0) 7000 0 ∷ []) → ⊥
+      IsReplay replay_setting held_asked (held_result held_ending) (held_events ++ BeginsRun 0 (frame_of 0) 7000 0 ∷ []) → ⊥
   -- with another verdict, another frame or another number of instructions
-  pub another_end : (ending : Ending) → ending ≢ held_ending → IsReplay row_setting held_asked (held_result ending) held_events → ⊥
+  pub another_end : (ending : Ending) → ending ≢ held_ending → IsReplay replay_setting held_asked (held_result ending) held_events → ⊥
   -- with other numbers in the report
   pub other_totals :
       (totals : Totals) → totals ≢ (held_result held_ending).totals → (events : List SystemEvent) →
-      IsReplay row_setting held_asked (record (held_result held_ending) { totals = totals }) events → ⊥
+      IsReplay replay_setting held_asked (record (held_result held_ending) { totals = totals }) events → ⊥
   -- without a call of the command, or with one behind a full journal that nobody asked
-  pub no_call : IsReplay row_setting held_asked (held_result held_ending) (Controls (put 1 5) ∷ held_run ++ held_end ++ Reclaims 0 ∷ []) → ⊥
+  pub no_call : IsReplay replay_setting held_asked (held_result held_ending) (Controls (put 1 5) ∷ held_run ++ held_end ++ Reclaims 0 ∷ []) → ⊥
   pub unasked_call :
-      IsReplay row_setting full_asked full_result (full_events (Controls (put 1 5) ∷ Reclaims 0 ∷ [])) → ⊥
+      IsReplay replay_setting full_asked full_result (full_events (Controls (put 1 5) ∷ Reclaims 0 ∷ [])) → ⊥
   -- with a look at a full journal by the reclaimer that nobody asked
-  pub unasked_round : IsReplay row_setting full_asked full_result (full_events (Reclaims 0 ∷ Reclaims 0 ∷ [])) → ⊥
+  pub unasked_round : IsReplay replay_setting full_asked full_result (full_events (Reclaims 0 ∷ Reclaims 0 ∷ [])) → ⊥

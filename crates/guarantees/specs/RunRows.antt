@@ -11,7 +11,7 @@ use Rattle.semantics.specs.declared.verdict.Verdict.{Verdict}
 use Rattle.semantics.specs.declared.verdict.Verdict.TheVariants.{Tx}
 use Rattle.semantics.specs.MachineState.{MachineState}
 use Rattle.semantics.specs.System.{Setting}
-use Rattle.semantics.specs.SystemRows.{setting_over, first_path, frame_of, by_worker, by_controller, key_of, value_of, cell_at}
+use Rattle.semantics.specs.SystemRows.{setting_over, first_path, frame_of, by_worker, by_controller, key_of_byte, value_of, cell_at}
 use Rattle.shards.specs.declared.deeds.Deed.TheVariants.{Wrote, MetFull}
 use Rattle.shards.specs.Passes.{PassView}
 use Rattle.guarantees.specs.SystemRuns.{IsRunOfSystem, IsStoppedInSystem}
@@ -28,18 +28,18 @@ pass_with entries = record {
   deeds = map (λ (entry : Entry). Wrote entry) entries;
 }
 
-abbrev pub lookup_entry : Entry
-lookup_entry = by_worker (Lookup 0 (key_of 0)) (Cell (cell_at 0))
+abbrev pub lookup_of_row : Entry
+lookup_of_row = by_worker (Lookup 0 (key_of_byte 0)) (Cell (cell_at 0))
 
-abbrev pub load_entry : Entry
-load_entry = by_worker (Load (cell_at 0) 0 8) (Word 0)
+abbrev pub load_of_row : Entry
+load_of_row = by_worker (Load (cell_at 0) 0 8) (Word 0)
 
 -- worker 0 runs the program on a frame whose last byte is this, and has these entries then
 abbrev pub IsRow : ℕ → List Entry → Verdict → MachineState → Type 0
 IsRow byte entries verdict last = IsRunOfSystem row_setting 0 0 0 (frame_of byte) 1 (pass_with []) (pass_with entries) verdict last
 
 abbrev pub row_entries : List Entry
-row_entries = by_worker (Leave 0) Left ∷ load_entry ∷ lookup_entry ∷ by_worker (Enter 0) Entered ∷ []
+row_entries = by_worker (Leave 0) Left ∷ load_of_row ∷ lookup_of_row ∷ by_worker (Enter 0) Entered ∷ []
 
 -- the shard of its map, and a journal of it with 15 entries: a run that is not inside has no room there
 abbrev pub row_plan : ShardPlan
@@ -53,7 +53,7 @@ row_plan = record {
 }
 
 abbrev pub full_history : List Entry
-full_history = replicate 15 (by_controller (Update 0 (key_of 0) (value_of 5) 0) (Answer (pos 0)))
+full_history = replicate 15 (by_controller (Update 0 (key_of_byte 0) (value_of 5) 0) (Answer (pos 0)))
 
 -- a pass of worker 0 which has seen these entries on shard 0, and whose only deed is an Enter that met a full journal
 abbrev pub pass_that_saw : List Entry → PassView
@@ -74,10 +74,10 @@ pub record RunRows : Type 0 where
   -- without its Load it is none, with whatever verdict, and without all of its entries
   pub other_entries :
       (verdict : Verdict) (other : MachineState) →
-      ¬ IsRow 3 (by_worker (Leave 0) Left ∷ lookup_entry ∷ by_worker (Enter 0) Entered ∷ []) verdict other
+      ¬ IsRow 3 (by_worker (Leave 0) Left ∷ lookup_of_row ∷ by_worker (Enter 0) Entered ∷ []) verdict other
   pub no_entries : (verdict : Verdict) (other : MachineState) → ¬ IsRow 3 [] verdict other
   -- where the journal has 15 of its 16 entries, the run stops at its Lookup, and has written nothing
   pub waiting : MachineState
   pub stops :
       IsStoppedInSystem row_setting 0 0 0 (frame_of 3) (λ number. row_plan) 1 (pass_with []) (pass_that_saw full_history)
-      (Lookup 0 (key_of 0)) waiting
+      (Lookup 0 (key_of_byte 0)) waiting

@@ -32,8 +32,8 @@ abbrev pub IsOutside : ℕ → List JournaledShard → Type 0
 IsOutside worker shards = (number : ℕ) (shard : JournaledShard) → slice_get shards number ≡ Some shard → IsFalse (is_in worker shard)
 
 -- each shard's journal is one legal history of the one-thread map
-abbrev pub AreLegal : List JournaledShard → Type 0
-AreLegal shards = (number : ℕ) (shard : JournaledShard) → slice_get shards number ≡ Some shard → IsLegalJournal shard.plan shard.journal
+abbrev pub AreLegalShards : List JournaledShard → Type 0
+AreLegalShards shards = (number : ℕ) (shard : JournaledShard) → slice_get shards number ≡ Some shard → IsLegalJournal shard.plan shard.journal
 
 -- a run of a worker: when it began, on which frame
 pub record Start : Type 0 where
@@ -41,8 +41,8 @@ pub record Start : Type 0 where
   pub now : ℕ
   pub frame : FrameView
 
-abbrev pub start_of : Moment → FrameView → Start
-start_of moment frame = record { worker = moment.worker; now = moment.now_ns; frame = frame }
+abbrev pub run_start : Moment → FrameView → Start
+run_start moment frame = record { worker = moment.worker; now = moment.now_ns; frame = frame }
 
 abbrev pub state_at : Start → MachineState
 state_at start = initial_state start.frame start.worker start.now
@@ -80,8 +80,8 @@ pub record WasStopped (verified : Verified) (options : Options) (start : Start) 
 -- ---- what that means
 
 -- each shard's journal has more just what this worker asked of it and was answered, in order, between one Enter and one Leave
-abbrev pub AreWritten : ℕ → List Exchange → List JournaledShard → List JournaledShard → Type 0
-AreWritten worker exchanges before after =
+abbrev pub AreExchangesWritten : ℕ → List Exchange → List JournaledShard → List JournaledShard → Type 0
+AreExchangesWritten worker exchanges before after =
     (number : ℕ) (shard : JournaledShard) → slice_get before number ≡ Some shard →
     slice_get after number ≡ Some (with_entries shard (session worker shard.plan.number (exchange_entries worker number exchanges)))
 
@@ -95,8 +95,8 @@ AreWrittenBut call worker exchanges before after =
 
 -- after what the run had asked of the call's shard, which was this one before the run, the journal had no room for the worker's Enter, or
 -- for the call
-abbrev pub WasFull : Call → ℕ → List Exchange → JournaledShard → Type 0
-WasFull call worker exchanges shard =
+abbrev pub WasFullForCall : Call → ℕ → List Exchange → JournaledShard → Type 0
+WasFullForCall call worker exchanges shard =
     let here : JournaledShard =
     with_entries shard (behind_enter worker shard.plan.number (exchange_entries worker (shard_of_call call) exchanges)) in
     IsFalse (can_enter worker here) ⊎ IsJournalFull here.plan (reverse (entered worker here).journal) call
@@ -115,8 +115,8 @@ pub record IsTheMeaning (program : Program) (start : Start) (before after : List
   pub counted : steps ≡ last.steps
   pub bounded : steps ≤ total_slots program.code
   pub sent : frame ≡ last.frame
-  pub written : AreWritten start.worker exchanges before after
-  pub legal : ∥ AreLegal after ∥₁
+  pub written : AreExchangesWritten start.worker exchanges before after
+  pub legal : ∥ AreLegalShards after ∥₁
   pub outside : IsOutside start.worker after
 
 -- the run made the calls of its program up to the refused one, which no journal has, and for which, or for the Enter before it, its
@@ -134,9 +134,9 @@ pub record IsTheBeginning (program : Program) (start : Start) (before after : Li
   pub within : AreCallsWithin (length before) exchanges
   pub kept_back : frame ≡ waiting.frame
   pub refused_within : shard < length before
-  pub full : (one : JournaledShard) → slice_get before shard ≡ Some one → WasFull refused start.worker exchanges one
+  pub full : (one : JournaledShard) → slice_get before shard ≡ Some one → WasFullForCall refused start.worker exchanges one
   pub written : AreWrittenBut refused start.worker exchanges before after
-  pub legal : ∥ AreLegal after ∥₁
+  pub legal : ∥ AreLegalShards after ∥₁
   pub outside : IsOutside start.worker after
 
 abbrev pub IsStoppedBeginning : Program → Start → List JournaledShard → List JournaledShard → FrameView → Stop → Type 0

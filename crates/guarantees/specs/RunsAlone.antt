@@ -14,7 +14,7 @@ use Rattle.semantics.specs.Linux.{success}
 use Rattle.semantics.specs.MachineState.{initial_state}
 use Rattle.semantics.specs.Replay.{shard_count}
 use Rattle.semantics.specs.ShardPlan.{AreOptions}
-use Rattle.semantics.specs.System.{Setting, program_of, IsInputFrame, input_frame, SystemEvent, Controls, Idle}
+use Rattle.semantics.specs.System.{Setting, program_of_setting, IsInputFrame, input_frame, SystemEvent, Controls, Idle}
 use Rattle.semantics.specs.System.{worker_state, history_of, opening_system, system_after, CanAllHappen}
 use Rattle.journals.specs.JournalsView.{JournalsView, entries_at}
 use Rattle.machine.specs.declared.exit.Stop.{Stop}
@@ -81,7 +81,7 @@ RunsAloneAreOfTheSystem =
     (setting : Setting) (worker now : ℕ) (frame : List ℕ) (updates : List MapUpdate) (verdict : Verdict) (steps : ℕ) (sent : FrameView)
     (journals : JournalsView) →
     IsAskedAlone setting worker now frame updates →
-    HasRunAlone (program_of setting) (initial_state (input_frame frame) worker now) setting.options worker updates verdict steps sent journals →
+    HasRunAlone (program_of_setting setting) (initial_state (input_frame frame) worker now) setting.options worker updates verdict steps sent journals →
     IsAloneInSystem setting worker now frame updates (Exited verdict sent.bytes steps) journals
 
 -- and so is what it ensures of one that a full journal stopped
@@ -90,5 +90,5 @@ StoppedRunsAloneAreOfTheSystem =
     (setting : Setting) (worker now : ℕ) (frame : List ℕ) (updates : List MapUpdate) (left : FrameView) (stop : Stop)
     (journals : JournalsView) →
     IsAskedAlone setting worker now frame updates →
-    HasStoppedAlone (program_of setting) (initial_state (input_frame frame) worker now) setting.options worker updates left stop journals →
+    HasStoppedAlone (program_of_setting setting) (initial_state (input_frame frame) worker now) setting.options worker updates left stop journals →
     IsAloneInSystem setting worker now frame updates (ending_at stop) journals

@@ -10,7 +10,7 @@ use Rattle.semantics.specs.History.{shard_of_call}
 use Rattle.semantics.specs.RunTrace.{HasExited, trace_of}
 use Rattle.semantics.specs.Step.{Step, Continues, CallsMap, Exits, Traps}
 use Rattle.semantics.specs.Semantics.{next_step}
-use Rattle.semantics.specs.System.{Setting, program_of, WorkerState, Idle, Runs, Leaves, is_entered}
+use Rattle.semantics.specs.System.{Setting, program_of_setting, WorkerState, Idle, Runs, Leaves, is_entered}
 use Rattle.semantics.specs.System.{run_over, without_shard, IsInputFrame, input_frame}
 use Rattle.map_port.specs.Exchanges.{Exchange, calls_in, replies_in}
 use Rattle.shards.specs.Passes.{PassView, own_at}
@@ -70,7 +70,7 @@ pub record LeavesOne (worker : ℕ) (entered : List ℕ) (move : Move) (after : 
 abbrev pub IsListedNext : Setting → ℕ → WorkerState → Move → WorkerState → Type 0
 IsListedNext setting worker Idle move after = BeginsOne setting worker move after
 IsListedNext setting worker (Runs state entered) move after =
-    IsNextOf worker state entered (next_step (program_of setting) state) move after
+    IsNextOf worker state entered (next_step (program_of_setting setting) state) move after
 IsListedNext setting worker (Leaves entered) move after = LeavesOne worker entered move after
 
 abbrev pub StepsAreListed : Type 0
@@ -92,10 +92,10 @@ pub record IsOwnTrace (setting : Setting) (worker told now : ℕ) (frame : List 
   pub exchanges : List Exchange
   pub instructions : ℕ
   pub trace :
-      trace_of instructions (program_of setting) (initial_state (input_frame frame) told now) (replies_in exchanges)
+      trace_of instructions (program_of_setting setting) (initial_state (input_frame frame) told now) (replies_in exchanges)
       ≡ record { calls = calls_in exchanges; stand = HasExited verdict last }
   pub within : AreCallsWithin count exchanges
-  pub formed : AreFormed (program_of setting) exchanges
+  pub formed : AreFormed (program_of_setting setting) exchanges
   pub written : (number : ℕ) → number < count → own_at after number ≡ reverse (session_at worker number exchanges) ++ own_at before number
 
 abbrev pub RunsAreTraces : Type 0

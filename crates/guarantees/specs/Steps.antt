@@ -11,7 +11,7 @@ use Rattle.semantics.specs.History.{shard_of_call}
 use Rattle.semantics.specs.RunTrace.{IsReplyTo}
 use Rattle.semantics.specs.Step.{Continues, CallsMap, Exits}
 use Rattle.semantics.specs.Semantics.{next_step}
-use Rattle.semantics.specs.System.{Setting, program_of, SystemEvent, BeginsRun, DoesInstruction, CallsShard, LeavesShard}
+use Rattle.semantics.specs.System.{Setting, program_of_setting, SystemEvent, BeginsRun, DoesInstruction, CallsShard, LeavesShard}
 use Rattle.semantics.specs.System.{WorkerState, Idle, Runs, Leaves, is_entered, run_over, without_shard, IsInputFrame, input_frame}
 use Rattle.shards.specs.declared.deeds.Deed.{Deed}
 use Rattle.shards.specs.declared.deeds.Deed.TheVariants.{Wrote, MetFull}
@@ -55,32 +55,32 @@ pub data IsStep (setting : Setting) (count worker : ℕ) : WorkerState → Move 
   RunBegins : (frame : List ℕ) → (now told : ℕ) → worker < setting.options.workers → IsInputFrame frame → now < 2 ^ 64 → told < 8 →
       IsStep setting count worker Idle (begins worker frame now told) (Runs (initial_state (input_frame frame) told now) [])
   -- the next instruction calls nothing, and the run goes on
-  RunGoesOn : (state next : MachineState) → (entered : List ℕ) → next_step (program_of setting) state ≡ Continues next →
+  RunGoesOn : (state next : MachineState) → (entered : List ℕ) → next_step (program_of_setting setting) state ≡ Continues next →
       IsStep setting count worker (Runs state entered) (does worker) (Runs next entered)
   -- the next instruction ends the run
   RunEnds : (state last : MachineState) → (verdict : Verdict) → (entered : List ℕ) →
-      next_step (program_of setting) state ≡ Exits verdict last →
+      next_step (program_of_setting setting) state ≡ Exits verdict last →
       IsStep setting count worker (Runs state entered) (does worker) (run_over entered)
   -- the next instruction calls a shard that the run has entered, and the call is entered in the history; the run goes on by the reply
   CallIsServed : (state : MachineState) → (entered : List ℕ) → (call : Call) → (next : Reply → MachineState) → (reply : Reply) →
-      next_step (program_of setting) state ≡ CallsMap call next → shard_of_call call < count →
+      next_step (program_of_setting setting) state ≡ CallsMap call next → shard_of_call call < count →
       is_entered (shard_of_call call) entered ≡ true →
-      IsReplyTo (program_of setting) call reply →
+      IsReplyTo (program_of_setting setting) call reply →
       IsStep setting count worker (Runs state entered) (asks worker (Writes (asked_entry worker call reply))) (Runs (next reply) entered)
   -- the next instruction calls a shard that the run has not entered: it enters that shard first
   ShardIsEntered : (state : MachineState) → (entered : List ℕ) → (call : Call) → (next : Reply → MachineState) →
-      next_step (program_of setting) state ≡ CallsMap call next → shard_of_call call < count →
+      next_step (program_of_setting setting) state ≡ CallsMap call next → shard_of_call call < count →
       is_entered (shard_of_call call) entered ≡ false →
       IsStep setting count worker (Runs state entered) (asks worker (Writes (enter_by worker (shard_of_call call))))
       (Runs state (shard_of_call call ∷ entered))
   -- the call met a full journal: the run is over
   CallIsRefused : (state : MachineState) → (entered : List ℕ) → (call : Call) → (next : Reply → MachineState) →
-      next_step (program_of setting) state ≡ CallsMap call next → shard_of_call call < count →
+      next_step (program_of_setting setting) state ≡ CallsMap call next → shard_of_call call < count →
       is_entered (shard_of_call call) entered ≡ true →
       IsStep setting count worker (Runs state entered) (asks worker (Refused call)) (run_over entered)
   -- the Enter before the call met one
   EnterIsRefused : (state : MachineState) → (entered : List ℕ) → (call : Call) → (next : Reply → MachineState) →
-      next_step (program_of setting) state ≡ CallsMap call next → shard_of_call call < count →
+      next_step (program_of_setting setting) state ≡ CallsMap call next → shard_of_call call < count →
       is_entered (shard_of_call call) entered ≡ false →
       IsStep setting count worker (Runs state entered) (asks worker (Refused (Enter (shard_of_call call)))) (run_over entered)
   -- the run is over, and its worker leaves one of the shards that it entered

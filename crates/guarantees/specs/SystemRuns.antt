@@ -14,7 +14,7 @@ use Rattle.semantics.specs.MachineState.{MachineState}
 use Rattle.semantics.specs.History.{shard_of_call, IsJournalFull}
 use Rattle.semantics.specs.Step.{CallsMap, Exits}
 use Rattle.semantics.specs.Semantics.{next_step}
-use Rattle.semantics.specs.System.{Setting, program_of, Idle, Runs, run_over}
+use Rattle.semantics.specs.System.{Setting, program_of_setting, Idle, Runs, run_over}
 use Rattle.verifier.specs.Verified.{Verified}
 use Rattle.machine.specs.declared.exit.Stop.{Stop}
 use Rattle.machine.specs.declared.exit.Stop.TheVariants.{JournalFull}
@@ -42,7 +42,7 @@ pub record IsRunOfSystem (setting : Setting) (worker told now : ℕ) (frame : Li
   pub run : List Move
   pub ending : InRun
   pub goes_on : AreStepsOfRun setting count worker (beginning frame told now) run ending
-  pub exits : next_step (program_of setting) ending.state ≡ Exits verdict last
+  pub exits : next_step (program_of_setting setting) ending.state ≡ Exits verdict last
   pub ends : IsStep setting count worker (running ending) (does worker) (run_over ending.entered)
   pub left : List ℕ
   pub leaves : AreSteps setting count worker (run_over ending.entered) (leavings worker left) Idle
@@ -59,7 +59,7 @@ pub record IsStoppedInSystem (setting : Setting) (worker told now : ℕ) (frame 
   pub entered : List ℕ
   pub goes_on : AreStepsOfRun setting count worker (beginning frame told now) run (record { state = waiting; entered = entered })
   pub next : Reply → MachineState
-  pub waits : next_step (program_of setting) waiting ≡ CallsMap call next
+  pub waits : next_step (program_of_setting setting) waiting ≡ CallsMap call next
   pub refused : Call
   pub refused_is : (refused ≡ call) ⊎ (refused ≡ Enter (shard_of_call call))
   pub refuses : IsStep setting count worker (Runs waiting entered) (asks worker (Refused refused)) (run_over entered)

@@ -4,7 +4,7 @@ ghost use Rattle.std.specs.Prelude.{◌≡◌, ◌<◌, IfOk, IfErr};
 ghost use Rattle.semantics.specs.ShardPlan.{AreOptions};
 ghost use Rattle.machine.specs.Running.{program_of};
 ghost use Rattle.shard_port.specs.PortView.{ServesMaps};
-ghost use Rattle.guarantees.specs.Runs.{IsOutside, start_of, IsTheMeaning, IsStoppedBeginning};
+ghost use Rattle.guarantees.specs.Runs.{IsOutside, run_start, IsTheMeaning, IsStoppedBeginning};
 
 use crate::one_caller::{runs_are_their_meaning, stopped_runs_are_beginnings};
 use machine::{Exit, Moment, Stop};
@@ -33,9 +33,9 @@ pub fn worker_run(
     requires headroom { frame.old.headroom ≡ 256 }
     ensures exit { IfOk result (λ exit.
         IsTheMeaning (program_of verified.now options.shards)
-        (start_of moment.now frame.old) shards.old shards.new exit.verdict exit.steps frame.new) }
+        (run_start moment.now frame.old) shards.old shards.new exit.verdict exit.steps frame.new) }
     ensures stop { IfErr result
-        (IsStoppedBeginning (program_of verified.now options.shards) (start_of moment.now frame.old) shards.old shards.new frame.new) }
+        (IsStoppedBeginning (program_of verified.now options.shards) (run_start moment.now frame.old) shards.old shards.new frame.new) }
     ensures serve { ServesMaps verified.now.maps options shards.new }
 {
     runs_are_their_meaning();

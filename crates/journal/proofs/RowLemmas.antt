@@ -13,9 +13,9 @@ use Rattle.journal.specs.declared.append.AtomicChange.{AtomicChange}
 use Rattle.semantics.specs.declared.call.Entry.{Entry}
 use Rattle.journal.specs.declared.row.Row.{Row}
 use Rattle.journal.specs.declared.row.Row.TheVariants.{Entered, Left, Found, Missed, Loaded, Stored, Changed, Updated, Deleted, Reclaimed}
-use Rattle.journal.specs.Journaled.{Journaled, with_entry}
+use Rattle.journal.specs.Journaled.{Journaled, journal_with_entry}
 use Rattle.journal.specs.Entries.{lookup_entry, load_entry, store_entry, atomic_entry, update_entry, delete_entry, reclaim_entry}
-use Rattle.journal.specs.Rows.{part, word, update_at, call_of, reply_of, entry_of, AreWordsWithin, IsWithin, IsKept, journaled}
+use Rattle.journal.specs.Rows.{part, word, update_at, call_of_row, reply_of_row, entry_of_row, AreWordsWithin, IsRowWithin, IsKept, journaled}
 
 part_kept : (at size : ℕ) (bytes more : List ℕ) → at + size ≤ length bytes → part at size (bytes ++ more) ≡ part at size bytes
 part_kept at size bytes more within =
@@ -31,8 +31,8 @@ update_kept shard key value bytes more at flags within =
     ap (λ k. Update shard k (part (at + key) value (bytes ++ more)) flags) (part_kept at key bytes more (omega (arith, within)))
     ∙ ap (λ v. Update shard (part at key bytes) v flags) (part_kept (at + key) value bytes more within)
 
-call_kept : (shard key value : ℕ) (bytes more words later : List ℕ) (row : Row) → IsWithin key value (length bytes) words row
-    → call_of shard key value (bytes ++ more) (words ++ later) row ≡ call_of shard key value bytes words row
+call_kept : (shard key value : ℕ) (bytes more words later : List ℕ) (row : Row) → IsRowWithin key value (length bytes) words row
+    → call_of_row shard key value (bytes ++ more) (words ++ later) row ≡ call_of_row shard key value bytes words row
 call_kept shard key value bytes more words later (Found who at start) within = ap (Lookup shard) (part_kept at key bytes more within.1)
 call_kept shard key value bytes more words later (Missed who at) within = ap (Lookup shard) (part_kept at key bytes more within.1)
 call_kept shard key value bytes more words later (Updated who code start) within =
@@ -53,7 +53,7 @@ call_kept shard key value bytes more words later (Changed who size op offset sta
     ) refl
 call_kept shard key value bytes more words later (Reclaimed who start) within = refl
 
-reply_kept : (shard : ℕ) (words later : List ℕ) (row : Row) → AreWordsWithin words row → reply_of shard (words ++ later) row ≡ reply_of shard words row
+reply_kept : (shard : ℕ) (words later : List ℕ) (row : Row) → AreWordsWithin words row → reply_of_row shard (words ++ later) row ≡ reply_of_row shard words row
 reply_kept shard words later (Found who at start) within = rw (word_kept words later (start + 0) within) refl
 reply_kept shard words later (Missed who at) within = refl
 reply_kept shard words later (Updated who code start) within = refl
@@ -65,8 +65,8 @@ reply_kept shard words later (Stored who size offset start) within = refl
 reply_kept shard words later (Changed who size op offset start) within = rw (word_kept words later (start + 3) within) refl
 reply_kept shard words later (Reclaimed who start) within = rw (word_kept words later (start + 0) within) refl
 
-entries_kept : (shard key value : ℕ) (bytes more words later : List ℕ) (rows : List Row) → AllByRecursion (IsWithin key value (length bytes) words) rows
-    → map (entry_of shard key value (bytes ++ more) (words ++ later)) rows ≡ map (entry_of shard key value bytes words) rows
+entries_kept : (shard key value : ℕ) (bytes more words later : List ℕ) (rows : List Row) → AllByRecursion (IsRowWithin key value (length bytes) words) rows
+    → map (entry_of_row shard key value (bytes ++ more) (words ++ later)) rows ≡ map (entry_of_row shard key value bytes words) rows
 entries_kept shard key value bytes more words later [] within = refl
 entries_kept shard key value bytes more words later (row ∷ rows) within =
     rw (call_kept shard key value bytes more words later row within.0, reply_kept shard words later row within.0.0)
@@ -74,17 +74,17 @@ entries_kept shard key value bytes more words later (row ∷ rows) within =
 
 -- one row more, whose bytes and words come behind the others
 entries_more : (shard key value : ℕ) (bytes more words later : List ℕ) (rows : List Row) (row : Row)
-    → AllByRecursion (IsWithin key value (length bytes) words) rows
-    → map (entry_of shard key value (bytes ++ more) (words ++ later)) (rows ++ row ∷ [])
-    ≡ map (entry_of shard key value bytes words) rows ++ entry_of shard key value (bytes ++ more) (words ++ later) row ∷ []
+    → AllByRecursion (IsRowWithin key value (length bytes) words) rows
+    → map (entry_of_row shard key value (bytes ++ more) (words ++ later)) (rows ++ row ∷ [])
+    ≡ map (entry_of_row shard key value bytes words) rows ++ entry_of_row shard key value (bytes ++ more) (words ++ later) row ∷ []
 entries_more shard key value bytes more words later rows row within =
-    map-append (entry_of shard key value (bytes ++ more) (words ++ later)) rows (row ∷ [])
-    ∙ ap (λ es. es ++ entry_of shard key value (bytes ++ more) (words ++ later) row ∷ []) (entries_kept shard key value bytes more words later rows within)
+    map-append (entry_of_row shard key value (bytes ++ more) (words ++ later)) rows (row ∷ [])
+    ∙ ap (λ es. es ++ entry_of_row shard key value (bytes ++ more) (words ++ later) row ∷ []) (entries_kept shard key value bytes more words later rows within)
 
 -- ---- rows stay within what grows
 
-bytes_within : (key value count count' : ℕ) (words later : List ℕ) (row : Row) → count ≤ count' → IsWithin key value count words row
-    → IsWithin key value count' (words ++ later) row
+bytes_within : (key value count count' : ℕ) (words later : List ℕ) (row : Row) → count ≤ count' → IsRowWithin key value count words row
+    → IsRowWithin key value count' (words ++ later) row
 bytes_within key value count count' words later (Entered who) more within = within
 bytes_within key value count count' words later (Left who) more within = within
 bytes_within key value count count' words later (Found who at start) more within =
@@ -101,8 +101,8 @@ bytes_within key value count count' words later (Deleted who code at) more withi
 bytes_within key value count count' words later (Reclaimed who start) more within = (omega (arith, within.0, length-append words later), tt)
 
 pub all_within : (key value count count' : ℕ) (words later : List ℕ) (rows : List Row) (row : Row) → count ≤ count'
-    → AllByRecursion (IsWithin key value count words) rows → IsWithin key value count' (words ++ later) row
-    → AllByRecursion (IsWithin key value count' (words ++ later)) (rows ++ row ∷ [])
+    → AllByRecursion (IsRowWithin key value count words) rows → IsRowWithin key value count' (words ++ later) row
+    → AllByRecursion (IsRowWithin key value count' (words ++ later)) (rows ++ row ∷ [])
 all_within key value count count' words later [] row more within last = (last, tt)
 all_within key value count count' words later (first ∷ rows) row more within last =
     (bytes_within key value count count' words later first more within.0, all_within key value count count' words later rows row more within.1 last)
@@ -124,34 +124,34 @@ part_last bytes key at size here sized = ap (take size) (drop_at bytes key at (s
 
 -- a journal with one row more
 journal_more : (shard reserve key value : ℕ) (bytes more words later : List ℕ) (rows : List Row) (row : Row) (entry : Entry)
-    → AllByRecursion (IsWithin key value (length bytes) words) rows → entry_of shard key value (bytes ++ more) (words ++ later) row ≡ entry
+    → AllByRecursion (IsRowWithin key value (length bytes) words) rows → entry_of_row shard key value (bytes ++ more) (words ++ later) row ≡ entry
     → journaled shard reserve key value (rows ++ row ∷ []) (bytes ++ more) (words ++ later)
-    ≡ with_entry (journaled shard reserve key value rows bytes words) entry
+    ≡ journal_with_entry (journaled shard reserve key value rows bytes words) entry
 journal_more shard reserve key value bytes more words later rows row entry within is =
     ap (λ (es : List Entry). with_entries es)
-    (entries_more shard key value bytes more words later rows row within ∙ ap (λ e. map (entry_of shard key value bytes words) rows ++ e ∷ []) is)
+    (entries_more shard key value bytes more words later rows row within ∙ ap (λ e. map (entry_of_row shard key value bytes words) rows ++ e ∷ []) is)
   where
     with_entries : List Entry → Journaled
     with_entries es = record { shard = shard; reserve = reserve; key_size = key; value_size = value; entries = es }
 
 -- the same with no bytes more, or no words more
 journal_words : (shard reserve key value : ℕ) (bytes words later : List ℕ) (rows : List Row) (row : Row) (entry : Entry)
-    → AllByRecursion (IsWithin key value (length bytes) words) rows → entry_of shard key value bytes (words ++ later) row ≡ entry
-    → journaled shard reserve key value (rows ++ row ∷ []) bytes (words ++ later) ≡ with_entry (journaled shard reserve key value rows bytes words) entry
+    → AllByRecursion (IsRowWithin key value (length bytes) words) rows → entry_of_row shard key value bytes (words ++ later) row ≡ entry
+    → journaled shard reserve key value (rows ++ row ∷ []) bytes (words ++ later) ≡ journal_with_entry (journaled shard reserve key value rows bytes words) entry
 journal_words shard reserve key value bytes words later rows row entry within is =
-    subst (λ (b : List ℕ). journaled shard reserve key value (rows ++ row ∷ []) b (words ++ later) ≡ with_entry (journaled shard reserve key value rows bytes words) entry)
+    subst (λ (b : List ℕ). journaled shard reserve key value (rows ++ row ∷ []) b (words ++ later) ≡ journal_with_entry (journaled shard reserve key value rows bytes words) entry)
     (append-nil bytes)
     (journal_more shard reserve key value bytes [] words later rows row entry within
-    (subst (λ (b : List ℕ). entry_of shard key value b (words ++ later) row ≡ entry) (sym (append-nil bytes)) is))
+    (subst (λ (b : List ℕ). entry_of_row shard key value b (words ++ later) row ≡ entry) (sym (append-nil bytes)) is))
 
 journal_bytes : (shard reserve key value : ℕ) (bytes more words : List ℕ) (rows : List Row) (row : Row) (entry : Entry)
-    → AllByRecursion (IsWithin key value (length bytes) words) rows → entry_of shard key value (bytes ++ more) words row ≡ entry
-    → journaled shard reserve key value (rows ++ row ∷ []) (bytes ++ more) words ≡ with_entry (journaled shard reserve key value rows bytes words) entry
+    → AllByRecursion (IsRowWithin key value (length bytes) words) rows → entry_of_row shard key value (bytes ++ more) words row ≡ entry
+    → journaled shard reserve key value (rows ++ row ∷ []) (bytes ++ more) words ≡ journal_with_entry (journaled shard reserve key value rows bytes words) entry
 journal_bytes shard reserve key value bytes more words rows row entry within is =
-    subst (λ (w : List ℕ). journaled shard reserve key value (rows ++ row ∷ []) (bytes ++ more) w ≡ with_entry (journaled shard reserve key value rows bytes words) entry)
+    subst (λ (w : List ℕ). journaled shard reserve key value (rows ++ row ∷ []) (bytes ++ more) w ≡ journal_with_entry (journaled shard reserve key value rows bytes words) entry)
     (append-nil words)
     (journal_more shard reserve key value bytes more words [] rows row entry within
-    (subst (λ (w : List ℕ). entry_of shard key value (bytes ++ more) w row ≡ entry) (sym (append-nil words)) is))
+    (subst (λ (w : List ℕ). entry_of_row shard key value (bytes ++ more) w row ≡ entry) (sym (append-nil words)) is))
 
 -- a number that was put last is read back
 pub word_last : (words later : List ℕ) (start k : ℕ) → start ≡ length words → word (words ++ later) (start + k) ≡ word later k
@@ -160,42 +160,42 @@ word_last words later start k here = ap (λ n. word (words ++ later) (n + k)) he
 -- ---- an entry of each kind, put behind the others
 
 pub found_more : (shard reserve ks vs : ℕ) (bytes key words : List ℕ) (rows : List Row) (who : Caller) (at start cell : ℕ)
-    → AllByRecursion (IsWithin ks vs (length bytes) words) rows → at ≡ length bytes → length key ≡ ks → start ≡ length words
+    → AllByRecursion (IsRowWithin ks vs (length bytes) words) rows → at ≡ length bytes → length key ≡ ks → start ≡ length words
     → journaled shard reserve ks vs (rows ++ Found who at start ∷ []) (bytes ++ key) (words ++ cell ∷ [])
-    ≡ with_entry (journaled shard reserve ks vs rows bytes words) (lookup_entry shard who key (Some cell))
+    ≡ journal_with_entry (journaled shard reserve ks vs rows bytes words) (lookup_entry shard who key (Some cell))
 found_more shard reserve ks vs bytes key words rows who at start cell within here sized there =
     journal_more shard reserve ks vs bytes key words (cell ∷ []) rows (Found who at start) (lookup_entry shard who key (Some cell)) within
     (rw (part_last bytes key at ks here sized, word_last words (cell ∷ []) start 0 there) refl)
 
 pub missed_more : (shard reserve ks vs : ℕ) (bytes key words : List ℕ) (rows : List Row) (who : Caller) (at : ℕ)
-    → AllByRecursion (IsWithin ks vs (length bytes) words) rows → at ≡ length bytes → length key ≡ ks
+    → AllByRecursion (IsRowWithin ks vs (length bytes) words) rows → at ≡ length bytes → length key ≡ ks
     → journaled shard reserve ks vs (rows ++ Missed who at ∷ []) (bytes ++ key) words
-    ≡ with_entry (journaled shard reserve ks vs rows bytes words) (lookup_entry shard who key None)
+    ≡ journal_with_entry (journaled shard reserve ks vs rows bytes words) (lookup_entry shard who key None)
 missed_more shard reserve ks vs bytes key words rows who at within here sized =
     journal_bytes shard reserve ks vs bytes key words rows (Missed who at) (lookup_entry shard who key None) within
     (ap (λ k. lookup_entry shard who k None) (part_last bytes key at ks here sized))
 
 pub loaded_more : (shard reserve ks vs : ℕ) (bytes words : List ℕ) (rows : List Row) (who : Caller) (range : CellRange) (start value : ℕ)
-    → AllByRecursion (IsWithin ks vs (length bytes) words) rows → start ≡ length words
+    → AllByRecursion (IsRowWithin ks vs (length bytes) words) rows → start ≡ length words
     → journaled shard reserve ks vs (rows ++ Loaded who range.size range.offset start ∷ []) bytes (words ++ range.cell ∷ value ∷ [])
-    ≡ with_entry (journaled shard reserve ks vs rows bytes words) (load_entry shard who range value)
+    ≡ journal_with_entry (journaled shard reserve ks vs rows bytes words) (load_entry shard who range value)
 loaded_more shard reserve ks vs bytes words rows who range start value within there =
     journal_words shard reserve ks vs bytes words (range.cell ∷ value ∷ []) rows (Loaded who range.size range.offset start) (load_entry shard who range value) within
     (rw (word_last words (range.cell ∷ value ∷ []) start 0 there, word_last words (range.cell ∷ value ∷ []) start 1 there) refl)
 
 pub stored_more : (shard reserve ks vs : ℕ) (bytes words : List ℕ) (rows : List Row) (who : Caller) (range : CellRange) (start value : ℕ)
-    → AllByRecursion (IsWithin ks vs (length bytes) words) rows → start ≡ length words
+    → AllByRecursion (IsRowWithin ks vs (length bytes) words) rows → start ≡ length words
     → journaled shard reserve ks vs (rows ++ Stored who range.size range.offset start ∷ []) bytes (words ++ range.cell ∷ value ∷ [])
-    ≡ with_entry (journaled shard reserve ks vs rows bytes words) (store_entry shard who range value)
+    ≡ journal_with_entry (journaled shard reserve ks vs rows bytes words) (store_entry shard who range value)
 stored_more shard reserve ks vs bytes words rows who range start value within there =
     journal_words shard reserve ks vs bytes words (range.cell ∷ value ∷ []) rows (Stored who range.size range.offset start) (store_entry shard who range value) within
     (rw (word_last words (range.cell ∷ value ∷ []) start 0 there, word_last words (range.cell ∷ value ∷ []) start 1 there) refl)
 
 pub changed_more : (shard reserve ks vs : ℕ) (bytes words : List ℕ) (rows : List Row) (who : Caller) (range : CellRange) (change : AtomicChange) (start old : ℕ)
-    → AllByRecursion (IsWithin ks vs (length bytes) words) rows → start ≡ length words
+    → AllByRecursion (IsRowWithin ks vs (length bytes) words) rows → start ≡ length words
     → journaled shard reserve ks vs (rows ++ Changed who range.size change.op range.offset start ∷ []) bytes
     (words ++ range.cell ∷ change.value ∷ change.expected ∷ old ∷ [])
-    ≡ with_entry (journaled shard reserve ks vs rows bytes words) (atomic_entry shard who range change old)
+    ≡ journal_with_entry (journaled shard reserve ks vs rows bytes words) (atomic_entry shard who range change old)
 changed_more shard reserve ks vs bytes words rows who range change start old within there =
     let later : List ℕ = range.cell ∷ change.value ∷ change.expected ∷ old ∷ [] in
     journal_words shard reserve ks vs bytes words later rows (Changed who range.size change.op range.offset start) (atomic_entry shard who range change old) within
@@ -207,17 +207,17 @@ changed_more shard reserve ks vs bytes words rows who range change start old wit
     ) refl)
 
 pub deleted_more : (shard reserve ks vs : ℕ) (bytes key words : List ℕ) (rows : List Row) (who : Caller) (code : ℤ) (at : ℕ)
-    → AllByRecursion (IsWithin ks vs (length bytes) words) rows → at ≡ length bytes → length key ≡ ks
+    → AllByRecursion (IsRowWithin ks vs (length bytes) words) rows → at ≡ length bytes → length key ≡ ks
     → journaled shard reserve ks vs (rows ++ Deleted who code at ∷ []) (bytes ++ key) words
-    ≡ with_entry (journaled shard reserve ks vs rows bytes words) (delete_entry shard who key code)
+    ≡ journal_with_entry (journaled shard reserve ks vs rows bytes words) (delete_entry shard who key code)
 deleted_more shard reserve ks vs bytes key words rows who code at within here sized =
     journal_bytes shard reserve ks vs bytes key words rows (Deleted who code at) (delete_entry shard who key code) within
     (ap (λ k. delete_entry shard who k code) (part_last bytes key at ks here sized))
 
 pub updated_more : (shard reserve ks vs : ℕ) (bytes key value words : List ℕ) (rows : List Row) (who : Caller) (code : ℤ) (at flags start : ℕ)
-    → AllByRecursion (IsWithin ks vs (length bytes) words) rows → at ≡ length bytes → length key ≡ ks → length value ≡ vs → start ≡ length words
+    → AllByRecursion (IsRowWithin ks vs (length bytes) words) rows → at ≡ length bytes → length key ≡ ks → length value ≡ vs → start ≡ length words
     → journaled shard reserve ks vs (rows ++ Updated who code start ∷ []) (bytes ++ (key ++ value)) (words ++ at ∷ flags ∷ [])
-    ≡ with_entry (journaled shard reserve ks vs rows bytes words) (update_entry shard who key value flags code)
+    ≡ journal_with_entry (journaled shard reserve ks vs rows bytes words) (update_entry shard who key value flags code)
 updated_more shard reserve ks vs bytes key value words rows who code at flags start within here key_sized value_sized there =
     journal_more shard reserve ks vs bytes (key ++ value) words (at ∷ flags ∷ []) rows (Updated who code start) (update_entry shard who key value flags code) within
     (rw (word_last words (at ∷ flags ∷ []) start 0 there, word_last words (at ∷ flags ∷ []) start 1 there)
@@ -225,9 +225,9 @@ updated_more shard reserve ks vs bytes key value words rows who code at flags st
     ∙ ap (λ v. update_entry shard who key v flags code) (value_last bytes key value at ks vs here key_sized value_sized)))
 
 pub reclaimed_more : (shard reserve ks vs : ℕ) (bytes words : List ℕ) (rows : List Row) (who : Caller) (start count : ℕ)
-    → AllByRecursion (IsWithin ks vs (length bytes) words) rows → start ≡ length words
+    → AllByRecursion (IsRowWithin ks vs (length bytes) words) rows → start ≡ length words
     → journaled shard reserve ks vs (rows ++ Reclaimed who start ∷ []) bytes (words ++ count ∷ [])
-    ≡ with_entry (journaled shard reserve ks vs rows bytes words) (reclaim_entry shard who count)
+    ≡ journal_with_entry (journaled shard reserve ks vs rows bytes words) (reclaim_entry shard who count)
 reclaimed_more shard reserve ks vs bytes words rows who start count within there =
     journal_words shard reserve ks vs bytes words (count ∷ []) rows (Reclaimed who start) (reclaim_entry shard who count) within
     (rw (word_last words (count ∷ []) start 0 there) refl)
@@ -237,7 +237,7 @@ reclaimed_more shard reserve ks vs bytes words rows who start count within there
 -- bytes of at most one key and one value, and at most four words, with the row that reads them
 pub kept_more : (reserve ks vs : ℕ) (rows : List Row) (row_room : ℕ) (bytes more : List ℕ) (byte_room : ℕ) (words later : List ℕ) (word_room : ℕ) (row : Row)
     (row_room' byte_room' word_room' : ℕ) → IsKept reserve ks vs rows row_room bytes byte_room words word_room → length more ≤ ks + vs → length later ≤ 4
-    → IsWithin ks vs (length (bytes ++ more)) (words ++ later) row → row_room ≤ row_room' → byte_room ≤ byte_room' → word_room ≤ word_room'
+    → IsRowWithin ks vs (length (bytes ++ more)) (words ++ later) row → row_room ≤ row_room' → byte_room ≤ byte_room' → word_room ≤ word_room'
     → IsKept reserve ks vs (rows ++ row ∷ []) row_room' (bytes ++ more) byte_room' (words ++ later) word_room'
 kept_more reserve ks vs rows row_room bytes more byte_room words later word_room row row_room' byte_room' word_room' kept few_bytes few_words within a b c =
     let longer : length (bytes ++ more) ≡ length bytes + length more = length-append bytes more in
@@ -260,18 +260,18 @@ kept_more reserve ks vs rows row_room bytes more byte_room words later word_room
 
 pub kept_words : (reserve ks vs : ℕ) (rows : List Row) (row_room : ℕ) (bytes : List ℕ) (byte_room : ℕ) (words later : List ℕ) (word_room : ℕ) (row : Row)
     (row_room' word_room' : ℕ) → IsKept reserve ks vs rows row_room bytes byte_room words word_room → length later ≤ 4
-    → IsWithin ks vs (length bytes) (words ++ later) row → row_room ≤ row_room' → word_room ≤ word_room'
+    → IsRowWithin ks vs (length bytes) (words ++ later) row → row_room ≤ row_room' → word_room ≤ word_room'
     → IsKept reserve ks vs (rows ++ row ∷ []) row_room' bytes byte_room (words ++ later) word_room'
 kept_words reserve ks vs rows row_room bytes byte_room words later word_room row row_room' word_room' kept few_words within a c =
     subst (λ (b : List ℕ). IsKept reserve ks vs (rows ++ row ∷ []) row_room' b byte_room (words ++ later) word_room') (append-nil bytes)
     (kept_more reserve ks vs rows row_room bytes [] byte_room words later word_room row row_room' byte_room word_room' kept (omega arith) few_words
-    (subst (λ (b : List ℕ). IsWithin ks vs (length b) (words ++ later) row) (sym (append-nil bytes)) within) a (omega arith) c)
+    (subst (λ (b : List ℕ). IsRowWithin ks vs (length b) (words ++ later) row) (sym (append-nil bytes)) within) a (omega arith) c)
 
 pub kept_bytes : (reserve ks vs : ℕ) (rows : List Row) (row_room : ℕ) (bytes more : List ℕ) (byte_room : ℕ) (words : List ℕ) (word_room : ℕ) (row : Row)
     (row_room' byte_room' : ℕ) → IsKept reserve ks vs rows row_room bytes byte_room words word_room → length more ≤ ks + vs
-    → IsWithin ks vs (length (bytes ++ more)) words row → row_room ≤ row_room' → byte_room ≤ byte_room'
+    → IsRowWithin ks vs (length (bytes ++ more)) words row → row_room ≤ row_room' → byte_room ≤ byte_room'
     → IsKept reserve ks vs (rows ++ row ∷ []) row_room' (bytes ++ more) byte_room' words word_room
 kept_bytes reserve ks vs rows row_room bytes more byte_room words word_room row row_room' byte_room' kept few_bytes within a b =
     subst (λ (w : List ℕ). IsKept reserve ks vs (rows ++ row ∷ []) row_room' (bytes ++ more) byte_room' w word_room) (append-nil words)
     (kept_more reserve ks vs rows row_room bytes more byte_room words [] word_room row row_room' byte_room' word_room kept few_bytes (omega arith)
-    (subst (λ (w : List ℕ). IsWithin ks vs (length (bytes ++ more)) w row) (sym (append-nil words)) within) a b (omega arith))
+    (subst (λ (w : List ℕ). IsRowWithin ks vs (length (bytes ++ more)) w row) (sym (append-nil words)) within) a b (omega arith))

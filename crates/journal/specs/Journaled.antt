@@ -17,8 +17,8 @@ opened_journal shard reserve key_size value_size =
     record { shard = shard; reserve = reserve; key_size = key_size; value_size = value_size; entries = [] }
 
 -- the journal with one entry more
-abbrev pub with_entry : Journaled → Entry → Journaled
-with_entry journal entry = record {
+abbrev pub journal_with_entry : Journaled → Entry → Journaled
+journal_with_entry journal entry = record {
   shard = journal.shard;
   reserve = journal.reserve;
   key_size = journal.key_size;

@@ -38,37 +38,37 @@ abbrev pub update_at : ℕ → ℕ → ℕ → List ℕ → ℕ → ℕ → Call
 update_at shard key_size value_size bytes at flags = Update shard (part at key_size bytes) (part (at + key_size) value_size bytes) flags
 
 -- the call, whose key and value are in the bytes, and whose numbers are in the words
-abbrev pub call_of : ℕ → ℕ → ℕ → List ℕ → List ℕ → Row → Call
-call_of shard key_size value_size bytes words (Entered who) = Enter shard
-call_of shard key_size value_size bytes words (Left who) = Leave shard
-call_of shard key_size value_size bytes words (Found who at start) = Lookup shard (part at key_size bytes)
-call_of shard key_size value_size bytes words (Missed who at) = Lookup shard (part at key_size bytes)
-call_of shard key_size value_size bytes words (Loaded who size offset start) = Load (cell_ref shard (word words (start + 0))) offset size
-call_of shard key_size value_size bytes words (Stored who size offset start) =
+abbrev pub call_of_row : ℕ → ℕ → ℕ → List ℕ → List ℕ → Row → Call
+call_of_row shard key_size value_size bytes words (Entered who) = Enter shard
+call_of_row shard key_size value_size bytes words (Left who) = Leave shard
+call_of_row shard key_size value_size bytes words (Found who at start) = Lookup shard (part at key_size bytes)
+call_of_row shard key_size value_size bytes words (Missed who at) = Lookup shard (part at key_size bytes)
+call_of_row shard key_size value_size bytes words (Loaded who size offset start) = Load (cell_ref shard (word words (start + 0))) offset size
+call_of_row shard key_size value_size bytes words (Stored who size offset start) =
     Store (cell_ref shard (word words (start + 0))) offset size (word words (start + 1))
-call_of shard key_size value_size bytes words (Changed who size op offset start) =
+call_of_row shard key_size value_size bytes words (Changed who size op offset start) =
     Atomic (cell_ref shard (word words (start + 0))) offset size op (word words (start + 1)) (word words (start + 2))
-call_of shard key_size value_size bytes words (Updated who code start) =
+call_of_row shard key_size value_size bytes words (Updated who code start) =
     update_at shard key_size value_size bytes (word words (start + 0)) (word words (start + 1))
-call_of shard key_size value_size bytes words (Deleted who code at) = Delete shard (part at key_size bytes)
-call_of shard key_size value_size bytes words (Reclaimed who start) = Reclaim shard
+call_of_row shard key_size value_size bytes words (Deleted who code at) = Delete shard (part at key_size bytes)
+call_of_row shard key_size value_size bytes words (Reclaimed who start) = Reclaim shard
 
-abbrev pub reply_of : ℕ → List ℕ → Row → Reply
-reply_of shard words (Entered who) = R.Entered
-reply_of shard words (Left who) = R.Left
-reply_of shard words (Found who at start) = R.Cell (cell_ref shard (word words (start + 0)))
-reply_of shard words (Missed who at) = R.Null
-reply_of shard words (Loaded who size offset start) = R.Word (word words (start + 1))
-reply_of shard words (Stored who size offset start) = R.Done
-reply_of shard words (Changed who size op offset start) = R.Word (word words (start + 3))
-reply_of shard words (Updated who code start) = R.Answer code
-reply_of shard words (Deleted who code at) = R.Answer code
-reply_of shard words (Reclaimed who start) = R.Freed (word words (start + 0))
+abbrev pub reply_of_row : ℕ → List ℕ → Row → Reply
+reply_of_row shard words (Entered who) = R.Entered
+reply_of_row shard words (Left who) = R.Left
+reply_of_row shard words (Found who at start) = R.Cell (cell_ref shard (word words (start + 0)))
+reply_of_row shard words (Missed who at) = R.Null
+reply_of_row shard words (Loaded who size offset start) = R.Word (word words (start + 1))
+reply_of_row shard words (Stored who size offset start) = R.Done
+reply_of_row shard words (Changed who size op offset start) = R.Word (word words (start + 3))
+reply_of_row shard words (Updated who code start) = R.Answer code
+reply_of_row shard words (Deleted who code at) = R.Answer code
+reply_of_row shard words (Reclaimed who start) = R.Freed (word words (start + 0))
 
 -- the entry that a row, the journal's bytes and its words make
-abbrev pub entry_of : ℕ → ℕ → ℕ → List ℕ → List ℕ → Row → Entry
-entry_of shard key_size value_size bytes words row =
-    record { who = who_of row; call = call_of shard key_size value_size bytes words row; reply = reply_of shard words row }
+abbrev pub entry_of_row : ℕ → ℕ → ℕ → List ℕ → List ℕ → Row → Entry
+entry_of_row shard key_size value_size bytes words row =
+    record { who = who_of row; call = call_of_row shard key_size value_size bytes words row; reply = reply_of_row shard words row }
 
 -- the row's words are among these
 abbrev pub AreWordsWithin : List ℕ → Row → Type 0
@@ -96,8 +96,8 @@ AreBytesWithin key_size value_size count words (Updated who code start) = word w
 AreBytesWithin key_size value_size count words (Deleted who code at) = at + key_size ≤ count
 AreBytesWithin key_size value_size count words (Reclaimed who start) = Unit {0}
 
-abbrev pub IsWithin : ℕ → ℕ → ℕ → List ℕ → Row → Type 0
-IsWithin key_size value_size count words row = AreWordsWithin words row × AreBytesWithin key_size value_size count words row
+abbrev pub IsRowWithin : ℕ → ℕ → ℕ → List ℕ → Row → Type 0
+IsRowWithin key_size value_size count words row = AreWordsWithin words row × AreBytesWithin key_size value_size count words row
 
 -- the row has neither key nor value nor number
 abbrev pub IsBare : Row → Type 0
@@ -119,7 +119,7 @@ journaled shard reserve key_size value_size rows bytes words = record {
   reserve = reserve;
   key_size = key_size;
   value_size = value_size;
-  entries = map (entry_of shard key_size value_size bytes words) rows;
+  entries = map (entry_of_row shard key_size value_size bytes words) rows;
 }
 
 -- the rows read within the bytes and the words, and the rooms last for the reserve
@@ -128,7 +128,7 @@ pub record IsKept (reserve key_size value_size : ℕ) (rows : List Row) (row_roo
   pub few : KeepsRows reserve
   pub key : key_size ≤ 32
   pub value : value_size ≤ 256
-  pub within : AllByRecursion (IsWithin key_size value_size (length bytes) words) rows
+  pub within : AllByRecursion (IsRowWithin key_size value_size (length bytes) words) rows
   -- no row took more bytes than one key and one value, nor more than four words
   pub used : length bytes ≤ length rows * (key_size + value_size)
   pub words_used : length words ≤ length rows * 4

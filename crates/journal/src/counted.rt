@@ -1,7 +1,7 @@
 //! Entries that are counted and not kept.
 
 ghost use Rattle.std.specs.Prelude.{◌≡◌, ◌<◌, IfOk, length};
-ghost use Rattle.journal.specs.Journaled.{opened_journal, with_entry};
+ghost use Rattle.journal.specs.Journaled.{opened_journal, journal_with_entry};
 ghost use Rattle.journal.specs.Entries.{enter_entry, leave_entry, lookup_entry, load_entry, store_entry, atomic_entry, update_entry};
 ghost use Rattle.journal.specs.Entries.{delete_entry, reclaim_entry};
 
@@ -75,7 +75,7 @@ impl Counted {
     /// One entry more, which the proof picks by what is known of it.
     fn count<D: LogItem, A: Drop>(&mut self, about: A)
         requires { length self.old.entries < self.old.reserve }
-        ensures { self.new ≡ with_entry self.old D.item }
+        ensures { self.new ≡ journal_with_entry self.old D.item }
     {
         let _ = about;
         self.count += 1;
@@ -85,7 +85,7 @@ impl Counted {
     /// An Enter.
     pub(crate) fn append_enter(&mut self, who: Caller)
         requires { length self.old.entries < self.old.reserve }
-        ensures { self.new ≡ with_entry self.old (enter_entry self.old.shard who) }
+        ensures { self.new ≡ journal_with_entry self.old (enter_entry self.old.shard who) }
     {
         self.count::<Brand, Caller>(who);
     }
@@ -93,7 +93,7 @@ impl Counted {
     /// A Leave.
     pub(crate) fn append_leave(&mut self, who: Caller)
         requires { length self.old.entries < self.old.reserve }
-        ensures { self.new ≡ with_entry self.old (leave_entry self.old.shard who) }
+        ensures { self.new ≡ journal_with_entry self.old (leave_entry self.old.shard who) }
     {
         self.count::<Brand, Caller>(who);
     }
@@ -101,7 +101,7 @@ impl Counted {
     /// A Lookup that found this cell, or nothing.
     pub(crate) fn append_lookup(&mut self, who: Caller, key: &[u8], found: Option<u64>)
         requires { length self.old.entries < self.old.reserve }
-        ensures { self.new ≡ with_entry self.old (lookup_entry self.old.shard who key.now found) }
+        ensures { self.new ≡ journal_with_entry self.old (lookup_entry self.old.shard who key.now found) }
     {
         self.count::<Brand, (Caller, &[u8], Option<u64>)>((who, key, found));
     }
@@ -109,7 +109,7 @@ impl Counted {
     /// A Load, with what it read.
     pub(crate) fn append_load(&mut self, who: Caller, range: &CellRange, value: u64)
         requires { length self.old.entries < self.old.reserve }
-        ensures { self.new ≡ with_entry self.old (load_entry self.old.shard who range.now value) }
+        ensures { self.new ≡ journal_with_entry self.old (load_entry self.old.shard who range.now value) }
     {
         self.count::<Brand, (Caller, &CellRange, u64)>((who, range, value));
     }
@@ -117,7 +117,7 @@ impl Counted {
     /// A Store of a number.
     pub(crate) fn append_store(&mut self, who: Caller, range: &CellRange, value: u64)
         requires { length self.old.entries < self.old.reserve }
-        ensures { self.new ≡ with_entry self.old (store_entry self.old.shard who range.now value) }
+        ensures { self.new ≡ journal_with_entry self.old (store_entry self.old.shard who range.now value) }
     {
         self.count::<Brand, (Caller, &CellRange, u64)>((who, range, value));
     }
@@ -131,7 +131,7 @@ impl Counted {
         old: u64,
     )
         requires { length self.old.entries < self.old.reserve }
-        ensures { self.new ≡ with_entry self.old (atomic_entry self.old.shard who range.now change.now old) }
+        ensures { self.new ≡ journal_with_entry self.old (atomic_entry self.old.shard who range.now change.now old) }
     {
         self.count::<Brand, (Caller, &CellRange, &AtomicChange, u64)>((who, range, change, old));
     }
@@ -146,7 +146,7 @@ impl Counted {
         code: i32,
     )
         requires { length self.old.entries < self.old.reserve }
-        ensures { self.new ≡ with_entry self.old (update_entry self.old.shard who key.now value.now flags code) }
+        ensures { self.new ≡ journal_with_entry self.old (update_entry self.old.shard who key.now value.now flags code) }
     {
         self.count::<Brand, (Caller, &[u8], &[u8], u64, i32)>((who, key, value, flags, code));
     }
@@ -154,7 +154,7 @@ impl Counted {
     /// A Delete, with its answer.
     pub(crate) fn append_delete(&mut self, who: Caller, key: &[u8], code: i32)
         requires { length self.old.entries < self.old.reserve }
-        ensures { self.new ≡ with_entry self.old (delete_entry self.old.shard who key.now code) }
+        ensures { self.new ≡ journal_with_entry self.old (delete_entry self.old.shard who key.now code) }
     {
         self.count::<Brand, (Caller, &[u8], i32)>((who, key, code));
     }
@@ -162,7 +162,7 @@ impl Counted {
     /// A Reclaim, with how many cells it freed.
     pub(crate) fn append_reclaim(&mut self, who: Caller, count: u64)
         requires { length self.old.entries < self.old.reserve }
-        ensures { self.new ≡ with_entry self.old (reclaim_entry self.old.shard who count) }
+        ensures { self.new ≡ journal_with_entry self.old (reclaim_entry self.old.shard who count) }
     {
         self.count::<Brand, (Caller, u64)>((who, count));
     }

@@ -2,7 +2,7 @@
 
 ghost use Rattle.std.specs.Prelude.{◌≡◌, ◌<◌, ◌≤◌, true, IfOk, length, slice_get, Some};
 ghost use Rattle.semantics.specs.ShardPlan.{KeepsRows, keeps_rows};
-ghost use Rattle.journal.specs.Journaled.{opened_journal, with_entry};
+ghost use Rattle.journal.specs.Journaled.{opened_journal, journal_with_entry};
 ghost use Rattle.journal.specs.Entries.{enter_entry, leave_entry, lookup_entry, load_entry, store_entry, atomic_entry, update_entry};
 ghost use Rattle.journal.specs.Entries.{delete_entry, reclaim_entry};
 ghost use Rattle.journal.specs.Ranges.{IsShortRange};
@@ -107,7 +107,7 @@ impl Journal {
     /// An Enter.
     pub fn append_enter(&mut self, who: Caller)
         requires { length self.old.entries < self.old.reserve }
-        ensures { self.new ≡ with_entry self.old (enter_entry self.old.shard who) }
+        ensures { self.new ≡ journal_with_entry self.old (enter_entry self.old.shard who) }
     {
         match &mut self.kept {
             Kept::Rows { written } => written.append_enter(who),
@@ -118,7 +118,7 @@ impl Journal {
     /// A Leave.
     pub fn append_leave(&mut self, who: Caller)
         requires { length self.old.entries < self.old.reserve }
-        ensures { self.new ≡ with_entry self.old (leave_entry self.old.shard who) }
+        ensures { self.new ≡ journal_with_entry self.old (leave_entry self.old.shard who) }
     {
         match &mut self.kept {
             Kept::Rows { written } => written.append_leave(who),
@@ -130,7 +130,7 @@ impl Journal {
     pub fn append_lookup(&mut self, who: Caller, key: &[u8], found: Option<u64>)
         requires room { length self.old.entries < self.old.reserve }
         requires key { length key.now ≡ self.old.key_size }
-        ensures { self.new ≡ with_entry self.old (lookup_entry self.old.shard who key.now found) }
+        ensures { self.new ≡ journal_with_entry self.old (lookup_entry self.old.shard who key.now found) }
     {
         match &mut self.kept {
             Kept::Rows { written } => written.append_lookup(who, key, found),
@@ -142,7 +142,7 @@ impl Journal {
     pub fn append_load(&mut self, who: Caller, range: &CellRange, value: u64)
         requires room { length self.old.entries < self.old.reserve }
         requires range { IsShortRange range.now }
-        ensures { self.new ≡ with_entry self.old (load_entry self.old.shard who range.now value) }
+        ensures { self.new ≡ journal_with_entry self.old (load_entry self.old.shard who range.now value) }
     {
         match &mut self.kept {
             Kept::Rows { written } => written.append_load(who, range, value),
@@ -154,7 +154,7 @@ impl Journal {
     pub fn append_store(&mut self, who: Caller, range: &CellRange, value: u64)
         requires room { length self.old.entries < self.old.reserve }
         requires range { IsShortRange range.now }
-        ensures { self.new ≡ with_entry self.old (store_entry self.old.shard who range.now value) }
+        ensures { self.new ≡ journal_with_entry self.old (store_entry self.old.shard who range.now value) }
     {
         match &mut self.kept {
             Kept::Rows { written } => written.append_store(who, range, value),
@@ -167,7 +167,7 @@ impl Journal {
         requires room { length self.old.entries < self.old.reserve }
         requires range { IsShortRange range.now }
         requires op { change.now.op < 256 }
-        ensures { self.new ≡ with_entry self.old (atomic_entry self.old.shard who range.now change.now old) }
+        ensures { self.new ≡ journal_with_entry self.old (atomic_entry self.old.shard who range.now change.now old) }
     {
         match &mut self.kept {
             Kept::Rows { written } => written.append_atomic(who, range, change, old),
@@ -180,7 +180,7 @@ impl Journal {
         requires room { length self.old.entries < self.old.reserve }
         requires key { length key.now ≡ self.old.key_size }
         requires value { length value.now ≡ self.old.value_size }
-        ensures { self.new ≡ with_entry self.old (update_entry self.old.shard who key.now value.now flags code) }
+        ensures { self.new ≡ journal_with_entry self.old (update_entry self.old.shard who key.now value.now flags code) }
     {
         match &mut self.kept {
             Kept::Rows { written } => written.append_update(who, key, value, flags, code),
@@ -192,7 +192,7 @@ impl Journal {
     pub fn append_delete(&mut self, who: Caller, key: &[u8], code: i32)
         requires room { length self.old.entries < self.old.reserve }
         requires key { length key.now ≡ self.old.key_size }
-        ensures { self.new ≡ with_entry self.old (delete_entry self.old.shard who key.now code) }
+        ensures { self.new ≡ journal_with_entry self.old (delete_entry self.old.shard who key.now code) }
     {
         match &mut self.kept {
             Kept::Rows { written } => written.append_delete(who, key, code),
@@ -203,7 +203,7 @@ impl Journal {
     /// A Reclaim, with how many cells it freed.
     pub fn append_reclaim(&mut self, who: Caller, count: u64)
         requires { length self.old.entries < self.old.reserve }
-        ensures { self.new ≡ with_entry self.old (reclaim_entry self.old.shard who count) }
+        ensures { self.new ≡ journal_with_entry self.old (reclaim_entry self.old.shard who count) }
     {
         match &mut self.kept {
             Kept::Rows { written } => written.append_reclaim(who, count),

@@ -1,7 +1,7 @@
 //! An entry as a journal keeps it.
 
 ghost use Rattle.std.specs.Prelude.{◌≡◌, ◌+◌, ◌<◌, ◌≤◌, length};
-ghost use Rattle.journal.specs.Rows.{part, word, who_of, call_of, reply_of, entry_of, IsWithin, AreWordsWithin};
+ghost use Rattle.journal.specs.Rows.{part, word, who_of, call_of_row, reply_of_row, entry_of_row, IsRowWithin, AreWordsWithin};
 
 use semantics::{Call, Caller, CellRef, Entry, Key, Reply, Value};
 
@@ -117,10 +117,10 @@ fn word(words: &[u64], at: u32, more: u32) -> u64
 impl Row {
     /// The entry that the row, the journal's bytes and its words make.
     pub(crate) fn entry(&self, shape: &Shape, bytes: &[u8], words: &[u64]) -> Entry
-        requires within { IsWithin shape.now.key_size shape.now.value_size (length bytes.now) words.now self.now }
+        requires within { IsRowWithin shape.now.key_size shape.now.value_size (length bytes.now) words.now self.now }
         requires key { shape.now.key_size ≤ 32 }
         requires value { shape.now.value_size ≤ 256 }
-        ensures { result ≡ entry_of shape.now.shard shape.now.key_size shape.now.value_size bytes.now words.now self.now }
+        ensures { result ≡ entry_of_row shape.now.shard shape.now.key_size shape.now.value_size bytes.now words.now self.now }
     {
         Entry {
             who: self.who(),
@@ -150,7 +150,7 @@ impl Row {
     #[rattlefmt::skip]
     fn reply(&self, shard: u32, words: &[u64]) -> Reply
         requires { AreWordsWithin words.now self.now }
-        ensures { result ≡ reply_of shard words.now self.now }
+        ensures { result ≡ reply_of_row shard words.now self.now }
     {
         match self {
             Row::Entered { .. } => Reply::Entered,
@@ -168,10 +168,10 @@ impl Row {
 
     #[rattlefmt::skip]
     fn call(&self, shape: &Shape, bytes: &[u8], words: &[u64]) -> Call
-        requires within { IsWithin shape.now.key_size shape.now.value_size (length bytes.now) words.now self.now }
+        requires within { IsRowWithin shape.now.key_size shape.now.value_size (length bytes.now) words.now self.now }
         requires key { shape.now.key_size ≤ 32 }
         requires value { shape.now.value_size ≤ 256 }
-        ensures { result ≡ call_of shape.now.shard shape.now.key_size shape.now.value_size bytes.now words.now self.now }
+        ensures { result ≡ call_of_row shape.now.shard shape.now.key_size shape.now.value_size bytes.now words.now self.now }
     {
         let Shape { shard, key_size, value_size } = *shape;
         match self {

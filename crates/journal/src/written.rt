@@ -1,10 +1,10 @@
 //! Entries as rows.
 
 ghost use Rattle.std.specs.Prelude.{◌≡◌, ◌+◌, ◌*◌, ◌<◌, ◌≤◌, ◌∷◌, ◌++◌, [], IfOk, length, vec_len, vec_capacity, slice_get, Some};
-ghost use Rattle.journal.specs.Journaled.{opened_journal, with_entry};
+ghost use Rattle.journal.specs.Journaled.{opened_journal, journal_with_entry};
 ghost use Rattle.journal.specs.Entries.{enter_entry, leave_entry, lookup_entry, load_entry, store_entry, atomic_entry, update_entry};
 ghost use Rattle.journal.specs.Entries.{delete_entry, reclaim_entry};
-ghost use Rattle.journal.specs.Rows.{IsBare, entry_of};
+ghost use Rattle.journal.specs.Rows.{IsBare, entry_of_row};
 ghost use Rattle.journal.specs.Ranges.{IsShortRange};
 ghost use Rattle.semantics.specs.ShardPlan.{KeepsRows};
 
@@ -92,7 +92,7 @@ impl Written {
     fn put(&mut self, row: Row)
         requires room { length self.old.entries < self.old.reserve }
         requires bare { IsBare row }
-        ensures { self.new ≡ with_entry self.old (entry_of self.old.shard self.old.key_size self.old.value_size [] [] row) }
+        ensures { self.new ≡ journal_with_entry self.old (entry_of_row self.old.shard self.old.key_size self.old.value_size [] [] row) }
     {
         put_row(&mut self.rows, row);
     }
@@ -100,7 +100,7 @@ impl Written {
     /// An Enter.
     pub(crate) fn append_enter(&mut self, who: Caller)
         requires { length self.old.entries < self.old.reserve }
-        ensures { self.new ≡ with_entry self.old (enter_entry self.old.shard who) }
+        ensures { self.new ≡ journal_with_entry self.old (enter_entry self.old.shard who) }
     {
         self.put(Row::Entered { who });
     }
@@ -108,7 +108,7 @@ impl Written {
     /// A Leave.
     pub(crate) fn append_leave(&mut self, who: Caller)
         requires { length self.old.entries < self.old.reserve }
-        ensures { self.new ≡ with_entry self.old (leave_entry self.old.shard who) }
+        ensures { self.new ≡ journal_with_entry self.old (leave_entry self.old.shard who) }
     {
         self.put(Row::Left { who });
     }
@@ -117,7 +117,7 @@ impl Written {
     pub(crate) fn append_lookup(&mut self, who: Caller, key: &[u8], found: Option<u64>)
         requires room { length self.old.entries < self.old.reserve }
         requires key { length key.now ≡ self.old.key_size }
-        ensures { self.new ≡ with_entry self.old (lookup_entry self.old.shard who key.now found) }
+        ensures { self.new ≡ journal_with_entry self.old (lookup_entry self.old.shard who key.now found) }
     {
         let at = self.bytes.len() as u32;
         put_bytes(&mut self.bytes, key);
@@ -135,7 +135,7 @@ impl Written {
     pub(crate) fn append_load(&mut self, who: Caller, range: &CellRange, value: u64)
         requires room { length self.old.entries < self.old.reserve }
         requires range { IsShortRange range.now }
-        ensures { self.new ≡ with_entry self.old (load_entry self.old.shard who range.now value) }
+        ensures { self.new ≡ journal_with_entry self.old (load_entry self.old.shard who range.now value) }
     {
         let start = self.words.len() as u32;
         put_two_words(&mut self.words, range.cell, value);
@@ -152,7 +152,7 @@ impl Written {
     pub(crate) fn append_store(&mut self, who: Caller, range: &CellRange, value: u64)
         requires room { length self.old.entries < self.old.reserve }
         requires range { IsShortRange range.now }
-        ensures { self.new ≡ with_entry self.old (store_entry self.old.shard who range.now value) }
+        ensures { self.new ≡ journal_with_entry self.old (store_entry self.old.shard who range.now value) }
     {
         let start = self.words.len() as u32;
         put_two_words(&mut self.words, range.cell, value);
@@ -176,7 +176,7 @@ impl Written {
         requires room { length self.old.entries < self.old.reserve }
         requires range { IsShortRange range.now }
         requires op { change.now.op < 256 }
-        ensures { self.new ≡ with_entry self.old (atomic_entry self.old.shard who range.now change.now old) }
+        ensures { self.new ≡ journal_with_entry self.old (atomic_entry self.old.shard who range.now change.now old) }
     {
         let start = self.words.len() as u32;
         put_four_words(
@@ -208,7 +208,7 @@ impl Written {
         requires room { length self.old.entries < self.old.reserve }
         requires key { length key.now ≡ self.old.key_size }
         requires value { length value.now ≡ self.old.value_size }
-        ensures { self.new ≡ with_entry self.old (update_entry self.old.shard who key.now value.now flags code) }
+        ensures { self.new ≡ journal_with_entry self.old (update_entry self.old.shard who key.now value.now flags code) }
     {
         let at = self.bytes.len() as u64;
         put_bytes(&mut self.bytes, key);
@@ -222,7 +222,7 @@ impl Written {
     pub(crate) fn append_delete(&mut self, who: Caller, key: &[u8], code: i32)
         requires room { length self.old.entries < self.old.reserve }
         requires key { length key.now ≡ self.old.key_size }
-        ensures { self.new ≡ with_entry self.old (delete_entry self.old.shard who key.now code) }
+        ensures { self.new ≡ journal_with_entry self.old (delete_entry self.old.shard who key.now code) }
     {
         let at = self.bytes.len() as u32;
         put_bytes(&mut self.bytes, key);
@@ -232,7 +232,7 @@ impl Written {
     /// A Reclaim, with how many cells it freed.
     pub(crate) fn append_reclaim(&mut self, who: Caller, count: u64)
         requires { length self.old.entries < self.old.reserve }
-        ensures { self.new ≡ with_entry self.old (reclaim_entry self.old.shard who count) }
+        ensures { self.new ≡ journal_with_entry self.old (reclaim_entry self.old.shard who count) }
     {
         let start = self.words.len() as u32;
         put_word(&mut self.words, count);

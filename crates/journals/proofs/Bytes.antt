@@ -17,8 +17,8 @@ use Rattle.semantics.specs.History.{shard_of_call}
 use Rattle.text_lines.proofs.shared.ByteLemmas.{all_bytes, within, both, joined, all_append, all_more}
 use Rattle.journals.specs.declared.verb.Verb.{Verb}
 use Rattle.journals.specs.declared.verb.Verb.TheVariants.{Enter, Leave, Lookup, Load, Store, Atomic, Update, Delete, Reclaim}
-use Rattle.journals.specs.JournalText.{who_text, verb_text, verb_of_call, reply_text, told_text, line_of}
-use Rattle.journals.specs.EntryForm.{CallerFits, CallFits, ReplyFits, EntryFits, IsFinding, IsWord, IsAnswer, IsFreed, IsEntered, IsLeft, IsDone}
+use Rattle.journals.specs.JournalText.{who_text, verb_text, verb_of_call, reply_text, told_text, line_of_entry}
+use Rattle.journals.specs.EntryForm.{CallerFits, CallFits, ReplyFits, EntryFits, IsFinding, IsWord, IsAnswerReply, IsFreed, IsEntered, IsLeftReply, IsDoneReply}
 
 -- ---- words: bytes above the space
 
@@ -127,7 +127,7 @@ word_printed Done fits = refl
 word_printed (Answer code) fits = absurd fits
 word_printed (Freed count) fits = absurd fits
 
-answer_printed : (reply : Reply) → IsAnswer reply → all_bytes printed (reply_text reply) ≡ true
+answer_printed : (reply : Reply) → IsAnswerReply reply → all_bytes printed (reply_text reply) ≡ true
 answer_printed (Answer code) fits = after_word (codes "answer ") (signed_decimal code) refl (signed_within code fits)
 answer_printed (Cell cell) fits = absurd fits
 answer_printed Null fits = refl
@@ -157,7 +157,7 @@ entered_printed Done fits = absurd fits
 entered_printed (Answer code) fits = absurd fits
 entered_printed (Freed count) fits = absurd fits
 
-left_printed : (reply : Reply) → IsLeft reply → all_bytes printed (reply_text reply) ≡ true
+left_printed : (reply : Reply) → IsLeftReply reply → all_bytes printed (reply_text reply) ≡ true
 left_printed Left fits = refl
 left_printed Entered fits = absurd fits
 left_printed (Cell cell) fits = absurd fits
@@ -167,7 +167,7 @@ left_printed Done fits = absurd fits
 left_printed (Answer code) fits = absurd fits
 left_printed (Freed count) fits = absurd fits
 
-done_printed : (reply : Reply) → IsDone reply → all_bytes printed (reply_text reply) ≡ true
+done_printed : (reply : Reply) → IsDoneReply reply → all_bytes printed (reply_text reply) ≡ true
 done_printed Done fits = refl
 done_printed Entered fits = absurd fits
 done_printed Left fits = absurd fits
@@ -213,8 +213,8 @@ shard_small (calls.Update shard key value flags) fits = fits.0
 shard_small (calls.Delete shard key) fits = fits.0
 shard_small (calls.Reclaim shard) fits = fits
 
-pub line_printed : (entry : Entry) → EntryFits entry → all_bytes printed (line_of entry) ≡ true
-unfolding line_of
+pub line_printed : (entry : Entry) → EntryFits entry → all_bytes printed (line_of_entry entry) ≡ true
+unfolding line_of_entry
 line_printed entry fits =
     let small = shard_small entry.call fits.call in
     let told = told_printed entry.call entry.reply fits.call fits.reply in

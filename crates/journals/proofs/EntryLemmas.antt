@@ -8,14 +8,14 @@ use Rattle.journal.specs.Rows.{part}
 use Rattle.journals.specs.declared.call_row.CallRow.{CallRow}
 use Rattle.journals.specs.declared.call_row.CallRow.TheVariants.{Enter, Leave, Lookup, Load, Store, Atomic, Update, Delete, Reclaim}
 use Rattle.journals.specs.declared.entry_list.EntryRow.{EntryRow}
-use Rattle.journals.specs.EntryRows.{bytes_of, row_of, entry_row, call_of, entry_of, entries_of, IsWithin, AreWithin}
+use Rattle.journals.specs.EntryRows.{bytes_of, call_row, entry_row, listed_call, listed_entry, listed_entries, IsWithin, AreWithin}
 
 part_kept : (at size : ℕ) (bytes more : List ℕ) → at + size ≤ length bytes → part at size (bytes ++ more) ≡ part at size bytes
 part_kept at size bytes more within =
     let left : size ≤ length (drop at bytes) = omega (arith, within, length-drop at bytes) in
     ap (take size) (drop-append-le at bytes more (omega (arith, within))) ∙ take-append-le size (drop at bytes) more left
 
-call_kept : (bytes more : List ℕ) (row : CallRow) → IsWithin (length bytes) row → call_of (bytes ++ more) row ≡ call_of bytes row
+call_kept : (bytes more : List ℕ) (row : CallRow) → IsWithin (length bytes) row → listed_call (bytes ++ more) row ≡ listed_call bytes row
 call_kept bytes more (Enter shard) within = refl
 call_kept bytes more (Leave shard) within = refl
 call_kept bytes more (Lookup shard key_size at) within = ap (calls.Lookup shard) (part_kept at key_size bytes more within.1)
@@ -28,7 +28,7 @@ call_kept bytes more (Update shard key_size value_size at flags) within =
 call_kept bytes more (Delete shard key_size at) within = ap (calls.Delete shard) (part_kept at key_size bytes more within.1)
 call_kept bytes more (Reclaim shard) within = refl
 
-entries_kept : (bytes more : List ℕ) (rows : List EntryRow) → AreWithin (length bytes) rows → entries_of (bytes ++ more) rows ≡ entries_of bytes rows
+entries_kept : (bytes more : List ℕ) (rows : List EntryRow) → AreWithin (length bytes) rows → listed_entries (bytes ++ more) rows ≡ listed_entries bytes rows
 entries_kept bytes more [] within = refl
 entries_kept bytes more (row ∷ rows) within =
     rw (call_kept bytes more row.call within.0) (rw (entries_kept bytes more rows within.1) refl)
@@ -43,7 +43,7 @@ value_last bytes key value =
     ∙ ap (take (length value)) (drop_at (bytes ++ key) value (length bytes + length key) (length-append bytes key))
     ∙ take_all (length value) value (omega (arith))
 
-call_last : (bytes : List ℕ) (call : Call) → call_of (bytes ++ bytes_of call) (row_of (length bytes) call) ≡ call
+call_last : (bytes : List ℕ) (call : Call) → listed_call (bytes ++ bytes_of call) (call_row (length bytes) call) ≡ call
 call_last bytes (calls.Enter shard) = refl
 call_last bytes (calls.Leave shard) = refl
 call_last bytes (calls.Lookup shard key) = ap (calls.Lookup shard) (key_last bytes key [])
@@ -58,12 +58,12 @@ call_last bytes (calls.Reclaim shard) = refl
 
 -- one entry more, whose bytes come behind the others
 pub entries_more : (bytes : List ℕ) (rows : List EntryRow) (entry : Entry) → AreWithin (length bytes) rows
-    → entries_of (bytes ++ bytes_of entry.call) (rows ++ entry_row (length bytes) entry ∷ []) ≡ entries_of bytes rows ++ entry ∷ []
+    → listed_entries (bytes ++ bytes_of entry.call) (rows ++ entry_row (length bytes) entry ∷ []) ≡ listed_entries bytes rows ++ entry ∷ []
 entries_more bytes rows entry within =
     let more : List ℕ = bytes_of entry.call in
-    map-append (entry_of (bytes ++ more)) rows (entry_row (length bytes) entry ∷ [])
-    ∙ ap (λ es. es ++ entry_of (bytes ++ more) (entry_row (length bytes) entry) ∷ []) (entries_kept bytes more rows within)
-    ∙ ap (λ call. entries_of bytes rows ++ with_call call ∷ []) (call_last bytes entry.call)
+    map-append (listed_entry (bytes ++ more)) rows (entry_row (length bytes) entry ∷ [])
+    ∙ ap (λ es. es ++ listed_entry (bytes ++ more) (entry_row (length bytes) entry) ∷ []) (entries_kept bytes more rows within)
+    ∙ ap (λ call. listed_entries bytes rows ++ with_call call ∷ []) (call_last bytes entry.call)
   where
     with_call : Call → Entry
     with_call call = record { who = entry.who; call = call; reply = entry.reply }

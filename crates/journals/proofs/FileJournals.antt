@@ -18,7 +18,7 @@ use Rattle.semantics.proofs.shared.HoldingLemmas.{each_weaker}
 use Rattle.semantics.proofs.shared.ImageSizes.{image_sizes}
 use Rattle.semantics.proofs.shared.PlanLemmas.{some_shards, shards_have_plans, few_parts, plan_of}
 use Rattle.journals.specs.JournalsView.{JournalsView, AreJournals, entries_at}
-use Rattle.journals.specs.EntryForm.{IsShard, EntryFits, ReplyFits, HasSizesOf, IsFileEntry}
+use Rattle.journals.specs.EntryForm.{IsShardNumber, EntryFits, ReplyFits, HasSizesOf, IsFileEntry}
 use Rattle.journals.specs.JournalText.{all_entries}
 use Rattle.journals.specs.JournalReading.{IsOfShard, AreListedFrom}
 use Rattle.journals.specs.LegalJournals.{AreLegal}
@@ -36,7 +36,7 @@ record IsEntryOf (plan : ShardPlan) (entry : Entry) : Type 0 where
   shard : shard_of_call entry.call ≡ plan.number
   sizes : HasSizesOf plan.definition entry.call
 
-step_fits : (plan : ShardPlan) (older : List Entry) (entry : Entry) → IsPlan plan → IsShard plan.number → IsLegalHistory plan older →
+step_fits : (plan : ShardPlan) (older : List Entry) (entry : Entry) → IsPlan plan → IsShardNumber plan.number → IsLegalHistory plan older →
     AllByRecursion (IsEntryOf plan) older → IsLegalStep plan older entry → IsEntryOf plan entry
 step_fits plan older entry is few legal fit step =
     let same : shard_of_call entry.call ≡ plan.number =
@@ -54,7 +54,7 @@ step_fits plan older entry is few legal fit step =
       sizes = sizes_fit plan older entry.who entry.call met;
     }
 
-history_fits : (plan : ShardPlan) (history : List Entry) → IsPlan plan → IsShard plan.number → IsLegalHistory plan history →
+history_fits : (plan : ShardPlan) (history : List Entry) → IsPlan plan → IsShardNumber plan.number → IsLegalHistory plan history →
     AllByRecursion (IsEntryOf plan) history
 history_fits plan [] is few legal = tt
 history_fits plan (entry ∷ older) is few legal =
@@ -79,7 +79,7 @@ record IsListed (maps : List MapDef) (options : Options) (number : ℕ) (entry :
   shard : IsOfShard number entry
 
 list_of : (maps : List MapDef) (options : Options) (number : ℕ) (definition : MapDef) (entries : List Entry) →
-    IsPlan (plan_of options number definition) → IsShard number → slice_get maps (number / options.shards) ≡ Some definition →
+    IsPlan (plan_of options number definition) → IsShardNumber number → slice_get maps (number / options.shards) ≡ Some definition →
     IsLegalJournal (plan_of options number definition) entries → AllByRecursion (IsListed maps options number) entries
 list_of maps options number definition entries is few known legal =
     let plan : ShardPlan = plan_of options number definition in
@@ -104,7 +104,7 @@ there (x ∷ xs) zero within = (x, refl)
 there (x ∷ xs) (suc place) within = there xs place (omega (arith, within))
 
 number_few : (maps : List MapDef) (options : Options) (number : ℕ) → length maps ≤ 16 → options.shards ≤ 8 →
-    number < length maps * options.shards → IsShard number
+    number < length maps * options.shards → IsShardNumber number
 number_few maps options number few small below = search (arith, few, small, below)
 
 list_at : (journals : JournalsView) → AreJournals journals.maps journals.options (length journals.shards) → AreLegal journals → (number : ℕ) →
@@ -119,7 +119,7 @@ list_at journals are legal number within =
     let plan : ShardPlan = plan_of options number found.0 in
     let planned : plan_at maps options number ≡ Some plan = ap (plan_for_map options number) found.1 in
     let is : IsPlan plan = shards_have_plans maps options number plan (image_sizes V2 maps are.maps_are.allowed) are.options_fit planned in
-    let few : IsShard number = number_few maps options number are.maps_are.few (few_parts maps options are.options_fit) below in
+    let few : IsShardNumber number = number_few maps options number are.maps_are.few (few_parts maps options are.options_fit) below in
     list_of maps options number found.0 (entries_at journals number) is few found.1 (legal number within plan planned)
 
 -- ---- the lists of all shards

@@ -11,7 +11,7 @@ use Rattle.semantics.specs.ShardPlan.{AreOptions, AreServedOptions}
 use Rattle.semantics.proofs.shared.PlanLemmas.{few_parts}
 use Rattle.text_lines.specs.Lines.{Lacks, ended}
 use Rattle.text_lines.proofs.shared.LineLemmas.{lacks_mid, one_line, same_front}
-use Rattle.journals.specs.JournalText.{line_of, header_text, entries_text, all_entries}
+use Rattle.journals.specs.JournalText.{line_of_entry, header_text, entries_text, all_entries}
 use Rattle.journals.specs.JournalReading.{BeginsWithNoHeader, IsHeadedBy}
 use Rattle.text_lines.proofs.shared.ByteLemmas.{all_bytes, all_append, lacks_from}
 use Rattle.journals.proofs.Bytes.{printed, decimal_within, spaced, print_word}
@@ -68,25 +68,25 @@ not_headed maps text line rest again result is lacks printed_is reads fails = λ
 -- ---- what is written
 
 pub entries_text-append : (xs ys : List Entry) → entries_text (xs ++ ys) ≡ entries_text xs ++ entries_text ys
-entries_text-append xs ys = flat_map-append (λ (c : Entry). ended (line_of c)) xs ys
+entries_text-append xs ys = flat_map-append (λ (c : Entry). ended (line_of_entry c)) xs ys
 
-entries_step : (xs : List Entry) (i : ℕ) (entry : Entry) → slice_get xs i ≡ Some entry → entries_text (take (suc i) xs) ≡ entries_text (take i xs) ++ ended (line_of entry)
+entries_step : (xs : List Entry) (i : ℕ) (entry : Entry) → slice_get xs i ≡ Some entry → entries_text (take (suc i) xs) ≡ entries_text (take i xs) ++ ended (line_of_entry entry)
 entries_step [] i entry is = absurd cc
 entries_step (x ∷ xs) zero entry is =
     let same : x ≡ entry = cc in
-    append-nil (ended (line_of x)) ∙ ap (λ (e : Entry). ended (line_of e)) same
+    append-nil (ended (line_of_entry x)) ∙ ap (λ (e : Entry). ended (line_of_entry e)) same
 entries_step (x ∷ xs) (suc i) entry is =
-    ap (λ (ys : List ℕ). ended (line_of x) ++ ys) (entries_step xs i entry is) ∙ sym (append_assoc (ended (line_of x)) (entries_text (take i xs)) (ended (line_of entry)))
+    ap (λ (ys : List ℕ). ended (line_of_entry x) ++ ys) (entries_step xs i entry is) ∙ sym (append_assoc (ended (line_of_entry x)) (entries_text (take i xs)) (ended (line_of_entry entry)))
 
-pub entries_more : (xs : List Entry) (i : ℕ) (entry : Entry) → slice_get xs i ≡ Some entry → entries_text (take (i + 1) xs) ≡ entries_text (take i xs) ++ ended (line_of entry)
+pub entries_more : (xs : List Entry) (i : ℕ) (entry : Entry) → slice_get xs i ≡ Some entry → entries_text (take (i + 1) xs) ≡ entries_text (take i xs) ++ ended (line_of_entry entry)
 entries_more xs i entry is = let e : i + 1 ≡ suc i = omega arith in ap (λ (n : ℕ). entries_text (take n xs)) e ∙ entries_step xs i entry is
 
 -- one more line, as the code writes it
-pub entry_written : (old now lined new : List ℕ) (xs : List Entry) (i : ℕ) (entry : Entry) → slice_get xs i ≡ Some entry → now ≡ old ++ entries_text (take i xs) → lined ≡ now ++ line_of entry → new ≡ lined ++ 10 ∷ []
+pub entry_written : (old now lined new : List ℕ) (xs : List Entry) (i : ℕ) (entry : Entry) → slice_get xs i ≡ Some entry → now ≡ old ++ entries_text (take i xs) → lined ≡ now ++ line_of_entry entry → new ≡ lined ++ 10 ∷ []
     → new ≡ old ++ entries_text (take (i + 1) xs)
 entry_written old now lined new xs i entry is so_far line feed =
-    feed ∙ ap (λ (ys : List ℕ). ys ++ 10 ∷ []) (line ∙ ap (λ (ys : List ℕ). ys ++ line_of entry) so_far) ∙ append_assoc (old ++ entries_text (take i xs)) (line_of entry) (10 ∷ [])
-    ∙ append_assoc old (entries_text (take i xs)) (ended (line_of entry)) ∙ ap (λ (ys : List ℕ). old ++ ys) (sym (entries_more xs i entry is))
+    feed ∙ ap (λ (ys : List ℕ). ys ++ 10 ∷ []) (line ∙ ap (λ (ys : List ℕ). ys ++ line_of_entry entry) so_far) ∙ append_assoc (old ++ entries_text (take i xs)) (line_of_entry entry) (10 ∷ [])
+    ∙ append_assoc old (entries_text (take i xs)) (ended (line_of_entry entry)) ∙ ap (λ (ys : List ℕ). old ++ ys) (sym (entries_more xs i entry is))
 
 shards_step : (shards : List (List Entry)) (i : ℕ) → i < length shards → entries_text (all_entries (take (suc i) shards)) ≡ entries_text (all_entries (take i shards)) ++ entries_text (get_or shards i [])
 shards_step [] i lt = absurd (omega arith)

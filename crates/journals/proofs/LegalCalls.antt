@@ -21,7 +21,7 @@ use Rattle.semantics.specs.History.{is_aligned, fits_size, meets_part}
 use Rattle.semantics.proofs.shared.CallNumbers.{below_of, same_number, narrow_load, narrow_atomic, op_below, part_below, key_sized}
 use Rattle.semantics.proofs.shared.ConditionLemmas.{first_true, second_true}
 use Rattle.semantics.proofs.shared.HoldingLemmas.{found_cell, held_by_lookup}
-use Rattle.journals.specs.EntryForm.{IsNumber, IsShard, IsKey, IsValue, CallerFits, CallFits, IsFinding, ReplyFits, HasSizesOf}
+use Rattle.journals.specs.EntryForm.{IsNumber, IsShardNumber, IsKey, IsValue, CallerFits, CallFits, IsFinding, ReplyFits, HasSizesOf}
 use Rattle.hex.specs.Hex.{IsBytes}
 use Rattle.semantics.specs.ByteCells.{AreBytes}
 use Rattle.semantics.proofs.shared.CellBytes.{bytes_tested}
@@ -58,7 +58,7 @@ offset_number plan offset size is test = let within : offset + size ≤ 256 = wi
 size_number : (plan : ShardPlan) (offset size : ℕ) → IsPlan plan → IsTrue (is_in_cell plan offset size) → IsNumber size
 size_number plan offset size is test = let within : offset + size ≤ 256 = within_value plan offset size is test in omega (arith, within)
 
-shard_fits : (shard number : ℕ) → shard ≡ number → IsShard number → IsShard shard
+shard_fits : (shard number : ℕ) → shard ≡ number → IsShardNumber number → IsShardNumber shard
 shard_fits shard number same few = omega (arith, same, few)
 
 -- ---- keys and values
@@ -144,7 +144,7 @@ holder_fits plan history (Worker number) cell replies held =
 -- ---- calls
 
 pub call_fits : (plan : ShardPlan) (history : List Entry) (who : Caller) (call : Call) → IsPlan plan → AllByRecursion HasReply history →
-    IsShard (shard_of_call call) → IsTrue (meets_part plan history who call) → CallFits call
+    IsShardNumber (shard_of_call call) → IsTrue (meets_part plan history who call) → CallFits call
 unfolding CallFits
 call_fits plan history who (Enter shard) is replies few met = few
 call_fits plan history who (Leave shard) is replies few met = few

@@ -10,9 +10,9 @@ use Rattle.semantics.specs.declared.options.Options.{Options}
 use Rattle.semantics.specs.History.{shard_of_call}
 use Rattle.text_lines.specs.Lines.{Lacks, ended}
 use Rattle.text_lines.proofs.shared.LineLemmas.{lacks_mid, more_lines, no_empty_line, one_line, same_front}
-use Rattle.journals.specs.JournalText.{line_of, entries_text, all_entries}
+use Rattle.journals.specs.JournalText.{line_of_entry, entries_text, all_entries}
 use Rattle.journals.specs.EntryForm.{EntryFits, IsFileEntry}
-use Rattle.journals.specs.JournalReading.{IsOfShard, AreListedFrom, IsEntryLine, TellsEntry, IsKnownEntry, BeginsWithNoneFrom, NeverFalls, last_shard, AreDivided, AreRead}
+use Rattle.journals.specs.JournalReading.{IsOfShard, AreListedFrom, IsEntryLine, TellsEntry, IsKnownEntry, BeginsWithNoEntryFrom, ShardsNeverFall, last_shard, AreDivided, AreEntriesRead}
 use Rattle.text_lines.proofs.shared.ByteLemmas.{lacks_from}
 use Rattle.journals.proofs.Bytes.{printed, line_printed}
 
@@ -24,24 +24,24 @@ BeginsWithNoEntry maps options text =
 -- the first line is this entry's
 pub record IsFirstEntry (maps : List MapDef) (options : Options) (text : List ℕ) (entry : Entry) (rest : List ℕ) : Type 0 where
   pub known : IsKnownEntry maps options entry
-  pub text_is : text ≡ ended (line_of entry) ++ rest
+  pub text_is : text ≡ ended (line_of_entry entry) ++ rest
 
-pub line_lacks_feed : (entry : Entry) → EntryFits entry → Lacks 10 (line_of entry)
-line_lacks_feed entry fits = lacks_from printed 10 (line_of entry) (line_printed entry fits) refl
+pub line_lacks_feed : (entry : Entry) → EntryFits entry → Lacks 10 (line_of_entry entry)
+line_lacks_feed entry fits = lacks_from printed 10 (line_of_entry entry) (line_printed entry fits) refl
 
 -- ---- one reading
 
 -- what was read first, and what any file with this text has
-pub one_reading : (maps : List MapDef) (options : Options) (least : ℕ) (entries others : List Entry) (rest : List ℕ) → AllByRecursion (IsKnownEntry maps options) entries → NeverFalls least others
-    → AllByRecursion (IsFileEntry maps options) others → BeginsWithNoneFrom maps options (last_shard least entries) rest → entries_text entries ++ rest ≡ entries_text others → (entries ≡ others) × (rest ≡ [])
+pub one_reading : (maps : List MapDef) (options : Options) (least : ℕ) (entries others : List Entry) (rest : List ℕ) → AllByRecursion (IsKnownEntry maps options) entries → ShardsNeverFall least others
+    → AllByRecursion (IsFileEntry maps options) others → BeginsWithNoEntryFrom maps options (last_shard least entries) rest → entries_text entries ++ rest ≡ entries_text others → (entries ≡ others) × (rest ≡ [])
 one_reading maps options least [] [] rest known falls fits stops e = (refl, e)
 one_reading maps options least [] (o ∷ others) rest known falls fits stops e =
-    absurd (stops o (line_of o) (entries_text others) (record { fits = fits.0; spelled = refl }) falls.0 (e ∙ one_line (line_of o) (entries_text others)))
+    absurd (stops o (line_of_entry o) (entries_text others) (record { fits = fits.0; spelled = refl }) falls.0 (e ∙ one_line (line_of_entry o) (entries_text others)))
 one_reading maps options least (c ∷ entries) [] rest known falls fits stops e =
-    absurd (no_empty_line (line_of c) (entries_text entries ++ rest) (sym (more_lines (line_of c) (entries_text entries) rest) ∙ e))
+    absurd (no_empty_line (line_of_entry c) (entries_text entries ++ rest) (sym (more_lines (line_of_entry c) (entries_text entries) rest) ∙ e))
 one_reading maps options least (c ∷ entries) (o ∷ others) rest known falls fits stops e =
-    let parts = same_front 10 (line_of c) (entries_text entries ++ rest) (line_of o) (entries_text others) (line_lacks_feed c known.0.0.fits.fits) (line_lacks_feed o fits.0.fits)
-    (sym (more_lines (line_of c) (entries_text entries) rest) ∙ e ∙ one_line (line_of o) (entries_text others)) in
+    let parts = same_front 10 (line_of_entry c) (entries_text entries ++ rest) (line_of_entry o) (entries_text others) (line_lacks_feed c known.0.0.fits.fits) (line_lacks_feed o fits.0.fits)
+    (sym (more_lines (line_of_entry c) (entries_text entries) rest) ∙ e ∙ one_line (line_of_entry o) (entries_text others)) in
     let same : o ≡ c = known.0.1 o (record { fits = fits.0; spelled = parts.0 }) in
     let tail = one_reading maps options (shard_of_call c.call) entries others rest known.1 (rw same at falls.1) fits.1 stops parts.1 in
     (rw (same, tail.0) refl, tail.1)
@@ -57,7 +57,7 @@ known_more : (maps : List MapDef) (options : Options) (entries : List Entry) (en
 known_more maps options [] entry known one = (one, tt)
 known_more maps options (c ∷ entries) entry known one = (known.0, known_more maps options entries entry known.1 one)
 
-falls_more : (least : ℕ) (entries : List Entry) (entry : Entry) → NeverFalls least entries → last_shard least entries ≤ shard_of_call entry.call → NeverFalls least (entries ++ entry ∷ [])
+falls_more : (least : ℕ) (entries : List Entry) (entry : Entry) → ShardsNeverFall least entries → last_shard least entries ≤ shard_of_call entry.call → ShardsNeverFall least (entries ++ entry ∷ [])
 falls_more least [] entry falls one = (one, tt)
 falls_more least (c ∷ entries) entry falls one = (falls.0, falls_more (shard_of_call c.call) entries entry falls.1 one)
 
@@ -69,7 +69,7 @@ last_more least (c ∷ entries) entry = last_more (shard_of_call c.call) entries
 pub record AreReadSoFar (maps : List MapDef) (options : Options) (text : List ℕ) (done : List (List Entry)) (present : List Entry) (count : ℕ) (rest : List ℕ) : Type 0 where
   pub entries : List Entry
   pub known : AllByRecursion (IsKnownEntry maps options) entries
-  pub never_falls : NeverFalls 0 entries
+  pub never_falls : ShardsNeverFall 0 entries
   pub divided : AreDivided entries done present
   pub last : length done ≡ last_shard 0 entries
   pub counted : count ≡ length entries
@@ -107,11 +107,11 @@ read_more maps options text rest after done done' present present' count entry s
       };
       last = number ∙ sym (last_more 0 so_far.entries entry);
       counted = ap (λ (n : ℕ). n + 1) so_far.counted ∙ sym (length-append so_far.entries (entry ∷ []));
-      text_is = so_far.text_is ∙ ap (λ (xs : List ℕ). entries_text so_far.entries ++ xs) first.text_is ∙ rw (flat_map-append (λ (c : Entry). ended (line_of c)) so_far.entries (entry ∷ [])) (simp (append_assoc, append-nil) refl);
+      text_is = so_far.text_is ∙ ap (λ (xs : List ℕ). entries_text so_far.entries ++ xs) first.text_is ∙ rw (flat_map-append (λ (c : Entry). ended (line_of_entry c)) so_far.entries (entry ∷ [])) (simp (append_assoc, append-nil) refl);
     }
 
 pub all_read : (maps : List MapDef) (options : Options) (text rest : List ℕ) (done : List (List Entry)) (present : List Entry) (count : ℕ) → AreReadSoFar maps options text done present count rest
-    → BeginsWithNoneFrom maps options (length done) rest → AreRead maps options text done present count rest
+    → BeginsWithNoEntryFrom maps options (length done) rest → AreEntriesRead maps options text done present count rest
 all_read maps options text rest done present count so_far stops = record {
   entries = so_far.entries;
   known = so_far.known;
@@ -123,15 +123,15 @@ all_read maps options text rest done present count so_far stops = record {
   stops = rw so_far.last at stops;
 }
 
-pub no_entry : (maps : List MapDef) (options : Options) (rest : List ℕ) (least : ℕ) → BeginsWithNoEntry maps options rest → BeginsWithNoneFrom maps options least rest
+pub no_entry : (maps : List MapDef) (options : Options) (rest : List ℕ) (least : ℕ) → BeginsWithNoEntry maps options rest → BeginsWithNoEntryFrom maps options least rest
 no_entry maps options rest least stops = λ entry line more is le. stops entry line more is
 
 -- the entry that comes first is of an earlier shard
 pub earlier_shard : (maps : List MapDef) (options : Options) (rest after : List ℕ) (least : ℕ) (entry : Entry) → IsFirstEntry maps options rest entry after → shard_of_call entry.call < least
-    → BeginsWithNoneFrom maps options least rest
+    → BeginsWithNoEntryFrom maps options least rest
 earlier_shard maps options rest after least entry first lt = λ other line more is le. λ e.
     let lacks : Lacks 10 line = rw is.spelled (line_lacks_feed other is.fits.fits) in
-    let parts = same_front 10 (line_of entry) after line more (line_lacks_feed entry first.known.0.fits.fits) lacks (sym (one_line (line_of entry) after) ∙ sym first.text_is ∙ e) in
+    let parts = same_front 10 (line_of_entry entry) after line more (line_lacks_feed entry first.known.0.fits.fits) lacks (sym (one_line (line_of_entry entry) after) ∙ sym first.text_is ∙ e) in
     let same : other ≡ entry = first.known.1 other (record { fits = is.fits; spelled = parts.0 ∙ is.spelled }) in
     let shards : shard_of_call other.call ≡ shard_of_call entry.call = ap (λ (c : Entry). shard_of_call c.call) same in
     absurd (omega (arith, shards, lt, le))
@@ -140,8 +140,8 @@ earlier_shard maps options rest after least entry first lt = λ other line more 
 pub entries_long : (entries : List Entry) → length entries ≤ length (entries_text entries)
 entries_long [] = omega arith
 entries_long (c ∷ entries) =
-    let one : length (ended (line_of c) ++ entries_text entries) ≡ length (ended (line_of c)) + length (entries_text entries) = length-append (ended (line_of c)) (entries_text entries) in
-    let end : length (ended (line_of c)) ≡ length (line_of c) + 1 = length-append (line_of c) (10 ∷ []) in
+    let one : length (ended (line_of_entry c) ++ entries_text entries) ≡ length (ended (line_of_entry c)) + length (entries_text entries) = length-append (ended (line_of_entry c)) (entries_text entries) in
+    let end : length (ended (line_of_entry c)) ≡ length (line_of_entry c) + 1 = length-append (line_of_entry c) (10 ∷ []) in
     let rest : length entries ≤ length (entries_text entries) = entries_long entries in
     omega (arith, one, end, rest)
 
@@ -192,7 +192,7 @@ first_told maps options rest line after entry is entry_is only =
     let P : List ℕ → Type 0 = λ xs. IsEntryLine maps options entry xs × ((other : Entry) → IsEntryLine maps options other xs → other ≡ entry) in
     record {
       known = subst P entry_is.spelled (entry_is, only);
-      text_is = is ∙ ap (λ (xs : List ℕ). xs ++ 10 ∷ after) entry_is.spelled ∙ sym (one_line (line_of entry) after);
+      text_is = is ∙ ap (λ (xs : List ℕ). xs ++ 10 ∷ after) entry_is.spelled ∙ sym (one_line (line_of_entry entry) after);
     }
 
 -- the same, as the code does it

@@ -16,9 +16,9 @@ use Rattle.semantics.specs.History.{shard_of_call}
 use Rattle.journals.specs.JournalsView.{JournalsView, AreJournals}
 use Rattle.text_lines.specs.Lines.{ended}
 use Rattle.text_lines.proofs.shared.LineLemmas.{one_line, same_front}
-use Rattle.journals.specs.JournalText.{line_of, header_text, entries_text, all_entries}
+use Rattle.journals.specs.JournalText.{line_of_entry, header_text, entries_text, all_entries}
 use Rattle.journals.specs.EntryForm.{IsFileEntry}
-use Rattle.journals.specs.JournalReading.{IsOfShard, AreListedFrom, IsJournalsFile, BeginsWithNoHeader, IsHeadedBy, AreDivided, AreRead, NeverFalls, last_shard, IsBadAfter, IsNoFile}
+use Rattle.journals.specs.JournalReading.{IsOfShard, AreListedFrom, IsJournalsFile, BeginsWithNoHeader, IsHeadedBy, AreDivided, AreEntriesRead, ShardsNeverFall, last_shard, IsBadAfterEntries, IsNoFile}
 use Rattle.text_lines.proofs.shared.ByteLemmas.{all_bytes, each_passes}
 use Rattle.journals.proofs.Bytes.{printed, line_printed}
 use Rattle.journals.proofs.Lines.{one_reading, known_fit, entries_long}
@@ -26,11 +26,11 @@ use Rattle.journals.proofs.Headers.{header_lacks_feed, header_printed_of}
 
 -- ---- lists of shards
 
-all_falls : (least n : ℕ) (xs ys : List Entry) → least ≤ n → AllByRecursion (IsOfShard n) xs → ((m : ℕ) → m ≤ n → NeverFalls m ys) → NeverFalls least (xs ++ ys)
+all_falls : (least n : ℕ) (xs ys : List Entry) → least ≤ n → AllByRecursion (IsOfShard n) xs → ((m : ℕ) → m ≤ n → ShardsNeverFall m ys) → ShardsNeverFall least (xs ++ ys)
 all_falls least n [] ys le all more = more least le
 all_falls least n (x ∷ xs) ys le all more = (omega (arith, le, all.0), all_falls (shard_of_call x.call) n xs ys (omega (arith, all.0)) all.1 more)
 
-pub listed_falls : (number : ℕ) (shards : List (List Entry)) → AreListedFrom number shards → (m : ℕ) → m ≤ number → NeverFalls m (all_entries shards)
+pub listed_falls : (number : ℕ) (shards : List (List Entry)) → AreListedFrom number shards → (m : ℕ) → m ≤ number → ShardsNeverFall m (all_entries shards)
 listed_falls number [] listed m le = tt
 listed_falls number (entries ∷ shards) listed m le = all_falls m number entries (all_entries shards) le listed.0 (λ k kle. listed_falls (number + 1) shards listed.1 k (omega (arith, kle)))
 
@@ -92,7 +92,7 @@ last_within maps options least count (entry ∷ entries) fits file le =
     let lt = shard_within maps options entry fits file.0 in
     last_within maps options (shard_of_call entry.call) count entries fits file.1 (omega (arith, lt))
 
-pub done_within : (maps : List MapDef) (options : Options) (text rest : List ℕ) (done : List (List Entry)) (present : List Entry) (count : ℕ) → AreOptions maps options → AreRead maps options text done present count rest
+pub done_within : (maps : List MapDef) (options : Options) (text rest : List ℕ) (done : List (List Entry)) (present : List Entry) (count : ℕ) → AreOptions maps options → AreEntriesRead maps options text done present count rest
     → length done ≤ length maps * options.shards
 done_within maps options text rest done present count fits read = rw read.last (last_within maps options 0 0 read.entries fits (known_fit maps options read.entries read.known) (omega arith))
 
@@ -111,7 +111,7 @@ none_left maps options entries shards (entry ∷ final) fits file divided count 
 -- ---- the whole file
 
 pub file_read : (maps : List MapDef) (text rest after : List ℕ) (options : Options) (done : List (List Entry)) (present : List Entry) (count : ℕ) (journals : JournalsView) → IsHeadedBy maps text options rest
-    → AreRead maps options rest done present count after → after ≡ [] → journals.maps ≡ maps → journals.options ≡ options → AreJournals maps options (length journals.shards)
+    → AreEntriesRead maps options rest done present count after → after ≡ [] → journals.maps ≡ maps → journals.options ≡ options → AreJournals maps options (length journals.shards)
     → ((entries : List Entry) → AreDivided entries done present → (final : List Entry) × AreDivided entries journals.shards final) → IsJournalsFile maps text journals
 file_read maps text rest after options done present count journals headed read empty maps_are options_are are_journals finish =
     let file = known_fit maps options read.entries read.known in
@@ -132,13 +132,13 @@ file_read maps text rest after options done present count journals headed read e
 
 -- another file with the same bytes has the same options and entries
 pub same_file : (maps : List MapDef) (text rest after : List ℕ) (options : Options) (done : List (List Entry)) (present : List Entry) (count : ℕ) (others : JournalsView) → IsHeadedBy maps text options rest
-    → (read : AreRead maps options rest done present count after) → IsJournalsFile maps text others → (others.options ≡ options) × (all_entries others.shards ≡ read.entries) × (after ≡ [])
+    → (read : AreEntriesRead maps options rest done present count after) → IsJournalsFile maps text others → (others.options ≡ options) × (all_entries others.shards ≡ read.entries) × (after ≡ [])
 same_file maps text rest after options done present count others headed read file =
     let parts = same_front 10 (header_text options) rest (header_text others.options) (entries_text (all_entries others.shards)) (header_lacks_feed maps options headed.fits.fit) (header_lacks_feed maps others.options file.journals_are.options_fit)
     (sym (one_line (header_text options) rest) ∙ sym headed.text_is ∙ file.spelled ∙ one_line (header_text others.options) (entries_text (all_entries others.shards))) in
     let same : others.options ≡ options = headed.only others.options (record { fits = record { fit = file.journals_are.options_fit; rows = file.rows }; spelled = parts.0 }) in
     let fit : AllByRecursion (IsFileEntry maps options) (all_entries others.shards) = rw same at file.fit in
-    let falls : NeverFalls 0 (all_entries others.shards) = listed_falls 0 others.shards file.listed 0 (omega arith) in
+    let falls : ShardsNeverFall 0 (all_entries others.shards) = listed_falls 0 others.shards file.listed 0 (omega arith) in
     let one = one_reading maps options 0 read.entries (all_entries others.shards) after read.known falls fit read.stops (sym read.text_is ∙ parts.1) in
     (same, sym one.0, one.1)
 
@@ -165,7 +165,7 @@ no_header_no_file maps text stops = λ journals file.
     (file.spelled ∙ one_line (header_text journals.options) (entries_text (all_entries journals.shards)))
 
 pub bad_after : (maps : List MapDef) (text rest after : List ℕ) (options : Options) (done : List (List Entry)) (present : List Entry) (count : ℕ) → IsHeadedBy maps text options rest
-    → AreRead maps options rest done present count after → 0 < length after → IsBadAfter maps text (2 + count) × IsNoFile maps text
+    → AreEntriesRead maps options rest done present count after → 0 < length after → IsBadAfterEntries maps text (2 + count) × IsNoFile maps text
 bad_after maps text rest after options done present count headed read some = (
   record {
     options = options;
@@ -200,7 +200,7 @@ ended_is_text line all = IsUtf8-append line (10 ∷ []) (printed_text line all) 
 
 entries_are_text : (maps : List MapDef) (options : Options) (entries : List Entry) → AllByRecursion (IsFileEntry maps options) entries → IsUtf8 (entries_text entries)
 entries_are_text maps options [] fits = IsUtf8-nil
-entries_are_text maps options (c ∷ entries) fits = IsUtf8-append (ended (line_of c)) (entries_text entries) (ended_is_text (line_of c) (line_printed c fits.0.fits)) (entries_are_text maps options entries fits.1)
+entries_are_text maps options (c ∷ entries) fits = IsUtf8-append (ended (line_of_entry c)) (entries_text entries) (ended_is_text (line_of_entry c) (line_printed c fits.0.fits)) (entries_are_text maps options entries fits.1)
 
 pub is_text : (maps : List MapDef) (text : List ℕ) (journals : JournalsView) → IsJournalsFile maps text journals → IsUtf8 text
 is_text maps text journals file =
@@ -210,7 +210,7 @@ is_text maps text journals file =
 
 -- each line is a byte at least
 pub lines_within : (maps : List MapDef) (text rest after : List ℕ) (options : Options) (done : List (List Entry)) (present : List Entry) (count : ℕ) → IsHeadedBy maps text options rest
-    → AreRead maps options rest done present count after → 1 + count ≤ length text
+    → AreEntriesRead maps options rest done present count after → 1 + count ≤ length text
 lines_within maps text rest after options done present count headed read =
     let long : length text ≡ length (ended (header_text options)) + length rest = ap length headed.text_is ∙ length-append (ended (header_text options)) rest in
     let line : length (ended (header_text options)) ≡ length (header_text options) + 1 = length-append (header_text options) (10 ∷ []) in
@@ -220,7 +220,7 @@ lines_within maps text rest after options done present count headed read =
 
 -- the entries of the file that was read
 pub read_entries : (maps : List MapDef) (text rest after : List ℕ) (options : Options) (done : List (List Entry)) (present : List Entry) (count : ℕ) (journals others : JournalsView) → IsHeadedBy maps text options rest
-    → AreRead maps options rest done present count after → IsJournalsFile maps text journals → IsJournalsFile maps text others → journals ≡ others
+    → AreEntriesRead maps options rest done present count after → IsJournalsFile maps text journals → IsJournalsFile maps text others → journals ≡ others
 read_entries maps text rest after options done present count journals others headed read file other =
     let a = same_file maps text rest after options done present count journals headed read file in
     let b = same_file maps text rest after options done present count others headed read other in

@@ -21,7 +21,7 @@ use Rattle.semantics.specs.declared.call.Entry.{Entry}
 use Rattle.semantics.specs.History.{shard_of_call, entry_of}
 use Rattle.journals.specs.declared.verb.Verb.{Verb}
 use Rattle.journals.specs.JournalText.{who_text, verb_text, verb_of_call, reply_text, told_text}
-use Rattle.journals.specs.EntryForm.{CallerFits, CallFits, ReplyFits, EntryFits, IsEntered, IsLeft, IsDone}
+use Rattle.journals.specs.EntryForm.{CallerFits, CallFits, ReplyFits, EntryFits, IsEntered, IsLeftReply, IsDoneReply}
 use Rattle.journals.specs.ToldReading.{Reads}
 use Rattle.text_lines.specs.Lines.{Lacks}
 use Rattle.text_lines.proofs.shared.ByteLemmas.{lacks_from}
@@ -88,7 +88,7 @@ entered_is who call Done is = absurd is
 entered_is who call (Answer code) is = absurd is
 entered_is who call (Freed count) is = absurd is
 
-left_is : (who : Caller) (call : Call) (reply : Reply) → IsLeft reply → entry_of who call Left ≡ entry_of who call reply
+left_is : (who : Caller) (call : Call) (reply : Reply) → IsLeftReply reply → entry_of who call Left ≡ entry_of who call reply
 left_is who call Left is = refl
 left_is who call Entered is = absurd is
 left_is who call (Cell cell) is = absurd is
@@ -98,7 +98,7 @@ left_is who call Done is = absurd is
 left_is who call (Answer code) is = absurd is
 left_is who call (Freed count) is = absurd is
 
-done_is : (reply : Reply) → IsDone reply → reply ≡ Done
+done_is : (reply : Reply) → IsDoneReply reply → reply ≡ Done
 done_is Done is = refl
 done_is Entered is = absurd is
 done_is Left is = absurd is

@@ -20,11 +20,11 @@ use Rattle.hex.specs.Hex.{IsBytes}
 abbrev pub IsNumber : ℕ → Type 0
 IsNumber number = number < 2 ^ 64
 
-abbrev pub IsShard : ℕ → Type 0
-IsShard shard = shard < 2 ^ 32
+abbrev pub IsShardNumber : ℕ → Type 0
+IsShardNumber shard = shard < 2 ^ 32
 
 abbrev pub IsCell : CellRef → Type 0
-IsCell cell = IsShard cell.shard × IsNumber cell.id
+IsCell cell = IsShardNumber cell.shard × IsNumber cell.id
 
 abbrev pub IsKey : List ℕ → Type 0
 IsKey key = (length key ≤ 32) × IsBytes key
@@ -38,16 +38,16 @@ CallerFits who = Unit {0}
 
 -- each number of the call fits its field
 unfoldable pub CallFits : Call → Type 0
-CallFits (Enter shard) = IsShard shard
-CallFits (Leave shard) = IsShard shard
-CallFits (Lookup shard key) = IsShard shard × IsKey key
+CallFits (Enter shard) = IsShardNumber shard
+CallFits (Leave shard) = IsShardNumber shard
+CallFits (Lookup shard key) = IsShardNumber shard × IsKey key
 CallFits (Load cell offset size) = IsCell cell × IsNumber offset × IsNumber size
 CallFits (Store cell offset size value) = IsCell cell × IsNumber offset × IsNumber size × IsNumber value
 CallFits (Atomic cell offset size op value expected) =
     IsCell cell × IsNumber offset × IsNumber size × IsNumber op × IsNumber value × IsNumber expected
-CallFits (Update shard key value flags) = IsShard shard × IsKey key × IsValue value × IsNumber flags
-CallFits (Delete shard key) = IsShard shard × IsKey key
-CallFits (Reclaim shard) = IsShard shard
+CallFits (Update shard key value flags) = IsShardNumber shard × IsKey key × IsValue value × IsNumber flags
+CallFits (Delete shard key) = IsShardNumber shard × IsKey key
+CallFits (Reclaim shard) = IsShardNumber shard
 
 -- ---- which replies a call may have
 
@@ -55,13 +55,13 @@ abbrev pub IsEntered : Reply → Type 0
 IsEntered Entered = Unit {0}
 IsEntered reply = ⊥
 
-abbrev pub IsLeft : Reply → Type 0
-IsLeft Left = Unit {0}
-IsLeft reply = ⊥
+abbrev pub IsLeftReply : Reply → Type 0
+IsLeftReply Left = Unit {0}
+IsLeftReply reply = ⊥
 
-abbrev pub IsDone : Reply → Type 0
-IsDone Done = Unit {0}
-IsDone reply = ⊥
+abbrev pub IsDoneReply : Reply → Type 0
+IsDoneReply Done = Unit {0}
+IsDoneReply reply = ⊥
 
 -- a cell of the shard, or none
 abbrev pub IsFinding : ℕ → Reply → Type 0
@@ -73,9 +73,9 @@ abbrev pub IsWord : Reply → Type 0
 IsWord (Word value) = IsNumber value
 IsWord reply = ⊥
 
-abbrev pub IsAnswer : Reply → Type 0
-IsAnswer (Answer code) = FitsSigned w32 code
-IsAnswer reply = ⊥
+abbrev pub IsAnswerReply : Reply → Type 0
+IsAnswerReply (Answer code) = FitsSigned w32 code
+IsAnswerReply reply = ⊥
 
 abbrev pub IsFreed : Reply → Type 0
 IsFreed (Freed count) = IsNumber count
@@ -83,13 +83,13 @@ IsFreed reply = ⊥
 
 unfoldable pub ReplyFits : Call → Reply → Type 0
 ReplyFits (Enter shard) reply = IsEntered reply
-ReplyFits (Leave shard) reply = IsLeft reply
+ReplyFits (Leave shard) reply = IsLeftReply reply
 ReplyFits (Lookup shard key) reply = IsFinding shard reply
 ReplyFits (Load cell offset size) reply = IsWord reply
-ReplyFits (Store cell offset size value) reply = IsDone reply
+ReplyFits (Store cell offset size value) reply = IsDoneReply reply
 ReplyFits (Atomic cell offset size op value expected) reply = IsWord reply
-ReplyFits (Update shard key value flags) reply = IsAnswer reply
-ReplyFits (Delete shard key) reply = IsAnswer reply
+ReplyFits (Update shard key value flags) reply = IsAnswerReply reply
+ReplyFits (Delete shard key) reply = IsAnswerReply reply
 ReplyFits (Reclaim shard) reply = IsFreed reply
 
 -- the entry is a call with a reply of its form

@@ -15,38 +15,38 @@ abbrev pub bytes_of : Call → List ℕ
 bytes_of call = unwrap_or (key_of_call call) [] ++ unwrap_or (value_of_call call) []
 
 -- the row of a call whose key and value are from this place on
-abbrev pub row_of : ℕ → Call → CallRow
-row_of at (calls.Enter shard) = Enter shard
-row_of at (calls.Leave shard) = Leave shard
-row_of at (calls.Lookup shard key) = Lookup shard (length key) at
-row_of at (calls.Load cell offset size) = Load cell offset size
-row_of at (calls.Store cell offset size value) = Store cell offset size value
-row_of at (calls.Atomic cell offset size op value expected) = Atomic cell offset size op value expected
-row_of at (calls.Update shard key value flags) = Update shard (length key) (length value) at flags
-row_of at (calls.Delete shard key) = Delete shard (length key) at
-row_of at (calls.Reclaim shard) = Reclaim shard
+abbrev pub call_row : ℕ → Call → CallRow
+call_row at (calls.Enter shard) = Enter shard
+call_row at (calls.Leave shard) = Leave shard
+call_row at (calls.Lookup shard key) = Lookup shard (length key) at
+call_row at (calls.Load cell offset size) = Load cell offset size
+call_row at (calls.Store cell offset size value) = Store cell offset size value
+call_row at (calls.Atomic cell offset size op value expected) = Atomic cell offset size op value expected
+call_row at (calls.Update shard key value flags) = Update shard (length key) (length value) at flags
+call_row at (calls.Delete shard key) = Delete shard (length key) at
+call_row at (calls.Reclaim shard) = Reclaim shard
 
 abbrev pub entry_row : ℕ → Entry → EntryRow
-entry_row at entry = record { who = entry.who; call = row_of at entry.call; reply = entry.reply }
+entry_row at entry = record { who = entry.who; call = call_row at entry.call; reply = entry.reply }
 
 -- the call of a row, whose key and value are in the bytes
-abbrev pub call_of : List ℕ → CallRow → Call
-call_of bytes (Enter shard) = calls.Enter shard
-call_of bytes (Leave shard) = calls.Leave shard
-call_of bytes (Lookup shard key_size at) = calls.Lookup shard (part at key_size bytes)
-call_of bytes (Load cell offset size) = calls.Load cell offset size
-call_of bytes (Store cell offset size value) = calls.Store cell offset size value
-call_of bytes (Atomic cell offset size op value expected) = calls.Atomic cell offset size op value expected
-call_of bytes (Update shard key_size value_size at flags) =
+abbrev pub listed_call : List ℕ → CallRow → Call
+listed_call bytes (Enter shard) = calls.Enter shard
+listed_call bytes (Leave shard) = calls.Leave shard
+listed_call bytes (Lookup shard key_size at) = calls.Lookup shard (part at key_size bytes)
+listed_call bytes (Load cell offset size) = calls.Load cell offset size
+listed_call bytes (Store cell offset size value) = calls.Store cell offset size value
+listed_call bytes (Atomic cell offset size op value expected) = calls.Atomic cell offset size op value expected
+listed_call bytes (Update shard key_size value_size at flags) =
     calls.Update shard (part at key_size bytes) (part (at + key_size) value_size bytes) flags
-call_of bytes (Delete shard key_size at) = calls.Delete shard (part at key_size bytes)
-call_of bytes (Reclaim shard) = calls.Reclaim shard
+listed_call bytes (Delete shard key_size at) = calls.Delete shard (part at key_size bytes)
+listed_call bytes (Reclaim shard) = calls.Reclaim shard
 
-abbrev pub entry_of : List ℕ → EntryRow → Entry
-entry_of bytes row = record { who = row.who; call = call_of bytes row.call; reply = row.reply }
+abbrev pub listed_entry : List ℕ → EntryRow → Entry
+listed_entry bytes row = record { who = row.who; call = listed_call bytes row.call; reply = row.reply }
 
-abbrev pub entries_of : List ℕ → List EntryRow → List Entry
-entries_of bytes rows = map (entry_of bytes) rows
+abbrev pub listed_entries : List ℕ → List EntryRow → List Entry
+listed_entries bytes rows = map (listed_entry bytes) rows
 
 -- the key and the value have at most the lengths that a map may give them
 abbrev pub FitsRow : Call → Type 0

@@ -12,7 +12,7 @@ use Rattle.journals.specs.JournalsView.{JournalsView, AreJournals}
 use Rattle.journals.specs.declared.fault.FileFault.{FileFault}
 use Rattle.journals.specs.declared.fault.FileFault.TheVariants.{Device, Memory, BadJournalFile}
 use Rattle.text_lines.specs.Lines.{ended}
-use Rattle.journals.specs.JournalText.{line_of, header_text, entries_text, all_entries, journals_text}
+use Rattle.journals.specs.JournalText.{line_of_entry, header_text, entries_text, all_entries, journals_text}
 use Rattle.journals.specs.EntryForm.{IsFileEntry}
 
 -- ---- whole files
@@ -36,8 +36,8 @@ pub record IsJournalsFile (maps : List MapDef) (bytes : List ℕ) (journals : Jo
   pub spelled : bytes ≡ journals_text journals
 
 -- where each entry is one that a file may have, in the list of its shard, the text of the journals is their file
-abbrev pub ReadsBack : JournalsView → Type 0
-ReadsBack journals =
+abbrev pub JournalsReadBack : JournalsView → Type 0
+JournalsReadBack journals =
     AllByRecursion (IsFileEntry journals.maps journals.options) (all_entries journals.shards) → AreListedFrom 0 journals.shards →
     IsJournalsFile journals.maps (journals_text journals) journals
 
@@ -46,7 +46,7 @@ ReadsBack journals =
 -- the line, without its line feed, is the entry's
 pub record IsEntryLine (maps : List MapDef) (options : Options) (entry : Entry) (line : List ℕ) : Type 0 where
   pub fits : IsFileEntry maps options entry
-  pub spelled : line ≡ line_of entry
+  pub spelled : line ≡ line_of_entry entry
 
 -- the one entry whose line this is, if it is one's
 abbrev pub TellsEntry : List MapDef → Options → List ℕ → Option Entry → Type 0
@@ -56,17 +56,17 @@ TellsEntry maps options line (Some entry) =
 
 -- an entry that no other one's line spells
 abbrev pub IsKnownEntry : List MapDef → Options → Entry → Type 0
-IsKnownEntry maps options entry = TellsEntry maps options (line_of entry) (Some entry)
+IsKnownEntry maps options entry = TellsEntry maps options (line_of_entry entry) (Some entry)
 
 -- the first line is no entry's of this shard or a later one, or there is no whole line
-abbrev pub BeginsWithNoneFrom : List MapDef → Options → ℕ → List ℕ → Type 0
-BeginsWithNoneFrom maps options least text =
+abbrev pub BeginsWithNoEntryFrom : List MapDef → Options → ℕ → List ℕ → Type 0
+BeginsWithNoEntryFrom maps options least text =
     (entry : Entry) (line more : List ℕ) → IsEntryLine maps options entry line → least ≤ shard_of_call entry.call → text ≢ line ++ 10 ∷ more
 
 -- shard numbers never fall
-abbrev pub NeverFalls : ℕ → List Entry → Type 0
-NeverFalls least [] = Unit {0}
-NeverFalls least (entry ∷ entries) = (least ≤ shard_of_call entry.call) × NeverFalls (shard_of_call entry.call) entries
+abbrev pub ShardsNeverFall : ℕ → List Entry → Type 0
+ShardsNeverFall least [] = Unit {0}
+ShardsNeverFall least (entry ∷ entries) = (least ≤ shard_of_call entry.call) × ShardsNeverFall (shard_of_call entry.call) entries
 
 -- the shard of the last entry, or this one
 abbrev pub last_shard : ℕ → List Entry → ℕ
@@ -85,16 +85,16 @@ pub record AreDivided (entries : List Entry) (done : List (List Entry)) (present
   pub next : AllByRecursion (IsOfShard (length done)) present
 
 -- this many entries' lines, and the rest, which begins with no entry's of their last shard or of a later one
-pub record AreRead (maps : List MapDef) (options : Options) (text : List ℕ) (done : List (List Entry)) (present : List Entry) (lines : ℕ)
+pub record AreEntriesRead (maps : List MapDef) (options : Options) (text : List ℕ) (done : List (List Entry)) (present : List Entry) (lines : ℕ)
     (rest : List ℕ) : Type 0 where
   pub entries : List Entry
   pub known : AllByRecursion (IsKnownEntry maps options) entries
-  pub never_falls : NeverFalls 0 entries
+  pub never_falls : ShardsNeverFall 0 entries
   pub divided : AreDivided entries done present
   pub last : length done ≡ last_shard 0 entries
   pub counted : lines ≡ length entries
   pub text_is : text ≡ entries_text entries ++ rest
-  pub stops : BeginsWithNoneFrom maps options (last_shard 0 entries) rest
+  pub stops : BeginsWithNoEntryFrom maps options (last_shard 0 entries) rest
 
 -- the options of the header, what comes after its line, and that no other options have this header
 pub record IsHeadedBy (maps : List MapDef) (text : List ℕ) (options : Options) (rest : List ℕ) : Type 0 where
@@ -109,29 +109,29 @@ abbrev pub BeginsWithNoHeader : List MapDef → List ℕ → Type 0
 BeginsWithNoHeader maps text = (options : Options) (line more : List ℕ) → IsHeaderLine maps options line → text ≢ line ++ 10 ∷ more
 
 -- after a header and these entries comes a line that is not an entry, or one of an earlier shard
-pub record IsBadAfter (maps : List MapDef) (text : List ℕ) (line : ℕ) : Type 0 where
+pub record IsBadAfterEntries (maps : List MapDef) (text : List ℕ) (line : ℕ) : Type 0 where
   pub options : Options
   pub entries : List Entry
   pub rest : List ℕ
   pub header : AreServedOptions maps options
   pub fit : AllByRecursion (IsFileEntry maps options) entries
-  pub never_falls : NeverFalls 0 entries
+  pub never_falls : ShardsNeverFall 0 entries
   pub line_is : line ≡ 2 + length entries
   pub text_is : text ≡ ended (header_text options) ++ (entries_text entries ++ rest)
   pub not_ended : 0 < length rest
-  pub stops : BeginsWithNoneFrom maps options (last_shard 0 entries) rest
+  pub stops : BeginsWithNoEntryFrom maps options (last_shard 0 entries) rest
 
 -- the line, counted from 1, for which the bytes are refused
-abbrev pub IsBadLine : List MapDef → List ℕ → ℕ → Type 0
-IsBadLine maps bytes line =
-    IsNoText bytes line ⊎ (IsUtf8 bytes × (((line ≡ 1) × BeginsWithNoHeader maps bytes) ⊎ IsBadAfter maps bytes line))
+abbrev pub IsBadJournalLine : List MapDef → List ℕ → ℕ → Type 0
+IsBadJournalLine maps bytes line =
+    IsNoText bytes line ⊎ (IsUtf8 bytes × (((line ≡ 1) × BeginsWithNoHeader maps bytes) ⊎ IsBadAfterEntries maps bytes line))
 
 -- the bytes are no file of these maps
 abbrev pub IsNoFile : List MapDef → List ℕ → Type 0
 IsNoFile maps bytes = (journals : JournalsView) → ¬ IsJournalsFile maps bytes journals
 
 -- why bytes were refused: by memory, or for their first bad line
-abbrev pub Refuses : List MapDef → List ℕ → FileFault → Type 0
-Refuses maps bytes Device = ⊥
-Refuses maps bytes Memory = ⊤
-Refuses maps bytes (BadJournalFile line) = IsBadLine maps bytes line × IsNoFile maps bytes
+abbrev pub RefusesJournals : List MapDef → List ℕ → FileFault → Type 0
+RefusesJournals maps bytes Device = ⊥
+RefusesJournals maps bytes Memory = ⊤
+RefusesJournals maps bytes (BadJournalFile line) = IsBadJournalLine maps bytes line × IsNoFile maps bytes

@@ -76,8 +76,8 @@ told_text (calls.Reclaim shard) reply = reply
 -- ---- lines
 
 -- the line of an entry, without its line feed
-unfoldable pub line_of : Entry → List ℕ
-line_of entry =
+unfoldable pub line_of_entry : Entry → List ℕ
+line_of_entry entry =
     decimal (shard_of_call entry.call) ++ 32 ∷ (who_text entry.who ++ 32 ∷ (verb_text (verb_of_call entry.call) ++ 32 ∷
     told_text entry.call (reply_text entry.reply)))
 
@@ -86,7 +86,7 @@ unfoldable pub header_text : Options → List ℕ
 header_text options = codes "XLBJ 1 " ++ (decimal options.workers ++ 32 ∷ (decimal options.shards ++ 32 ∷ decimal options.journal))
 
 abbrev pub entries_text : List Entry → List ℕ
-entries_text entries = flat_map (λ entry. ended (line_of entry)) entries
+entries_text entries = flat_map (λ entry. ended (line_of_entry entry)) entries
 
 -- the entries of all shards, in the order of the file
 abbrev pub all_entries : List (List Entry) → List Entry

@@ -17,9 +17,9 @@ kept_entries (one.Written journal) = journal.now.entries
 kept_entries (one.Listed entries) = entries.now
 
 -- its rows are kept
-abbrev pub IsReadable : ShardEntries → Type 0
-IsReadable (one.Written journal) = KeepsRows journal.now.reserve
-IsReadable (one.Listed entries) = Unit {0}
+abbrev pub KeepsItsRows : ShardEntries → Type 0
+KeepsItsRows (one.Written journal) = KeepsRows journal.now.reserve
+KeepsItsRows (one.Listed entries) = Unit {0}
 
 -- of all shards, by their numbers
 

@@ -9,7 +9,7 @@ use Rattle.semantics.specs.declared.call.Entry.{Entry}
 use Rattle.journals.specs.declared.verb.Verb.{Verb}
 use Rattle.journals.specs.declared.verb.Verb.TheVariants.{Enter, Leave, Lookup, Load, Store, Atomic, Update, Delete, Reclaim}
 use Rattle.journals.specs.JournalText.{told_text, reply_text}
-use Rattle.journals.specs.EntryForm.{IsNumber, IsKey, IsValue, IsFinding, IsWord, IsAnswer, IsFreed}
+use Rattle.journals.specs.EntryForm.{IsNumber, IsKey, IsValue, IsFinding, IsWord, IsAnswerReply, IsFreed}
 use Rattle.semantics.specs.History.{entry_of}
 
 -- this text is read as this entry, wherever it is the text of one of a fitting call
@@ -32,9 +32,9 @@ Reads Atomic who shard text result =
     IsNumber expected → IsWord reply →
     IsReadAs text result who (calls.Atomic (record { shard = shard; id = id }) offset size op value expected) reply
 Reads Update who shard text result =
-    (key value : List ℕ) (flags : ℕ) (reply : Reply) → IsKey key → IsValue value → IsNumber flags → IsAnswer reply →
+    (key value : List ℕ) (flags : ℕ) (reply : Reply) → IsKey key → IsValue value → IsNumber flags → IsAnswerReply reply →
     IsReadAs text result who (calls.Update shard key value flags) reply
 Reads Delete who shard text result =
-    (key : List ℕ) (reply : Reply) → IsKey key → IsAnswer reply → IsReadAs text result who (calls.Delete shard key) reply
+    (key : List ℕ) (reply : Reply) → IsKey key → IsAnswerReply reply → IsReadAs text result who (calls.Delete shard key) reply
 Reads Reclaim who shard text result =
     (reply : Reply) → IsFreed reply → IsReadAs text result who (calls.Reclaim shard) reply

@@ -2,7 +2,7 @@
 
 ghost use Rattle.std.specs.Prelude.{◌≡◌, ◌+◌, ◌≤◌, ◌++◌, [], length, unwrap_or, vec_len, vec_capacity};
 ghost use Rattle.semantics.specs.Cells.{key_of_call, value_of_call};
-ghost use Rattle.journals.specs.EntryRows.{bytes_of, row_of, call_of, FitsRow, IsWithin};
+ghost use Rattle.journals.specs.EntryRows.{bytes_of, call_row, listed_call, FitsRow, IsWithin};
 
 use journal::{key_at, put_bytes, value_at};
 use semantics::{Call, CellRef, Key, Value};
@@ -61,7 +61,7 @@ impl CallRow {
     /// The row of a call whose key and value are from this place on.
     #[rattlefmt::skip]
     pub(crate) fn of(call: &Call, at: u64) -> CallRow
-        ensures row { result ≡ row_of at call.now }
+        ensures row { result ≡ call_row at call.now }
         ensures fits { FitsRow call.now }
     {
         match call {
@@ -87,7 +87,7 @@ impl CallRow {
     #[rattlefmt::skip]
     pub(crate) fn call(&self, bytes: &[u8]) -> Call
         requires { IsWithin (length bytes.now) self.now }
-        ensures { result ≡ call_of bytes.now self.now }
+        ensures { result ≡ listed_call bytes.now self.now }
     {
         match self {
             CallRow::Enter { shard } => Call::Enter { shard: *shard },

@@ -1,7 +1,7 @@
 //! A list of any entries, in little room.
 
 ghost use Rattle.std.specs.Prelude.{◌≡◌, ◌<◌, ◌≤◌, ◌+◌, [], ◌∷◌, ◌++◌, Some, OnOk, OnErr, length, slice_get, vec_len, vec_capacity};
-ghost use Rattle.journals.specs.EntryRows.{bytes_of, FitsRow, IsWithin, entry_of, entry_row};
+ghost use Rattle.journals.specs.EntryRows.{bytes_of, FitsRow, IsWithin, listed_entry, entry_row};
 
 use crate::call_row::{CallRow, byte_count, put_bytes_of};
 use semantics::{Caller, Entry, Reply};
@@ -20,7 +20,7 @@ impl EntryRow {
     /// The entry, with its key and its value from the list's bytes.
     fn entry(&self, bytes: &[u8]) -> Entry
         requires { IsWithin (length bytes.now) self.now.call }
-        ensures { result ≡ entry_of bytes.now self.now }
+        ensures { result ≡ listed_entry bytes.now self.now }
     {
         Entry {
             who: self.who,
@@ -42,11 +42,11 @@ pub struct EntryList {
 impl Model for EntryList {
     ghost use Rattle.std.specs.Prelude.{List, length};
     ghost use Rattle.semantics.specs.declared.call.Entry.{Entry};
-    ghost use Rattle.journals.specs.EntryRows.{entries_of, AreWithin};
+    ghost use Rattle.journals.specs.EntryRows.{listed_entries, AreWithin};
 
     ghost Value = { List Entry };
 
-    ghost view = { λ list. entries_of list.bytes.items list.rows.items };
+    ghost view = { λ list. listed_entries list.bytes.items list.rows.items };
 
     ghost invariant = { λ list. AreWithin (length list.bytes.items) list.rows.items };
 }

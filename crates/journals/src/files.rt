@@ -7,7 +7,7 @@ ghost use Rattle.journals.specs.JournalsView.{JournalsView as Lists};
 ghost use Rattle.journals.specs.declared.fault.FileFault.TheVariants.{Device, Memory};
 ghost use Rattle.semantics.specs.ShardPlan.{KeepsRows};
 ghost use Rattle.journals.specs.JournalText.{journals_text};
-ghost use Rattle.journals.specs.JournalReading.{IsJournalsFile, ReadsBack, Refuses};
+ghost use Rattle.journals.specs.JournalReading.{IsJournalsFile, JournalsReadBack, RefusesJournals};
 ghost use Rattle.journals.specs.FileJournals.{ReadBackWhereLegal};
 
 use crate::all::Journals;
@@ -38,7 +38,7 @@ pub fn write_journals<K: Sink>(
     ensures fault { IfErr result (λ fault. (fault ≡ Device) ⊎ (fault ≡ Memory)) }
     ensures device { IsErrOf result Device ↔ (K.failure_count sink.new ≡ K.failure_count sink.old + 1) }
     ensures steady { IsErrOf result Device ⊎ (K.failure_count sink.new ≡ K.failure_count sink.old) }
-    ensures reads_back { ReadsBack journals.now }
+    ensures reads_back { JournalsReadBack journals.now }
     ensures legal { ReadBackWhereLegal journals.now }
 {
     journals_are(journals);
@@ -64,7 +64,7 @@ pub fn read_journals<S: Source>(
 ) -> Result<Journals, FileFault>
     requires { S.failure_count source.old < 2 ^ 64 - 1 }
     ensures found { IfOk result (λ journals. IfKnown (S.left source.old) (λ bytes. IsJournalsFile image.now.maps bytes journals)) }
-    ensures refused { IfErr result (λ fault. (fault ≡ Device) ⊎ IfKnown (S.left source.old) (λ bytes. Refuses image.now.maps bytes fault)) }
+    ensures refused { IfErr result (λ fault. (fault ≡ Device) ⊎ IfKnown (S.left source.old) (λ bytes. RefusesJournals image.now.maps bytes fault)) }
     ensures only { (journals : Lists) → IfKnown (S.left source.old)
         (λ bytes. IsJournalsFile image.now.maps bytes journals → IfOk result (λ made. made ≡ journals)) }
     ensures device { IsErrOf result Device ↔ (S.failure_count source.new ≡ S.failure_count source.old + 1) }
@@ -83,7 +83,7 @@ pub fn read_journals<S: Source>(
 /// Refused with 52 where memory is. Refused with 55 and the first line that cannot be there, as `read_journals` is.
 pub fn journals_of(alloc: Global, image: &Image, bytes: &[u8]) -> Result<Journals, FileFault>
     ensures found { IfOk result (λ journals. IsJournalsFile image.now.maps bytes.now journals) }
-    ensures refused { IfErr result (Refuses image.now.maps bytes.now) }
+    ensures refused { IfErr result (RefusesJournals image.now.maps bytes.now) }
     ensures only { (journals : Lists) → IsJournalsFile image.now.maps bytes.now journals → IfOk result (λ made. made ≡ journals) }
 {
     maps_are_of_an_image(image);

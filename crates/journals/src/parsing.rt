@@ -12,7 +12,7 @@ ghost use Rattle.journals.specs.EntryForm.{HasSizesOf, IsCallOn};
 ghost use Rattle.text_lines.specs.Lines.{ended};
 ghost use Rattle.journals.specs.JournalText.{header_text};
 ghost use Rattle.semantics.specs.declared.call.Entry.{Entry as Told};
-ghost use Rattle.journals.specs.JournalReading.{TellsEntry, BeginsWithNoHeader, IsHeadedBy, AreDivided, AreRead, IsJournalsFile, Refuses};
+ghost use Rattle.journals.specs.JournalReading.{TellsEntry, BeginsWithNoHeader, IsHeadedBy, AreDivided, AreEntriesRead, IsJournalsFile, RefusesJournals};
 
 use crate::all::Journals;
 use crate::entry_list::EntryList;
@@ -129,7 +129,7 @@ fn lines_of<'a>(
     text: &'a str,
 ) -> Result<(Vec<EntryList>, EntryList, usize, &'a str), AllocError>
     requires { AreOptions maps.now options.now }
-    ensures { IfOk result (λ read. AreRead maps.now options.now text.now read.0.items read.1 read.2 read.3.now) }
+    ensures { IfOk result (λ read. AreEntriesRead maps.now options.now text.now read.0.items read.1 read.2 read.3.now) }
 {
     let mut done = Vec::new(alloc);
     let mut present = EntryList::new(alloc);
@@ -207,7 +207,7 @@ fn journals_of_text(alloc: Global, maps: &[MapDef], text: &str) -> Result<Journa
     requires maps { AreImageMaps maps.now }
     requires text { IsUtf8 text.now }
     ensures found { IfOk result (λ journals. IsJournalsFile maps.now text.now journals) }
-    ensures refused { IfErr result (Refuses maps.now text.now) }
+    ensures refused { IfErr result (RefusesJournals maps.now text.now) }
     ensures only { (journals : Lists) → IsJournalsFile maps.now text.now journals → IfOk result (λ made. made ≡ journals) }
 {
     let (options, rest) = match header_of(alloc, maps, text)? {
@@ -229,7 +229,7 @@ pub(crate) fn journals_of(
 ) -> Result<Journals, FileFault>
     requires { AreImageMaps maps.now }
     ensures found { IfOk result (λ journals. IsJournalsFile maps.now bytes.now journals) }
-    ensures refused { IfErr result (Refuses maps.now bytes.now) }
+    ensures refused { IfErr result (RefusesJournals maps.now bytes.now) }
     ensures only { (journals : Lists) → IsJournalsFile maps.now bytes.now journals → IfOk result (λ made. made ≡ journals) }
 {
     match text_or_line(bytes) {

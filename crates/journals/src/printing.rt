@@ -4,7 +4,7 @@ ghost use Rattle.std.specs.Prelude.{◌≡◌, ◌++◌, ◌∷◌, ◌≤◌, [
 ghost use Rattle.std.specs.Fmt.{decimal, signed_decimal};
 ghost use Rattle.hex.specs.Hex.{encode_lower};
 ghost use Rattle.semantics.specs.ShardPlan.{KeepsRows};
-ghost use Rattle.journals.specs.JournalText.{who_text, reply_text, told_text, line_of, header_text, entries_text, journals_text};
+ghost use Rattle.journals.specs.JournalText.{who_text, reply_text, told_text, line_of_entry, header_text, entries_text, journals_text};
 
 use crate::all::Journals;
 use crate::shard_journal::ShardJournal;
@@ -171,9 +171,9 @@ fn put_told(out: &mut Vec<u8>, call: &Call, reply: &Reply) -> Result<(), AllocEr
 }
 
 /// Writes the line of an entry, without a line feed.
-#[tactic(auto, unfolding(crate::specs::JournalText::line_of))]
+#[tactic(auto, unfolding(crate::specs::JournalText::line_of_entry))]
 pub(crate) fn put_line(out: &mut Vec<u8>, entry: &Entry) -> Result<(), AllocError>
-    ensures { OnOk result (out.new.items ≡ out.old.items ++ line_of entry.now) }
+    ensures { OnOk result (out.new.items ≡ out.old.items ++ line_of_entry entry.now) }
 {
     put_field(out, u64::from(entry.call.shard()))?;
     put_who(out, entry.who)?;

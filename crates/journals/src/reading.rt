@@ -8,8 +8,8 @@ ghost use Rattle.semantics.specs.declared.call.Caller.{Caller as Who};
 ghost use Rattle.semantics.specs.declared.call.Reply.{Reply as Answered};
 ghost use Rattle.semantics.specs.declared.call.Entry.{Entry as Told};
 ghost use Rattle.semantics.specs.declared.options.Options.{Options as Opened};
-ghost use Rattle.journals.specs.JournalText.{who_text, reply_text, line_of, header_text};
-ghost use Rattle.journals.specs.EntryForm.{IsKey, IsValue, CallerFits, IsFinding, IsWord, IsAnswer, IsFreed, EntryFits};
+ghost use Rattle.journals.specs.JournalText.{who_text, reply_text, line_of_entry, header_text};
+ghost use Rattle.journals.specs.EntryForm.{IsKey, IsValue, CallerFits, IsFinding, IsWord, IsAnswerReply, IsFreed, EntryFits};
 ghost use Rattle.journals.specs.ToldReading.{Reads};
 ghost use Rattle.journals.specs.declared.verb.Verb.TheVariants as verbs;
 
@@ -150,8 +150,8 @@ fn word_of(text: &str) -> Reply
 
 /// The reply to an Update or a Delete.
 fn answer_of(text: &str) -> Reply
-    ensures fits { IsAnswer result }
-    ensures found { (reply : Answered) → IsAnswer reply → text.now ≡ reply_text reply → result ≡ reply }
+    ensures fits { IsAnswerReply result }
+    ensures found { (reply : Answered) → IsAnswerReply reply → text.now ≡ reply_text reply → result ≡ reply }
 {
     Reply::Answer {
         code: signed_of(after(text, "answer ")),
@@ -321,7 +321,7 @@ fn told_of(verb: Verb, who: Caller, shard: u32, text: &str) -> Entry
 /// The entry of the line, if it is spelled exactly so. It fits in any case.
 pub(crate) fn entry_read(line: &str) -> Entry
     ensures fits { EntryFits result }
-    ensures found { (entry : Told) → EntryFits entry → line.now ≡ line_of entry → result ≡ entry }
+    ensures found { (entry : Told) → EntryFits entry → line.now ≡ line_of_entry entry → result ≡ entry }
 {
     let (shard, rest) = cut(line, ' ');
     let (who, rest) = cut(rest, ' ');

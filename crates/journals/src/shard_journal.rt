@@ -1,7 +1,7 @@
 //! The journal of one shard, as it is read.
 
 ghost use Rattle.std.specs.Prelude.{◌≡◌, ◌<◌, Some, length, slice_get};
-ghost use Rattle.journals.specs.KeptEntries.{kept_entries, IsReadable};
+ghost use Rattle.journals.specs.KeptEntries.{kept_entries, KeepsItsRows};
 
 use crate::entry_list::EntryList;
 use journal::Journal;
@@ -27,19 +27,19 @@ pub struct ShardJournal<'a> {
 impl<'a> Model for ShardJournal<'a> {
     ghost use Rattle.std.specs.Prelude.{List};
     ghost use Rattle.semantics.specs.declared.call.Entry.{Entry};
-    ghost use Rattle.journals.specs.KeptEntries.{kept_entries, IsReadable};
+    ghost use Rattle.journals.specs.KeptEntries.{kept_entries, KeepsItsRows};
 
     ghost Value = { List Entry };
 
     ghost view = { λ journal. kept_entries journal.kept };
 
-    ghost invariant = { λ journal. IsReadable journal.kept };
+    ghost invariant = { λ journal. KeepsItsRows journal.kept };
 }
 
 impl<'a> ShardJournal<'a> {
     /// The journal that is kept so.
     pub(crate) fn of(kept: ShardEntries<'a>) -> Self
-        requires { IsReadable kept }
+        requires { KeepsItsRows kept }
         ensures { result ≡ kept_entries kept.entry }
     {
         ShardJournal { kept }

@@ -4,7 +4,7 @@ use Rattle.std.specs.Map.{remove_entry}
 use Rattle.std.proofs.lemmas.Bool.{false≢true, eqb-true}
 use Rattle.plain_maps.specs.Keyed.{AreInverse}
 use Rattle.lru_maps.specs.Recency.{is_listed, without, used, released, StandOnce}
-use Rattle.lru_maps.specs.Numbered.{with_entry, in_order, HaveNoKey, FreeAreLast}
+use Rattle.lru_maps.specs.Numbered.{with_present_entry, in_order, HaveNoKey, FreeAreLast}
 use Rattle.lru_maps.proofs.Orders.{same_key, key_same, gone, free_without, free_push, order_append, counted_without, removed_there, at_most, last_listed, full_has_key}
 
 apart_numbers : (n m : ℕ) → nat_eq n m ≡ false → n ≢ m
@@ -46,7 +46,7 @@ skip_free keys ids n (m ∷ order) none = by_test (nat_eq n m) refl (skip_free k
   where
     by_test : (t : Bool) → nat_eq n m ≡ t → in_order keys ids (without n order) ≡ in_order keys ids order → in_order keys ids (cond t order (m ∷ without n order)) ≡ in_order keys ids (m ∷ order)
     by_test true here rest = (let e : n ≡ m = eqb-true n m here in rw (← e, none) refl)
-    by_test false past rest = ap (with_entry (keys m) (ids m)) rest
+    by_test false past rest = ap (with_present_entry (keys m) (ids m)) rest
 
 -- ---- what a change at one key leaves
 
@@ -157,7 +157,7 @@ module _ (keys other : ℕ → Option (List ℕ)) (n : ℕ) (elsewhere : (m : �
 
     pub released_count : (key : List ℕ) → keys n ≡ Some key → length (in_order other ids (released n order)) + 1 ≡ length (in_order keys ids order)
     released_count key has =
-        let before : length (with_entry (keys n) (ids n) (in_order keys ids (without n order))) ≡ length (in_order keys ids order) = counted_without keys ids n order there in
+        let before : length (with_present_entry (keys n) (ids n) (in_order keys ids (without n order))) ≡ length (in_order keys ids order) = counted_without keys ids n order there in
         let one = rw has at before in
         rw (there, order_append other ids n (without n order) bare, rest_same) (omega (arith, one))
 
@@ -172,7 +172,7 @@ module _ (keys other : ℕ → Option (List ℕ)) (n : ℕ) (elsewhere : (m : �
         let apart : m ≢ n = λ same. false≢true (sym once.0 ∙ (ap (λ (k : ℕ). is_listed k (x ∷ order)) same ∙ last_listed n (x ∷ order) later)) in
         rw (elsewhere m apart, rest) (by_key (keys m) (in_order other ids (x ∷ order)))
       where
-        by_key : (o : Option (List ℕ)) (es : List (List ℕ × ℕ)) → with_entry o (ids m) (es ++ (key, ids n) ∷ []) ≡ with_entry o (ids m) es ++ (key, ids n) ∷ []
+        by_key : (o : Option (List ℕ)) (es : List (List ℕ × ℕ)) → with_present_entry o (ids m) (es ++ (key, ids n) ∷ []) ≡ with_present_entry o (ids m) es ++ (key, ids n) ∷ []
         by_key None es = refl
         by_key (Some k) es = refl
 

@@ -6,7 +6,7 @@ use Rattle.std.proofs.lemmas.Slice.Eq.{bytes_eq-Decides}
 use Rattle.lru.specs.LruCache.{promoted}
 use Rattle.plain_maps.specs.Keyed.{AreInverse}
 use Rattle.lru_maps.specs.Recency.{is_listed, without, used, released, countdown, StandOnce}
-use Rattle.lru_maps.specs.Numbered.{with_entry, in_order, HaveNoKey, FreeAreLast}
+use Rattle.lru_maps.specs.Numbered.{with_present_entry, in_order, HaveNoKey, FreeAreLast}
 
 pub same_key : (a b : List ℕ) → bytes_eq a b ≡ true → a ≡ b
 same_key a b same = (bytes_eq-Decides a b).0 same
@@ -117,32 +117,32 @@ module _ (keys : ℕ → Option (List ℕ)) (ids : ℕ → ℕ) where
   at_most [] = omega arith
   at_most (m ∷ order) = by_key (keys m) (at_most order)
     where
-      by_key : (o : Option (List ℕ)) → length (in_order keys ids order) ≤ length order → length (with_entry o (ids m) (in_order keys ids order)) ≤ length (m ∷ order)
+      by_key : (o : Option (List ℕ)) → length (in_order keys ids order) ≤ length order → length (with_present_entry o (ids m) (in_order keys ids order)) ≤ length (m ∷ order)
       by_key None rest = omega (arith, rest)
       by_key (Some key) rest = omega (arith, rest)
 
   pub order_append : (n : ℕ) (order : List ℕ) → keys n ≡ None → in_order keys ids (order ++ n ∷ []) ≡ in_order keys ids order
   order_append n [] none = rw none refl
-  order_append n (m ∷ order) none = ap (with_entry (keys m) (ids m)) (order_append n order none)
+  order_append n (m ∷ order) none = ap (with_present_entry (keys m) (ids m)) (order_append n order none)
 
   -- the length counts numbers with a key, wherever they are
-  pub counted_without : (n : ℕ) (order : List ℕ) → is_listed n order ≡ true → length (with_entry (keys n) (ids n) (in_order keys ids (without n order))) ≡ length (in_order keys ids order)
+  pub counted_without : (n : ℕ) (order : List ℕ) → is_listed n order ≡ true → length (with_present_entry (keys n) (ids n) (in_order keys ids (without n order))) ≡ length (in_order keys ids order)
   counted_without n [] there = absurd (false≢true there)
   counted_without n (m ∷ order) there = by_test (nat_eq n m) refl there (λ is. counted_without n order is)
     where
-      swap : (a b : Option (List ℕ)) (entries : List (List ℕ × ℕ)) → length (with_entry a (ids n) (with_entry b (ids m) entries)) ≡ length (with_entry b (ids m) (with_entry a (ids n) entries))
+      swap : (a b : Option (List ℕ)) (entries : List (List ℕ × ℕ)) → length (with_present_entry a (ids n) (with_present_entry b (ids m) entries)) ≡ length (with_present_entry b (ids m) (with_present_entry a (ids n) entries))
       swap None b entries = refl
       swap (Some x) None entries = refl
       swap (Some x) (Some y) entries = refl
 
-      longer : (o : Option (List ℕ)) (entries others : List (List ℕ × ℕ)) → length entries ≡ length others → length (with_entry o (ids m) entries) ≡ length (with_entry o (ids m) others)
+      longer : (o : Option (List ℕ)) (entries others : List (List ℕ × ℕ)) → length entries ≡ length others → length (with_present_entry o (ids m) entries) ≡ length (with_present_entry o (ids m) others)
       longer None entries others same = same
       longer (Some x) entries others same = ap suc same
 
-      by_test : (t : Bool) → nat_eq n m ≡ t → cond t true (is_listed n order) ≡ true → (is_listed n order ≡ true → length (with_entry (keys n) (ids n) (in_order keys ids (without n order))) ≡ length (in_order keys ids order)) →
-          length (with_entry (keys n) (ids n) (in_order keys ids (cond t order (m ∷ without n order)))) ≡ length (in_order keys ids (m ∷ order))
+      by_test : (t : Bool) → nat_eq n m ≡ t → cond t true (is_listed n order) ≡ true → (is_listed n order ≡ true → length (with_present_entry (keys n) (ids n) (in_order keys ids (without n order))) ≡ length (in_order keys ids order)) →
+          length (with_present_entry (keys n) (ids n) (in_order keys ids (cond t order (m ∷ without n order)))) ≡ length (in_order keys ids (m ∷ order))
       by_test true here is rest = (let same : n ≡ m = eqb-true n m here in rw same refl)
-      by_test false past is rest = swap (keys n) (keys m) (in_order keys ids (without n order)) ∙ longer (keys m) (with_entry (keys n) (ids n) (in_order keys ids (without n order))) (in_order keys ids order) (rest is)
+      by_test false past is rest = swap (keys n) (keys m) (in_order keys ids (without n order)) ∙ longer (keys m) (with_present_entry (keys n) (ids n) (in_order keys ids (without n order))) (in_order keys ids order) (rest is)
 
   -- ---- numbers that have no key are last
 
@@ -191,14 +191,14 @@ module _ (keys : ℕ → Option (List ℕ)) (ids : ℕ → ℕ) where
       go [] i end free few found = absurd (cc found)
       go (m ∷ []) zero end free few found = (let is : m ≡ n = cc found in by_key (keys m) refl few is)
         where
-          by_key : (o : Option (List ℕ)) → keys m ≡ o → length (with_entry o (ids m) []) < 1 → m ≡ n → keys n ≡ None
+          by_key : (o : Option (List ℕ)) → keys m ≡ o → length (with_present_entry o (ids m) []) < 1 → m ≡ n → keys n ≡ None
           by_key None none lt is = rw (← is) none
           by_key (Some key) some lt is = absurd (omega arith)
       go (m ∷ []) (suc i) end free few found = absurd (omega arith)
       go (m ∷ x ∷ order) zero end free few found = absurd (omega arith)
       go (m ∷ x ∷ order) (suc i) end free few found = by_key (keys m) refl few (λ fewer. go (x ∷ order) i (omega arith) free.1 fewer found)
         where
-          by_key : (o : Option (List ℕ)) → keys m ≡ o → length (with_entry o (ids m) (in_order keys ids (x ∷ order))) < length (m ∷ x ∷ order) → (length (in_order keys ids (x ∷ order)) < length (x ∷ order) → keys n ≡ None) → keys n ≡ None
+          by_key : (o : Option (List ℕ)) → keys m ≡ o → length (with_present_entry o (ids m) (in_order keys ids (x ∷ order))) < length (m ∷ x ∷ order) → (length (in_order keys ids (x ∷ order)) < length (x ∷ order) → keys n ≡ None) → keys n ≡ None
           by_key None none lt rest = of_all (x ∷ order) i (free.0 none) found
           by_key (Some key) some lt rest = rest (omega (arith, lt))
 
@@ -207,7 +207,7 @@ module _ (keys : ℕ → Option (List ℕ)) (ids : ℕ → ℕ) where
   full_has_key [] n full there = absurd (false≢true there)
   full_has_key (m ∷ order) n full there = by_key (keys m) refl full (λ same is. full_has_key order n same is)
     where
-      by_key : (o : Option (List ℕ)) → keys m ≡ o → length (with_entry o (ids m) (in_order keys ids order)) ≡ length (m ∷ order) → (length (in_order keys ids order) ≡ length order → is_listed n order ≡ true → (key : List ℕ) × (keys n ≡ Some key)) → (key : List ℕ) × (keys n ≡ Some key)
+      by_key : (o : Option (List ℕ)) → keys m ≡ o → length (with_present_entry o (ids m) (in_order keys ids order)) ≡ length (m ∷ order) → (length (in_order keys ids order) ≡ length order → is_listed n order ≡ true → (key : List ℕ) × (keys n ≡ Some key)) → (key : List ℕ) × (keys n ≡ Some key)
       by_key None none same rest = absurd (let few = at_most order in omega (arith, few, same))
       by_key (Some key) some same rest = by_test (nat_eq n m) refl there
         where
@@ -242,7 +242,7 @@ module _ (keys : ℕ → Option (List ℕ)) (ids : ℕ → ℕ) where
     entry_there q n [] found there = absurd (false≢true there)
     entry_there q n (m ∷ order) found there = by_test (nat_eq n m) refl there (λ is. entry_there q n order found is)
       where
-        by_key : (o : Option (List ℕ)) → keys m ≡ o → nat_eq n m ≡ false → lookup_entry (bytes_eq q) (in_order keys ids order) ≡ Some (q, ids n) → lookup_entry (bytes_eq q) (with_entry o (ids m) (in_order keys ids order)) ≡ Some (q, ids n)
+        by_key : (o : Option (List ℕ)) → keys m ≡ o → nat_eq n m ≡ false → lookup_entry (bytes_eq q) (in_order keys ids order) ≡ Some (q, ids n) → lookup_entry (bytes_eq q) (with_present_entry o (ids m) (in_order keys ids order)) ≡ Some (q, ids n)
         by_key None none apart rest = rest
         by_key (Some k) has apart rest = rw (other_key q k n m found has apart) rest
 
@@ -256,7 +256,7 @@ module _ (keys : ℕ → Option (List ℕ)) (ids : ℕ → ℕ) where
     cell_there q n [] found there = absurd (false≢true there)
     cell_there q n (m ∷ order) found there = by_test (nat_eq n m) refl there (λ is. cell_there q n order found is)
       where
-        by_key : (o : Option (List ℕ)) → keys m ≡ o → nat_eq n m ≡ false → lookup (bytes_eq q) (in_order keys ids order) ≡ Some (ids n) → lookup (bytes_eq q) (with_entry o (ids m) (in_order keys ids order)) ≡ Some (ids n)
+        by_key : (o : Option (List ℕ)) → keys m ≡ o → nat_eq n m ≡ false → lookup (bytes_eq q) (in_order keys ids order) ≡ Some (ids n) → lookup (bytes_eq q) (with_present_entry o (ids m) (in_order keys ids order)) ≡ Some (ids n)
         by_key None none apart rest = rest
         by_key (Some k) has apart rest = rw (other_key q k n m found has apart) rest
 
@@ -270,7 +270,7 @@ module _ (keys : ℕ → Option (List ℕ)) (ids : ℕ → ℕ) where
     entry_absent q [] absent = refl
     entry_absent q (m ∷ order) absent = by_key (keys m) refl (entry_absent q order absent)
       where
-        by_key : (o : Option (List ℕ)) → keys m ≡ o → lookup_entry (bytes_eq q) (in_order keys ids order) ≡ None → lookup_entry (bytes_eq q) (with_entry o (ids m) (in_order keys ids order)) ≡ None
+        by_key : (o : Option (List ℕ)) → keys m ≡ o → lookup_entry (bytes_eq q) (in_order keys ids order) ≡ None → lookup_entry (bytes_eq q) (with_present_entry o (ids m) (in_order keys ids order)) ≡ None
         by_key None none rest = rest
         by_key (Some k) has rest = rw (absent_key q k m absent has) rest
 
@@ -278,7 +278,7 @@ module _ (keys : ℕ → Option (List ℕ)) (ids : ℕ → ℕ) where
     cell_absent q [] absent = refl
     cell_absent q (m ∷ order) absent = by_key (keys m) refl (cell_absent q order absent)
       where
-        by_key : (o : Option (List ℕ)) → keys m ≡ o → lookup (bytes_eq q) (in_order keys ids order) ≡ None → lookup (bytes_eq q) (with_entry o (ids m) (in_order keys ids order)) ≡ None
+        by_key : (o : Option (List ℕ)) → keys m ≡ o → lookup (bytes_eq q) (in_order keys ids order) ≡ None → lookup (bytes_eq q) (with_present_entry o (ids m) (in_order keys ids order)) ≡ None
         by_key None none rest = rest
         by_key (Some k) has rest = rw (absent_key q k m absent has) rest
 
@@ -294,7 +294,7 @@ module _ (keys : ℕ → Option (List ℕ)) (ids : ℕ → ℕ) where
     removed_there q n [] found there = absurd (false≢true there)
     removed_there q n (m ∷ order) found there = by_test (nat_eq n m) refl there (λ is. removed_there q n order found is)
       where
-        by_key : (o : Option (List ℕ)) → keys m ≡ o → nat_eq n m ≡ false → remove_entry (bytes_eq q) (in_order keys ids order) ≡ in_order keys ids (without n order) → remove_entry (bytes_eq q) (with_entry o (ids m) (in_order keys ids order)) ≡ with_entry o (ids m) (in_order keys ids (without n order))
+        by_key : (o : Option (List ℕ)) → keys m ≡ o → nat_eq n m ≡ false → remove_entry (bytes_eq q) (in_order keys ids order) ≡ in_order keys ids (without n order) → remove_entry (bytes_eq q) (with_present_entry o (ids m) (in_order keys ids order)) ≡ with_present_entry o (ids m) (in_order keys ids (without n order))
         by_key None none apart rest = rest
         by_key (Some k) has apart rest = rw (other_key q k n m found has apart) (ap (λ (es : List (List ℕ × ℕ)). (k, ids m) ∷ es) rest)
 
@@ -308,7 +308,7 @@ module _ (keys : ℕ → Option (List ℕ)) (ids : ℕ → ℕ) where
     removed_absent q [] absent = refl
     removed_absent q (m ∷ order) absent = by_key (keys m) refl (removed_absent q order absent)
       where
-        by_key : (o : Option (List ℕ)) → keys m ≡ o → remove_entry (bytes_eq q) (in_order keys ids order) ≡ in_order keys ids order → remove_entry (bytes_eq q) (with_entry o (ids m) (in_order keys ids order)) ≡ with_entry o (ids m) (in_order keys ids order)
+        by_key : (o : Option (List ℕ)) → keys m ≡ o → remove_entry (bytes_eq q) (in_order keys ids order) ≡ in_order keys ids order → remove_entry (bytes_eq q) (with_present_entry o (ids m) (in_order keys ids order)) ≡ with_present_entry o (ids m) (in_order keys ids order)
         by_key None none rest = rest
         by_key (Some k) has rest = rw (absent_key q k m absent has) (ap (λ (es : List (List ℕ × ℕ)). (k, ids m) ∷ es) rest)
 

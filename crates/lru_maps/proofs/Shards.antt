@@ -4,9 +4,9 @@ use Rattle.std.specs.Prelude.{option_map}
 use Rattle.std.proofs.lemmas.List.{length-set, get_or-set_other}
 use Rattle.std.proofs.lemmas.Grind.{get_or-set_at}
 use Rattle.std.specs.Map.{lookup}
-use Rattle.plain_maps.specs.Keyed.{KeyMap, entry_of, key_of_number, AreInverse}
+use Rattle.plain_maps.specs.Keyed.{KeyMap, entry_number_of, key_of_number, AreInverse}
 use Rattle.lru_maps.specs.Recency.{used, released, countdown, StandOnce}
-use Rattle.lru_maps.specs.LruTable.{cell_of_key, touched, with_new_key, without_key, last_of, all_but_last, victim, without_victim}
+use Rattle.lru_maps.specs.LruTable.{cell_of_lru_key, touched, with_newest_key, table_without_key, last_of, all_but_last_entry, victim, without_victim}
 use Rattle.lru_maps.specs.Numbered.{in_order, id_at, lru_table, IsLruShard}
 use Rattle.lru_maps.proofs.Orders.{used_listed, used_length, released_listed, released_length, last_listed, last_is_free, full_has_key, cell_there, cell_absent, no_number, touched_there, touched_absent, touched_free, touched_count, removed_absent, order_of_none, free_of_none, countdown_length, countdown_listed, countdown_in_range}
 use Rattle.lru_maps.proofs.Edits.{order_same, free_same, inserted_here, inserted_elsewhere, removed_here, removed_elsewhere, removed_nowhere, inserted_order, inserted_free, released_order, released_free, released_count, evicted_order, evicted_free}
@@ -28,31 +28,31 @@ last_of_append [] entry = refl
 last_of_append (e ∷ []) entry = refl
 last_of_append (e ∷ f ∷ entries) entry = last_of_append (f ∷ entries) entry
 
-pub all_but_last_append : (entries : List (List ℕ × ℕ)) (entry : List ℕ × ℕ) → all_but_last (entries ++ entry ∷ []) ≡ entries
+pub all_but_last_append : (entries : List (List ℕ × ℕ)) (entry : List ℕ × ℕ) → all_but_last_entry (entries ++ entry ∷ []) ≡ entries
 all_but_last_append [] entry = refl
 all_but_last_append (e ∷ []) entry = refl
 all_but_last_append (e ∷ f ∷ entries) entry = ap (λ (es : List (List ℕ × ℕ)). e ∷ es) (all_but_last_append (f ∷ entries) entry)
 
 module _ (index : KeyMap) (ids order : List ℕ) (count : ℕ) (ok : IsLruShard index ids order count)
-    (inverse : AreInverse (entry_of index) (key_of_number index)) (small : (q : List ℕ) (n : ℕ) → entry_of index q ≡ Some n → n < index.capacity) where
-  pub found_cell : (q : List ℕ) (n : ℕ) → entry_of index q ≡ Some n → cell_of_key (lru_table index ids order) q ≡ Some (id_at ids n)
-  found_cell q n found = cell_there (key_of_number index) (id_at ids) (entry_of index) inverse q n order found (ok.listed n (small q n found))
+    (inverse : AreInverse (entry_number_of index) (key_of_number index)) (small : (q : List ℕ) (n : ℕ) → entry_number_of index q ≡ Some n → n < index.capacity) where
+  pub found_cell : (q : List ℕ) (n : ℕ) → entry_number_of index q ≡ Some n → cell_of_lru_key (lru_table index ids order) q ≡ Some (id_at ids n)
+  found_cell q n found = cell_there (key_of_number index) (id_at ids) (entry_number_of index) inverse q n order found (ok.listed n (small q n found))
 
-  pub absent_cell : (q : List ℕ) → entry_of index q ≡ None → cell_of_key (lru_table index ids order) q ≡ None
-  absent_cell q absent = cell_absent (key_of_number index) (id_at ids) (entry_of index) inverse q order absent
+  pub absent_cell : (q : List ℕ) → entry_number_of index q ≡ None → cell_of_lru_key (lru_table index ids order) q ≡ None
+  absent_cell q absent = cell_absent (key_of_number index) (id_at ids) (entry_number_of index) inverse q order absent
 
-  pub absent_entry : (q : List ℕ) → cell_of_key (lru_table index ids order) q ≡ None → entry_of index q ≡ None
-  absent_entry q none = no_number (key_of_number index) (id_at ids) (entry_of index) inverse q order (λ n found. ok.listed n (small q n found)) none
+  pub absent_entry : (q : List ℕ) → cell_of_lru_key (lru_table index ids order) q ≡ None → entry_number_of index q ≡ None
+  absent_entry q none = no_number (key_of_number index) (id_at ids) (entry_number_of index) inverse q order (λ n found. ok.listed n (small q n found)) none
 
   -- ---- a use
 
-  pub touched_table : (q : List ℕ) (n : ℕ) → entry_of index q ≡ Some n → lru_table index ids (used n order) ≡ touched q (lru_table index ids order)
-  touched_table q n found = rw (touched_there (key_of_number index) (id_at ids) (entry_of index) inverse q n order found (ok.listed n (small q n found))) refl
+  pub touched_table : (q : List ℕ) (n : ℕ) → entry_number_of index q ≡ Some n → lru_table index ids (used n order) ≡ touched q (lru_table index ids order)
+  touched_table q n found = rw (touched_there (key_of_number index) (id_at ids) (entry_number_of index) inverse q n order found (ok.listed n (small q n found))) refl
 
-  pub untouched_table : (q : List ℕ) → entry_of index q ≡ None → lru_table index ids order ≡ touched q (lru_table index ids order)
-  untouched_table q absent = ap (λ (es : List (List ℕ × ℕ)). record (lru_table index ids order) { entries = es }) (touched_absent (key_of_number index) (id_at ids) (entry_of index) inverse q order absent)
+  pub untouched_table : (q : List ℕ) → entry_number_of index q ≡ None → lru_table index ids order ≡ touched q (lru_table index ids order)
+  untouched_table q absent = ap (λ (es : List (List ℕ × ℕ)). record (lru_table index ids order) { entries = es }) (touched_absent (key_of_number index) (id_at ids) (entry_number_of index) inverse q order absent)
 
-  pub touched_shard : (q : List ℕ) (n : ℕ) → entry_of index q ≡ Some n → IsLruShard index ids (used n order) count
+  pub touched_shard : (q : List ℕ) (n : ℕ) → entry_number_of index q ≡ Some n → IsLruShard index ids (used n order) count
   touched_shard q n found =
       let there = ok.listed n (small q n found) in
       record {
@@ -62,8 +62,8 @@ module _ (index : KeyMap) (ids order : List ℕ) (count : ℕ) (ok : IsLruShard 
         number_count = used_length n order there ∙ ok.number_count;
         listed = λ m lt. used_listed n m order there ∙ ok.listed m lt;
         in_range = λ m is. ok.in_range m (sym (used_listed n m order there) ∙ is);
-        free_last = touched_free (key_of_number index) (id_at ids) (entry_of index) inverse q n order found there ok.free_last;
-        counted = touched_count (key_of_number index) (id_at ids) (entry_of index) inverse n order there ∙ ok.counted;
+        free_last = touched_free (key_of_number index) (id_at ids) (entry_number_of index) inverse q n order found there ok.free_last;
+        counted = touched_count (key_of_number index) (id_at ids) (entry_number_of index) inverse n order there ∙ ok.counted;
       }
 
   pub last_small : (n : ℕ) → slice_get order (length order - 1) ≡ Some n → n < index.capacity
@@ -72,27 +72,27 @@ module _ (index : KeyMap) (ids order : List ℕ) (count : ℕ) (ok : IsLruShard 
   pub last_free : (n : ℕ) → slice_get order (length order - 1) ≡ Some n → count < index.capacity → key_of_number index n ≡ None
   last_free n last room = last_is_free (key_of_number index) (id_at ids) order n ok.free_last (omega (arith, ok.counted, ok.number_count, room)) last
 
-  pub last_unused : (n : ℕ) → slice_get order (length order - 1) ≡ Some n → count < index.capacity → (q : List ℕ) → entry_of index q ≢ Some n
+  pub last_unused : (n : ℕ) → slice_get order (length order - 1) ≡ Some n → count < index.capacity → (q : List ℕ) → entry_number_of index q ≢ Some n
   last_unused n last room q found =
       let has : key_of_number index n ≡ Some q = (inverse q n).0 found in
       let clash : None ≡ Some q = sym (last_free n last room) ∙ has in
       cc clash
 
-  pub last_key : (n : ℕ) → slice_get order (length order - 1) ≡ Some n → count ≡ index.capacity → (q : List ℕ) × (entry_of index q ≡ Some n)
+  pub last_key : (n : ℕ) → slice_get order (length order - 1) ≡ Some n → count ≡ index.capacity → (q : List ℕ) × (entry_number_of index q ≡ Some n)
   last_key n last full =
       let has = full_has_key (key_of_number index) (id_at ids) order n (omega (arith, ok.counted, ok.number_count, full)) (last_listed n order last) in
       (has.0, (inverse has.0 n).1 has.1)
 
   -- ---- a change of the index at one key
 
-  module _ (later : KeyMap) (inverse_later : AreInverse (entry_of later) (key_of_number later)) (same_size : later.size ≡ index.size) (same_capacity : later.capacity ≡ index.capacity) (key : List ℕ) where
+  module _ (later : KeyMap) (inverse_later : AreInverse (entry_number_of later) (key_of_number later)) (same_size : later.size ≡ index.size) (same_capacity : later.capacity ≡ index.capacity) (key : List ℕ) where
     -- a new key
-    module _ (n id : ℕ) (once : StandOnce order) (last : slice_get order (length order - 1) ≡ Some n) (room : count < index.capacity) (absent : entry_of index key ≡ None) (change : (q : List ℕ) → entry_of later q ≡ cond (bytes_eq key q) (Some n) (entry_of index q)) where
+    module _ (n id : ℕ) (once : StandOnce order) (last : slice_get order (length order - 1) ≡ Some n) (room : count < index.capacity) (absent : entry_number_of index key ≡ None) (change : (q : List ℕ) → entry_number_of later q ≡ cond (bytes_eq key q) (Some n) (entry_number_of index q)) where
       here : key_of_number later n ≡ Some key
-      here = inserted_here (entry_of index) (entry_of later) (key_of_number index) (key_of_number later) inverse inverse_later key (Some n) change n refl absent
+      here = inserted_here (entry_number_of index) (entry_number_of later) (key_of_number index) (key_of_number later) inverse inverse_later key (Some n) change n refl absent
 
       elsewhere : (m : ℕ) → m ≢ n → key_of_number later m ≡ key_of_number index m
-      elsewhere = inserted_elsewhere (entry_of index) (entry_of later) (key_of_number index) (key_of_number later) inverse inverse_later key (Some n) change n refl absent
+      elsewhere = inserted_elsewhere (entry_number_of index) (entry_number_of later) (key_of_number index) (key_of_number later) inverse inverse_later key (Some n) change n refl absent
 
       id_here : id_at (set ids n id) n ≡ id
       id_here = let lt = last_small n last in get_or-set_at ids n n id 0 refl (omega (arith, lt, ok.id_count))
@@ -105,7 +105,7 @@ module _ (index : KeyMap) (ids order : List ℕ) (count : ℕ) (ok : IsLruShard 
           inserted_order (key_of_number index) (key_of_number later) n elsewhere order once (last_listed n order last) (last_free n last room) key (id_at ids) (id_at (set ids n id)) here id_elsewhere
           ∙ ap (λ (i : ℕ). (key, i) ∷ in_order (key_of_number index) (id_at ids) order) id_here
 
-      pub inserted_table : lru_table later (set ids n id) (used n order) ≡ with_new_key key id (lru_table index ids order)
+      pub inserted_table : lru_table later (set ids n id) (used n order) ≡ with_newest_key key id (lru_table index ids order)
       inserted_table = rw (new_order, same_size, same_capacity) refl
 
       pub inserted_shard : IsLruShard later (set ids n id) (used n order) (count + 1)
@@ -122,17 +122,17 @@ module _ (index : KeyMap) (ids order : List ℕ) (count : ℕ) (ok : IsLruShard 
             counted = rw new_order (omega (arith, ok.counted));
           }
 
-    module _ (change : (q : List ℕ) → entry_of later q ≡ cond (bytes_eq key q) None (entry_of index q)) where
+    module _ (change : (q : List ℕ) → entry_number_of later q ≡ cond (bytes_eq key q) None (entry_number_of index q)) where
       -- an absent key
-      module _ (absent : entry_of index key ≡ None) where
+      module _ (absent : entry_number_of index key ≡ None) where
         nowhere : (m : ℕ) → key_of_number later m ≡ key_of_number index m
-        nowhere = removed_nowhere (entry_of index) (entry_of later) (key_of_number index) (key_of_number later) inverse inverse_later key None change refl absent
+        nowhere = removed_nowhere (entry_number_of index) (entry_number_of later) (key_of_number index) (key_of_number later) inverse inverse_later key None change refl absent
 
         same_order : in_order (key_of_number later) (id_at ids) order ≡ in_order (key_of_number index) (id_at ids) order
         same_order = order_same (key_of_number index) (key_of_number later) (id_at ids) (id_at ids) order (λ m there. nowhere m) (λ m there. refl)
 
-        pub unremoved_table : lru_table later ids order ≡ without_key key (lru_table index ids order)
-        unremoved_table = rw (removed_absent (key_of_number index) (id_at ids) (entry_of index) inverse key order absent, same_order, same_size, same_capacity) refl
+        pub unremoved_table : lru_table later ids order ≡ table_without_key key (lru_table index ids order)
+        unremoved_table = rw (removed_absent (key_of_number index) (id_at ids) (entry_number_of index) inverse key order absent, same_order, same_size, same_capacity) refl
 
         pub unremoved_same : lru_table later ids order ≡ lru_table index ids order
         unremoved_same = rw (same_order, same_size, same_capacity) refl
@@ -149,20 +149,20 @@ module _ (index : KeyMap) (ids order : List ℕ) (count : ℕ) (ok : IsLruShard 
           counted = rw same_order ok.counted;
         }
 
-      module _ (n : ℕ) (found : entry_of index key ≡ Some n) (once : StandOnce order) where
+      module _ (n : ℕ) (found : entry_number_of index key ≡ Some n) (once : StandOnce order) where
         bare : key_of_number later n ≡ None
-        bare = removed_here (entry_of index) (entry_of later) (key_of_number index) (key_of_number later) inverse inverse_later key None change n refl found
+        bare = removed_here (entry_number_of index) (entry_number_of later) (key_of_number index) (key_of_number later) inverse inverse_later key None change n refl found
 
         others : (m : ℕ) → m ≢ n → key_of_number later m ≡ key_of_number index m
-        others = removed_elsewhere (entry_of index) (entry_of later) (key_of_number index) (key_of_number later) inverse inverse_later key None change n refl found
+        others = removed_elsewhere (entry_number_of index) (entry_number_of later) (key_of_number index) (key_of_number later) inverse inverse_later key None change n refl found
 
         has : key_of_number index n ≡ Some key
         has = (inverse key n).0 found
 
         -- a key that is taken out
-        pub removed_table : lru_table later ids (released n order) ≡ without_key key (lru_table index ids order)
+        pub removed_table : lru_table later ids (released n order) ≡ table_without_key key (lru_table index ids order)
         removed_table =
-            rw (released_order (key_of_number index) (key_of_number later) n others order once (ok.listed n (small key n found)) (id_at ids) bare (entry_of index) inverse key found, same_size, same_capacity) refl
+            rw (released_order (key_of_number index) (key_of_number later) n others order once (ok.listed n (small key n found)) (id_at ids) bare (entry_number_of index) inverse key found, same_size, same_capacity) refl
 
         pub some_count : 0 < count
         some_count =
@@ -195,7 +195,7 @@ module _ (index : KeyMap) (ids order : List ℕ) (count : ℕ) (ok : IsLruShard 
           pub evicted_count : length (lru_table later ids order).entries + 1 ≡ length (lru_table index ids order).entries
           evicted_count = rw (less_order, one_more (in_order (key_of_number later) (id_at ids) order) (key, id_at ids n)) refl
 
-          pub evicted_absent : (q : List ℕ) → cell_of_key (lru_table index ids order) q ≡ None → cell_of_key (lru_table later ids order) q ≡ None
+          pub evicted_absent : (q : List ℕ) → cell_of_lru_key (lru_table index ids order) q ≡ None → cell_of_lru_key (lru_table later ids order) q ≡ None
           evicted_absent q absent = absent_before q (in_order (key_of_number later) (id_at ids) order) (key, id_at ids n) (rw less_order at absent)
 
           pub evicted_cell : option_map (λ (entry : List ℕ × ℕ). entry.1) (victim (lru_table index ids order)) ≡ Some (id_at ids n)

@@ -8,7 +8,7 @@ use Rattle.semantics.specs.declared.plan.PresentKey.{PresentKey}
 use Rattle.semantics.specs.LeastRecentlyUsed.{uses, last_use, least_recently_used}
 use Rattle.semantics.specs.SequentialShard.{cell_of_present}
 use Rattle.semantics.specs.UseLaws.{ArePairwise}
-use Rattle.lru_maps.specs.LruTable.{last_of, all_but_last}
+use Rattle.lru_maps.specs.LruTable.{last_of, all_but_last_entry}
 
 -- the first key was used later than the other
 abbrev pub IsUsedLater : List Entry → List ℕ × ℕ → List ℕ × ℕ → Type 0
@@ -71,4 +71,4 @@ abbrev pub EvictionKeepsOrder : Type 0
 EvictionKeepsOrder =
     (history : List Entry) (present : List PresentKey) (entries : List (List ℕ × ℕ)) (key : List ℕ) (id : ℕ) →
     IsByUse history present entries → last_of entries ≡ Some (key, id) →
-    IsByUse history (filter (λ (one : PresentKey). not (one.cell == id)) present) (all_but_last entries)
+    IsByUse history (filter (λ (one : PresentKey). not (one.cell == id)) present) (all_but_last_entry entries)

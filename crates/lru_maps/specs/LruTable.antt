@@ -9,8 +9,8 @@ pub record LruTable : Type 0 where
   -- each key with the id of its cell, the key that was used last standing first
   pub entries : List (List ℕ × ℕ)
 
-abbrev pub cell_of_key : LruTable → List ℕ → Option ℕ
-cell_of_key table key = lookup (bytes_eq key) table.entries
+abbrev pub cell_of_lru_key : LruTable → List ℕ → Option ℕ
+cell_of_lru_key table key = lookup (bytes_eq key) table.entries
 
 -- ---- the table after each call
 
@@ -19,11 +19,11 @@ abbrev pub touched : List ℕ → LruTable → LruTable
 touched key table = record table { entries = promoted (bytes_eq key) table.entries }
 
 -- a new key is first
-abbrev pub with_new_key : List ℕ → ℕ → LruTable → LruTable
-with_new_key key id table = record table { entries = (key, id) ∷ table.entries }
+abbrev pub with_newest_key : List ℕ → ℕ → LruTable → LruTable
+with_newest_key key id table = record table { entries = (key, id) ∷ table.entries }
 
-abbrev pub without_key : List ℕ → LruTable → LruTable
-without_key key table = record table { entries = remove_entry (bytes_eq key) table.entries }
+abbrev pub table_without_key : List ℕ → LruTable → LruTable
+table_without_key key table = record table { entries = remove_entry (bytes_eq key) table.entries }
 
 -- the entry of the key whose last use was before all others
 abbrev pub last_of : List (List ℕ × ℕ) → Option (List ℕ × ℕ)
@@ -34,10 +34,10 @@ last_of (entry ∷ other ∷ entries) = last_of (other ∷ entries)
 abbrev pub victim : LruTable → Option (List ℕ × ℕ)
 victim table = last_of table.entries
 
-abbrev pub all_but_last : List (List ℕ × ℕ) → List (List ℕ × ℕ)
-all_but_last [] = []
-all_but_last (entry ∷ []) = []
-all_but_last (entry ∷ other ∷ entries) = entry ∷ all_but_last (other ∷ entries)
+abbrev pub all_but_last_entry : List (List ℕ × ℕ) → List (List ℕ × ℕ)
+all_but_last_entry [] = []
+all_but_last_entry (entry ∷ []) = []
+all_but_last_entry (entry ∷ other ∷ entries) = entry ∷ all_but_last_entry (other ∷ entries)
 
 abbrev pub without_victim : LruTable → LruTable
-without_victim table = record table { entries = all_but_last table.entries }
+without_victim table = record table { entries = all_but_last_entry table.entries }

@@ -5,14 +5,14 @@ use Rattle.plain_maps.specs.Keyed.{KeyMap, key_of_number}
 use Rattle.lru_maps.specs.Recency.{is_listed}
 use Rattle.lru_maps.specs.LruTable.{LruTable}
 
-abbrev pub with_entry : Option (List ℕ) → ℕ → List (List ℕ × ℕ) → List (List ℕ × ℕ)
-with_entry (Some key) id entries = (key, id) ∷ entries
-with_entry None id entries = entries
+abbrev pub with_present_entry : Option (List ℕ) → ℕ → List (List ℕ × ℕ) → List (List ℕ × ℕ)
+with_present_entry (Some key) id entries = (key, id) ∷ entries
+with_present_entry None id entries = entries
 
 -- the keys that these numbers have, each with its cell
 abbrev pub in_order : (ℕ → Option (List ℕ)) → (ℕ → ℕ) → List ℕ → List (List ℕ × ℕ)
 in_order keys ids [] = []
-in_order keys ids (n ∷ order) = with_entry (keys n) (ids n) (in_order keys ids order)
+in_order keys ids (n ∷ order) = with_present_entry (keys n) (ids n) (in_order keys ids order)
 
 abbrev pub HaveNoKey : (ℕ → Option (List ℕ)) → List ℕ → Type 0
 HaveNoKey keys order = AllByRecursion (λ n. keys n ≡ None) order

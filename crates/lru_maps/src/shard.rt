@@ -1,7 +1,7 @@
 //! LRU shards: the cell of each key, and which key was used longest ago.
 
 ghost use Rattle.std.specs.Prelude.{◌≡◌, ℕ, ◌<◌, ◌≤◌, ◌+◌, List, [], length, IfOk, Some, None, option_map};
-ghost use Rattle.lru_maps.specs.LruTable.{LruTable, cell_of_key, touched, with_new_key, without_key, victim, without_victim};
+ghost use Rattle.lru_maps.specs.LruTable.{LruTable, cell_of_lru_key, touched, with_newest_key, table_without_key, victim, without_victim};
 
 use crate::recency::Recency;
 use plain_maps::KeyIndex;
@@ -71,7 +71,7 @@ impl LruShard {
     /// The cell of a key. This is no use of the key.
     pub fn find(&self, key: &[u8]) -> Option<u64>
         requires { length key.now ≡ self.now.size }
-        ensures { result ≡ cell_of_key self.now key.now }
+        ensures { result ≡ cell_of_lru_key self.now key.now }
     {
         self.index.keys_and_numbers();
         match self.index.find(key) {
@@ -83,7 +83,7 @@ impl LruShard {
     /// The cell of a key, which is used: it is first. Where the key is absent nothing is changed.
     pub fn touch(&mut self, key: &[u8]) -> Option<u64>
         requires { length key.now ≡ self.old.size }
-        ensures cell { result ≡ cell_of_key self.old key.now }
+        ensures cell { result ≡ cell_of_lru_key self.old key.now }
         ensures table { self.new ≡ touched key.now self.old }
         ensures unchanged { result ≡ None → self.new ≡ self.old }
     {
@@ -101,9 +101,9 @@ impl LruShard {
     /// Gives a new key this cell. It is used: it is first.
     pub fn insert(&mut self, key: &[u8], id: u64)
         requires size { length key.now ≡ self.old.size }
-        requires absent { cell_of_key self.old key.now ≡ None }
+        requires absent { cell_of_lru_key self.old key.now ≡ None }
         requires room { length self.old.entries < self.old.capacity }
-        ensures { self.new ≡ with_new_key key.now id self.old }
+        ensures { self.new ≡ with_newest_key key.now id self.old }
     {
         let Some(number) = self.recency.oldest() else {
             unreachable!()
@@ -120,8 +120,8 @@ impl LruShard {
     /// Takes a key out, and returns the cell that it had. Where the key is absent nothing is changed.
     pub fn remove(&mut self, key: &[u8]) -> Option<u64>
         requires { length key.now ≡ self.old.size }
-        ensures cell { result ≡ cell_of_key self.old key.now }
-        ensures table { self.new ≡ without_key key.now self.old }
+        ensures cell { result ≡ cell_of_lru_key self.old key.now }
+        ensures table { self.new ≡ table_without_key key.now self.old }
         ensures unchanged { result ≡ None → self.new ≡ self.old }
     {
         self.recency.numbers_differ();
@@ -144,7 +144,7 @@ impl LruShard {
         ensures cell { option_map (λ entry. entry.1) (victim self.old) ≡ Some result }
         ensures table { self.new ≡ without_victim self.old }
         ensures count { length self.new.entries + 1 ≡ length self.old.entries }
-        ensures absent { (q : List ℕ) → cell_of_key self.old q ≡ None → cell_of_key self.new q ≡ None }
+        ensures absent { (q : List ℕ) → cell_of_lru_key self.old q ≡ None → cell_of_lru_key self.new q ≡ None }
     {
         let Some(number) = self.recency.oldest() else {
             unreachable!()

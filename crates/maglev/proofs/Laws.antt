@@ -8,8 +8,8 @@ use Rattle.std.proofs.lemmas.List.Elements.{All-from_get_or, All-tail, All-head}
 use Rattle.std.proofs.lemmas.List.Sums.{sum_by-cons}
 use Rattle.std.proofs.lemmas.Option.{slice_get-get_or}
 use Rattle.maglev.specs.declared.preference.Preference.{Preference}
-use Rattle.maglev.specs.Population.{IsPopulation, IsBalanced, no_backend, numbers_of, share_of}
-use Rattle.maglev.specs.Turns.{AreTurnsTaken, backend_at, owners_of, turns_of}
+use Rattle.maglev.specs.Population.{IsPopulation, IsBalanced, no_backend, preference_numbers, share_of}
+use Rattle.maglev.specs.Turns.{AreTurnsTaken, preference_at, owners_of, turns_of}
 use Rattle.maglev.proofs.Shares.{counts, counts-same, counts-other, not_from_count, turns_of-fair}
 use Rattle.maglev.proofs.Uniqueness.{same_owners}
 
@@ -50,9 +50,9 @@ module _ (size free : ℕ) (backends : List Preference) (table : List ℕ) (left
   places_left = subst (λ n. All (λ place. place < n) table) (sym state.same_length) places
 
   number_at : ℕ → ℕ
-  number_at place = (backend_at left place).number
+  number_at place = (preference_at left place).number
 
-  same_number : (place : ℕ) → place < length backends → number_at place ≡ (backend_at backends place).number
+  same_number : (place : ℕ) → place < length backends → number_at place ≡ (preference_at backends place).number
   unfolding number_at
   same_number place inside = (state.rest place inside).same_number
 
@@ -82,29 +82,29 @@ module _ (size free : ℕ) (backends : List Preference) (table : List ℕ) (left
   only_one others other = same_owners size backends (owners_of left table) others population other each_taken
 
   -- each owner is one of the backends
-  pub owned : All (Contains (numbers_of backends)) (owners_of left table)
+  pub owned : All (Contains (preference_numbers backends)) (owners_of left table)
   unfolding number_at
-  owned = All-from_get_or (Contains (numbers_of backends)) (owners_of left table) 0
+  owned = All-from_get_or (Contains (preference_numbers backends)) (owners_of left table) 0
       (λ slot below.
       let named_long : length (owners_of left table) ≡ length table = length-map table number_at in
       let inside : get_or table slot 0 < length backends = places slot 0 (omega (arith, named_long)) in
-      let is_owner : get_or (owners_of left table) slot 0 ≡ (backend_at backends (get_or table slot 0)).number =
+      let is_owner : get_or (owners_of left table) slot 0 ≡ (preference_at backends (get_or table slot 0)).number =
       get_or-map number_at table slot 0 0 (omega (arith, named_long)) ∙ same_number (get_or table slot 0) inside in
-      let numbers_long : length (numbers_of backends) ≡ length backends = length-map backends (λ backend. backend.number) in (
+      let numbers_long : length (preference_numbers backends) ≡ length backends = length-map backends (λ backend. backend.number) in (
         get_or table slot 0,
         omega (arith, numbers_long, inside),
         get_or-map (λ backend. backend.number) backends (get_or table slot 0) no_backend (get_or (owners_of left table) slot 0) inside ∙ sym is_owner,
       ))
 
   -- numbers that differ distinguish the backends
-  told_apart : AllPairs (λ number other. number ≢ other) (numbers_of backends) → (place other : ℕ) → place < length backends → other < length backends
+  told_apart : AllPairs (λ number other. number ≢ other) (preference_numbers backends) → (place other : ℕ) → place < length backends → other < length backends
       → number_at other ≡ number_at place → other ≡ place
   unfolding number_at
   told_apart apart place other place_inside other_inside same =
-      let numbers_long : length (numbers_of backends) ≡ length backends = length-map backends (λ backend. backend.number) in
-      let number_of : (p : ℕ) → p < length backends → get_or (numbers_of backends) p 0 ≡ number_at p =
+      let numbers_long : length (preference_numbers backends) ≡ length backends = length-map backends (λ backend. backend.number) in
+      let number_of : (p : ℕ) → p < length backends → get_or (preference_numbers backends) p 0 ≡ number_at p =
       λ p inside. get_or-map (λ backend. backend.number) backends p no_backend 0 inside ∙ sym (same_number p inside) in
-      let numbers_same : get_or (numbers_of backends) other 0 ≡ get_or (numbers_of backends) place 0 =
+      let numbers_same : get_or (preference_numbers backends) other 0 ≡ get_or (preference_numbers backends) place 0 =
       number_of other other_inside ∙ same ∙ sym (number_of place place_inside) in
       ⊎_elim
       (λ equal. equal)
@@ -116,20 +116,20 @@ module _ (size free : ℕ) (backends : List Preference) (table : List ℕ) (left
       (cases_order other place)
 
   -- each backend has its share
-  pub balanced : AllPairs (λ number other. number ≢ other) (numbers_of backends) → IsBalanced (numbers_of backends) (owners_of left table)
+  pub balanced : AllPairs (λ number other. number ≢ other) (preference_numbers backends) → IsBalanced (preference_numbers backends) (owners_of left table)
   unfolding number_at
   balanced apart place d below =
-      let numbers_long : length (numbers_of backends) ≡ length backends = length-map backends (λ backend. backend.number) in
+      let numbers_long : length (preference_numbers backends) ≡ length backends = length-map backends (λ backend. backend.number) in
       let owners_long : length (owners_of left table) ≡ size = length-map table number_at ∙ state.slots in
       let inside : place < length backends = omega (arith, numbers_long) in
-      let number_is : get_or (numbers_of backends) place d ≡ number_at place =
+      let number_is : get_or (preference_numbers backends) place d ≡ number_at place =
       get_or-map (λ backend. backend.number) backends place no_backend d inside ∙ sym (same_number place inside) in
-      let share_is : share_of (get_or (numbers_of backends) place d) (owners_of left table) ≡ turns_of (length backends) place size =
+      let share_is : share_of (get_or (preference_numbers backends) place d) (owners_of left table) ≡ turns_of (length backends) place size =
       ap (λ z. share_of z (owners_of left table)) number_is
       ∙ count_by-names number_at (length backends) place (λ other other_inside same. told_apart apart place other inside other_inside same) table places
       ∙ state.shares place inside in
       let fair = turns_of-fair (length backends) place size inside in
       let Fair : ℕ → ℕ → ℕ → Type 0 = λ share slots count. (share ≡ slots / count) ⊎ (share ≡ (slots + count - 1) / count) in
-      subst (λ share. Fair share (length (owners_of left table)) (length (numbers_of backends))) (sym share_is)
-      (subst (λ slots. Fair (turns_of (length backends) place size) slots (length (numbers_of backends))) (sym owners_long)
+      subst (λ share. Fair share (length (owners_of left table)) (length (preference_numbers backends))) (sym share_is)
+      (subst (λ slots. Fair (turns_of (length backends) place size) slots (length (preference_numbers backends))) (sym owners_long)
       (subst (λ count. Fair (turns_of (length backends) place size) size count) (sym numbers_long) fair))

@@ -8,7 +8,7 @@ use Rattle.wire.specs.Fnv.{fnv1a64_of}
 use Rattle.maglev.specs.declared.backend.Backend.{Backend}
 use Rattle.maglev.specs.declared.preference.Preference.{Preference}
 use Rattle.maglev.specs.RingSize.{IsRingSize}
-use Rattle.maglev.specs.Population.{IsPreference, IsPermutationOfSlots, IsBalanced, numbers_of}
+use Rattle.maglev.specs.Population.{IsPreference, IsPermutationOfSlots, IsBalanced, preference_numbers}
 use Rattle.maglev.specs.Hashing.{hashed_preference, hashed_preferences}
 use Rattle.maglev.specs.Given.{given_preference, given_preferences}
 use Rattle.maglev.specs.Refusals.{HasRepeat}
@@ -27,11 +27,11 @@ hashed_fit size backends served =
     All-map (IsPreference size) (hashed_preference size) backends
     (λ k d below. remainders_fit size (get_or backends k d).number (fnv1a64_of (1 ∷ (get_or backends k d).address.0)) (fnv1a64_of (2 ∷ (get_or backends k d).address.0)) (omega (arith, bounds)))
 
-pub numbers_of-hashed : (size : ℕ) (backends : List Backend) → numbers_of (hashed_preferences size backends) ≡ map (λ backend. backend.number) backends
+pub numbers_of-hashed : (size : ℕ) (backends : List Backend) → preference_numbers (hashed_preferences size backends) ≡ map (λ backend. backend.number) backends
 numbers_of-hashed size [] = refl
 numbers_of-hashed size (backend ∷ backends) = ap (λ rest. backend.number ∷ rest) (numbers_of-hashed size backends)
 
-pub numbers_of-given : (given : List (ℕ × ℕ × ℕ)) → numbers_of (given_preferences given) ≡ map (λ (preference : ℕ × ℕ × ℕ). preference.0) given
+pub numbers_of-given : (given : List (ℕ × ℕ × ℕ)) → preference_numbers (given_preferences given) ≡ map (λ (preference : ℕ × ℕ × ℕ). preference.0) given
 numbers_of-given [] = refl
 numbers_of-given (preference ∷ given) = ap (λ rest. preference.0 ∷ rest) (numbers_of-given given)
 

@@ -8,7 +8,7 @@ use Rattle.std.proofs.lemmas.List.Elements.{Contains-append_left, Contains-push}
 use Rattle.std.proofs.lemmas.List.Folds.{sum_by-replicate}
 use Rattle.maglev.specs.declared.preference.Preference.{Preference}
 use Rattle.maglev.specs.Population.{preferred_slot, IsPreference, IsFirstFree, no_backend, backend_of_turn}
-use Rattle.maglev.specs.Turns.{IsFirstMarked, IsRestOf, backend_at, turns_of, AreTurnsTaken}
+use Rattle.maglev.specs.Turns.{IsFirstMarked, IsRestOf, preference_at, turns_of, AreTurnsTaken}
 use Rattle.maglev.proofs.Shares.{counts, counts-same, counts-other, count_by-set, Contains-from_count, turns_of-zero, turns_of-more}
 
 -- a place of what is left is a later place of the whole list
@@ -83,7 +83,7 @@ AreTurnsTaken-start size free backends table room fits all_free =
           let zeros : size * 0 ≡ 0 = omega arith in
           count_of place ∙ all ∙ zeros ∙ sym (turns_of-zero (length backends) place inside);
       same_length = refl;
-      rest = λ place inside. IsRestOf-whole size (backend_at backends place) (fits place no_backend inside);
+      rest = λ place inside. IsRestOf-whole size (preference_at backends place) (fits place no_backend inside);
     }
 
 -- while turns are left, a slot is free
@@ -102,12 +102,12 @@ IsFirstFree-same size preference same taken known slot same_slot p t s first =
 module _ (size free : ℕ) (backends : List Preference) (turns : ℕ) (table : List ℕ) (left : List Preference)
     (state : AreTurnsTaken size free backends turns table left) (room : length backends ≤ free) (before : turns < size)
     (place : ℕ) (is_place : place ≡ turns % length backends) (inside : place < length backends)
-    (slot : ℕ) (marked : IsFirstMarked size (backend_at left place) table free slot) (slot_below : slot < size) where
+    (slot : ℕ) (marked : IsFirstMarked size (preference_at left place) table free slot) (slot_below : slot < size) where
   -- the slots taken, with this turn's
   now_taken : List ℕ
   now_taken = state.taken ++ slot ∷ []
 
-  the_rest : IsRestOf size (backend_at backends place) state.taken (backend_at left place)
+  the_rest : IsRestOf size (preference_at backends place) state.taken (preference_at left place)
   the_rest = state.rest place inside
 
   -- a slot with a place for an owner is not free
@@ -125,25 +125,25 @@ module _ (size free : ℕ) (backends : List Preference) (turns : ℕ) (table : L
       let each : length state.taken ≡ turns = state.each_turn in
       other_slot found.0 (omega (arith, found.1)) (get_or_default state.taken found.0 0 slot found.1 ∙ found.2)
 
-  passed_over : (earlier : ℕ) → earlier < the_rest.passed + marked.choice → Contains state.taken (preferred_slot size (backend_at backends place) earlier)
+  passed_over : (earlier : ℕ) → earlier < the_rest.passed + marked.choice → Contains state.taken (preferred_slot size (preference_at backends place) earlier)
   passed_over earlier sooner =
       ⊎_elim
       (λ long_ago. the_rest.passed_taken earlier long_ago)
       (λ just_now.
       let since : ℕ = earlier - the_rest.passed in
       let sums : the_rest.passed + since ≡ earlier = omega arith in
-      let same : preferred_slot size (backend_at left place) since ≡ preferred_slot size (backend_at backends place) earlier =
-      preferred_slot-rest size (backend_at backends place) state.taken (backend_at left place) the_rest since ∙ ap (preferred_slot size (backend_at backends place)) sums in
-      let found = state.owned_is_taken (preferred_slot size (backend_at left place) since)
-      (mod-lt ((backend_at left place).offset + since * (backend_at left place).skip) (omega arith))
+      let same : preferred_slot size (preference_at left place) since ≡ preferred_slot size (preference_at backends place) earlier =
+      preferred_slot-rest size (preference_at backends place) state.taken (preference_at left place) the_rest since ∙ ap (preferred_slot size (preference_at backends place)) sums in
+      let found = state.owned_is_taken (preferred_slot size (preference_at left place) since)
+      (mod-lt ((preference_at left place).offset + since * (preference_at left place).skip) (omega arith))
       (marked.earlier_owned since (omega arith)) in
       subst (Contains state.taken) same found)
       (cases_lt earlier the_rest.passed)
 
-  preferred_now : slot ≡ preferred_slot size (backend_at backends place) (the_rest.passed + marked.choice)
-  preferred_now = marked.preferred ∙ preferred_slot-rest size (backend_at backends place) state.taken (backend_at left place) the_rest marked.choice
+  preferred_now : slot ≡ preferred_slot size (preference_at backends place) (the_rest.passed + marked.choice)
+  preferred_now = marked.preferred ∙ preferred_slot-rest size (preference_at backends place) state.taken (preference_at left place) the_rest marked.choice
 
-  this_turn : IsFirstFree size (backend_at backends place) state.taken slot
+  this_turn : IsFirstFree size (preference_at backends place) state.taken slot
   this_turn = record { choice = the_rest.passed + marked.choice; preferred = preferred_now; free = not_taken; earlier_taken = passed_over }
 
   taken_long : length state.taken ≡ turns
@@ -169,8 +169,8 @@ module _ (size free : ℕ) (backends : List Preference) (turns : ℕ) (table : L
   next_first_free turn sooner =
       ⊎_elim
       (λ here.
-      let same_backend : backend_at backends place ≡ backend_of_turn backends turn = ap (backend_at backends) (is_place ∙ ap (λ z. z % length backends) (sym here)) in
-      IsFirstFree-same size (backend_at backends place) (backend_of_turn backends turn) state.taken (take turn now_taken) slot (get_or now_taken turn 0)
+      let same_backend : preference_at backends place ≡ backend_of_turn backends turn = ap (preference_at backends) (is_place ∙ ap (λ z. z % length backends) (sym here)) in
+      IsFirstFree-same size (preference_at backends place) (backend_of_turn backends turn) state.taken (take turn now_taken) slot (get_or now_taken turn 0)
       same_backend (all_slots ∙ ap (λ z. take z now_taken) (sym here)) (this_slot ∙ ap (λ z. get_or now_taken z 0) (sym here)) this_turn)
       (λ elsewhere.
       let earlier : turn < turns = omega arith in
@@ -245,35 +245,35 @@ module _ (size free : ℕ) (backends : List Preference) (turns : ℕ) (table : L
   now_left : Preference → Preference
   now_left preference = record { number = preference.number; offset = slot; skip = preference.skip }
 
-  next_rest_here : IsRestOf size (backend_at backends place) now_taken (now_left (backend_at left place))
+  next_rest_here : IsRestOf size (preference_at backends place) now_taken (now_left (preference_at left place))
   unfolding now_left now_taken
   next_rest_here = record {
     passed = the_rest.passed + marked.choice;
     same_number = the_rest.same_number;
     same_skip = the_rest.same_skip;
     begins = preferred_now;
-    passed_taken = λ earlier sooner. Contains-append_left state.taken (slot ∷ []) (preferred_slot size (backend_at backends place) earlier) (passed_over earlier sooner);
+    passed_taken = λ earlier sooner. Contains-append_left state.taken (slot ∷ []) (preferred_slot size (preference_at backends place) earlier) (passed_over earlier sooner);
   }
 
-  next_rest : (p : ℕ) → p < length backends → IsRestOf size (backend_at backends p) now_taken (backend_at (set left place (now_left (backend_at left place))) p)
+  next_rest : (p : ℕ) → p < length backends → IsRestOf size (preference_at backends p) now_taken (preference_at (set left place (now_left (preference_at left place))) p)
   unfolding now_taken
   next_rest p p_inside =
       let same_length : length left ≡ length backends = state.same_length in
       ⊎_elim
       (λ here.
-      let written : now_left (backend_at left place) ≡ backend_at (set left place (now_left (backend_at left place))) place =
-      sym (get_or-set_same left place (now_left (backend_at left place)) no_backend (omega (arith, same_length))) in
-      subst (λ q. IsRestOf size (backend_at backends q) now_taken (backend_at (set left place (now_left (backend_at left place))) q)) (sym here)
-      (subst (IsRestOf size (backend_at backends place) now_taken) written next_rest_here))
+      let written : now_left (preference_at left place) ≡ preference_at (set left place (now_left (preference_at left place))) place =
+      sym (get_or-set_same left place (now_left (preference_at left place)) no_backend (omega (arith, same_length))) in
+      subst (λ q. IsRestOf size (preference_at backends q) now_taken (preference_at (set left place (now_left (preference_at left place))) q)) (sym here)
+      (subst (IsRestOf size (preference_at backends place) now_taken) written next_rest_here))
       (λ elsewhere.
-      let kept : backend_at left p ≡ backend_at (set left place (now_left (backend_at left place))) p =
-      sym (get_or-set_other left place p (now_left (backend_at left place)) no_backend elsewhere) in
-      subst (IsRestOf size (backend_at backends p) now_taken) kept
-      (IsRestOf-more size (backend_at backends p) state.taken (slot ∷ []) (backend_at left p) (state.rest p p_inside)))
+      let kept : preference_at left p ≡ preference_at (set left place (now_left (preference_at left place))) p =
+      sym (get_or-set_other left place p (now_left (preference_at left place)) no_backend elsewhere) in
+      subst (IsRestOf size (preference_at backends p) now_taken) kept
+      (IsRestOf-more size (preference_at backends p) state.taken (slot ∷ []) (preference_at left p) (state.rest p p_inside)))
       (cases_eq p place)
 
   pub AreTurnsTaken-next : AreTurnsTaken size free backends (turns + 1) (set table slot place)
-      (set left place (record { number = (backend_at left place).number; offset = slot; skip = (backend_at left place).skip }))
+      (set left place (record { number = (preference_at left place).number; offset = slot; skip = (preference_at left place).skip }))
   unfolding now_taken now_left
   AreTurnsTaken-next = record {
     taken = now_taken;
@@ -286,7 +286,7 @@ module _ (size free : ℕ) (backends : List Preference) (turns : ℕ) (table : L
     places = next_places;
     free_left = next_free_left;
     shares = next_shares;
-    same_length = length-set left place (now_left (backend_at left place)) ∙ state.same_length;
+    same_length = length-set left place (now_left (preference_at left place)) ∙ state.same_length;
     rest = next_rest;
   }
 
@@ -296,7 +296,7 @@ module _ (size free : ℕ) (backends : List Preference) (turns : ℕ) (table : L
   inside : turns % count < length backends
   inside = rw is_count (mod-lt turns some)
 
-  is_left : preference ≡ backend_at left (turns % count)
+  is_left : preference ≡ preference_at left (turns % count)
   is_left =
       let same_length : length left ≡ length backends = state.same_length in
       let within : turns % count < length left = omega (arith, inside, same_length) in
@@ -306,7 +306,7 @@ module _ (size free : ℕ) (backends : List Preference) (turns : ℕ) (table : L
   pub read_fits : All (IsPreference size) backends → IsPreference size preference
   read_fits fits =
       subst (IsPreference size) (sym is_left)
-      (IsPreference-rest size (backend_at backends (turns % count)) state.taken (backend_at left (turns % count)) (state.rest (turns % count) inside)
+      (IsPreference-rest size (preference_at backends (turns % count)) state.taken (preference_at left (turns % count)) (state.rest (turns % count) inside)
       (fits (turns % count) no_backend inside))
 
   -- one turn, as the code takes it

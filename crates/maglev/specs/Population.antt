@@ -49,8 +49,8 @@ abbrev pub IsOnlyPopulation : ℕ → List Preference → List ℕ → Type 0
 IsOnlyPopulation size backends owners = (others : List ℕ) → IsPopulation size backends others → others ≡ owners
 
 -- the numbers of the backends, in the order of the list
-abbrev pub numbers_of : List Preference → List ℕ
-numbers_of backends = map (λ backend. backend.number) backends
+abbrev pub preference_numbers : List Preference → List ℕ
+preference_numbers backends = map (λ backend. backend.number) backends
 
 -- how many slots a backend owns
 abbrev pub share_of : ℕ → List ℕ → ℕ

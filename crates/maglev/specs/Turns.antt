@@ -20,8 +20,8 @@ pub record IsRestOf (size : ℕ) (preference : Preference) (taken : List ℕ) (l
   pub passed_taken : (earlier : ℕ) → earlier < passed → Contains taken (preferred_slot size preference earlier)
 
 -- the backend in this place of the list
-abbrev pub backend_at : List Preference → ℕ → Preference
-backend_at backends place = slice_index_or backends place no_backend
+abbrev pub preference_at : List Preference → ℕ → Preference
+preference_at backends place = slice_index_or backends place no_backend
 
 -- how many of this many turns belong to the backend in this place
 abbrev pub turns_of : ℕ → ℕ → ℕ → ℕ
@@ -43,8 +43,8 @@ pub record AreTurnsTaken (size free : ℕ) (backends : List Preference) (turns :
   pub shares : (place : ℕ) → place < length backends → count_by (λ owner. owner == place) table ≡ turns_of (length backends) place turns
   -- what is left of the preferences
   pub same_length : length left ≡ length backends
-  pub rest : (place : ℕ) → place < length backends → IsRestOf size (backend_at backends place) taken (backend_at left place)
+  pub rest : (place : ℕ) → place < length backends → IsRestOf size (preference_at backends place) taken (preference_at left place)
 
 -- the numbers of the owners, for a table of their places
 abbrev pub owners_of : List Preference → List ℕ → List ℕ
-owners_of backends table = map (λ place. (backend_at backends place).number) table
+owners_of backends table = map (λ place. (preference_at backends place).number) table

@@ -1,7 +1,7 @@
 //! Population: backends take turns until each slot of the table has an owner.
 ghost use Rattle.std.specs.Prelude.{◌≡◌, ℕ, ◌≢◌, ◌+◌, ◌%◌, ◌<◌, ◌≤◌, length, replicate, Contains, All, AllPairs, IfOk};
 ghost use Rattle.maglev.specs.RingSize.{IsRingSize};
-ghost use Rattle.maglev.specs.Population.{IsPreference, IsPopulation, IsOnlyPopulation, IsBalanced, numbers_of};
+ghost use Rattle.maglev.specs.Population.{IsPreference, IsPopulation, IsOnlyPopulation, IsBalanced, preference_numbers};
 ghost use Rattle.maglev.specs.Turns.{IsFirstMarked, AreTurnsTaken, owners_of};
 
 use crate::preference::Preference;
@@ -85,9 +85,9 @@ pub fn populate(
     requires fits { All (IsPreference size) backends.items }
     ensures population { IfOk result (λ owners. IsPopulation size backends.items owners.items) }
     ensures only_one { IfOk result (λ owners. IsOnlyPopulation size backends.items owners.items) }
-    ensures owned { IfOk result (λ owners. All (Contains (numbers_of backends.items)) owners.items) }
-    ensures balanced { AllPairs (λ number other. number ≢ other) (numbers_of backends.items) →
-        IfOk result (λ owners. IsBalanced (numbers_of backends.items) owners.items) }
+    ensures owned { IfOk result (λ owners. All (Contains (preference_numbers backends.items)) owners.items) }
+    ensures balanced { AllPairs (λ number other. number ≢ other) (preference_numbers backends.items) →
+        IfOk result (λ owners. IsBalanced (preference_numbers backends.items) owners.items) }
 {
     let mut table = vec![in alloc; FREE; size as usize]?;
     take_turns(&mut table, &mut backends, size);

@@ -10,14 +10,14 @@ use Rattle.std.proofs.Math.Nat.{mul-le-mul_right}
 use Rattle.map_cells.specs.declared.retired.Retired.{Retired}
 use Rattle.map_cells.specs.Blocks.{block_of}
 use Rattle.map_cells.specs.CellTable.{retired_at, unused_retired, IsLowestStamp}
-use Rattle.map_cells.specs.Places.{no_place, place_at, cell_in, cells_in, kept_count, IsAllotted, IsWaiting, IsTable}
+use Rattle.map_cells.specs.Places.{no_place, place_at, cell_in_block, cells_in, kept_count, IsAllotted, IsWaiting, IsTableOfCells}
 
 -- ---- the cells by their places
 
-cell_in_place : (size : ℕ) (bytes : List ℕ) (place : ℕ) → place ≢ no_place → cell_in size bytes place ≡ Some (block_of size bytes place)
+cell_in_place : (size : ℕ) (bytes : List ℕ) (place : ℕ) → place ≢ no_place → cell_in_block size bytes place ≡ Some (block_of size bytes place)
 cell_in_place size bytes place some = elim (eqb_tells place no_place) [ inl is ↦ absurd (some is.1) | inr is ↦ rw is.0 refl ]
 
-cell_in_none : (size : ℕ) (bytes : List ℕ) (place : ℕ) → place ≡ no_place → cell_in size bytes place ≡ None
+cell_in_none : (size : ℕ) (bytes : List ℕ) (place : ℕ) → place ≡ no_place → cell_in_block size bytes place ≡ None
 cell_in_none size bytes place none = rw (eq-eqb place no_place none) refl
 
 cell_there : (size : ℕ) (bytes place_of : List ℕ) (id : ℕ) → place_at place_of id ≢ no_place → get_or (cells_in size bytes place_of) id None ≡ Some (block_of size bytes (place_at place_of id))
@@ -46,7 +46,7 @@ pub record Stands (size : ℕ) (bytes place_of : List ℕ) (id : ℕ) : Type 0 w
   pub within : place_at place_of id * size + size ≤ length bytes
   pub is_cell : get_or (cells_in size bytes place_of) id None ≡ Some (block_of size bytes (place_at place_of id))
 
-pub stands : (size places ids : ℕ) (bytes place_of free : List ℕ) (retired : List Retired) (a b c : ℕ) → IsTable size places ids bytes place_of free retired a b c → (id : ℕ) → IsTrue (is_some (get_or (cells_in size bytes place_of) id None)) → Stands size bytes place_of id
+pub stands : (size places ids : ℕ) (bytes place_of free : List ℕ) (retired : List Retired) (a b c : ℕ) → IsTableOfCells size places ids bytes place_of free retired a b c → (id : ℕ) → IsTrue (is_some (get_or (cells_in size bytes place_of) id None)) → Stands size bytes place_of id
 stands size places ids bytes place_of free retired a b c table id kept =
     let some = kept_place size bytes place_of id kept in
     let ends = end_of_place (place_at place_of id) places size (table.allotted.in_range id some) in
@@ -60,7 +60,7 @@ stands size places ids bytes place_of free retired a b c table id kept =
 -- ---- bytes written at one place
 
 module _ (size : ℕ) (bytes written : List ℕ) (n : ℕ) (elsewhere : (m : ℕ) → m ≢ n → block_of size written m ≡ block_of size bytes m) where
-  same_cell : (place : ℕ) → place ≢ n → cell_in size written place ≡ cell_in size bytes place
+  same_cell : (place : ℕ) → place ≢ n → cell_in_block size written place ≡ cell_in_block size bytes place
   same_cell place apart = elim (cases_Bool (place == no_place)) [ inl is ↦ rw is refl | inr is ↦ rw is (ap Some (elsewhere place apart)) ]
 
   pub cells_same : (place_of : List ℕ) → ((id : ℕ) → id < length place_of → place_at place_of id ≢ n) → cells_in size written place_of ≡ cells_in size bytes place_of
@@ -157,7 +157,7 @@ module _ (places : ℕ) (few : places < no_place) (place_of free : List ℕ) (p 
 
   -- the cells there are where they were, and the new one is behind them
   pub cells_taken : (size : ℕ) (bytes written value : List ℕ) → ((m : ℕ) → m ≢ p → block_of size written m ≡ block_of size bytes m) → block_of size written p ≡ value → cells_in size written (place_of ++ p ∷ []) ≡ cells_in size bytes place_of ++ Some value ∷ []
-  cells_taken size bytes written value elsewhere here = map-append (cell_in size written) place_of (p ∷ []) ∙ rw (cells_same size bytes written p elsewhere place_of (λ id lt. taken_unused id), cell_in_place size written p taken_some, here) refl
+  cells_taken size bytes written value elsewhere here = map-append (cell_in_block size written) place_of (p ∷ []) ∙ rw (cells_same size bytes written p elsewhere place_of (λ id lt. taken_unused id), cell_in_place size written p taken_some, here) refl
 
 pub waiting_taken : (place_of : List ℕ) (p : ℕ) (retired : List Retired) → IsWaiting place_of retired → IsWaiting (place_of ++ p ∷ []) retired
 waiting_taken place_of p retired waiting = record {
@@ -261,7 +261,7 @@ waiting_freed place_of first others waiting = record {
 }
 
 pub cells_freed : (size : ℕ) (bytes place_of : List ℕ) (id : ℕ) → cells_in size bytes (set place_of id no_place) ≡ set (cells_in size bytes place_of) id None
-cells_freed size bytes place_of id = map-set (cell_in size bytes) place_of id no_place
+cells_freed size bytes place_of id = map-set (cell_in_block size bytes) place_of id no_place
 
 -- ---- a kept cell is written
 

@@ -21,23 +21,23 @@ pub record CellTable : Type 0 where
   -- the cells that were retired and are not freed, the oldest first
   pub retired : List Retired
 
-abbrev pub cell_at : CellTable → ℕ → Option (List ℕ)
-cell_at table id = slice_index_or table.cells id None
+abbrev pub cell_of_id : CellTable → ℕ → Option (List ℕ)
+cell_of_id table id = slice_index_or table.cells id None
 
 -- the cell was created and is not freed
-abbrev pub is_kept : CellTable → ℕ → Bool
-is_kept table id = is_some (cell_at table id)
+abbrev pub is_kept_id : CellTable → ℕ → Bool
+is_kept_id table id = is_some (cell_of_id table id)
 
 -- the bytes of a kept cell
 abbrev pub bytes_of_cell : Option (List ℕ) → List ℕ
 bytes_of_cell (Some bytes) = bytes
 bytes_of_cell None = []
 
-abbrev pub bytes_at : CellTable → ℕ → List ℕ
-bytes_at table id = bytes_of_cell (cell_at table id)
+abbrev pub bytes_of_id : CellTable → ℕ → List ℕ
+bytes_of_id table id = bytes_of_cell (cell_of_id table id)
 
-abbrev pub number_at : CellTable → ℕ → ℕ → ℕ → ℕ
-number_at table id offset size = number_of_bytes (take size (drop offset (bytes_at table id)))
+abbrev pub cell_number_at : CellTable → ℕ → ℕ → ℕ → ℕ
+cell_number_at table id offset size = number_of_bytes (take size (drop offset (bytes_of_id table id)))
 
 -- ---- the table after each call
 
@@ -52,12 +52,12 @@ abbrev pub with_bytes : CellTable → ℕ → List ℕ → CellTable
 with_bytes table id bytes = record table { cells = slice_set table.cells id (Some bytes) }
 
 abbrev pub with_number : CellTable → ℕ → ℕ → ℕ → ℕ → CellTable
-with_number table id offset size value = with_bytes table id (overwritten_at offset (bytes_of_number size value) (bytes_at table id))
+with_number table id offset size value = with_bytes table id (overwritten_at offset (bytes_of_number size value) (bytes_of_id table id))
 
 -- the number that these bytes make is changed by an atomic operation
 abbrev pub with_change : CellTable → ℕ → ℕ → ℕ → AtomicOp → ℕ → ℕ → CellTable
 with_change table id offset size operation operand expected =
-    with_number table id offset size (atomic_result (8 * size) operation (number_at table id offset size) operand expected)
+    with_number table id offset size (atomic_result (8 * size) operation (cell_number_at table id offset size) operand expected)
 
 abbrev pub with_retired : CellTable → ℕ → ℕ → CellTable
 with_retired table id stamp = record table { retired = table.retired ++ (record { id = id; stamp = stamp }) ∷ [] }

@@ -13,11 +13,11 @@ no_place = 4294967295
 abbrev pub place_at : List ℕ → ℕ → ℕ
 place_at place_of id = slice_index_or place_of id no_place
 
-abbrev pub cell_in : ℕ → List ℕ → ℕ → Option (List ℕ)
-cell_in size bytes place = if place == no_place then None else Some (block_of size bytes place)
+abbrev pub cell_in_block : ℕ → List ℕ → ℕ → Option (List ℕ)
+cell_in_block size bytes place = if place == no_place then None else Some (block_of size bytes place)
 
 abbrev pub cells_in : ℕ → List ℕ → List ℕ → List (Option (List ℕ))
-cells_in size bytes place_of = map (cell_in size bytes) place_of
+cells_in size bytes place_of = map (cell_in_block size bytes) place_of
 
 -- what a contract sees of the fields of a table
 abbrev pub cell_table : ℕ → ℕ → ℕ → List ℕ → List ℕ → List ℕ → List Retired → CellTable
@@ -48,7 +48,7 @@ pub record IsWaiting (place_of : List ℕ) (retired : List Retired) : Type 0 whe
   pub rising : (k m : ℕ) → k < m → m < length retired → (retired_at retired k).stamp ≤ (retired_at retired m).stamp
 
 -- the fields of a table, with the room that was made for them
-pub record IsTable (size places ids : ℕ) (bytes place_of free : List ℕ) (retired : List Retired)
+pub record IsTableOfCells (size places ids : ℕ) (bytes place_of free : List ℕ) (retired : List Retired)
     (ids_reserved places_reserved retired_reserved : ℕ) : Type 0 where
   pub small_size : size ≤ 256
   pub few : places < no_place

@@ -7,7 +7,7 @@ ghost use Rattle.wire.specs.FrameView.{overwritten_at};
 ghost use Rattle.semantics.specs.LittleEndian.{bytes_of_number};
 ghost use Rattle.map_cells.specs.Blocks.{block_of};
 ghost use Rattle.map_cells.specs.Places.{place_at};
-ghost use Rattle.map_cells.specs.CellTable.{CellTable, empty_table, is_kept, bytes_at, number_at, with_new_cell, with_bytes, with_number};
+ghost use Rattle.map_cells.specs.CellTable.{CellTable, empty_table, is_kept_id, bytes_of_id, cell_number_at, with_new_cell, with_bytes, with_number};
 ghost use Rattle.map_cells.specs.CellTable.{with_change, with_retired};
 ghost use Rattle.map_cells.specs.CellTable.{is_below, freed_below, oldest_stamp, without_oldest, IsLowestStamp, IsNotRetired};
 ghost use Rattle.map_cells.specs.CellTable.{IsLatestStamp};
@@ -43,13 +43,13 @@ impl Model for Cells {
     ghost use Rattle.std.specs.Prelude.{vec_capacity};
     ghost use Rattle.std.specs.VecDeque.{deque_capacity};
     ghost use Rattle.map_cells.specs.CellTable.{CellTable};
-    ghost use Rattle.map_cells.specs.Places.{IsTable, cell_table};
+    ghost use Rattle.map_cells.specs.Places.{IsTableOfCells, cell_table};
 
     ghost Value = { CellTable };
 
     ghost view = { λ t. cell_table t.size t.places t.ids t.bytes.items t.place_of.items t.free.items t.retired.items };
 
-    ghost invariant = { λ t. IsTable t.size t.places t.ids t.bytes.items t.place_of.items t.free.items t.retired.items
+    ghost invariant = { λ t. IsTableOfCells t.size t.places t.ids t.bytes.items t.place_of.items t.free.items t.retired.items
         (vec_capacity t.place_of) (vec_capacity t.free) (deque_capacity t.retired) };
 }
 
@@ -95,7 +95,7 @@ impl Cells {
 
     /// Has a kept cell wait until no run is left that entered before the stamp.
     pub fn retire(&mut self, id: u64, stamp: u64)
-        requires kept { IsTrue (is_kept self.old id) }
+        requires kept { IsTrue (is_kept_id self.old id) }
         requires once { IsNotRetired self.old id }
         requires room { length self.old.retired < self.old.places }
         requires latest { IsLatestStamp self.old stamp }
@@ -107,8 +107,8 @@ impl Cells {
 
     /// The bytes of a kept cell.
     pub fn bytes(&self, id: u64) -> &[u8]
-        requires { IsTrue (is_kept self.now id) }
-        ensures bytes { result.now ≡ bytes_at self.now id }
+        requires { IsTrue (is_kept_id self.now id) }
+        ensures bytes { result.now ≡ bytes_of_id self.now id }
         ensures size { length result.now ≡ self.now.value_size }
     {
         let place = place_in(&self.place_of, id);
@@ -117,7 +117,7 @@ impl Cells {
 
     /// Writes all bytes of a kept cell.
     pub fn write(&mut self, id: u64, bytes: &[u8])
-        requires kept { IsTrue (is_kept self.old id) }
+        requires kept { IsTrue (is_kept_id self.old id) }
         requires size { length bytes.now ≡ self.old.value_size }
         ensures { self.new ≡ with_bytes self.old id bytes.now }
     {
@@ -127,10 +127,10 @@ impl Cells {
 
     /// The number that `size` bytes of a kept cell make, the lowest byte first.
     pub fn load(&self, id: u64, offset: usize, size: usize) -> u64
-        requires kept { IsTrue (is_kept self.now id) }
+        requires kept { IsTrue (is_kept_id self.now id) }
         requires within { offset + size ≤ self.now.value_size }
         requires size { size ≤ 8 }
-        ensures number { result ≡ number_at self.now id offset size }
+        ensures number { result ≡ cell_number_at self.now id offset size }
         ensures below { result < 256 ^ size }
     {
         let bytes = self.bytes(id);
@@ -139,7 +139,7 @@ impl Cells {
 
     /// Writes a number into `size` bytes of a kept cell, the lowest byte first.
     pub fn store(&mut self, id: u64, offset: usize, size: usize, value: u64)
-        requires kept { IsTrue (is_kept self.old id) }
+        requires kept { IsTrue (is_kept_id self.old id) }
         requires within { offset + size ≤ self.old.value_size }
         requires size { size ≤ 8 }
         ensures { self.new ≡ with_number self.old id offset size value }
@@ -158,12 +158,12 @@ impl Cells {
         operand: u64,
         expected: u64,
     ) -> u64
-        requires kept { IsTrue (is_kept self.old id) }
+        requires kept { IsTrue (is_kept_id self.old id) }
         requires within { offset + size ≤ self.old.value_size }
         requires size { (size ≡ 4) ⊎ (size ≡ 8) }
         requires operand { operand < 256 ^ size }
         requires expected { expected < 256 ^ size }
-        ensures old { result ≡ number_at self.old id offset size }
+        ensures old { result ≡ cell_number_at self.old id offset size }
         ensures table { self.new ≡ with_change self.old id offset size operation operand expected }
     {
         let old = self.load(id, offset, size);

@@ -23,19 +23,19 @@ abbrev pub program_over : Maps → Program
 program_over served = record { code = []; maps = served.maps; shards = served.shards }
 
 -- the shard of a key
-abbrev pub shard_of : Maps → ℕ → List ℕ → ℕ
-shard_of served map key = shard_in_map (slice_get served.maps map) served.shards map key
+abbrev pub served_shard : Maps → ℕ → List ℕ → ℕ
+served_shard served map key = shard_in_map (slice_get served.maps map) served.shards map key
 
 -- ---- the calls
 
 abbrev pub lookup_call : Maps → ℕ → List ℕ → Call
-lookup_call served map key = Lookup (shard_of served map key) key
+lookup_call served map key = Lookup (served_shard served map key) key
 
 abbrev pub update_call : Maps → ℕ → List ℕ → List ℕ → ℕ → Call
-update_call served map key value flags = Update (shard_of served map key) key value flags
+update_call served map key value flags = Update (served_shard served map key) key value flags
 
 abbrev pub delete_call : Maps → ℕ → List ℕ → Call
-delete_call served map key = Delete (shard_of served map key) key
+delete_call served map key = Delete (served_shard served map key) key
 
 abbrev pub atomic_call : CellRef → ℕ → ℕ → AtomicOp → ℕ → ℕ → Call
 atomic_call cell offset size op value expected = Atomic cell offset size (atomic_code op) value expected

@@ -6,12 +6,12 @@ use Rattle.map_updates.specs.declared.reading.Mistake.{Mistake}
 use Rattle.map_updates.specs.declared.reading.Mistake.TheVariants.{Map, Key, Value, Memory}
 use Rattle.map_updates.specs.declared.update.MapUpdate.{MapUpdate}
 
-abbrev pub number_in : List ℕ → ℕ
-number_in text = digits_value 10 (without_leading_plus text)
+abbrev pub numeral_value : List ℕ → ℕ
+numeral_value text = digits_value 10 (without_leading_plus text)
 
 -- the text writes a number of 32 bits
-abbrev pub IsNumber : List ℕ → Type 0
-IsNumber text = IsNumeral 10 (without_leading_plus text) × (number_in text < 2 ^ 32)
+abbrev pub IsMapNumber : List ℕ → Type 0
+IsMapNumber text = IsNumeral 10 (without_leading_plus text) × (numeral_value text < 2 ^ 32)
 
 -- the text writes these bytes, this many at most
 abbrev pub IsHex : ℕ → List ℕ → List ℕ → Type 0
@@ -27,14 +27,14 @@ IsNoHex most text = (bytes : List ℕ) → ¬ IsHex most text bytes
 
 -- the words say this update
 pub record IsWritten (map key value : List ℕ) (update : MapUpdate) : Type 0 where
-  pub is_number : IsNumber map
-  pub map_is : update.map ≡ number_in map
+  pub is_number : IsMapNumber map
+  pub map_is : update.map ≡ numeral_value map
   pub key_is : IsHex 32 key update.key
   pub value_is : IsHex 256 value update.value
 
 -- the words say none: the first mistake in them
-abbrev pub IsMistaken : List ℕ → List ℕ → List ℕ → Mistake → Type 0
-IsMistaken map key value Map = ¬ IsNumber map
-IsMistaken map key value Key = IsNumber map × IsNoHex 32 key
-IsMistaken map key value Value = IsNumber map × ((bytes : List ℕ) × IsHex 32 key bytes) × IsNoHex 256 value
-IsMistaken map key value Memory = Unit {0}
+abbrev pub AreMistakenWords : List ℕ → List ℕ → List ℕ → Mistake → Type 0
+AreMistakenWords map key value Map = ¬ IsMapNumber map
+AreMistakenWords map key value Key = IsMapNumber map × IsNoHex 32 key
+AreMistakenWords map key value Value = IsMapNumber map × ((bytes : List ℕ) × IsHex 32 key bytes) × IsNoHex 256 value
+AreMistakenWords map key value Memory = Unit {0}

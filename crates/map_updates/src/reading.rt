@@ -2,7 +2,7 @@
 
 ghost use Rattle.std.specs.Prelude.{◌≡◌, ◌⊎◌, Ok, IfOk, IfErr};
 ghost use Rattle.hex.specs.Hex.{decode_of};
-ghost use Rattle.map_updates.specs.UpdateWords.{IsWritten, IsMistaken, IsNumber, number_in, IsHex, IsNoHex, IsUndecoded};
+ghost use Rattle.map_updates.specs.UpdateWords.{IsWritten, AreMistakenWords, IsMapNumber, numeral_value, IsHex, IsNoHex, IsUndecoded};
 ghost use Rattle.map_updates.specs.declared.reading.Mistake.TheVariants as mistakes;
 
 use crate::update::MapUpdate;
@@ -31,7 +31,7 @@ pub enum Mistake {
 /// The update that three words say: a map's place in decimal, a key and a value in hexadecimal. Of several mistakes the first is returned.
 pub fn update_of(alloc: Global, map: &str, key: &str, value: &str) -> Result<MapUpdate, Mistake>
     ensures read { IfOk result (IsWritten map.now key.now value.now) }
-    ensures mistaken { IfErr result (IsMistaken map.now key.now value.now) }
+    ensures mistaken { IfErr result (AreMistakenWords map.now key.now value.now) }
 {
     let map = number_of(map)?;
     let key = key_of(alloc, key)?;
@@ -41,8 +41,8 @@ pub fn update_of(alloc: Global, map: &str, key: &str, value: &str) -> Result<Map
 
 /// The number that a decimal numeral writes.
 fn number_of(text: &str) -> Result<u32, Mistake>
-    ensures read { IfOk result (λ number. IsNumber text.now × (number ≡ number_in text.now)) }
-    ensures mistaken { IfErr result (λ mistake. (mistake ≡ mistakes.Map) × ¬ IsNumber text.now) }
+    ensures read { IfOk result (λ number. IsMapNumber text.now × (number ≡ numeral_value text.now)) }
+    ensures mistaken { IfErr result (λ mistake. (mistake ≡ mistakes.Map) × ¬ IsMapNumber text.now) }
 {
     match text.parse::<u32>() {
         Ok(number) => Ok(number),

@@ -22,13 +22,13 @@ namesakes_below about zero = []
 namesakes_below about (suc number) = namesakes_below about number ++ namesake_text about number
 
 -- the line of these numbers
-abbrev pub line_of : List ℕ → List ℕ
-line_of numbers = codes "Other faults of this name:" ++ (numbers ++ codes "\n")
+abbrev pub numbers_line : List ℕ → List ℕ
+numbers_line numbers = codes "Other faults of this name:" ++ (numbers ++ codes "\n")
 
 -- the same, if there are any
 abbrev pub namesakes_line : List ℕ → List ℕ
 namesakes_line [] = []
-namesakes_line (first ∷ rest) = line_of (first ∷ rest)
+namesakes_line (first ∷ rest) = numbers_line (first ∷ rest)
 
 -- what is printed of a fault: its paragraph, and below it the number of each other fault that has its name, rising; each fault has a number
 -- below 96

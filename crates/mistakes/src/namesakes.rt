@@ -1,7 +1,7 @@
 //! What is printed of a fault, and of others that have its name.
 
 ghost use Rattle.std.specs.Prelude.{◌≡◌, ◌++◌, ◌<◌, ◌^◌, true, IfOk, OnOk, string_bytes};
-ghost use Rattle.mistakes.specs.Namesakes.{explained_text, is_namesake, is_namesake_of, line_of, namesake_text, namesakes_below, namesakes_line};
+ghost use Rattle.mistakes.specs.Namesakes.{explained_text, is_namesake, is_namesake_of, numbers_line, namesake_text, namesakes_below, namesakes_line};
 
 use faults::Explanation;
 use std::alloc::{AllocError, Global};
@@ -56,7 +56,7 @@ fn namesakes_below(alloc: Global, about: &Explanation, most: u32) -> Result<Stri
 
 /// The line of these numbers.
 fn line_of(alloc: Global, numbers: &str) -> Result<String, AllocError>
-    ensures { IfOk result (λ line. string_bytes line ≡ line_of numbers.now) }
+    ensures { IfOk result (λ line. string_bytes line ≡ numbers_line numbers.now) }
 {
     format!(in alloc; "Other faults of this name:{numbers}\n")
 }

@@ -9,7 +9,8 @@ use Rattle.std.proofs.lemmas.Slice.Eq.{bytes_eq-Decides}
 use Rattle.plain_maps.specs.declared.buckets.Bucket.{Bucket}
 use Rattle.plain_maps.specs.Keyed.{key_of, entries_of, numbers_there, IsAt, IsGapFor}
 use Rattle.plain_maps.specs.Hashing.{home_of}
-use Rattle.plain_maps.specs.Buckets.{nothing, empty_bucket, Stands, placed, cleared, cleared_slot, There, InOrder, bucket_at, home, homed, one_homed, IsIndex}
+use Rattle.plain_maps.specs.Buckets.{nothing, empty_bucket, StandsInBucket, placed, cleared, cleared_slot, There, InOrder, bucket_at, home, homed, one_homed}
+use Rattle.plain_maps.specs.Buckets.{IsIndex}
 use Rattle.plain_maps.proofs.Homes.{in_insert_new, in_insert_old, insert_from, remove_from, in_remove, homed_insert, homed_remove, homed_agree, homed_some, there_below, few_in_order, count_more, count_less, numbers_few, homed_few}
 use Rattle.plain_maps.proofs.Lookups.{empty_order}
 use Rattle.plain_maps.proofs.Edits.{order_after, order_kept, order_less, other_number}
@@ -17,7 +18,7 @@ use Rattle.plain_maps.proofs.Found.{there_lookup, lookup_there, lookup_none, rea
 
 -- ---- one bucket
 
-pub placed_stands : (n : ℕ) (b c : Bucket) → placed n b ≡ Some c → Stands n c
+pub placed_stands : (n : ℕ) (b c : Bucket) → placed n b ≡ Some c → StandsInBucket n c
 placed_stands n b c put = elim (eqb_tells b.first nothing) [
   | inl first ↦ (let is = rw first.0 at put in let same : record b { first = n } ≡ c = cc is in inl (sym (ap (λ (x : Bucket). x.first) same)))
   | inr no_first ↦ elim (eqb_tells b.second nothing) [
@@ -29,7 +30,7 @@ placed_stands n b c put = elim (eqb_tells b.first nothing) [
   ]
 ]
 
-placed_others : (n : ℕ) (b c : Bucket) → placed n b ≡ Some c → (m : ℕ) → ((Stands m c → (m ≡ n) ⊎ Stands m b) × (m ≢ nothing → Stands m b → Stands m c)) × (c.over ≡ b.over)
+placed_others : (n : ℕ) (b c : Bucket) → placed n b ≡ Some c → (m : ℕ) → ((StandsInBucket m c → (m ≡ n) ⊎ StandsInBucket m b) × (m ≢ nothing → StandsInBucket m b → StandsInBucket m c)) × (c.over ≡ b.over)
 placed_others n b c put m = elim (eqb_tells b.first nothing) [
   | inl first ↦ (let is = rw first.0 at put in
       let same : record b { first = n } ≡ c = cc is in
@@ -83,7 +84,7 @@ cleared_slot_kept n m slot apart is = elim (eqb_tells slot n) [
   | inr other ↦ rw other.0 is
 ]
 
-cleared_from : (n : ℕ) (b : Bucket) (m : ℕ) → m ≢ nothing → Stands m (cleared n b) → Stands m b × (m ≢ n)
+cleared_from : (n : ℕ) (b : Bucket) (m : ℕ) → m ≢ nothing → StandsInBucket m (cleared n b) → StandsInBucket m b × (m ≢ n)
 cleared_from n b m some stands = elim stands [
   | inl e ↦ (let h = cleared_slot_other n m b.first some e in (inl h.0, h.1))
   | inr r ↦ elim r [
@@ -92,7 +93,7 @@ cleared_from n b m some stands = elim stands [
   ]
 ]
 
-cleared_keeps : (n : ℕ) (b : Bucket) (m : ℕ) → m ≢ n → Stands m b → Stands m (cleared n b)
+cleared_keeps : (n : ℕ) (b : Bucket) (m : ℕ) → m ≢ n → StandsInBucket m b → StandsInBucket m (cleared n b)
 cleared_keeps n b m apart stands = elim stands [
   | inl e ↦ inl (cleared_slot_kept n m b.first apart e)
   | inr r ↦ elim r [ inl e ↦ inr (inl (cleared_slot_kept n m b.second apart e)) | inr e ↦ inr (inr (cleared_slot_kept n m b.third apart e)) ]
@@ -201,10 +202,10 @@ module _ (size capacity : ℕ) (keys : List ℕ) (flags : List Bool) (order : Li
 
   -- in its bucket
   module _ (c : Bucket) (put : placed n (bucket_at buckets (home_of (length buckets) key)) ≡ Some c) where
-    put_bucketed : (b m : ℕ) → b < length buckets → Stands m (bucket_at (set buckets h c) b) → m ≢ nothing → There (set flags n true) m × (home size written (length buckets) m ≡ b)
+    put_bucketed : (b m : ℕ) → b < length buckets → StandsInBucket m (bucket_at (set buckets h c) b) → m ≢ nothing → There (set flags n true) m × (home size written (length buckets) m ≡ b)
     unfolding h
     put_bucketed b m lt stands some = elim (cases_eq b (home_of (length buckets) key)) [
-      | inl same ↦ (let moved : Stands m c = rw (same, at_home buckets (home_of (length buckets) key) within c) at stands in
+      | inl same ↦ (let moved : StandsInBucket m c = rw (same, at_home buckets (home_of (length buckets) key) within c) at stands in
           elim ((placed_others n (bucket_at buckets (home_of (length buckets) key)) c put m).0.0 moved) [
             | inl new ↦ (ap (λ (k : ℕ). get_or (set flags n true) k false) new ∙ there_new, ap (home size written (length buckets)) new ∙ (home_new ∙ sym same))
             | inr old ↦ (let was = ok.bucketed (home_of (length buckets) key) m within old some in (there_keep m was.0, home_keep m was.0 ∙ (was.1 ∙ sym same)))
@@ -213,10 +214,10 @@ module _ (size capacity : ℕ) (keys : List ℕ) (flags : List Bool) (order : Li
           let was = ok.bucketed b m lt moved some in (there_keep m was.0, home_keep m was.0 ∙ was.1))
     ]
 
-    put_exclusive : (b i : ℕ) → b < length buckets → i < length order → Stands (get_or order i 0) (bucket_at (set buckets h c) b) → ⊥
+    put_exclusive : (b i : ℕ) → b < length buckets → i < length order → StandsInBucket (get_or order i 0) (bucket_at (set buckets h c) b) → ⊥
     unfolding h
     put_exclusive b i lt less stands = elim (cases_eq b (home_of (length buckets) key)) [
-      | inl same ↦ (let moved : Stands (get_or order i 0) c = rw (same, at_home buckets (home_of (length buckets) key) within c) at stands in
+      | inl same ↦ (let moved : StandsInBucket (get_or order i 0) c = rw (same, at_home buckets (home_of (length buckets) key) within c) at stands in
           elim ((placed_others n (bucket_at buckets (home_of (length buckets) key)) c put (get_or order i 0)).0.0 moved) [
             | inl new ↦ number_apart i less new
             | inr old ↦ ok.exclusive (home_of (length buckets) key) i within less old
@@ -224,13 +225,13 @@ module _ (size capacity : ℕ) (keys : List ℕ) (flags : List Bool) (order : Li
       | inr apart ↦ (let moved = rw (at_other buckets (home_of (length buckets) key) within c b apart) at stands in ok.exclusive b i lt less moved)
     ]
 
-    put_covered : (m : ℕ) → There (set flags n true) m → Stands m (bucket_at (set buckets h c) (home size written (length buckets) m)) ⊎ InOrder order m
+    put_covered : (m : ℕ) → There (set flags n true) m → StandsInBucket m (bucket_at (set buckets h c) (home size written (length buckets) m)) ⊎ InOrder order m
     unfolding h
     put_covered m there = elim (there_from m there) [
       | inl new ↦ inl (rw (new, home_new, at_home buckets (home_of (length buckets) key) within c) (placed_stands n (bucket_at buckets (home_of (length buckets) key)) c put))
       | inr old ↦ elim (ok.covered m old) [
         | inl stands ↦ inl (rw (home_keep m old) (elim (cases_eq (home size keys (length buckets) m) (home_of (length buckets) key)) [
-          | inl same ↦ (let was : Stands m (bucket_at buckets (home_of (length buckets) key)) = rw same at stands in
+          | inl same ↦ (let was : StandsInBucket m (bucket_at buckets (home_of (length buckets) key)) = rw same at stands in
               rw (same, at_home buckets (home_of (length buckets) key) within c) ((placed_others n (bucket_at buckets (home_of (length buckets) key)) c put m).0.1 (real_there size capacity keys flags order places buckets ok m old) was))
           | inr apart ↦ rw (at_other buckets (home_of (length buckets) key) within c (home size keys (length buckets) m) apart) stands
         ]))
@@ -275,30 +276,30 @@ module _ (size capacity : ℕ) (keys : List ℕ) (flags : List Bool) (order : Li
     real_new : n ≢ nothing
     real_new none = omega (arith, small, none, ok.few)
 
-    stands_back : (b m : ℕ) → Stands m (bucket_at (set buckets (home_of (length buckets) key) more) b) → Stands m (bucket_at buckets b)
+    stands_back : (b m : ℕ) → StandsInBucket m (bucket_at (set buckets (home_of (length buckets) key) more) b) → StandsInBucket m (bucket_at buckets b)
     stands_back b m stands = elim (cases_eq b (home_of (length buckets) key)) [
       | inl same ↦ rw same (rw (same, at_home buckets (home_of (length buckets) key) within more) at stands)
       | inr apart ↦ rw (at_other buckets (home_of (length buckets) key) within more b apart) at stands
     ]
 
-    stands_on : (b m : ℕ) → Stands m (bucket_at buckets b) → Stands m (bucket_at (set buckets (home_of (length buckets) key) more) b)
+    stands_on : (b m : ℕ) → StandsInBucket m (bucket_at buckets b) → StandsInBucket m (bucket_at (set buckets (home_of (length buckets) key) more) b)
     stands_on b m stands = elim (cases_eq b (home_of (length buckets) key)) [
-      | inl same ↦ (let was : Stands m (bucket_at buckets (home_of (length buckets) key)) = rw same at stands in rw (same, at_home buckets (home_of (length buckets) key) within more) was)
+      | inl same ↦ (let was : StandsInBucket m (bucket_at buckets (home_of (length buckets) key)) = rw same at stands in rw (same, at_home buckets (home_of (length buckets) key) within more) was)
       | inr apart ↦ rw (at_other buckets (home_of (length buckets) key) within more b apart) stands
     ]
 
-    ordered_bucketed : (b m : ℕ) → b < length buckets → Stands m (bucket_at (set buckets (home_of (length buckets) key) more) b) → m ≢ nothing → There (set flags n true) m × (home size written (length buckets) m ≡ b)
+    ordered_bucketed : (b m : ℕ) → b < length buckets → StandsInBucket m (bucket_at (set buckets (home_of (length buckets) key) more) b) → m ≢ nothing → There (set flags n true) m × (home size written (length buckets) m ≡ b)
     ordered_bucketed b m lt stands some = let was = ok.bucketed b m lt (stands_back b m stands) some in (there_keep m was.0, home_keep m was.0 ∙ was.1)
 
-    ordered_exclusive : (b i : ℕ) → b < length buckets → i < length (insert order at n) → Stands (get_or (insert order at n) i 0) (bucket_at (set buckets (home_of (length buckets) key) more) b) → ⊥
+    ordered_exclusive : (b i : ℕ) → b < length buckets → i < length (insert order at n) → StandsInBucket (get_or (insert order at n) i 0) (bucket_at (set buckets (home_of (length buckets) key) more) b) → ⊥
     ordered_exclusive b i lt less stands = elim (insert_from order at n gap.in_range i less) [
-      | inl new ↦ (let moved : Stands n (bucket_at buckets b) = rw new at (stands_back b (get_or (insert order at n) i 0) stands) in
+      | inl new ↦ (let moved : StandsInBucket n (bucket_at buckets b) = rw new at (stands_back b (get_or (insert order at n) i 0) stands) in
           other n (ok.bucketed b n lt moved real_new).0 refl)
-      | inr old ↦ (let moved : Stands (get_or order old.0 0) (bucket_at buckets b) = rw old.2 at (stands_back b (get_or (insert order at n) i 0) stands) in
+      | inr old ↦ (let moved : StandsInBucket (get_or order old.0 0) (bucket_at buckets b) = rw old.2 at (stands_back b (get_or (insert order at n) i 0) stands) in
           ok.exclusive b old.0 lt old.1 moved)
     ]
 
-    ordered_covered : (m : ℕ) → There (set flags n true) m → Stands m (bucket_at (set buckets (home_of (length buckets) key) more) (home size written (length buckets) m)) ⊎ InOrder (insert order at n) m
+    ordered_covered : (m : ℕ) → There (set flags n true) m → StandsInBucket m (bucket_at (set buckets (home_of (length buckets) key) more) (home size written (length buckets) m)) ⊎ InOrder (insert order at n) m
     ordered_covered m there = elim (there_from m there) [
       | inl new ↦ inr (rw new (in_insert_new order at n gap.in_range))
       | inr old ↦ elim (ok.covered m old) [
@@ -386,16 +387,16 @@ module _ (size capacity : ℕ) (keys : List ℕ) (flags : List Bool) (order : Li
   home_of_n = ap (home_of (length buckets)) has_key
 
   -- from its bucket
-  module _ (stands_n : Stands n (bucket_at buckets (home_of (length buckets) key))) where
+  module _ (stands_n : StandsInBucket n (bucket_at buckets (home_of (length buckets) key))) where
     abbrev c : Bucket
     c = cleared n (bucket_at buckets (home_of (length buckets) key))
 
     order_apart : (i : ℕ) → i < length order → get_or order i 0 ≢ n
     order_apart i lt same = ok.exclusive (home_of (length buckets) key) i within lt (rw same stands_n)
 
-    clear_bucketed : (b m : ℕ) → b < length buckets → Stands m (bucket_at (set buckets (home_of (length buckets) key) c) b) → m ≢ nothing → There (set flags n false) m × (home size keys (length buckets) m ≡ b)
+    clear_bucketed : (b m : ℕ) → b < length buckets → StandsInBucket m (bucket_at (set buckets (home_of (length buckets) key) c) b) → m ≢ nothing → There (set flags n false) m × (home size keys (length buckets) m ≡ b)
     clear_bucketed b m lt stands some = elim (cases_eq b (home_of (length buckets) key)) [
-      | inl same ↦ (let moved : Stands m (cleared n (bucket_at buckets (home_of (length buckets) key))) = rw (same, at_home buckets (home_of (length buckets) key) within c) at stands in
+      | inl same ↦ (let moved : StandsInBucket m (cleared n (bucket_at buckets (home_of (length buckets) key))) = rw (same, at_home buckets (home_of (length buckets) key) within c) at stands in
           let from = cleared_from n (bucket_at buckets (home_of (length buckets) key)) m some moved in
           let was = ok.bucketed (home_of (length buckets) key) m within from.0 some in
           (stays m was.0 from.1, was.1 ∙ sym same))
@@ -404,17 +405,17 @@ module _ (size capacity : ℕ) (keys : List ℕ) (flags : List Bool) (order : Li
           (stays m was.0 (λ same. apart (sym was.1 ∙ (ap (home size keys (length buckets)) same ∙ home_of_n))), was.1))
     ]
 
-    clear_exclusive : (b i : ℕ) → b < length buckets → i < length order → Stands (get_or order i 0) (bucket_at (set buckets (home_of (length buckets) key) c) b) → ⊥
+    clear_exclusive : (b i : ℕ) → b < length buckets → i < length order → StandsInBucket (get_or order i 0) (bucket_at (set buckets (home_of (length buckets) key) c) b) → ⊥
     clear_exclusive b i lt less stands = elim (cases_eq b (home_of (length buckets) key)) [
-      | inl same ↦ (let moved : Stands (get_or order i 0) (cleared n (bucket_at buckets (home_of (length buckets) key))) = rw (same, at_home buckets (home_of (length buckets) key) within c) at stands in
+      | inl same ↦ (let moved : StandsInBucket (get_or order i 0) (cleared n (bucket_at buckets (home_of (length buckets) key))) = rw (same, at_home buckets (home_of (length buckets) key) within c) at stands in
           ok.exclusive (home_of (length buckets) key) i within less (cleared_from n (bucket_at buckets (home_of (length buckets) key)) (get_or order i 0) (real_there size capacity keys flags order places buckets ok (get_or order i 0) (ok.listed i less)) moved).0)
       | inr apart ↦ ok.exclusive b i lt less (rw (at_other buckets (home_of (length buckets) key) within c b apart) at stands)
     ]
 
-    clear_covered : (m : ℕ) → There (set flags n false) m → Stands m (bucket_at (set buckets (home_of (length buckets) key) c) (home size keys (length buckets) m)) ⊎ InOrder order m
+    clear_covered : (m : ℕ) → There (set flags n false) m → StandsInBucket m (bucket_at (set buckets (home_of (length buckets) key) c) (home size keys (length buckets) m)) ⊎ InOrder order m
     clear_covered m still = elim (ok.covered m (left m still).0) [
       | inl stands ↦ inl (elim (cases_eq (home size keys (length buckets) m) (home_of (length buckets) key)) [
-        | inl same ↦ (let was : Stands m (bucket_at buckets (home_of (length buckets) key)) = rw same at stands in
+        | inl same ↦ (let was : StandsInBucket m (bucket_at buckets (home_of (length buckets) key)) = rw same at stands in
             rw (same, at_home buckets (home_of (length buckets) key) within c) (cleared_keeps n (bucket_at buckets (home_of (length buckets) key)) m (left m still).1 was))
         | inr apart ↦ rw (at_other buckets (home_of (length buckets) key) within c (home size keys (length buckets) m) apart) stands
       ])
@@ -452,18 +453,18 @@ module _ (size capacity : ℕ) (keys : List ℕ) (flags : List Bool) (order : Li
     is_at : IsAt size keys order key at
     is_at = record { in_range = lt_at; has_key = ap (key_of size keys) is_n ∙ has_key }
 
-    not_standing : (b : ℕ) → b < length buckets → Stands n (bucket_at buckets b) → ⊥
+    not_standing : (b : ℕ) → b < length buckets → StandsInBucket n (bucket_at buckets b) → ⊥
     not_standing b lt stands = ok.exclusive b at lt lt_at (rw is_n stands)
 
-    fewer_back : (b m : ℕ) → Stands m (bucket_at (set buckets (home_of (length buckets) key) fewer) b) → Stands m (bucket_at buckets b)
+    fewer_back : (b m : ℕ) → StandsInBucket m (bucket_at (set buckets (home_of (length buckets) key) fewer) b) → StandsInBucket m (bucket_at buckets b)
     fewer_back b m stands = elim (cases_eq b (home_of (length buckets) key)) [
       | inl same ↦ rw same (rw (same, at_home buckets (home_of (length buckets) key) within fewer) at stands)
       | inr apart ↦ rw (at_other buckets (home_of (length buckets) key) within fewer b apart) at stands
     ]
 
-    fewer_on : (b m : ℕ) → Stands m (bucket_at buckets b) → Stands m (bucket_at (set buckets (home_of (length buckets) key) fewer) b)
+    fewer_on : (b m : ℕ) → StandsInBucket m (bucket_at buckets b) → StandsInBucket m (bucket_at (set buckets (home_of (length buckets) key) fewer) b)
     fewer_on b m stands = elim (cases_eq b (home_of (length buckets) key)) [
-      | inl same ↦ (let was : Stands m (bucket_at buckets (home_of (length buckets) key)) = rw same at stands in rw (same, at_home buckets (home_of (length buckets) key) within fewer) was)
+      | inl same ↦ (let was : StandsInBucket m (bucket_at buckets (home_of (length buckets) key)) = rw same at stands in rw (same, at_home buckets (home_of (length buckets) key) within fewer) was)
       | inr apart ↦ rw (at_other buckets (home_of (length buckets) key) within fewer b apart) stands
     ]
 
@@ -478,19 +479,19 @@ module _ (size capacity : ℕ) (keys : List ℕ) (flags : List Bool) (order : Li
         let count = ok.counted (home_of (length buckets) key) within in
         omega (arith, some, count)
 
-    fewer_exclusive : (b i : ℕ) → b < length buckets → i < length (remove order at) → Stands (get_or (remove order at) i 0) (bucket_at (set buckets (home_of (length buckets) key) fewer) b) → ⊥
+    fewer_exclusive : (b i : ℕ) → b < length buckets → i < length (remove order at) → StandsInBucket (get_or (remove order at) i 0) (bucket_at (set buckets (home_of (length buckets) key) fewer) b) → ⊥
     fewer_exclusive b i lt less stands =
         let from = others i less in
-        let moved : Stands (get_or order from.0 0) (bucket_at buckets b) = rw from.2 at (fewer_back b (get_or (remove order at) i 0) stands) in
+        let moved : StandsInBucket (get_or order from.0 0) (bucket_at buckets b) = rw from.2 at (fewer_back b (get_or (remove order at) i 0) stands) in
         ok.exclusive b from.0 lt from.1 moved
 
-    fewer_bucketed : (b m : ℕ) → b < length buckets → Stands m (bucket_at (set buckets (home_of (length buckets) key) fewer) b) → m ≢ nothing → There (set flags n false) m × (home size keys (length buckets) m ≡ b)
+    fewer_bucketed : (b m : ℕ) → b < length buckets → StandsInBucket m (bucket_at (set buckets (home_of (length buckets) key) fewer) b) → m ≢ nothing → There (set flags n false) m × (home size keys (length buckets) m ≡ b)
     fewer_bucketed b m lt stands some =
         let back = fewer_back b m stands in
         let was = ok.bucketed b m lt back some in
         (stays m was.0 (λ same. not_standing b lt (rw same at back)), was.1)
 
-    fewer_covered : (m : ℕ) → There (set flags n false) m → Stands m (bucket_at (set buckets (home_of (length buckets) key) fewer) (home size keys (length buckets) m)) ⊎ InOrder (remove order at) m
+    fewer_covered : (m : ℕ) → There (set flags n false) m → StandsInBucket m (bucket_at (set buckets (home_of (length buckets) key) fewer) (home size keys (length buckets) m)) ⊎ InOrder (remove order at) m
     fewer_covered m still = elim (ok.covered m (left m still).0) [
       | inl stands ↦ inl (fewer_on (home size keys (length buckets) m) m stands)
       | inr in_order ↦ inr (in_remove order at lt_at m in_order (λ same. (left m still).1 (same ∙ is_n)))
@@ -543,7 +544,7 @@ pub empty_index : (size capacity : ℕ) (keys : List ℕ) (flags : List Bool) (o
 empty_index size capacity keys flags order places count buckets long unset none few room empty some =
     let off : (n : ℕ) → There flags n → ⊥ = λ n there. false≢true (sym (replicate_any capacity false n) ∙ rw unset at there) in
     let bare : (b : ℕ) → bucket_at buckets b ≡ empty_bucket = λ b. rw empty (replicate_any count empty_bucket b) in
-    let nowhere : (b n : ℕ) → Stands n (bucket_at buckets b) → n ≡ nothing = λ b n stands. (let at_empty : Stands n empty_bucket = rw (bare b) at stands in elim at_empty [ inl e ↦ sym e | inr r ↦ elim r [ inl e ↦ sym e | inr e ↦ sym e ] ]) in
+    let nowhere : (b n : ℕ) → StandsInBucket n (bucket_at buckets b) → n ≡ nothing = λ b n stands. (let at_empty : StandsInBucket n empty_bucket = rw (bare b) at stands in elim at_empty [ inl e ↦ sym e | inr r ↦ elim r [ inl e ↦ sym e | inr e ↦ sym e ] ]) in
     record {
       ordered = empty_order size capacity keys order long none;
       flag_count = rw unset (length-replicate capacity false);

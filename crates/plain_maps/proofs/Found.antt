@@ -10,7 +10,7 @@ use Rattle.std.proofs.Math.Nat.{mul-le-mul_right}
 use Rattle.plain_maps.specs.declared.buckets.Bucket.{Bucket}
 use Rattle.plain_maps.specs.Keyed.{key_of, entries_of, numbers_there, IsGapFor}
 use Rattle.plain_maps.specs.Hashing.{home_of}
-use Rattle.plain_maps.specs.Buckets.{nothing, Stands, has, found_in, There, InOrder, bucket_at, home, IsIndex}
+use Rattle.plain_maps.specs.Buckets.{nothing, StandsInBucket, has, found_in, There, InOrder, bucket_at, home, IsIndex}
 use Rattle.plain_maps.proofs.Homes.{in_numbers, numbers_in, there_below, homed_some}
 use Rattle.plain_maps.proofs.Lookups.{apart_above, apart_below}
 
@@ -79,7 +79,7 @@ has_key : (size : ℕ) (keys key : List ℕ) (n : ℕ) → n ≢ nothing → key
 has_key size keys key n some same = rw (ne_eqb n nothing some, (bytes_eq-Decides (key_of size keys n) key).1 same) refl
 
 module _ (size : ℕ) (keys key : List ℕ) (bucket : Bucket) where
-  pub found_some : (n : ℕ) → found_in size keys key bucket ≡ Some n → Stands n bucket × (n ≢ nothing) × (key_of size keys n ≡ key)
+  pub found_some : (n : ℕ) → found_in size keys key bucket ≡ Some n → StandsInBucket n bucket × (n ≢ nothing) × (key_of size keys n ≡ key)
   found_some n found = elim (cases_Bool (has size keys key bucket.first)) [
     | inl first ↦ (let here = rw first at found in
         let is : bucket.first ≡ n = cc here in
@@ -100,7 +100,7 @@ module _ (size : ℕ) (keys key : List ℕ) (bucket : Bucket) where
     ]
   ]
 
-  pub found_none : found_in size keys key bucket ≡ None → (n : ℕ) → Stands n bucket → n ≢ nothing → key_of size keys n ≡ key → ⊥
+  pub found_none : found_in size keys key bucket ≡ None → (n : ℕ) → StandsInBucket n bucket → n ≢ nothing → key_of size keys n ≡ key → ⊥
   found_none none n stands some same = elim (cases_Bool (has size keys key bucket.first)) [
     | inl first ↦ (let here = rw first at none in cc here)
     | inr no_first ↦ elim (cases_Bool (has size keys key bucket.second)) [
@@ -133,7 +133,7 @@ module _ (size capacity : ℕ) (keys : List ℕ) (flags : List Bool) (order : Li
   pub key_within : (n : ℕ) → n < capacity → n * size + size ≤ length keys
   key_within n small = let ends = end_of_key n capacity size small in omega (arith, ends, ok.ordered.room_of_keys)
 
-  pub slots_within : (b : ℕ) → b < length buckets → (n : ℕ) → Stands n (bucket_at buckets b) → n ≢ nothing → n * size + size ≤ length keys
+  pub slots_within : (b : ℕ) → b < length buckets → (n : ℕ) → StandsInBucket n (bucket_at buckets b) → n ≢ nothing → n * size + size ≤ length keys
   slots_within b lt n stands some = key_within n (small_there n (ok.bucketed b n lt stands some).0)
 
   module _ (key : List ℕ) (within : home_of (length buckets) key < length buckets) where
@@ -144,7 +144,7 @@ module _ (size capacity : ℕ) (keys : List ℕ) (flags : List Bool) (order : Li
 
     pub not_in_bucket : found_in size keys key (bucket_at buckets (home_of (length buckets) key)) ≡ None → (n : ℕ) → There flags n → key_of size keys n ≡ key → InOrder order n
     not_in_bucket none n there same = elim (ok.covered n there) [
-      | inl stands ↦ (let moved : Stands n (bucket_at buckets (home_of (length buckets) key)) = rw same at stands in
+      | inl stands ↦ (let moved : StandsInBucket n (bucket_at buckets (home_of (length buckets) key)) = rw same at stands in
           absurd (found_none size keys key (bucket_at buckets (home_of (length buckets) key)) none n moved (real_there n there) same))
       | inr in_order ↦ in_order
     ]

@@ -4,7 +4,7 @@ use Rattle.std.specs.Map.{lookup}
 use Rattle.std.specs.Option.{option_map}
 use Rattle.std.proofs.lemmas.Bool.{cases_Bool, cases_lt}
 use Rattle.std.proofs.lemmas.List.{get_or_append_left, get_or_push, get_or-set_same, get_or-set_other, length-append}
-use Rattle.plain_maps.specs.Keyed.{KeyMap, entry_of}
+use Rattle.plain_maps.specs.Keyed.{KeyMap, entry_number_of}
 use Rattle.plain_maps.specs.HashTable.{cell_of, with_id, hash_table, IsHashTable}
 
 pub cell_by_entry : (ids q : List ℕ) (es : List (List ℕ × ℕ)) → lookup (bytes_eq q) (map (with_id ids) es) ≡ option_map (λ (n : ℕ). get_or ids n 0) (lookup (bytes_eq q) es)
@@ -18,25 +18,25 @@ none_by_cell : (ids : List ℕ) (o : Option ℕ) → option_map (λ (n : ℕ). g
 none_by_cell ids None absent = refl
 none_by_cell ids (Some n) absent = absurd (cc absent)
 
-pub absent_entry : (index : KeyMap) (ids q : List ℕ) → cell_of (hash_table index ids) q ≡ None → entry_of index q ≡ None
-absent_entry index ids q absent = none_by_cell ids (entry_of index q) (sym (cell_by_entry ids q index.entries) ∙ absent)
+pub absent_entry : (index : KeyMap) (ids q : List ℕ) → cell_of (hash_table index ids) q ≡ None → entry_number_of index q ≡ None
+absent_entry index ids q absent = none_by_cell ids (entry_number_of index q) (sym (cell_by_entry ids q index.entries) ∙ absent)
 
 -- ---- a key gets a cell
 
-module _ (before after : KeyMap) (ids : List ℕ) (key : List ℕ) (n id : ℕ) (within : n < length ids) (unused : (q : List ℕ) → entry_of before q ≢ Some n) (changed : (q : List ℕ) → entry_of after q ≡ cond (bytes_eq key q) (Some n) (entry_of before q)) where
+module _ (before after : KeyMap) (ids : List ℕ) (key : List ℕ) (n id : ℕ) (within : n < length ids) (unused : (q : List ℕ) → entry_number_of before q ≢ Some n) (changed : (q : List ℕ) → entry_number_of after q ≡ cond (bytes_eq key q) (Some n) (entry_number_of before q)) where
   pub cells_inserted : (q : List ℕ) → cell_of (hash_table after (set ids n id)) q ≡ cond (bytes_eq key q) (Some id) (cell_of (hash_table before ids) q)
   cells_inserted q = cell_by_entry (set ids n id) q after.entries ∙ (ap (option_map (λ (m : ℕ). get_or (set ids n id) m 0)) (changed q) ∙ elim (cases_Bool (bytes_eq key q)) [
     | inl same ↦ rw same (ap Some (get_or-set_same ids n id 0 within))
-    | inr apart ↦ rw apart (go (entry_of before q) refl ∙ sym (cell_by_entry ids q before.entries))
+    | inr apart ↦ rw apart (go (entry_number_of before q) refl ∙ sym (cell_by_entry ids q before.entries))
   ])
     where
-      go : (o : Option ℕ) → entry_of before q ≡ o → option_map (λ (m : ℕ). get_or (set ids n id) m 0) (entry_of before q) ≡ option_map (λ (m : ℕ). get_or ids m 0) (entry_of before q)
+      go : (o : Option ℕ) → entry_number_of before q ≡ o → option_map (λ (m : ℕ). get_or (set ids n id) m 0) (entry_number_of before q) ≡ option_map (λ (m : ℕ). get_or ids m 0) (entry_number_of before q)
       go None none = rw none refl
       go (Some m) found = rw found (ap Some (get_or-set_other ids n m id 0 (λ same. unused q (found ∙ ap Some same))))
 
 -- ---- a key goes
 
-module _ (before after : KeyMap) (ids : List ℕ) (key : List ℕ) (changed : (q : List ℕ) → entry_of after q ≡ cond (bytes_eq key q) None (entry_of before q)) where
+module _ (before after : KeyMap) (ids : List ℕ) (key : List ℕ) (changed : (q : List ℕ) → entry_number_of after q ≡ cond (bytes_eq key q) None (entry_number_of before q)) where
   pub cells_removed : (q : List ℕ) → cell_of (hash_table after ids) q ≡ cond (bytes_eq key q) None (cell_of (hash_table before ids) q)
   cells_removed q = cell_by_entry ids q after.entries ∙ (ap (option_map (λ (m : ℕ). get_or ids m 0)) (changed q) ∙ elim (cases_Bool (bytes_eq key q)) [
     | inl same ↦ rw same refl
@@ -45,20 +45,20 @@ module _ (before after : KeyMap) (ids : List ℕ) (key : List ℕ) (changed : (q
 
 -- ---- the free numbers
 
-module _ (before after : KeyMap) (ids more free : List ℕ) (room : ℕ) (key : List ℕ) (n : ℕ) (ok : IsHashTable before ids (free ++ n ∷ []) room) (same_capacity : after.capacity ≡ before.capacity) (count : length after.entries ≡ length before.entries + 1) (changed : (q : List ℕ) → entry_of after q ≡ cond (bytes_eq key q) (Some n) (entry_of before q)) (as_many : length more ≡ length ids) where
+module _ (before after : KeyMap) (ids more free : List ℕ) (room : ℕ) (key : List ℕ) (n : ℕ) (ok : IsHashTable before ids (free ++ n ∷ []) room) (same_capacity : after.capacity ≡ before.capacity) (count : length after.entries ≡ length before.entries + 1) (changed : (q : List ℕ) → entry_number_of after q ≡ cond (bytes_eq key q) (Some n) (entry_number_of before q)) (as_many : length more ≡ length ids) where
   at_left : (k : ℕ) → k < length free → get_or (free ++ n ∷ []) k 0 ≡ get_or free k 0
   at_left k lt = get_or_append_left free (n ∷ []) 0 k lt
 
   long : length (free ++ n ∷ []) ≡ length free + 1
   long = length-append free (n ∷ [])
 
-  pub last_unused : (q : List ℕ) → entry_of before q ≢ Some n
+  pub last_unused : (q : List ℕ) → entry_number_of before q ≢ Some n
   last_unused q found = ok.unused (length free) q (omega (arith, long)) (found ∙ ap Some (sym (get_or_push free n 0 (length free) refl)))
 
   pub last_small : n < before.capacity
   last_small = let h = ok.in_range (length free) (omega (arith, long)) in (rw (get_or_push free n 0 (length free) refl) at h)
 
-  still_unused : (k : ℕ) (q : List ℕ) → k < length free → entry_of after q ≢ Some (get_or free k 0)
+  still_unused : (k : ℕ) (q : List ℕ) → k < length free → entry_number_of after q ≢ Some (get_or free k 0)
   still_unused k q lt found = elim (cases_Bool (bytes_eq key q)) [
     | inl same ↦ (let now = rw (changed q, same) at found in
         let is : n ≡ get_or free k 0 = cc now in
@@ -76,7 +76,7 @@ module _ (before after : KeyMap) (ids more free : List ℕ) (room : ℕ) (key : 
     balance = omega (arith, long, count, same_capacity, ok.balance);
   }
 
-module _ (before after : KeyMap) (ids free : List ℕ) (room : ℕ) (key : List ℕ) (n : ℕ) (ok : IsHashTable before ids free room) (same_capacity : after.capacity ≡ before.capacity) (count : length after.entries + 1 ≡ length before.entries) (changed : (q : List ℕ) → entry_of after q ≡ cond (bytes_eq key q) None (entry_of before q)) (had : entry_of before key ≡ Some n) (small : n < before.capacity) (freed : (q : List ℕ) → entry_of after q ≢ Some n) where
+module _ (before after : KeyMap) (ids free : List ℕ) (room : ℕ) (key : List ℕ) (n : ℕ) (ok : IsHashTable before ids free room) (same_capacity : after.capacity ≡ before.capacity) (count : length after.entries + 1 ≡ length before.entries) (changed : (q : List ℕ) → entry_number_of after q ≡ cond (bytes_eq key q) None (entry_number_of before q)) (had : entry_number_of before key ≡ Some n) (small : n < before.capacity) (freed : (q : List ℕ) → entry_number_of after q ≢ Some n) where
   pub room_for_number : length free < room
   room_for_number = omega (arith, ok.balance, ok.room, count)
 
@@ -89,7 +89,7 @@ module _ (before after : KeyMap) (ids free : List ℕ) (room : ℕ) (key : List 
   last : (k : ℕ) → k ≡ length free → get_or (free ++ n ∷ []) k 0 ≡ n
   last k same = get_or_push free n 0 k (sym same)
 
-  unused_then : (k : ℕ) (q : List ℕ) → k < length free → entry_of after q ≢ Some (get_or free k 0)
+  unused_then : (k : ℕ) (q : List ℕ) → k < length free → entry_number_of after q ≢ Some (get_or free k 0)
   unused_then k q lt found = elim (cases_Bool (bytes_eq key q)) [
     | inl same ↦ (let now = rw (changed q, same) at found in cc now)
     | inr apart ↦ ok.unused k q lt (rw (changed q, apart) at found)
@@ -129,10 +129,10 @@ empty_table size capacity index ids free room is many wide long each = rw is (re
 
 -- ---- what an entry says of a cell
 
-pub found_cell : (index : KeyMap) (ids key : List ℕ) (n x : ℕ) → Some n ≡ entry_of index key → x ≡ get_or ids n 0 → Some x ≡ cell_of (hash_table index ids) key
+pub found_cell : (index : KeyMap) (ids key : List ℕ) (n x : ℕ) → Some n ≡ entry_number_of index key → x ≡ get_or ids n 0 → Some x ≡ cell_of (hash_table index ids) key
 found_cell index ids key n x found read = ap Some read ∙ (ap (option_map (λ (m : ℕ). get_or ids m 0)) found ∙ sym (cell_by_entry ids key index.entries))
 
-pub absent_cell : (index : KeyMap) (ids key : List ℕ) → None ≡ entry_of index key → None ≡ cell_of (hash_table index ids) key
+pub absent_cell : (index : KeyMap) (ids key : List ℕ) → None ≡ entry_number_of index key → None ≡ cell_of (hash_table index ids) key
 absent_cell index ids key absent = ap (option_map (λ (m : ℕ). get_or ids m 0)) absent ∙ sym (cell_by_entry ids key index.entries)
 
 pub with_free : (index : KeyMap) (ids free other : List ℕ) (room : ℕ) → free ≡ other → IsHashTable index ids free room → IsHashTable index ids other room

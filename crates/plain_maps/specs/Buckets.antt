@@ -16,8 +16,8 @@ empty_bucket = record { first = nothing; second = nothing; third = nothing; over
 abbrev pub bucket_at : List Bucket → ℕ → Bucket
 bucket_at buckets b = slice_index_or buckets b empty_bucket
 
-abbrev pub Stands : ℕ → Bucket → Type 0
-Stands n bucket = (bucket.first ≡ n) ⊎ ((bucket.second ≡ n) ⊎ (bucket.third ≡ n))
+abbrev pub StandsInBucket : ℕ → Bucket → Type 0
+StandsInBucket n bucket = (bucket.first ≡ n) ⊎ ((bucket.second ≡ n) ⊎ (bucket.third ≡ n))
 
 -- the number is one, and has this key
 abbrev pub has : ℕ → List ℕ → List ℕ → ℕ → Bool
@@ -75,8 +75,8 @@ pub record IsIndex (size capacity : ℕ) (keys : List ℕ) (flags : List Bool) (
   pub apart : (n m : ℕ) → There flags n → There flags m → key_of size keys n ≡ key_of size keys m → n ≡ m
   pub listed : (i : ℕ) → i < length order → There flags (slice_index_or order i 0)
   pub bucketed :
-      (b n : ℕ) → b < length buckets → Stands n (bucket_at buckets b) → n ≢ nothing →
+      (b n : ℕ) → b < length buckets → StandsInBucket n (bucket_at buckets b) → n ≢ nothing →
       There flags n × (home size keys (length buckets) n ≡ b)
-  pub exclusive : (b i : ℕ) → b < length buckets → i < length order → Stands (slice_index_or order i 0) (bucket_at buckets b) → ⊥
-  pub covered : (n : ℕ) → There flags n → Stands n (bucket_at buckets (home size keys (length buckets) n)) ⊎ InOrder order n
+  pub exclusive : (b i : ℕ) → b < length buckets → i < length order → StandsInBucket (slice_index_or order i 0) (bucket_at buckets b) → ⊥
+  pub covered : (n : ℕ) → There flags n → StandsInBucket n (bucket_at buckets (home size keys (length buckets) n)) ⊎ InOrder order n
   pub counted : (b : ℕ) → b < length buckets → (bucket_at buckets b).over ≡ homed b (home size keys (length buckets)) order

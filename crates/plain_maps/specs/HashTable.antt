@@ -1,7 +1,7 @@
 -- What a contract sees of a keyed shard: which cell each key has.
 use Rattle.std.specs.Prelude.{◌≡◌, ◌≢◌, ℕ, ◌+◌, ◌<◌, ◌≤◌, List, map, length, Option, Some, slice_index_or, bytes_eq}
 use Rattle.std.specs.Map.{lookup}
-use Rattle.plain_maps.specs.Keyed.{KeyMap, entry_of}
+use Rattle.plain_maps.specs.Keyed.{KeyMap, entry_number_of}
 
 -- a finite map from keys of one size to the ids of cells
 pub record HashTable : Type 0 where
@@ -25,5 +25,5 @@ pub record IsHashTable (index : KeyMap) (ids free : List ℕ) (free_room : ℕ) 
   pub room : index.capacity ≤ free_room
   pub in_range : (k : ℕ) → k < length free → slice_index_or free k 0 < index.capacity
   pub once : (k m : ℕ) → k < m → m < length free → slice_index_or free k 0 ≢ slice_index_or free m 0
-  pub unused : (k : ℕ) (q : List ℕ) → k < length free → entry_of index q ≢ Some (slice_index_or free k 0)
+  pub unused : (k : ℕ) (q : List ℕ) → k < length free → entry_number_of index q ≢ Some (slice_index_or free k 0)
   pub balance : length free + length index.entries ≡ index.capacity

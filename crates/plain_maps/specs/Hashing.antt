@@ -9,13 +9,13 @@ product_of hash word = (bit_xor hash word * 11400714819323198485) % 2 ^ 64
 abbrev pub mixed : ℕ → ℕ → ℕ
 mixed hash word = bit_xor (product_of hash word) (product_of hash word / 2 ^ 32)
 
-abbrev pub with_bytes : List ℕ → ℕ → ℕ
-with_bytes [] hash = hash
-with_bytes (byte ∷ bytes) hash = with_bytes bytes (mixed hash byte)
+abbrev pub hashed_with_bytes : List ℕ → ℕ → ℕ
+hashed_with_bytes [] hash = hash
+hashed_with_bytes (byte ∷ bytes) hash = hashed_with_bytes bytes (mixed hash byte)
 
 -- this many words, and the bytes behind them
 abbrev pub with_words : ℕ → List ℕ → ℕ → ℕ
-with_words zero bytes hash = with_bytes bytes hash
+with_words zero bytes hash = hashed_with_bytes bytes hash
 with_words (suc words) bytes hash = with_words words (drop 8 bytes) (mixed hash (from_le_bytes w64 (take 8 bytes)))
 
 abbrev pub hash_of : List ℕ → ℕ

@@ -14,8 +14,8 @@ pub record KeyMap : Type 0 where
   pub capacity : ℕ
   pub entries : List (List ℕ × ℕ)
 
-abbrev pub entry_of : KeyMap → List ℕ → Option ℕ
-entry_of m key = lookup (bytes_eq key) m.entries
+abbrev pub entry_number_of : KeyMap → List ℕ → Option ℕ
+entry_number_of m key = lookup (bytes_eq key) m.entries
 
 abbrev pub key_with : ℕ → List (List ℕ × ℕ) → Option (List ℕ)
 key_with n [] = None

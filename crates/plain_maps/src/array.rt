@@ -2,7 +2,7 @@
 
 ghost use Rattle.std.specs.Prelude.{◌≡◌, ◌<◌, ◌≤◌, ◌/◌, length};
 ghost use Rattle.semantics.specs.LittleEndian.{number_of_bytes};
-ghost use Rattle.plain_maps.specs.ArrayTable.{cell_of_index};
+ghost use Rattle.plain_maps.specs.ArrayTable.{cell_of_array_index};
 
 use semantics::little_endian::number_of_bytes;
 
@@ -27,7 +27,7 @@ impl ArrayShard {
     /// The cell of an index of this shard, given as a key; none past the array's end.
     pub fn find(&self, key: &[u8]) -> Option<u64>
         requires { length key.now ≤ 8 }
-        ensures { result ≡ cell_of_index self.now.max_entries self.now.parts (number_of_bytes key.now) }
+        ensures { result ≡ cell_of_array_index self.now.max_entries self.now.parts (number_of_bytes key.now) }
     {
         let index = index_of(key);
         if index < u64::from(self.max_entries) {

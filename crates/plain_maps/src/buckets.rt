@@ -1,8 +1,8 @@
 //! Buckets of entry numbers, by the hash of their keys.
 
 ghost use Rattle.std.specs.Prelude.{◌≡◌, ◌≢◌, ◌<◌, ◌≤◌, ◌+◌, ◌*◌, ◌/◌, ◌↔◌, ℕ, length, bytes_eq};
-ghost use Rattle.plain_maps.specs.Hashing.{mixed, with_bytes, hash_of, home_of};
-ghost use Rattle.plain_maps.specs.Buckets.{nothing, Stands, has, found_in, placed, cleared_slot, cleared};
+ghost use Rattle.plain_maps.specs.Hashing.{mixed, hashed_with_bytes, hash_of, home_of};
+ghost use Rattle.plain_maps.specs.Buckets.{nothing, StandsInBucket, has, found_in, placed, cleared_slot, cleared};
 
 use crate::search::key_at;
 
@@ -40,7 +40,7 @@ fn mixed(hash: u64, word: u64) -> u64
 }
 
 fn with_bytes(bytes: &[u8], start: u64) -> u64
-    ensures { result ≡ with_bytes bytes.now start }
+    ensures { result ≡ hashed_with_bytes bytes.now start }
 {
     let mut hash = start;
     for byte in bytes {
@@ -94,7 +94,7 @@ fn has(keys: &[u8], size: usize, number: u32, key: &[u8]) -> bool
 /// The entry number of a key, if it is in the bucket.
 pub(crate) fn found_in(keys: &[u8], size: usize, bucket: &Bucket, key: &[u8]) -> Option<u32>
     requires size { length key.now ≡ size }
-    requires within { (n : ℕ) → Stands n bucket.now → n ≢ nothing → n * size + size ≤ length keys.now }
+    requires within { (n : ℕ) → StandsInBucket n bucket.now → n ≢ nothing → n * size + size ≤ length keys.now }
     ensures { result ≡ found_in size keys.now key.now bucket.now }
 {
     if has(keys, size, bucket.first, key) {

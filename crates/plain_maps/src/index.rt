@@ -3,7 +3,7 @@
 ghost use Rattle.std.specs.Prelude.{◌≡◌, ◌<◌, ◌≤◌, ◌+◌, ◌*◌, ◌^◌, ◌≢◌, ℕ, List, [], length, IfOk, IfSome, None, Some};
 ghost use Rattle.std.specs.Prelude.{cond, if◌then◌else◌};
 ghost use Rattle.std.specs.Prelude.{is_some, bytes_eq};
-ghost use Rattle.plain_maps.specs.Keyed.{KeyMap, entry_of, key_of_number, AreInverse};
+ghost use Rattle.plain_maps.specs.Keyed.{KeyMap, entry_number_of, key_of_number, AreInverse};
 ghost use Rattle.plain_maps.specs.Hashing.{home_of};
 ghost use Rattle.plain_maps.specs.Buckets.{bucket_at};
 
@@ -61,7 +61,7 @@ impl KeyIndex {
     /// The entry number of a key.
     pub fn find(&self, key: &[u8]) -> Option<u32>
         requires { length key.now ≡ self.now.size }
-        ensures number { result ≡ entry_of self.now key.now }
+        ensures number { result ≡ entry_number_of self.now key.now }
         ensures within { IfSome result (λ n. n < self.now.capacity) }
     {
         let home = home_in(&self.buckets, key);
@@ -80,8 +80,8 @@ impl KeyIndex {
 
     /// The key that has an entry number, which some key must have.
     pub fn key(&self, number: u32) -> &[u8]
-        requires { (q : List ℕ) × (entry_of self.now q ≡ Some number) }
-        ensures key { entry_of self.now result.now ≡ Some number }
+        requires { (q : List ℕ) × (entry_number_of self.now q ≡ Some number) }
+        ensures key { entry_number_of self.now result.now ≡ Some number }
         ensures size { length result.now ≡ self.now.size }
     {
         key_at(&self.keys, self.size, number as usize)
@@ -89,8 +89,8 @@ impl KeyIndex {
 
     /// Does nothing: a key has a number exactly where the number has the key, and each such number is below the capacity.
     pub fn keys_and_numbers(&self)
-        ensures inverse { AreInverse (entry_of self.now) (key_of_number self.now) }
-        ensures small { (q : List ℕ) (n : ℕ) → entry_of self.now q ≡ Some n → n < self.now.capacity }
+        ensures inverse { AreInverse (entry_number_of self.now) (key_of_number self.now) }
+        ensures small { (q : List ℕ) (n : ℕ) → entry_number_of self.now q ≡ Some n → n < self.now.capacity }
     {
         let _capacity = self.capacity;
     }
@@ -98,12 +98,12 @@ impl KeyIndex {
     /// Gives a new key an entry number that no key has.
     pub fn insert(&mut self, key: &[u8], number: u32)
         requires size { length key.now ≡ self.old.size }
-        requires absent { entry_of self.old key.now ≡ None }
+        requires absent { entry_number_of self.old key.now ≡ None }
         requires number { number < self.old.capacity }
-        requires unused { (q : List ℕ) → entry_of self.old q ≢ Some number }
+        requires unused { (q : List ℕ) → entry_number_of self.old q ≢ Some number }
         ensures shape { (self.new.size ≡ self.old.size) × (self.new.capacity ≡ self.old.capacity) }
         ensures count { length self.new.entries ≡ length self.old.entries + 1 }
-        ensures lookups { (q : List ℕ) → entry_of self.new q ≡ cond (bytes_eq key.now q) (Some number) (entry_of self.old q) }
+        ensures lookups { (q : List ℕ) → entry_number_of self.new q ≡ cond (bytes_eq key.now q) (Some number) (entry_number_of self.old q) }
     {
         let home = home_in(&self.buckets, key);
         let bucket = bucket_in(&self.buckets, home);
@@ -127,12 +127,12 @@ impl KeyIndex {
     /// Takes a key out, and returns the entry number that it had.
     pub fn remove(&mut self, key: &[u8]) -> Option<u32>
         requires { length key.now ≡ self.old.size }
-        ensures value { result ≡ entry_of self.old key.now }
+        ensures value { result ≡ entry_number_of self.old key.now }
         ensures within { IfSome result (λ n. n < self.old.capacity) }
-        ensures freed { IfSome result (λ n. (q : List ℕ) → entry_of self.new q ≢ Some n) }
+        ensures freed { IfSome result (λ n. (q : List ℕ) → entry_number_of self.new q ≢ Some n) }
         ensures shape { (self.new.size ≡ self.old.size) × (self.new.capacity ≡ self.old.capacity) }
         ensures count { length self.new.entries + (if is_some result then 1 else 0) ≡ length self.old.entries }
-        ensures lookups { (q : List ℕ) → entry_of self.new q ≡ cond (bytes_eq key.now q) None (entry_of self.old q) }
+        ensures lookups { (q : List ℕ) → entry_number_of self.new q ≡ cond (bytes_eq key.now q) None (entry_number_of self.old q) }
     {
         let home = home_in(&self.buckets, key);
         let bucket = bucket_in(&self.buckets, home);

@@ -47,11 +47,11 @@ use Rattle.abstract_state.specs.declared.state.State.{State}
 use Rattle.abstract_state.specs.States.{Checked, ◌>>=◌, kind_of, with_kind, word_of, stack_size, key_size_of, value_size_of}
 use Rattle.abstract_state.specs.Places.{place_within, range_within, aligned, stack_access, packet_access, offsets_within, value_range, value_access, atomic_access, at_offset}
 use Rattle.abstract_state.specs.Words.{loaded_number, are_bytes_set, narrow_loaded, spilled_loaded, word_loaded, narrow_storable, storable}
-use Rattle.abstract_state.specs.Arithmetic.{source_kind, blamed, number_kind, moved_kind, delta_of, moves_pointers, moved_pointer, moved_value, moved_far, pointer_sum, is_movable, combined_pointer, combined_kind, alu_kind, after_alu_of}
+use Rattle.abstract_state.specs.Arithmetic.{source_kind, blamed, number_kind, moved_kind, delta_of, moves_pointers, moved_pointer, moved_address, moved_far, pointer_sum, is_movable, combined_pointer, combined_kind, alu_kind, after_alu_of}
 use Rattle.abstract_state.specs.Refinement.{is_null_test, is_order, against_scalar, against_end, against_packet, allowed_test, number_cut, fact_of, refined, refine_state}
-use Rattle.abstract_state.specs.Access.{field_kind, context_kind, context_loaded, loaded_kind, signed_loaded, load_of, signed_load_of, stack_stored, stored, store_of, with_fetched_kind, is_number, expects, atomic_on, atomic_of}
-use Rattle.abstract_state.specs.Calls.{known_helper, helper_at, map_argument, stack_argument, number_argument, context_argument, is_inside_stack, when_all, key_arguments, update_arguments, head_arguments, call_of}
-use Rattle.abstract_state.specs.Flow.{writable, fetch_writable, is_set, reads, reads_source, reads_both, reads_operands, reads_expected, reads_atomic, reads_arguments, alu_flow, number_of, operand_of, unary_flow, load_flow, store_flow, store_register_flow, atomic_flow, number_flow, known_map, map_flow, array_size, address_in, value_address, address_flow, call_flow, test_flow, exit_kind, falls, flow_of}
+use Rattle.abstract_state.specs.Access.{field_kind, context_kind, context_loaded, loaded_kind, signed_loaded, load_of, signed_load_of, stack_stored, stored, store_of, with_fetched_kind, is_number, expects, checked_atomic, atomic_of}
+use Rattle.abstract_state.specs.Calls.{known_helper, helper_at, checked_map_argument, stack_argument, checked_number_argument, checked_context_argument, is_inside_stack, when_all, key_arguments, update_arguments, head_arguments, checked_call}
+use Rattle.abstract_state.specs.Flow.{writable, fetch_writable, is_set, reads, reads_source, reads_both, reads_operands, reads_expected, reads_atomic, reads_arguments, alu_flow, checked_number, operand_of, unary_flow, load_flow, store_flow, store_register_flow, atomic_flow, number_flow, known_map, map_flow, array_size, address_in, checked_value_address, address_flow, call_flow, test_flow, exit_kind, falls, flow_of}
 
 -- ---- what is fair: a register is blamed for being unset only where it is, and what is made holds
 
@@ -176,7 +176,7 @@ moved_pointer_fair state maps (Value map id off) distance dst =
 moved_pointer_fair state maps other distance dst = tt
 
 moved_value_fair : (state : State) (maps : List MapDef) (version : Version) (map id : ℕ) (off : Offsets) (i : Interval) (source : Register) →
-    Asks state (moved_value maps version map id off i source)
+    Asks state (moved_address maps version map id off i source)
 moved_value_fair state maps V1 map id off i source = tt
 moved_value_fair state maps V2 map id off i source =
     fair_then state (λ _. Unit {0}) (offsets_within maps map (pos (off.low + i.low)) (pos (off.high + i.high))) (λ to. Ok (Value map id to))
@@ -316,7 +316,7 @@ expects_fair state CompareExchange kind = fair_if state (is_number kind) (Ok tt)
 expects_fair state op kind = tt
 
 atomic_kept : (maps : List MapDef) (state : State) (width : Width) (op : AtomicOp) (target : Kind) (distance : ℤ) (dst src : Register) →
-    Keeps state (atomic_on maps state width op target distance dst src)
+    Keeps state (checked_atomic maps state width op target distance dst src)
 atomic_kept maps state width op (Value map id off) distance dst src =
     fair_then state (λ after. after.version ≡ state.version) (atomic_access maps map off distance (size_bytes (width_size width))) (λ from.
     narrow_storable (kind_of state src) >>= (λ _. expects op (kind_of state R0) >>= (λ _. Ok (with_fetched_kind state (fetched_register op src) width))))
@@ -329,7 +329,7 @@ atomic_kept maps state width op other distance dst src = tt
 
 -- ---- calls
 
-map_argument_fair : (state : State) (kind : Kind) (register : Register) → Asks state (map_argument kind register)
+map_argument_fair : (state : State) (kind : Kind) (register : Register) → Asks state (checked_map_argument kind register)
 map_argument_fair state (Map map) register = tt
 map_argument_fair state other register = tt
 
@@ -337,11 +337,11 @@ stack_argument_fair : (state : State) (kind : Kind) (register : Register) → As
 stack_argument_fair state (Stack place) register = tt
 stack_argument_fair state other register = tt
 
-number_argument_fair : (state : State) (kind : Kind) (register : Register) → Asks state (number_argument kind register)
+number_argument_fair : (state : State) (kind : Kind) (register : Register) → Asks state (checked_number_argument kind register)
 number_argument_fair state (Scalar i) register = tt
 number_argument_fair state other register = tt
 
-context_argument_fair : (state : State) (kind : Kind) (register : Register) → Asks state (context_argument kind register)
+context_argument_fair : (state : State) (kind : Kind) (register : Register) → Asks state (checked_context_argument kind register)
 context_argument_fair state Ctx register = tt
 context_argument_fair state other register = tt
 
@@ -350,7 +350,7 @@ all_fair state test why b = fair_if state test (Ok tt) (Err why) tt b
 
 key_fair : (maps : List MapDef) (state : State) → Asks state (key_arguments maps state)
 key_fair maps state =
-    fair_then state (λ _. Unit {0}) (map_argument (kind_of state R1) R1) _ (map_argument_fair state (kind_of state R1) R1)
+    fair_then state (λ _. Unit {0}) (checked_map_argument (kind_of state R1) R1) _ (map_argument_fair state (kind_of state R1) R1)
     (λ map. fair_then state (λ _. Unit {0}) (stack_argument (kind_of state R2) R2) _ (stack_argument_fair state (kind_of state R2) R2)
     (λ key. fair_then state (λ _. Unit {0}) (when_all (is_inside_stack key (key_size_of (slice_get maps map))) StackBounds) _
     (all_fair state (is_inside_stack key (key_size_of (slice_get maps map))) StackBounds tt)
@@ -359,10 +359,10 @@ key_fair maps state =
 
 update_fair : (maps : List MapDef) (state : State) → Asks state (update_arguments maps state)
 update_fair maps state =
-    fair_then state (λ _. Unit {0}) (map_argument (kind_of state R1) R1) _ (map_argument_fair state (kind_of state R1) R1)
+    fair_then state (λ _. Unit {0}) (checked_map_argument (kind_of state R1) R1) _ (map_argument_fair state (kind_of state R1) R1)
     (λ map. fair_then state (λ _. Unit {0}) (stack_argument (kind_of state R2) R2) _ (stack_argument_fair state (kind_of state R2) R2)
     (λ key. fair_then state (λ _. Unit {0}) (stack_argument (kind_of state R3) R3) _ (stack_argument_fair state (kind_of state R3) R3)
-    (λ value. fair_then state (λ _. Unit {0}) (number_argument (kind_of state R4) R4) _ (number_argument_fair state (kind_of state R4) R4)
+    (λ value. fair_then state (λ _. Unit {0}) (checked_number_argument (kind_of state R4) R4) _ (number_argument_fair state (kind_of state R4) R4)
     (λ _. fair_then state (λ _. Unit {0})
     (when_all (is_inside_stack key (key_size_of (slice_get maps map)) && is_inside_stack value (value_size_of (slice_get maps map))) StackBounds) _
     (all_fair state (is_inside_stack key (key_size_of (slice_get maps map)) && is_inside_stack value (value_size_of (slice_get maps map))) StackBounds tt)
@@ -373,10 +373,10 @@ update_fair maps state =
 
 head_fair : (state : State) → Asks state (head_arguments state)
 head_fair state =
-    fair_then state (λ _. Unit {0}) (context_argument (kind_of state R1) R1) (λ _. number_argument (kind_of state R2) R2)
+    fair_then state (λ _. Unit {0}) (checked_context_argument (kind_of state R1) R1) (λ _. checked_number_argument (kind_of state R2) R2)
     (context_argument_fair state (kind_of state R1) R1) (λ _. number_argument_fair state (kind_of state R2) R2)
 
-call_kept : (maps : List MapDef) (state : State) (slot : ℕ) (helper : Helper) → Keeps state (call_of maps state slot helper)
+call_kept : (maps : List MapDef) (state : State) (slot : ℕ) (helper : Helper) → Keeps state (checked_call maps state slot helper)
 call_kept maps state slot MapLookupElem = fair_then state (λ after. after.version ≡ state.version) (key_arguments maps state) _ (key_fair maps state) (λ map. refl)
 call_kept maps state slot MapUpdateElem = fair_then state (λ after. after.version ≡ state.version) (update_arguments maps state) _ (update_fair maps state) (λ _. refl)
 call_kept maps state slot MapDeleteElem = fair_then state (λ after. after.version ≡ state.version) (key_arguments maps state) _ (key_fair maps state) (λ _. refl)
@@ -441,14 +441,14 @@ arguments_fair state XdpAdjustHead = both_fair state R1 (Reg R2)
 
 -- ---- what flows out
 
-operand_number_fair : (state : State) (kind : Kind) (register : Register) → Asks state (number_of kind register)
+operand_number_fair : (state : State) (kind : Kind) (register : Register) → Asks state (checked_number kind register)
 operand_number_fair state (Scalar i) register = tt
 operand_number_fair state other register = tt
 
 operand_fair : (state : State) (dst operand : Register) → Asks state (operand_of state dst operand)
 operand_fair state dst operand =
-    fair_then state (λ _. Unit {0}) (writable dst) (λ _. reads state operand >>= (λ _. number_of (kind_of state operand) operand)) (writable_fair state dst)
-    (λ _. fair_then state (λ _. Unit {0}) (reads state operand) (λ _. number_of (kind_of state operand) operand) (reads_fair state operand)
+    fair_then state (λ _. Unit {0}) (writable dst) (λ _. reads state operand >>= (λ _. checked_number (kind_of state operand) operand)) (writable_fair state dst)
+    (λ _. fair_then state (λ _. Unit {0}) (reads state operand) (λ _. checked_number (kind_of state operand) operand) (reads_fair state operand)
     (λ _. operand_number_fair state (kind_of state operand) operand))
 
 unary_kept : (state : State) (dst operand : Register) (change : Interval → Interval) → Keeps state (unary_flow state dst operand change)
@@ -481,7 +481,7 @@ address_in_fair state (Some definition) map slot offset =
     (place_fair state (pos offset) size ValueBounds tt) (λ at. tt))
 address_in_fair state None map slot offset = tt
 
-address_fair : (state : State) (maps : List MapDef) (slot : ℕ) (map : ℤ) (offset : ℕ) → Asks state (value_address maps slot map offset)
+address_fair : (state : State) (maps : List MapDef) (slot : ℕ) (map : ℤ) (offset : ℕ) → Asks state (checked_value_address maps slot map offset)
 address_fair state maps slot (pos map) offset = address_in_fair state (slice_get maps map) map slot offset
 address_fair state maps slot (negsuc below) offset = tt
 
@@ -559,12 +559,12 @@ flow_fair maps state slot (Ldmap dst map) = falls_kept state (map_flow maps stat
     (fair_then state (λ after. after.version ≡ state.version) (writable dst) (λ _. known_map maps map >>= (λ kind. Ok (with_kind state dst kind)))
     (writable_fair state dst) (λ _. kind_kept state dst (known_map maps map) (map_fair state maps map)))
 flow_fair maps state slot (Ldval dst map offset) = falls_kept state (address_flow maps state slot dst map offset)
-    (fair_then state (λ after. after.version ≡ state.version) (writable dst) (λ _. value_address maps slot map offset >>= (λ kind. Ok (with_kind state dst kind)))
-    (writable_fair state dst) (λ _. kind_kept state dst (value_address maps slot map offset) (address_fair state maps slot map offset)))
+    (fair_then state (λ after. after.version ≡ state.version) (writable dst) (λ _. checked_value_address maps slot map offset >>= (λ kind. Ok (with_kind state dst kind)))
+    (writable_fair state dst) (λ _. kind_kept state dst (checked_value_address maps slot map offset) (address_fair state maps slot map offset)))
 flow_fair maps state slot (CallHelper number) = falls_kept state (call_flow maps state slot number)
-    (fair_then state (λ after. after.version ≡ state.version) (helper_at number) (λ helper. reads_arguments state helper >>= (λ _. call_of maps state slot helper))
+    (fair_then state (λ after. after.version ≡ state.version) (helper_at number) (λ helper. reads_arguments state helper >>= (λ _. checked_call maps state slot helper))
     (helper_fair state number)
-    (λ helper. fair_then state (λ after. after.version ≡ state.version) (reads_arguments state helper) (λ _. call_of maps state slot helper)
+    (λ helper. fair_then state (λ after. after.version ≡ state.version) (reads_arguments state helper) (λ _. checked_call maps state slot helper)
     (arguments_fair state helper) (λ _. call_kept maps state slot helper)))
 flow_fair maps state slot Exit =
     fair_then state (HasVersion state.version) (reads state R0) (λ _. exit_kind (kind_of state R0)) (reads_fair state R0) (λ _. verdict_fair state (kind_of state R0))

@@ -5,7 +5,7 @@ use Rattle.std.proofs.lemmas.List.{append-nil}
 use Rattle.ebpf_decode.specs.declared.insn.Insn.{Insn}
 use Rattle.abstract_state.specs.declared.state.State.{State}
 use Rattle.verifier.specs.Dataflow.{known_at}
-use Rattle.verifier.specs.Surveys.{slot_of}
+use Rattle.verifier.specs.Surveys.{slot_of_index}
 use Rattle.reasons.specs.Annotations.{indexed_text, is_any, entry_text, indexed_entry}
 
 take_suc : {A : Type 0} (x : A) (xs : List A) (i : ℕ) → take (suc i + 1) (x ∷ xs) ≡ x ∷ take (i + 1) xs
@@ -46,7 +46,7 @@ any_next (x ∷ set) (suc i) h =
 
 -- the text of an instruction is that of its index
 pub entry_here : (states : List (Option State)) (code : List Insn) (index slot : ℕ) (insn : Insn) (known : Option State) (old new : List ℕ) →
-    slot ≡ slot_of code index → known ≡ known_at states (slot_of code index) → new ≡ old ++ entry_text slot insn known →
+    slot ≡ slot_of_index code index → known ≡ known_at states (slot_of_index code index) → new ≡ old ++ entry_text slot insn known →
     new ≡ old ++ indexed_entry states code index insn
 entry_here states code index slot insn known old new at is written =
-    written ∙ ap (λ k. old ++ entry_text k insn known) at ∙ ap (λ state. old ++ entry_text (slot_of code index) insn state) is
+    written ∙ ap (λ k. old ++ entry_text k insn known) at ∙ ap (λ state. old ++ entry_text (slot_of_index code index) insn state) is

@@ -22,7 +22,7 @@ use Rattle.abstract_state.specs.States.{Checked, kind_of, opening_state}
 use Rattle.abstract_state.specs.Join.{zip_with, hull_of_offsets, may_join, join_kind, join_of}
 use Rattle.abstract_state.specs.Flow.{flow_of}
 use Rattle.image_shape.proofs.shared.SlotLemmas.{none_inside, past_end}
-use Rattle.verifier.specs.Surveys.{slot_of}
+use Rattle.verifier.specs.Surveys.{slot_of_index}
 use Rattle.verifier.specs.Dataflow.{known_at, joined_where, is_target, is_next, arriving, arriving_if, arriving_from, arrived, states_of}
 use Rattle.verifier.proofs.shared.EntryStates.{are_entry_states}
 use Rattle.reasons.specs.Origins.{is_unset, disagree, is_sought, brought_from, Brings, NoneBrings, IsUnsetAt}
@@ -362,7 +362,7 @@ none_at_all version maps code target register unlike slot end none = λ from h. 
 
 -- one more instruction
 pub none_more : (version : Version) (maps : List MapDef) (code : List Insn) (target : ℕ) (register : Register) (unlike : Option Kind) (index slot next : ℕ) (d : Insn) →
-    index < length code → slot ≡ slot_of code index → next ≡ slot + slot_count (get_or code index d) → NoneBefore version maps code target register unlike slot →
+    index < length code → slot ≡ slot_of_index code index → next ≡ slot + slot_count (get_or code index d) → NoneBefore version maps code target register unlike slot →
     IfSome (brought_from version maps code slot target) (λ brought. is_sought version unlike (kind_of brought register) ≡ false) →
     NoneBefore version maps code target register unlike next
 none_more version maps code target register unlike index slot next d inside at further none here = λ from h. ⊎_elim

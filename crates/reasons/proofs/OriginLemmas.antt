@@ -18,14 +18,14 @@ use Rattle.image_shape.proofs.shared.SlotLemmas.{instruction_here, past_end}
 use Rattle.verifier.specs.declared.survey.Broken.{Broken}
 use Rattle.verifier.specs.declared.survey.Survey.{Survey}
 use Rattle.verifier.specs.Dataflow.{known_at, states_of, arriving_from, AreEntryStates}
-use Rattle.verifier.specs.Surveys.{slot_of, IsSurvey, IsBroken, IsLast, EndsSo}
+use Rattle.verifier.specs.Surveys.{slot_of_index, IsSurvey, IsBroken, IsLast, EndsSo}
 use Rattle.verifier.proofs.shared.EntryStates.{agree, are_entry_states}
 use Rattle.reasons.specs.declared.cause.Cause.{Cause}
 use Rattle.reasons.specs.declared.cause.Cause.TheVariants.{PathsDisagree}
 use Rattle.reasons.specs.declared.origin.Arrival.{Arrival}
 use Rattle.reasons.specs.declared.origin.Back.{Back}
 use Rattle.reasons.specs.declared.origin.Back.TheVariants.{Found, Further}
-use Rattle.reasons.specs.Origins.{is_unset, disagree, cleared_by, along, brought_from, IsArrival, Brings, IsUnsetAt, StaysUnset, stays_along, LooksBack, looks_at_paths, looks_at_clearing, looks_further, IsOrigin, paths_disagree, left_unset, Covers}
+use Rattle.reasons.specs.Origins.{is_unset, disagree, cleared_by, along, brought_from, IsArrival, Brings, IsUnsetAt, StaysUnset, stays_along, LooksBack, looks_at_paths, looks_at_clearing, looks_further, IsOrigin, paths_disagree, left_unset, CoversBefore}
 use Rattle.reasons.proofs.FairLemmas.{blamed_unset}
 
 -- what an instruction of the program brings, in its entry state
@@ -48,14 +48,14 @@ brings_here version maps code slot insn known target register arrival here is ar
 
 -- what a survey keeps at an instruction's index is what is known at its slot
 stands_at : (version : Version) (maps : List MapDef) (code : List Insn) (survey : Survey) (index slot : ℕ) (known : Option State) → IsSurvey version maps code survey →
-    slot ≡ slot_of code index → index < length survey.known.items → known ≡ slice_index_or survey.known.items index known →
+    slot ≡ slot_of_index code index → index < length survey.known.items → known ≡ slice_index_or survey.known.items index known →
     known ≡ known_at (states_of version maps code) slot
 stands_at version maps code survey index slot known is at inside read =
     read ∙ get_or_default survey.known.items index known None inside ∙ is.known index inside ∙ ap (known_at (states_of version maps code)) (sym at)
 
 -- what is brought by the instruction of an index, by what a survey keeps
 pub brings_at : (version : Version) (maps other_maps : List MapDef) (code other_code : List Insn) (survey : Survey) (index slot : ℕ) (d : Insn)
-    (known : Option State) (target : ℕ) (register : Register) (arrival : Arrival) → IsSurvey version maps code survey → index < length code → slot ≡ slot_of code index →
+    (known : Option State) (target : ℕ) (register : Register) (arrival : Arrival) → IsSurvey version maps code survey → index < length code → slot ≡ slot_of_index code index →
     other_maps ≡ maps → other_code ≡ code → index < length survey.known.items → known ≡ slice_index_or survey.known.items index known →
     IsArrival other_maps slot (slice_index_or other_code index d) known target register arrival → Brings version maps code target register arrival
 brings_at version maps other_maps code other_code survey index slot d known target register arrival is within at same_maps same_code inside read arrives =
@@ -65,7 +65,7 @@ brings_at version maps other_maps code other_code survey index slot d known targ
     (subst (λ list. IsArrival list slot (slice_index_or other_code index d) known target register arrival) same_maps arrives))
 
 pub nothing_at : (version : Version) (maps other_maps : List MapDef) (code other_code : List Insn) (survey : Survey) (index slot : ℕ) (d : Insn)
-    (known : Option State) (target : ℕ) → IsSurvey version maps code survey → index < length code → slot ≡ slot_of code index →
+    (known : Option State) (target : ℕ) → IsSurvey version maps code survey → index < length code → slot ≡ slot_of_index code index →
     other_maps ≡ maps → other_code ≡ code → index < length survey.known.items → known ≡ slice_index_or survey.known.items index known →
     arriving_from other_maps slot (Some (slice_index_or other_code index d)) known target None ≡ None → brought_from version maps code slot target ≡ None
 nothing_at version maps other_maps code other_code survey index slot d known target is within at same_maps same_code inside read none =
@@ -156,7 +156,7 @@ begins_inside code slot insn e = ⊎_elim (λ h. h) (λ past. absurd (let none :
 pub record IsRefusedUnset (version : Version) (maps : List MapDef) (code : List Insn) (survey : Survey) (register : Register) (slot : ℕ) : Type 0 where
   pub unset : IsUnsetAt version maps code register slot
   pub inside : slot < total_slots code
-  pub covers : Covers code survey slot
+  pub covers : CoversBefore code survey slot
 
 -- the register that a broken rule names is unset there
 refused_unset : (version : Version) (maps : List MapDef) (code : List Insn) (broken : Broken) (register : Register) → IsBroken version maps code broken →
@@ -172,7 +172,7 @@ refused_unset version maps code broken register is why =
       unset = blamed_unset maps is.first.state broken.slot is.first.insn register (is.first.breaks ∙ ap Err why);
     }
 
-earlier_slot : (code : List Insn) (index last : ℕ) → slot_of code index < slot_of code last → index < last
+earlier_slot : (code : List Insn) (index last : ℕ) → slot_of_index code index < slot_of_index code last → index < last
 earlier_slot code index last h = ⊎_elim (λ lt. lt)
     (λ ge.
     let front : total_slots (take last (take index code)) ≤ total_slots (take index code) = sum_by-take-le slot_count (take index code) last
@@ -195,6 +195,6 @@ refused_here version maps code survey broken register is told why =
       inside = begins_inside code broken.slot broken.insn ends.0.here;
       covers = λ index h before.
           let count : length survey.known.items ≡ last.0 + 1 = last.1
-          in let first : index < last.0 = earlier_slot code index last.0 (subst (λ slot. slot_of code index < slot) (sym last.2) before)
+          in let first : index < last.0 = earlier_slot code index last.0 (subst (λ slot. slot_of_index code index < slot) (sym last.2) before)
           in omega arith;
     }

@@ -12,7 +12,7 @@ use Rattle.abstract_state.specs.declared.state.State.{State}
 use Rattle.verifier.specs.declared.survey.Broken.{Broken}
 use Rattle.verifier.specs.declared.survey.Survey.{Survey}
 use Rattle.verifier.specs.Dataflow.{known_at, states_of}
-use Rattle.verifier.specs.Surveys.{slot_of, IsSurvey, IsBroken, EndsSo}
+use Rattle.verifier.specs.Surveys.{slot_of_index, IsSurvey, IsBroken, EndsSo}
 use Rattle.reasons.specs.declared.advice.Advice.{Advice}
 use Rattle.reasons.specs.declared.cause.Cause.{Cause}
 use Rattle.reasons.specs.Causes.{cause_of}
@@ -48,7 +48,7 @@ ends_whole version maps code count end e ends = let so = rw e at ends in so.1
 -- where no instruction breaks a rule, something is known of each
 pub known_here : (version : Version) (maps : List MapDef) (code : List Insn) (survey : Survey) (index : ℕ) (known : Option State) →
     IsSurvey version maps code survey → survey.broken ≡ None → index < length code →
-    known ≡ slice_index_or survey.known.items index known → known ≡ known_at (states_of version maps code) (slot_of code index)
+    known ≡ slice_index_or survey.known.items index known → known ≡ known_at (states_of version maps code) (slot_of_index code index)
 known_here version maps code survey index known is e within read =
     let whole = ends_whole version maps code _ survey.broken e is.ends
     in let inside : index < length survey.known.items = omega (arith, whole)

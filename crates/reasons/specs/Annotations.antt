@@ -7,7 +7,7 @@ use Rattle.abstract_state.specs.declared.kind.StackWord.{StackWord}
 use Rattle.abstract_state.specs.declared.kind.StackWord.TheVariants.{Spilled, Bytes}
 use Rattle.abstract_state.specs.declared.state.State.{State}
 use Rattle.verifier.specs.Dataflow.{known_at}
-use Rattle.verifier.specs.Surveys.{slot_of}
+use Rattle.verifier.specs.Surveys.{slot_of_index}
 use Rattle.reasons.specs.Wording.{kind_text, word_text}
 use Rattle.reasons.specs.Instructions.{slot_line}
 use Rattle.reasons.specs.Readers.{reason_of, reason_line}
@@ -63,7 +63,7 @@ entry_text slot insn known = slot_line slot insn ++ known_lines insn known
 
 -- by the index of an instruction in the program
 abbrev pub indexed_entry : List (Option State) → List Insn → ℕ → Insn → List ℕ
-indexed_entry states code index insn = entry_text (slot_of code index) insn (known_at states (slot_of code index))
+indexed_entry states code index insn = entry_text (slot_of_index code index) insn (known_at states (slot_of_index code index))
 
 abbrev pub program_text : List (Option State) → List Insn → List ℕ
 program_text states code = indexed_text (indexed_entry states code) 0 code

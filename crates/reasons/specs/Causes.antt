@@ -195,14 +195,14 @@ abbrev pub head_argument : Register → Cause
 head_argument R1 = WantsContext
 head_argument register = WantsNumber
 
-abbrev pub map_argument : Register → Cause
-map_argument R1 = WantsMap
-map_argument R4 = WantsNumber
-map_argument register = WantsStack
+abbrev pub wanted_argument : Register → Cause
+wanted_argument R1 = WantsMap
+wanted_argument R4 = WantsNumber
+wanted_argument register = WantsStack
 
 abbrev pub bad_argument : Option Helper → Register → Cause
 bad_argument (Some XdpAdjustHead) register = head_argument register
-bad_argument helper register = map_argument register
+bad_argument helper register = wanted_argument register
 
 -- ---- 46: a pointer that could be read as a number
 

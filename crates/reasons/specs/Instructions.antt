@@ -41,9 +41,9 @@ abbrev pub used_line : State → Option Register → List ℕ
 used_line state (Some register) = register_line state register
 used_line state None = []
 
-abbrev pub source_register : SourceOperand → Option Register
-source_register (Imm immediate) = None
-source_register (Reg register) = Some register
+abbrev pub register_of_source : SourceOperand → Option Register
+register_of_source (Imm immediate) = None
+register_of_source (Reg register) = Some register
 
 -- at most four registers
 abbrev pub one_register : Option Register → List (Option Register)
@@ -71,12 +71,12 @@ compared_register op = if compares_r0 op then Some R0 else None
 
 -- the registers that an instruction reads
 abbrev pub used_registers : Insn → List (Option Register)
-used_registers (Alu width op dst source) = computing_registers op dst (source_register source)
+used_registers (Alu width op dst source) = computing_registers op dst (register_of_source source)
 used_registers (Neg width dst) = one_register (Some dst)
 used_registers (Movsx extension dst src) = one_register (Some src)
 used_registers (Movsx32 extension dst src) = one_register (Some src)
 used_registers (End order width dst) = one_register (Some dst)
-used_registers (JumpIf width test dst source distance) = two_registers dst (source_register source)
+used_registers (JumpIf width test dst source distance) = two_registers dst (register_of_source source)
 used_registers (Ldx size dst src offset) = one_register (Some src)
 used_registers (Ldxs extension dst src offset) = one_register (Some src)
 used_registers (St size dst offset immediate) = one_register (Some dst)

@@ -14,7 +14,7 @@ use Rattle.abstract_state.specs.States.{kind_of}
 use Rattle.abstract_state.specs.Join.{join_kind}
 use Rattle.verifier.specs.declared.survey.Survey.{Survey}
 use Rattle.verifier.specs.Dataflow.{known_at, states_of, arriving_from}
-use Rattle.verifier.specs.Surveys.{slot_of}
+use Rattle.verifier.specs.Surveys.{slot_of_index}
 use Rattle.reasons.specs.declared.cause.Cause.{Cause}
 use Rattle.reasons.specs.declared.cause.Cause.TheVariants.{NeverWritten, ClearedByCall, LeftUnset, PathsDisagree}
 use Rattle.reasons.specs.declared.origin.Arrival.{Arrival}
@@ -139,5 +139,5 @@ pub data IsOrigin (version : Version) (maps : List MapDef) (code : List Insn) (r
 -- ---- what a look back needs
 
 -- a survey has what is known of each instruction before the slot
-abbrev pub Covers : List Insn → Survey → ℕ → Type 0
-Covers code survey slot = (index : ℕ) → index < length code → slot_of code index < slot → index < length survey.known.items
+abbrev pub CoversBefore : List Insn → Survey → ℕ → Type 0
+CoversBefore code survey slot = (index : ℕ) → index < length code → slot_of_index code index < slot → index < length survey.known.items

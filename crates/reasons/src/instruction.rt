@@ -4,7 +4,7 @@ ghost use Rattle.std.specs.Prelude.{◌≡◌, ◌++◌, ◌<◌, ◌≤◌, ◌
 ghost use Rattle.std.specs.List.{flat_map};
 ghost use Rattle.abstract_state.specs.States.{word_of};
 ghost use Rattle.reasons.specs.Instructions.{slot_line, register_line, used_line, used_registers, called_registers, compared_register};
-ghost use Rattle.reasons.specs.Instructions.{source_register};
+ghost use Rattle.reasons.specs.Instructions.{register_of_source};
 ghost use Rattle.reasons.specs.Instructions.{word_head, word_line, place_word, stack_word, stack_word_text, words_text, stack_range_text};
 ghost use Rattle.reasons.specs.Instructions.{called_map, sizes_read, argument_text, arguments_text, touched_text, used_text};
 
@@ -67,7 +67,7 @@ fn put_used_line(
 
 /// The register of a source.
 fn source_register(source: SourceOperand) -> Option<Register>
-    ensures { result ≡ source_register source }
+    ensures { result ≡ register_of_source source }
 {
     match source {
         SourceOperand::Imm(_) => None,

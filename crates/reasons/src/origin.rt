@@ -5,9 +5,9 @@ ghost use Rattle.std.specs.Prelude.{◌≡◌, ◌<◌, IfSome, IsTrue, None, le
 ghost use Rattle.ebpf_decode.specs.InstructionEncoding.{total_slots};
 ghost use Rattle.abstract_state.specs.InPlace.{flow_by};
 ghost use Rattle.verifier.specs.Dataflow.{is_at, is_target, is_next, joined_where, arriving, arriving_from};
-ghost use Rattle.verifier.specs.Surveys.{slot_of, IsSurvey};
+ghost use Rattle.verifier.specs.Surveys.{slot_of_index, IsSurvey};
 ghost use Rattle.reasons.specs.Origins.{brought_by, brought_from, is_unset, disagree, is_sought, is_call, cleared_by, along};
-ghost use Rattle.reasons.specs.Origins.{IsArrival, Brings, NoneBrings, IsUnsetAt, LooksBack, IsOrigin, Covers};
+ghost use Rattle.reasons.specs.Origins.{IsArrival, Brings, NoneBrings, IsUnsetAt, LooksBack, IsOrigin, CoversBefore};
 
 use crate::cause::Cause;
 use abstract_state::{Kind, Site, State, Way};
@@ -188,7 +188,7 @@ fn arrival_at(
     requires survey { IsSurvey image.now.version image.now.maps image.now.code survey.now }
     requires inside { index < length image.now.code }
     requires known { index < length survey.now.known.items }
-    requires at { slot ≡ slot_of image.now.code index }
+    requires at { slot ≡ slot_of_index image.now.code index }
     ensures brings { IfSome result (Brings image.now.version image.now.maps image.now.code target register) }
     ensures from { IfSome result (λ arrival. arrival.from ≡ slot) }
     ensures none { result ≡ None → brought_from image.now.version image.now.maps image.now.code slot target ≡ None }
@@ -213,7 +213,7 @@ fn find_arrival(
     unlike: Option<Kind>,
 ) -> Option<Arrival>
     requires survey { IsSurvey image.now.version image.now.maps image.now.code survey.now }
-    requires covers { Covers image.now.code survey.now target }
+    requires covers { CoversBefore image.now.code survey.now target }
     ensures brings { IfSome result (Brings image.now.version image.now.maps image.now.code target register) }
     ensures sought { IfSome result (λ arrival. IsTrue (is_sought image.now.version unlike arrival.after)) }
     ensures before { IfSome result (λ arrival. arrival.from < target) }
@@ -276,7 +276,7 @@ fn disagreement(at: u32, one: Arrival, other: Arrival) -> Cause
 /// Looks at the edges that lead to a slot at which the register is unset.
 fn look_back(image: &Image, survey: &Survey, at: u32, register: Register) -> Back
     requires survey { IsSurvey image.now.version image.now.maps image.now.code survey.now }
-    requires covers { Covers image.now.code survey.now at }
+    requires covers { CoversBefore image.now.code survey.now at }
     requires unset { IsUnsetAt image.now.version image.now.maps image.now.code register at }
     requires past_start { 0 < at }
     requires inside { at < total_slots image.now.code }
@@ -295,7 +295,7 @@ fn look_back(image: &Image, survey: &Survey, at: u32, register: Register) -> Bac
 /// Why a register is unset at a slot.
 pub(crate) fn origin_of(image: &Image, survey: &Survey, slot: u32, register: Register) -> Cause
     requires survey { IsSurvey image.now.version image.now.maps image.now.code survey.now }
-    requires covers { Covers image.now.code survey.now slot }
+    requires covers { CoversBefore image.now.code survey.now slot }
     requires unset { IsUnsetAt image.now.version image.now.maps image.now.code register slot }
     requires inside { slot < total_slots image.now.code }
     ensures { IsOrigin image.now.version image.now.maps image.now.code register slot result }

@@ -16,7 +16,7 @@ use Rattle.semantics.specs.History.{journal_is_full, IsLegalHistory, IsLegalJour
 use Rattle.semantics.specs.SequentialShard.{update_answer}
 use Rattle.map_updates.specs.declared.update.MapUpdate.{MapUpdate}
 use Rattle.shard_core.specs.JournaledShard.{JournaledShard, state_of}
-use Rattle.shard_core.specs.Calls.{after_call, update_call}
+use Rattle.shard_core.specs.Calls.{shard_with_call, shard_update_call}
 use Rattle.maglev.specs.declared.backend.Backend.{Backend as Server}
 use Rattle.control.specs.declared.command.Action.{Action}
 use Rattle.control.specs.declared.command.Action.TheVariants as actions
@@ -25,9 +25,9 @@ use Rattle.control.specs.declared.fault.ControlFault.TheVariants.{BadSize, BadLi
 use Rattle.control.specs.declared.update.Update.{Update as Change}
 use Rattle.control.specs.MapUpdates.{UpdateBytes, map_update, AreMade}
 use Rattle.control.specs.RingChanges.{changes_below, slot_updates}
-use Rattle.control.specs.Controlling.{ControllerState, IsTable, has_number, has_address, up_refusal, down_refusal, action_refusal, refusal_of, first_updates, up_after, updates_of, IsCarriedOut, IsStopped, IsUnchanged, IsAnswered}
+use Rattle.control.specs.Controlling.{ControllerState, IsTable, has_number, has_address, up_refusal, down_refusal, action_refusal, refusal_of, first_updates, up_after, updates_of, IsCarriedOut, IsStopped, IsUnchanged, IsServiceAnswered}
 use Rattle.actors.specs.FirstUpdates.{AreSet, update_bytes}
-use Rattle.replay.specs.InTurn.{TurnMaps, shard_for, IsUpdatedInTurn, IsTurnedAwayInTurn, IsAppliedInTurn}
+use Rattle.replay.specs.InTurn.{TurnMaps, shard_in_turn, IsUpdatedInTurn, IsTurnedAwayInTurn, IsAppliedInTurn}
 use Rattle.replay.proofs.OneRun.{not_both}
 
 -- ---- an update
@@ -55,10 +55,10 @@ updated_once before update answer answer' after after' made made' =
     ∙ sym made'.at.answered in
     let shards : after.shards ≡ after'.shards =
     made.at.written
-    ∙ ap (λ (one : JournaledShard). slice_set before.shards (shard_for before update)
-    (after_call one Controller (update_call one update.key update.value (flags_number Any)) (Answer answer))) same
-    ∙ ap (λ (z : ℤ). slice_set before.shards (shard_for before update)
-    (after_call made'.at.one Controller (update_call made'.at.one update.key update.value (flags_number Any)) (Answer z))) answered
+    ∙ ap (λ (one : JournaledShard). slice_set before.shards (shard_in_turn before update)
+    (shard_with_call one Controller (shard_update_call one update.key update.value (flags_number Any)) (Answer answer))) same
+    ∙ ap (λ (z : ℤ). slice_set before.shards (shard_in_turn before update)
+    (shard_with_call made'.at.one Controller (shard_update_call made'.at.one update.key update.value (flags_number Any)) (Answer z))) answered
     ∙ sym made'.at.written in
     (answered, one_state after after' (made.same_maps ∙ sym made'.same_maps) (made.same_options ∙ sym made'.same_options) shards)
 
@@ -68,11 +68,11 @@ updated_or_full before update answer after after' made full =
     let same : made.at.one ≡ full.at.one = cc (made.at.known, full.at.known) in
     let one : JournaledShard = made.at.one in
     let step = newest_step one.plan one.journal
-    (record { who = Controller; call = update_call one update.key update.value (flags_number Any); reply = Answer answer }) made.at.legal in
-    let is_full : IsTrue (journal_is_full one.plan (reverse one.journal) (update_call one update.key update.value (flags_number Any))) =
+    (record { who = Controller; call = shard_update_call one update.key update.value (flags_number Any); reply = Answer answer }) made.at.legal in
+    let is_full : IsTrue (journal_is_full one.plan (reverse one.journal) (shard_update_call one update.key update.value (flags_number Any))) =
     subst (λ (shard : JournaledShard). IsTrue (journal_is_full shard.plan (reverse shard.journal)
-    (update_call shard update.key update.value (flags_number Any)))) (sym same) full.at.full in
-    not_both (journal_is_full one.plan (reverse one.journal) (update_call one update.key update.value (flags_number Any))) is_full step.room
+    (shard_update_call shard update.key update.value (flags_number Any)))) (sym same) full.at.full in
+    not_both (journal_is_full one.plan (reverse one.journal) (shard_update_call one update.key update.value (flags_number Any))) is_full step.room
 
 -- ---- updates, one after the other
 
@@ -230,7 +230,7 @@ module _ (state : ControllerState) (before : TurnMaps) (action : Action) where
   pub record IsTold (fault : Option ControlFault) (state' : ControllerState) (after : TurnMaps) : Type 0 where
     pub answer : ℤ
     pub fault_is : fault ≡ Some (Refused answer)
-    pub answered : IsAnswered IsUpdatedInTurn state before firsts answer state' after
+    pub answered : IsServiceAnswered IsUpdatedInTurn state before firsts answer state' after
 
   -- an update met a full journal
   pub record IsCut (fault : Option ControlFault) (state' : ControllerState) (after : TurnMaps) : Type 0 where

@@ -7,20 +7,20 @@ use Rattle.semantics.specs.declared.call.Reply.TheVariants.{Freed}
 use Rattle.semantics.specs.History.{journal_is_full, IsLegalJournal, IsLegalStep, entry_of}
 use Rattle.semantics.specs.Replay.{is_keyed}
 use Rattle.shard_core.specs.JournaledShard.{JournaledShard}
-use Rattle.shard_core.specs.Calls.{IsFullFor, after_call, reclaim_call}
+use Rattle.shard_core.specs.Calls.{IsFullFor, shard_with_call, reclaim_call}
 use Rattle.shards.specs.NewShards.{shard_at}
 use Rattle.replay.specs.InTurn.{IsAskedInTurn, IsReclaimedInTurn, IsPartOfRound, IsRoundTo}
 use Rattle.replay.proofs.OneRun.{not_both}
 use Rattle.replay.proofs.OneCommand.{newest_step}
 
 -- a Reclaim that was served is the newest step of the shard
-asked_step : (one new : JournaledShard) (freed : ℕ) → new ≡ after_call one Reclaimer (reclaim_call one) (Freed freed) → IsLegalJournal one.plan new.journal →
+asked_step : (one new : JournaledShard) (freed : ℕ) → new ≡ shard_with_call one Reclaimer (reclaim_call one) (Freed freed) → IsLegalJournal one.plan new.journal →
     IsLegalStep one.plan (reverse one.journal) (entry_of Reclaimer (reclaim_call one) (Freed freed))
 asked_step one new freed is legal =
     newest_step one.plan one.journal (entry_of Reclaimer (reclaim_call one) (Freed freed))
     (subst (λ (shard : JournaledShard). IsLegalJournal one.plan shard.journal) is legal)
 
-served_or_full : (one new : JournaledShard) (freed : ℕ) → new ≡ after_call one Reclaimer (reclaim_call one) (Freed freed) →
+served_or_full : (one new : JournaledShard) (freed : ℕ) → new ≡ shard_with_call one Reclaimer (reclaim_call one) (Freed freed) →
     IsLegalJournal one.plan new.journal → IsFullFor one (reclaim_call one) → ⊥
 served_or_full one new freed is legal full =
     not_both (journal_is_full one.plan (reverse one.journal) (reclaim_call one)) full (asked_step one new freed is legal).room
@@ -29,7 +29,7 @@ asked_once : (one new new' : JournaledShard) → IsAskedInTurn one new → IsAsk
 asked_once one new new' (inl (freed, is, legal)) (inl (freed', is', legal')) =
     let replied : Freed freed ≡ Freed freed' =
     (asked_step one new freed is legal).step.replied ∙ sym (asked_step one new' freed' is' legal').step.replied in
-    is ∙ ap (λ (reply : Reply). after_call one Reclaimer (reclaim_call one) reply) replied ∙ sym is'
+    is ∙ ap (λ (reply : Reply). shard_with_call one Reclaimer (reclaim_call one) reply) replied ∙ sym is'
 asked_once one new new' (inl (freed, is, legal)) (inr (full, same)) = absurd (served_or_full one new freed is legal full)
 asked_once one new new' (inr (full, same)) (inl (freed, is, legal)) = absurd (served_or_full one new' freed is legal full)
 asked_once one new new' (inr (full, same)) (inr (full', same')) = same ∙ sym same'

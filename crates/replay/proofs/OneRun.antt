@@ -17,7 +17,7 @@ use Rattle.machine.specs.declared.exit.Stop.TheVariants.{JournalFull}
 use Rattle.machine.specs.Running.{Ends, Stops, StopsSo}
 use Rattle.map_port.specs.Served.{Maps}
 use Rattle.map_port.specs.Exchanges.{calls_in}
-use Rattle.shard_core.specs.JournaledShard.{JournaledShard, sequential_reply, with_entry}
+use Rattle.shard_core.specs.JournaledShard.{JournaledShard, sequential_reply, shard_with_entry}
 use Rattle.shard_port.specs.Asking.{can_enter, entered, asked_entry, EntersAndCalls, CannotEnterOrCall, all_left}
 use Rattle.shard_port.specs.PortView.{PortView, IsGivenBy, IsRefusedBy}
 use Rattle.actors.specs.declared.account.Counts.{Counts}
@@ -54,8 +54,8 @@ given_once before call reply reply' after after' given given' =
     ∙ sym given'.answered.answered.replied in
     let written : given.answered.new ≡ given'.answered.new =
     given.answered.answered.written
-    ∙ ap (λ (one : JournaledShard). with_entry (entered before.worker one) (asked_entry before.worker call reply)) same
-    ∙ ap (λ (one : Reply). with_entry (entered before.worker given'.answered.shard) (asked_entry before.worker call one)) replied
+    ∙ ap (λ (one : JournaledShard). shard_with_entry (entered before.worker one) (asked_entry before.worker call reply)) same
+    ∙ ap (λ (one : Reply). shard_with_entry (entered before.worker given'.answered.shard) (asked_entry before.worker call one)) replied
     ∙ sym given'.answered.answered.written in
     let shards : after.shards ≡ after'.shards =
     given.answered.put_back ∙ ap (λ (new : JournaledShard). slice_set before.shards (shard_of_call call) new) written

@@ -21,7 +21,7 @@ use Rattle.semantics.specs.History.{IsLegalJournal, journal_is_full, lacks_room,
 use Rattle.semantics.specs.Reclamation.{is_worker, is_inside, entered_by, entered_at, inside_count, worker_numbers}
 use Rattle.semantics.specs.SequentialShard.{update_answer}
 use Rattle.shard_core.specs.JournaledShard.{JournaledShard, state_of, sequential_reply}
-use Rattle.shard_core.specs.Calls.{IsFullFor, after_call, update_call, reclaim_call}
+use Rattle.shard_core.specs.Calls.{IsFullFor, shard_with_call, shard_update_call, reclaim_call}
 use Rattle.shards.specs.NewShards.{shard_at}
 use Rattle.shard_port.specs.Asking.{is_in, enter_by, leave_by, entering, entered, left, asked_entry, EntersAndCalls}
 use Rattle.shard_port.specs.PortView.{IsRunCall}
@@ -246,13 +246,13 @@ but_one worker one other alike = record {
 
 -- the shard behind an update of the controller's
 abbrev pub after_update : JournaledShard → List ℕ → List ℕ → ℤ → JournaledShard
-after_update shard key value answer = after_call shard Controller (update_call shard key value (flags_number Any)) (Answer answer)
+after_update shard key value answer = shard_with_call shard Controller (shard_update_call shard key value (flags_number Any)) (Answer answer)
 
 update_step : (shard : JournaledShard) (key value : List ℕ) (answer : ℤ) →
-    IsLegalJournal shard.plan (after_call shard Controller (update_call shard key value (flags_number Any)) (Answer answer)).journal → IsOver shard → ⊥
+    IsLegalJournal shard.plan (shard_with_call shard Controller (shard_update_call shard key value (flags_number Any)) (Answer answer)).journal → IsOver shard → ⊥
 update_step shard key value answer legal over =
-    over_refuses shard (update_call shard key value (flags_number Any)) over refl
-    (newest_step shard.plan shard.journal (entry_of Controller (update_call shard key value (flags_number Any)) (Answer answer)) legal).room
+    over_refuses shard (shard_update_call shard key value (flags_number Any)) over refl
+    (newest_step shard.plan shard.journal (entry_of Controller (shard_update_call shard key value (flags_number Any)) (Answer answer)) legal).room
 
 pub record IsSameAnswer (answer answer' : ℤ) (new new' : JournaledShard) : Type 0 where
   pub answers : answer ≡ answer'
@@ -261,10 +261,10 @@ pub record IsSameAnswer (answer answer' : ℤ) (new new' : JournaledShard) : Typ
 pub update_alike : (one other : JournaledShard) (key value : List ℕ) (answer answer' : ℤ) → AreAlike IsOutside one other →
     answer ≡ update_answer one.plan (state_of one) key (flags_number Any) →
     answer' ≡ update_answer other.plan (state_of other) key (flags_number Any) →
-    IsLegalJournal one.plan (after_call one Controller (update_call one key value (flags_number Any)) (Answer answer)).journal →
-    IsLegalJournal other.plan (after_call other Controller (update_call other key value (flags_number Any)) (Answer answer')).journal →
-    IsSameAnswer answer answer' (after_call one Controller (update_call one key value (flags_number Any)) (Answer answer))
-    (after_call other Controller (update_call other key value (flags_number Any)) (Answer answer'))
+    IsLegalJournal one.plan (shard_with_call one Controller (shard_update_call one key value (flags_number Any)) (Answer answer)).journal →
+    IsLegalJournal other.plan (shard_with_call other Controller (shard_update_call other key value (flags_number Any)) (Answer answer')).journal →
+    IsSameAnswer answer answer' (shard_with_call one Controller (shard_update_call one key value (flags_number Any)) (Answer answer))
+    (shard_with_call other Controller (shard_update_call other key value (flags_number Any)) (Answer answer'))
 update_alike one other key value answer answer' alike answered answered' legal legal' =
     if_served one other alike.journals (update_step one key value answer legal) (update_step other key value answer' legal')
     (λ (same : one.journal ≡ other.journal).
@@ -289,24 +289,24 @@ update_alike one other key value answer answer' alike answered answered' legal l
       };
     })
 
-reclaim_over : (one new : JournaledShard) (freed : ℕ) → new ≡ after_call one Reclaimer (reclaim_call one) (Freed freed) → IsLegalJournal one.plan new.journal →
+reclaim_over : (one new : JournaledShard) (freed : ℕ) → new ≡ shard_with_call one Reclaimer (reclaim_call one) (Freed freed) → IsLegalJournal one.plan new.journal →
     IsOver one → ⊥
 reclaim_over one new freed is legal over =
     over_refuses one (reclaim_call one) over refl
     (newest_step one.plan one.journal (entry_of Reclaimer (reclaim_call one) (Freed freed))
     (subst (λ (shard : JournaledShard). IsLegalJournal one.plan shard.journal) is legal)).room
 
-reclaim_reply : (one new : JournaledShard) (freed : ℕ) → new ≡ after_call one Reclaimer (reclaim_call one) (Freed freed) → IsLegalJournal one.plan new.journal →
+reclaim_reply : (one new : JournaledShard) (freed : ℕ) → new ≡ shard_with_call one Reclaimer (reclaim_call one) (Freed freed) → IsLegalJournal one.plan new.journal →
     Freed freed ≡ sequential_reply one (reclaim_call one)
 reclaim_reply one new freed is legal =
     (newest_step one.plan one.journal (entry_of Reclaimer (reclaim_call one) (Freed freed))
     (subst (λ (shard : JournaledShard). IsLegalJournal one.plan shard.journal) is legal)).step.replied
 
-reclaimed_outside : (one new : JournaledShard) (freed : ℕ) → new ≡ after_call one Reclaimer (reclaim_call one) (Freed freed) → IsOutside one → IsOutside new
+reclaimed_outside : (one new : JournaledShard) (freed : ℕ) → new ≡ shard_with_call one Reclaimer (reclaim_call one) (Freed freed) → IsOutside one → IsOutside new
 reclaimed_outside one new freed is outside worker =
     ap (is_in worker) is ∙ others_entry worker one.journal (entry_of Reclaimer (reclaim_call one) (Freed freed)) refl ∙ outside worker
 
-plan_after : (one new : JournaledShard) (freed : ℕ) → new ≡ after_call one Reclaimer (reclaim_call one) (Freed freed) → new.plan ≡ one.plan
+plan_after : (one new : JournaledShard) (freed : ℕ) → new ≡ shard_with_call one Reclaimer (reclaim_call one) (Freed freed) → new.plan ≡ one.plan
 plan_after one new freed is = ap (λ (shard : JournaledShard). shard.plan) is
 
 pub asked_alike : (one other new new' : JournaledShard) → AreAlike IsOutside one other → IsAskedInTurn one new → IsAskedInTurn other new' →

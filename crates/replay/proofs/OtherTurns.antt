@@ -17,7 +17,7 @@ use Rattle.control.specs.MapUpdates.{UpdateBytes, map_update, AreMade}
 use Rattle.control.specs.RingChanges.{changes_below, slot_updates}
 use Rattle.control.specs.Controlling.{ControllerState, refusal_of, updates_of}
 use Rattle.actors.specs.FirstUpdates.{AreSet, update_bytes}
-use Rattle.replay.specs.InTurn.{TurnMaps, shard_for, IsUpdatedAt, IsUpdatedInTurn, IsAppliedInTurn, IsReclaimedInTurn, IsPartOfRound, IsRoundTo}
+use Rattle.replay.specs.InTurn.{TurnMaps, shard_in_turn, IsUpdatedAt, IsUpdatedInTurn, IsAppliedInTurn, IsReclaimedInTurn, IsPartOfRound, IsRoundTo}
 use Rattle.replay.specs.OtherJournals.{AreSameButJournals}
 use Rattle.replay.proofs.OneCommand.{no_answer, one_table, firsts, ups, IsKept, IsWhole, IsTold, IsOneOf, one_of_four}
 use Rattle.replay.proofs.OtherShards.{IsOutside, AreAllAlike, alike_at, alike_set, kind_there, after_update, update_alike, asked_alike}
@@ -54,10 +54,10 @@ at_alike one other after after' number key value answer answer' all made made' =
 updated_alike : (one other after after' : TurnMaps) (update : UpdateBytes) (answer answer' : ℤ) → AreMapsAlike one other →
     IsUpdatedInTurn one update answer after → IsUpdatedInTurn other update answer' after' → (answer ≡ answer') × AreMapsAlike after after'
 updated_alike one other after after' update answer answer' alike made made' =
-    let number : shard_for other update ≡ shard_for one update =
+    let number : shard_in_turn other update ≡ shard_in_turn one update =
     sym (ap (λ (m : List MapDef). shard_in_map (slice_get m update.map) one.options.shards update.map update.key) alike.maps
     ∙ ap (λ (n : ℕ). shard_in_map (slice_get other.maps update.map) n update.map update.key) alike.options.shards) in
-    let once = at_alike one.shards other.shards after.shards after'.shards (shard_for one update) update.key update.value answer answer' alike.shards made.at
+    let once = at_alike one.shards other.shards after.shards after'.shards (shard_in_turn one update) update.key update.value answer answer' alike.shards made.at
     (subst (λ (n : ℕ). IsUpdatedAt other.shards n update.key update.value answer' after'.shards) number made'.at) in (
       once.0,
       record {

@@ -27,8 +27,8 @@ use Rattle.rx_queues.specs.declared.job.Job.TheVariants.{Frame, Command as Comma
 use Rattle.control.specs.declared.command.Command.{Command}
 use Rattle.control.specs.MapUpdates.{UpdateBytes}
 use Rattle.actors.specs.declared.outcome.Applied.{Applied}
-use Rattle.actors.specs.SharedUpdates.{shard_of, update_call}
-use Rattle.actors.specs.Commands.{CommanderView, CommandDone, IsScriptAccount, IsFullFor, ServesScript}
+use Rattle.actors.specs.SharedUpdates.{shard_of, controller_update}
+use Rattle.actors.specs.Commands.{CommanderView, CommandDone, IsScriptAccount, IsShardFullForUpdate, ServesScript}
 use Rattle.actors.specs.ActorJobs.{command_jobs}
 use Rattle.actors.specs.Rounds.{AreReclaimed, AreRoundsDone, IsReclaimedBy}
 use Rattle.actors.specs.Actors.{numbers_from, commands_from}
@@ -162,7 +162,7 @@ within_of maps map parts key (Some definition) some is there =
 
 full_stands : (plan : ℕ → ShardPlan) (maps : List MapDef) (options : Options) (count : ℕ) (journals : JournalsView) (pass : PassView) →
     ArePlans maps options count plan → AreOptions maps options → AreSettled count journals pass → (stopped : Option UpdateBytes) →
-    IfSome stopped (IsFullFor plan maps options pass) → IfSome stopped (IsFullInJournal plan maps options count journals)
+    IfSome stopped (IsShardFullForUpdate plan maps options pass) → IfSome stopped (IsFullInJournal plan maps options count journals)
 full_stands plan maps options count journals pass plans are settled None full = tt
 full_stands plan maps options count journals pass plans are settled (Some update) full =
     let shard = shard_of maps options update in
@@ -171,7 +171,7 @@ full_stands plan maps options count journals pass plans are settled (Some update
     let within : shard < count = subst (λ (n : ℕ). shard < n) (sym plans.count_is) below in
     record {
       within = within;
-      full = full_later (plan shard) (reverse (entries_at journals shard)) (seen_at pass shard) (update_call shard update) (settled shard within).begins
+      full = full_later (plan shard) (reverse (entries_at journals shard)) (seen_at pass shard) (controller_update shard update) (settled shard within).begins
           full.full;
     }
 
@@ -190,7 +190,7 @@ script_stands plan maps options count updates script size noted pass journals or
   state = run.state;
   are_done = run.account.are_done;
   own = λ number within. ap (λ (c : Caller). own_entries c (reverse (entries_at journals number))) (sym run.who) ∙ sym (settled number within).own ∙ run.account.own number;
-  full = each_weaker (λ (one : CommandDone). IfSome one.stopped (IsFullFor plan maps options pass))
+  full = each_weaker (λ (one : CommandDone). IfSome one.stopped (IsShardFullForUpdate plan maps options pass))
       (λ (one : CommandDone). IfSome one.stopped (IsFullInJournal plan maps options count journals))
       (λ one. full_stands plan maps options count journals pass plans are settled one.stopped) run.account.done run.account.full;
   did = ap (λ (c : Caller). deeds_of (ByCaller c) order) (sym run.who) ∙ sym owned ∙ run.account.did;

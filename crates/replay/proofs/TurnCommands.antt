@@ -32,7 +32,7 @@ use Rattle.control.specs.declared.fault.ControlFault.TheVariants.{BadSize, BadLi
 use Rattle.control.specs.declared.update.Update.{Update as Change}
 use Rattle.control.specs.MapUpdates.{UpdateBytes, map_update, AreMade}
 use Rattle.control.specs.Controlling.{ControllerState, IsStopped, IsLeft, refusal_of, first_updates, up_after, updates_of}
-use Rattle.actors.specs.SharedUpdates.{UpdatesView, shard_of, update_call, IsUpdated, IsTurnedAway}
+use Rattle.actors.specs.SharedUpdates.{UpdatesView, shard_of, controller_update, IsUpdated, IsTurnedAway}
 use Rattle.map_updates.specs.declared.update.MapUpdate.{MapUpdate}
 use Rattle.actors.specs.Commands.{HasEffect}
 use Rattle.actors.specs.FirstUpdates.{update_bytes, AreSet}
@@ -98,7 +98,7 @@ module _ (plan : ℕ → ShardPlan) (count : ℕ) (numbered : (number : ℕ) →
       let one : JournaledShard = at.one in
       let is = one_of plan count number order before.shards one stands.left at.known in
       let same_number : one.plan.number ≡ number = ap (λ (p : ShardPlan). p.number) is.planned ∙ numbered number is.within in
-      let call : Call = update_call number update in
+      let call : Call = controller_update number update in
       let entry : Entry = entry_of Controller call (Answer answer) in
       let deeds : List Deed = Wrote entry ∷ [] in
       let are : AreBy Controller number deeds = (record { caller = refl; shard = refl }, tt) in
@@ -155,7 +155,7 @@ module _ (plan : ℕ → ShardPlan) (count : ℕ) (numbered : (number : ℕ) →
       let one : JournaledShard = at.one in
       let is = one_of plan count number order before.shards one stands.left at.known in
       let same_number : one.plan.number ≡ number = ap (λ (p : ShardPlan). p.number) is.planned ∙ numbered number is.within in
-      let call : Call = update_call number update in
+      let call : Call = controller_update number update in
       let deeds : List Deed = MetFull Controller call ∷ [] in
       let are : AreBy Controller number deeds = (record { caller = refl; shard = refl }, tt) in
       let room : number < length pass.views = subst (λ (n : ℕ). number < n) (sym stands.mine.sized) is.within in

@@ -28,7 +28,7 @@ use Rattle.journals.specs.JournalsView.{AreImageMaps}
 use Rattle.machine.specs.declared.exit.Stop.{Stop}
 use Rattle.machine.specs.declared.exit.Stop.TheVariants.{JournalFull}
 use Rattle.machine.specs.Running.{Ends, StopsSo}
-use Rattle.map_port.specs.Served.{Maps, shard_of}
+use Rattle.map_port.specs.Served.{Maps, served_shard}
 use Rattle.shard_core.specs.JournaledShard.{JournaledShard, opened_shard}
 use Rattle.shards.specs.NewShards.{shard_at}
 use Rattle.shards.specs.Seats.{no_plan}
@@ -150,7 +150,7 @@ reserve_at maps options shards serve number below =
 pub may_make : (maps : List MapDef) (options : Options) (shards : List JournaledShard) (map : ℕ) (key value : List ℕ) (definition : MapDef) →
     IsPortReady maps options 0 shards → slice_get maps map ≡ Some definition → length key ≡ definition.key_size → length value ≡ definition.value_size →
     All (λ byte. byte < 256) key → All (λ byte. byte < 256) value →
-    IsTrue (may_update_at (slice_get shards (shard_of (record { maps = maps; shards = options.shards }) map key)) key value)
+    IsTrue (may_update_at (slice_get shards (served_shard (record { maps = maps; shards = options.shards }) map key)) key value)
 may_make maps options shards map key value definition ready known key_size value_size bytes value_bytes =
     let of_map : IsKeyOf maps map key = record { definition = definition; known = known; key_size = key_size; bytes = bytes } in
     let at = at_key maps options 0 shards map key ready of_map in

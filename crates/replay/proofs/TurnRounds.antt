@@ -18,7 +18,7 @@ use Rattle.shards.specs.declared.deeds.Deed.{Deed}
 use Rattle.shards.specs.declared.deeds.Deed.TheVariants.{Wrote, MetFull}
 use Rattle.shards.specs.Deeds.{made_on}
 use Rattle.shards.specs.Passes.{PassView, view_at, own_at, seen_at, IsElsewhereSame}
-use Rattle.actors.specs.Rounds.{AreReclaimed, IsAsked, HasAsked}
+use Rattle.actors.specs.Rounds.{AreReclaimed, IsReclaimAsked, HasAsked}
 use Rattle.semantics.specs.Replay.{is_keyed}
 use Rattle.replay.specs.InTurn.{IsAskedInTurn, IsReclaimedInTurn, IsPartOfRound, IsRoundTo}
 use Rattle.actors.proofs.shared.RoundLemmas.{IsInRound, IsPartDone, keyed_turn, array_turn, same_elsewhere, next_turn, first_turn, all_turns, keyed_did, array_did, first_part, next_part, round_done}
@@ -36,7 +36,7 @@ module _ (plan : ℕ → ShardPlan) (count : ℕ) (numbered : (number : ℕ) →
     more : IsMoreBy Reclaimer order order'
     stands : Stands plan count Reclaimer order' after pass'
     elsewhere : IsElsewhereSame number pass pass'
-    asked : IsAsked (plan number) number pass pass'
+    asked : IsReclaimAsked (plan number) number pass pass'
     did : HasAsked number pass pass'
 
   served_step : (number : ℕ) (order : List Deed) (shards : List JournaledShard) (pass : PassView) (one : JournaledShard) (freed : ℕ) →

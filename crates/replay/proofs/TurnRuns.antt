@@ -22,7 +22,7 @@ use Rattle.shards.specs.Deeds.{made_on, AreMet}
 use Rattle.shards.specs.Passes.{PassView, view_at, own_at, seen_at}
 use Rattle.shard_port.specs.Asking.{is_in, enter_by, entered, asked_entry, entering as entering_of, CannotEnter, CannotCall, CannotEnterOrCall}
 use Rattle.shard_port.specs.PortView.{PortView, IsGivenBy as Gives, IsRefusedBy as Refuses}
-use Rattle.shard_port.specs.PassPorts.{PassPort, worker_number, entering, inside_own, entered_deeds, IsAskedAt, CannotEnterAt, CannotCallAt, IsTurnedAwayBy, PassGives, PassRefuses}
+use Rattle.shard_port.specs.PassPorts.{PassPort, worker_number, entering_by_own, inside_own, entered_deeds, IsAskedAt, CannotEnterAt, CannotCallAt, IsTurnedAwayBy, PassGives, PassRefuses}
 use Rattle.replay.proofs.TurnDeeds.{IsPassOf, Stands, IsMoreBy, AreBy, pass_after, own_of_maker, made_here, no_more, more_by, more_on, elsewhere_same, own_here, seen_here, stands_after, IsOneOf, one_of}
 
 -- ---- entering
@@ -34,7 +34,7 @@ inside_there plan count worker number order shards one pass is mine =
     ap (is_inside worker) is.written ∙ sym (own_inside worker (made_on number order)) ∙ ap (is_inside worker) (sym (mine.own number is.within))
 
 made_entered : (worker number : ℕ) (own : List Entry) (order : List Deed) →
-    made_on number (entered_deeds worker number own ++ order) ≡ entering worker number own ++ made_on number order
+    made_on number (entered_deeds worker number own ++ order) ≡ entering_by_own worker number own ++ made_on number order
 made_entered worker number own order = by_test (is_inside worker own)
   where
     by_test : (inside : Bool) → made_on number ((if inside then [] else Wrote (enter_by worker number) ∷ []) ++ order)
@@ -43,7 +43,7 @@ made_entered worker number own order = by_test (is_inside worker own)
     by_test false = made_here number (enter_by worker number) order refl
 
 own_entered : (worker number : ℕ) (own history : List Entry) →
-    own_entries (Worker worker) (entering worker number own ++ history) ≡ entering worker number own ++ own_entries (Worker worker) history
+    own_entries (Worker worker) (entering_by_own worker number own ++ history) ≡ entering_by_own worker number own ++ own_entries (Worker worker) history
 own_entered worker number own history = by_test (is_inside worker own)
   where
     by_test : (inside : Bool) → own_entries (Worker worker) ((if inside then [] else enter_by worker number ∷ []) ++ history)
@@ -73,7 +73,7 @@ reverse_entering worker number false = refl
 
 -- the history of the shard once the worker has entered
 entered_history : (worker number : ℕ) (own : List Entry) (one : JournaledShard) → one.plan.number ≡ number → is_in worker one ≡ is_inside worker own →
-    reverse (entered worker one).journal ≡ entering worker number own ++ reverse one.journal
+    reverse (entered worker one).journal ≡ entering_by_own worker number own ++ reverse one.journal
 entered_history worker number own one numbered same =
     reverse-append one.journal (entering_of worker one)
     ∙ ap (λ (list : List Entry). list ++ reverse one.journal)
@@ -109,7 +109,7 @@ module _ (plan : ℕ → ShardPlan) (count : ℕ) (numbered : (number : ℕ) →
         is = is;
         inside = inside;
         history = entered_history worker number (own_at pass number) one (ap (λ (p : ShardPlan). p.number) is.planned ∙ numbered number is.within) inside
-            ∙ ap (λ (list : List Entry). entering worker number (own_at pass number) ++ list) is.written
+            ∙ ap (λ (list : List Entry). entering_by_own worker number (own_at pass number) ++ list) is.written
             ∙ sym (made_entered worker number (own_at pass number) order);
         room = subst (λ (n : ℕ). number < n) (sym stands.mine.sized) is.within;
       }
@@ -121,7 +121,7 @@ module _ (plan : ℕ → ShardPlan) (count : ℕ) (numbered : (number : ℕ) →
   entered_own worker number order pass within mine =
       ap (own_entries (Worker worker)) (made_entered worker number (own_at pass number) order)
       ∙ own_entered worker number (own_at pass number) (made_on number order)
-      ∙ ap (λ (list : List Entry). entering worker number (own_at pass number) ++ list) (sym (mine.own number within))
+      ∙ ap (λ (list : List Entry). entering_by_own worker number (own_at pass number) ++ list) (sym (mine.own number within))
 
   -- ---- an answer
 
@@ -160,7 +160,7 @@ module _ (plan : ℕ → ShardPlan) (count : ℕ) (numbered : (number : ℕ) →
       (subst (IsLegalHistory among.new.plan) written among.legal) in
       let met : AreMet plan (deeds ++ order) = (tt, met_entered plan worker number own order stands.sound.met) in
       let caller : worker_number pass.who ≡ worker = ap worker_number stands.mine.caller in
-      let seen : seen_at (pass_after number deeds order pass) number ≡ entry ∷ entering worker number own ++ made_on number order =
+      let seen : seen_at (pass_after number deeds order pass) number ≡ entry ∷ entering_by_own worker number own ++ made_on number order =
       seen_here number deeds order pass at.room ∙ newest ∙ ap (λ (list : List Entry). entry ∷ list) (made_entered worker number own order) in
       let asked : IsAskedAt (plan number) number worker (view_at pass number) (view_at (pass_after number deeds order pass) number) call reply = record {
         earlier = made_on number order;

@@ -20,7 +20,7 @@ use Rattle.journals.specs.JournalsView.{AreImageMaps}
 use Rattle.machine.specs.declared.exit.Stop.{Stop}
 use Rattle.machine.specs.Running.{Ends, StopsSo}
 use Rattle.shard_core.specs.JournaledShard.{JournaledShard, state_of}
-use Rattle.shard_core.specs.Calls.{IsFullFor, after_call, update_call, reclaim_call}
+use Rattle.shard_core.specs.Calls.{IsFullFor, shard_with_call, shard_update_call, reclaim_call}
 use Rattle.shards.specs.NewShards.{shard_at}
 use Rattle.shard_port.specs.Asking.{all_left}
 use Rattle.shard_port.specs.PortView.{PortView, ServesMaps, IsGivenBy, IsRefusedBy}
@@ -84,7 +84,7 @@ pub record IsPassedOver (captured : Sent) (before after : List JournaledShard) :
   pub short : is_short captured.bytes.items ≡ true
   pub nothing : after ≡ before
 
-pub record IsRun (program : Program) (workers : ℕ) (captured : Sent) (before : List JournaledShard) (end : RunEnd)
+pub record IsRunOfRecord (program : Program) (workers : ℕ) (captured : Sent) (before : List JournaledShard) (end : RunEnd)
     (after : List JournaledShard) : Type 0
   where
     pub long : is_short captured.bytes.items ≡ false
@@ -92,7 +92,7 @@ pub record IsRun (program : Program) (workers : ℕ) (captured : Sent) (before :
 
 abbrev pub IsHandledInTurn : Program → ℕ → Sent → List JournaledShard → Option RunEnd → List JournaledShard → Type 0
 IsHandledInTurn program workers captured before None after = IsPassedOver captured before after
-IsHandledInTurn program workers captured before (Some end) after = IsRun program workers captured before end after
+IsHandledInTurn program workers captured before (Some end) after = IsRunOfRecord program workers captured before end after
 
 -- ---- a command
 
@@ -110,7 +110,7 @@ pub record ServesTurns (maps : List MapDef) (options : Options) (shards : List J
 
 -- the controller may make the update on this shard
 abbrev pub may_update_at : Option JournaledShard → List ℕ → List ℕ → Bool
-may_update_at (Some one) key value = meets one.plan (reverse one.journal) Controller (update_call one key value (flags_number Any))
+may_update_at (Some one) key value = meets one.plan (reverse one.journal) Controller (shard_update_call one key value (flags_number Any))
 may_update_at None key value = false
 
 -- the shard of this number took the update, or gave another answer, as the one-thread map does; either way it has the entry
@@ -119,27 +119,27 @@ pub record IsUpdatedAt (before : List JournaledShard) (number : ℕ) (key value 
   pub one : JournaledShard
   pub known : slice_get before number ≡ Some one
   pub answered : answer ≡ update_answer one.plan (state_of one) key (flags_number Any)
-  pub legal : IsLegalJournal one.plan (after_call one Controller (update_call one key value (flags_number Any)) (Answer answer)).journal
-  pub written : after ≡ slice_set before number (after_call one Controller (update_call one key value (flags_number Any)) (Answer answer))
+  pub legal : IsLegalJournal one.plan (shard_with_call one Controller (shard_update_call one key value (flags_number Any)) (Answer answer)).journal
+  pub written : after ≡ slice_set before number (shard_with_call one Controller (shard_update_call one key value (flags_number Any)) (Answer answer))
 
 pub record IsFullAt (before : List JournaledShard) (number : ℕ) (key value : List ℕ) : Type 0 where
   pub one : JournaledShard
   pub known : slice_get before number ≡ Some one
-  pub full : IsFullFor one (update_call one key value (flags_number Any))
+  pub full : IsFullFor one (shard_update_call one key value (flags_number Any))
 
-abbrev pub shard_for : TurnMaps → UpdateBytes → ℕ
-shard_for before update = shard_of before.maps before.options update
+abbrev pub shard_in_turn : TurnMaps → UpdateBytes → ℕ
+shard_in_turn before update = shard_of before.maps before.options update
 
 -- the update is one Update of the shard that its key has, with this answer, and nothing else
 pub record IsUpdatedInTurn (before : TurnMaps) (update : UpdateBytes) (answer : ℤ) (after : TurnMaps) : Type 0 where
-  pub at : IsUpdatedAt before.shards (shard_for before update) update.key update.value answer after.shards
+  pub at : IsUpdatedAt before.shards (shard_in_turn before update) update.key update.value answer after.shards
   pub of_map : ∥ slice_get before.maps update.map ≡ Some at.one.plan.definition ∥₁
   pub same_maps : after.maps ≡ before.maps
   pub same_options : after.options ≡ before.options
 
 -- the journal of the shard that its key has is full for it, and nothing is changed
 pub record IsTurnedAwayInTurn (before : TurnMaps) (update : UpdateBytes) (after : TurnMaps) : Type 0 where
-  pub at : IsFullAt before.shards (shard_for before update) update.key update.value
+  pub at : IsFullAt before.shards (shard_in_turn before update) update.key update.value
   pub of_map : ∥ slice_get before.maps update.map ≡ Some at.one.plan.definition ∥₁
   pub nothing : after ≡ before
 
@@ -155,7 +155,7 @@ IsAppliedInTurn (Some fault) state before action state' after =
 -- one Reclaim was served, or the journal was full for it
 abbrev pub IsAskedInTurn : JournaledShard → JournaledShard → Type 0
 IsAskedInTurn one new =
-    ((freed : ℕ) × (new ≡ after_call one Reclaimer (reclaim_call one) (Freed freed)) × IsLegalJournal one.plan new.journal)
+    ((freed : ℕ) × (new ≡ shard_with_call one Reclaimer (reclaim_call one) (Freed freed)) × IsLegalJournal one.plan new.journal)
     ⊎ (IsFullFor one (reclaim_call one) × (new ≡ one))
 
 -- the shard of this number was asked

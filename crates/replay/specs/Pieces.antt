@@ -25,7 +25,7 @@ HasPiece records first piece = (place : ℕ) → place < length piece → slice_
 
 -- The replay can go on with this script, which fits its maps: it counted each record once, knows which command is next, and keeps nothing
 -- that was handed out.
-pub record GoesOn (script : List Command) (replay : PieceReplay) : Type 0 where
+pub record ReplayGoesOn (script : List Command) (replay : PieceReplay) : Type 0 where
   pub serves : ServesScript replay.turns.all.maps replay.turns.controller.size script
   pub starts : replay.starts.items ≡ starts_in script
   pub next : replay.next ≡ due_before replay.starts.items replay.taken

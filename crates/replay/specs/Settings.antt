@@ -7,7 +7,7 @@ use Rattle.rx_queues.specs.declared.job.Job.TheVariants.{End}
 use Rattle.rx_queues.specs.declared.passes.PutPass.{PutPass}
 use Rattle.rx_queues.specs.declared.passes.TakePass.{TakePass}
 use Rattle.rx_queues.specs.declared.passes.Queues.{Queues}
-use Rattle.rx_queues.specs.Passes.{IsPutPassOf, AreTakePasses, workers_of, records_of, commands_of, jobs_put}
+use Rattle.rx_queues.specs.Passes.{IsPutPassOf, AreTakePasses, workers_of, record_count_of, command_count_of, jobs_put}
 use Rattle.actors.specs.declared.runner.RunEnd.{RunEnd}
 use Rattle.replay.specs.declared.threads.AllEnded.{AllEnded}
 use Rattle.replay.specs.declared.threads.Setting.{Setting}
@@ -29,8 +29,8 @@ pub record AreFreshPasses (queues : Queues) (workers : ℕ) (put : PutPass) (tak
 -- the queues are for as many records and commands as there are
 abbrev pub AreForAll : {W R : Type 0} → Setting W R → Type 0
 AreForAll setting =
-    (records_of setting.queues.now ≡ length setting.capture.now.records.items) ×
-    (commands_of setting.queues.now ≡ length setting.starts.now)
+    (record_count_of setting.queues.now ≡ length setting.capture.now.records.items) ×
+    (command_count_of setting.queues.now ≡ length setting.starts.now)
 
 -- there is a worker for each state, which may go to the worker's thread; nothing was put through the passes yet, and the queues are for all
 -- records and commands; and no more commands came first than there are

@@ -16,9 +16,9 @@ pub refused_keeps : (before : TurnMaps) (update : UpdateBytes) (after : TurnMaps
     after.maps ≡ before.maps
 refused_keeps before update after refused = ap (λ (all : TurnMaps). all.maps) refused.nothing
 
-pub array_takes : (before : TurnMaps) (update : UpdateBytes) (answer : ℤ) (after : TurnMaps) → IsInArray before.maps update →
+pub array_takes_in_turn : (before : TurnMaps) (update : UpdateBytes) (answer : ℤ) (after : TurnMaps) → IsInArray before.maps update →
     IsUpdatedInTurn before update answer after → answer ≡ success
-array_takes before update answer after stands updated =
+array_takes_in_turn before update answer after stands updated =
     ∥∥₁_elim updated.of_map (Coded-set coded_ℤ _ _) (λ of_map.
     let here : ShardPlan = updated.at.one.plan in
     let same : stands.definition ≡ here.definition = cc (stands.known, of_map) in

@@ -2,7 +2,7 @@
 
 ghost use Rattle.std.specs.Prelude.{◌≡◌, ◌<◌, ◌≤◌, ◌++◌, ◌∷◌, [], length, IfOk, IfSome, IsSome, vec_capacity};
 ghost use Rattle.rx_queues.specs.declared.job.Job.TheVariants.{End};
-ghost use Rattle.rx_queues.specs.Passes.{IsPutPassOf, TakeAtTheirPlaces, workers_of, records_of, jobs_put};
+ghost use Rattle.rx_queues.specs.Passes.{IsPutPassOf, TakeAtTheirPlaces, workers_of, record_count_of, jobs_put};
 ghost use Rattle.actors.specs.Accounts.{lists_of};
 ghost use Rattle.semantics.specs.Each.{Each};
 ghost use Rattle.replay.specs.Crews.{IsReadyAt, IsLane, AreHandled, IsPart};
@@ -48,7 +48,7 @@ pub(crate) fn start_all<
     requires few { length states.items ≤ 8 }
     requires room { (lanes.items ≡ []) × (length states.items ≤ vec_capacity lanes) }
     requires takes { (length states.items ≤ length takes.items) × TakeAtTheirPlaces queues.now takes.items }
-    requires jobs { (workers_of queues.now ≡ length states.items) × (records_of queues.now ≡ length capture.now.records.items) }
+    requires jobs { (workers_of queues.now ≡ length states.items) × (record_count_of queues.now ≡ length capture.now.records.items) }
     requires states { Each (IsReadyAt (W.is_new runner.now) (W.is_idle runner.now)) 0 states.items }
     ensures count { IfOk result (λ lanes. length lanes.items ≡ length states.items) }
     ensures lanes { IfOk result (λ lanes. Each (IsLane queues.now capture.now runner.now) 0 lanes.items) }

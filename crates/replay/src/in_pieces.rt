@@ -14,7 +14,7 @@ ghost use Rattle.wire.specs.declared.records.Sent.{Sent as Record};
 ghost use Rattle.actors.specs.Commands.{ServesScript};
 ghost use Rattle.replay.specs.ExactReplays.{HasBegun};
 ghost use Rattle.actors.specs.Parts.{AreBadOptions};
-ghost use Rattle.replay.specs.Pieces.{GoesOn, IsUnderway, IsReplayedInPieces};
+ghost use Rattle.replay.specs.Pieces.{ReplayGoesOn, IsUnderway, IsReplayedInPieces};
 ghost use Rattle.actors.specs.UpdateFaults.{OfUpdate};
 ghost use Rattle.replay.specs.TurnFaults.{IsWhyInTurn};
 ghost use Rattle.actors.specs.Captured.{IsCaptured};
@@ -63,7 +63,7 @@ fn opened_over(
     requires size { IsRingSize size }
     requires script { ServesScript all.maps size script.now }
     requires fit { AreOptions all.maps all.options }
-    ensures goes_on { IfOk result (GoesOn script.now) }
+    ensures goes_on { IfOk result (ReplayGoesOn script.now) }
     ensures maps { IfOk result (λ replay. replay.turns.all.maps ≡ all.maps) }
     ensures none { IfOk result (λ replay. replay.taken ≡ 0) }
     ensures underway { IfOk result (λ replay. (program : Program) (options : Settings) (updates : List Update) → program.maps ≡ all.maps →
@@ -95,7 +95,7 @@ impl PieceReplay {
         recording: Recording,
     ) -> Result<PieceReplay, ReplayFault>
         requires fit { AreFitting verified.now.maps updates.now }
-        ensures goes_on { IfOk result (GoesOn script.now) }
+        ensures goes_on { IfOk result (ReplayGoesOn script.now) }
         ensures maps { IfOk result (λ replay. replay.turns.all.maps ≡ verified.now.maps) }
         ensures none { IfOk result (λ replay. replay.taken ≡ 0) }
         ensures underway { IfOk result (IsUnderway (program_of verified.now options.shards) script.now (recorded recording options)
@@ -147,7 +147,7 @@ impl PieceReplay {
         piece: &Capture,
         gate: &G,
     ) -> Result<PieceOutcome, AllocError>
-        requires goes_on { GoesOn script.now self.old }
+        requires goes_on { ReplayGoesOn script.now self.old }
         requires maps { self.old.turns.all.maps ≡ verified.now.maps }
         requires room { self.old.taken + length piece.now.records.items < 2 ^ 63 }
         ensures underway { IfOk result
@@ -155,7 +155,7 @@ impl PieceReplay {
             IsUnderway (program_of verified.now options.shards) script.now options updates records sent ends self.old →
             IsUnderway (program_of verified.now options.shards) script.now options updates (records ++ piece.now.records.items)
             (sent ++ done.sent.items) (ends ++ done.ends.items) self.new) }
-        ensures goes_on { OnOk result (GoesOn script.now self.new) }
+        ensures goes_on { OnOk result (ReplayGoesOn script.now self.new) }
         ensures maps { OnOk result (self.new.turns.all.maps ≡ self.old.turns.all.maps) }
         ensures taken { OnOk result (self.new.taken ≡ self.old.taken + length piece.now.records.items) }
     {
@@ -183,7 +183,7 @@ impl PieceReplay {
         updates: &[MapUpdate],
         script: &Script,
     ) -> Result<Outcome, AllocError>
-        requires { GoesOn script.now self }
+        requires { ReplayGoesOn script.now self }
         ensures replayed { IfOk result (λ rest. (program : Program) (options : Settings) (records sent : List Record) (ends : List End) →
             IsUnderway program script.now options updates.now records sent ends self →
             IsReplayedInPieces program script.now options records sent ends rest) }

@@ -3,7 +3,7 @@
 ghost use Rattle.std.specs.Prelude.{◌≡◌, ◌<◌, ◌≤◌, ◌+◌, ◌↔◌, [], length, replicate, IfOk, OnOk, IfErr, IsErrOf};
 ghost use Rattle.machine.specs.Running.{program_of};
 ghost use Rattle.semantics.specs.ShardPlan.{KeepsRows, recorded};
-ghost use Rattle.rx_queues.specs.Passes.{IsPutPassOf, AreTakePasses, jobs_put, workers_of, records_of, commands_of};
+ghost use Rattle.rx_queues.specs.Passes.{IsPutPassOf, AreTakePasses, jobs_put, workers_of, record_count_of, command_count_of};
 ghost use Rattle.maglev.specs.RingSize.{IsRingSize};
 ghost use Rattle.actors.specs.Commands.{ServesScript};
 ghost use Rattle.shards.specs.NewShards.{IsNamed};
@@ -57,7 +57,7 @@ fn queues_for(
 ) -> Result<(Queues, PutPass, Vec<TakePass>), ReplayFault>
     requires workers { (0 < workers) × (workers ≤ 8) }
     ensures workers { IfOk result (λ opened. workers_of opened.0 ≡ workers) }
-    ensures jobs { IfOk result (λ opened. (records_of opened.0 ≡ length capture.now.records.items) × (commands_of opened.0 ≡
+    ensures jobs { IfOk result (λ opened. (record_count_of opened.0 ≡ length capture.now.records.items) × (command_count_of opened.0 ≡
         length starts.now)) }
     ensures put { IfOk result (λ opened. IsPutPassOf opened.0 opened.1 × (jobs_put opened.1 ≡ replicate (workers + 2) [])) }
     ensures take { IfOk result (λ opened. AreTakePasses opened.0 opened.2.items) }

@@ -31,7 +31,7 @@ ghost use Rattle.guarantees.specs.HeadlineOf.{HeadlineOf};
 ghost use Rattle.replay.specs.InTurn.{TurnState as State, IsRunInTurn, IsHandledInTurn, IsAppliedInTurn, IsSameSetting};
 ghost use Rattle.replay.specs.InTurn.{IsRecordTurn, IsCommandTurn, IsRoundTurn, AreTurns};
 ghost use Rattle.actors.specs.Parts.{AreBadOptions, refused_of};
-ghost use Rattle.replay.specs.Pieces.{HasPiece, GoesOn, IsUnderway, IsWholeOutcome};
+ghost use Rattle.replay.specs.Pieces.{HasPiece, ReplayGoesOn, IsUnderway, IsWholeOutcome};
 ghost use Rattle.replay.specs.TurnStates.{state_in, with_earlier, with_none_kept, HasSameEnds};
 ghost use Rattle.replay.specs.Turns.{commands_between, rounds_at, due_before, turns_to, all_turns};
 
@@ -469,7 +469,7 @@ fn whole<G: Gate>(
     mut replay: PieceReplay,
     gate: &G,
 ) -> Result<Outcome, AllocError>
-    requires goes_on { GoesOn script.now replay }
+    requires goes_on { ReplayGoesOn script.now replay }
     requires maps { replay.turns.all.maps ≡ verified.now.maps }
     requires none { replay.taken ≡ 0 }
     ensures in_turn { IfOk result (λ outcome. (options : Settings) →

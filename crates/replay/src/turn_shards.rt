@@ -233,7 +233,7 @@ impl TurnShards {
 /// The controller's port over them: an update is one Update, with the flags ANY, of the shard that the key has.
 impl UpdatePort for TurnShards {
     ghost use Rattle.replay.specs.InTurn.{IsUpdatedInTurn, IsTurnedAwayInTurn};
-    ghost use Rattle.replay.specs.TurnLaws.{array_takes, refused_keeps};
+    ghost use Rattle.replay.specs.TurnLaws.{array_takes_in_turn, refused_keeps};
 
     ghost serves = { λ all. all.maps };
 
@@ -245,7 +245,7 @@ impl UpdatePort for TurnShards {
 
     ghost stays = { λ before after update refused. refused_keeps before update after refused };
 
-    ghost arrays_answer = { λ before after update answer stands updated. array_takes before update answer after stands updated };
+    ghost arrays_answer = { λ before after update answer stands updated. array_takes_in_turn before update answer after stands updated };
 
     fn update(&mut self, map: u32, key: &Key, value: &Value) -> Result<i32, JournalFull> {
         calls_keep_serving();

@@ -6,7 +6,7 @@ ghost use Rattle.maglev.specs.RingSize.{IsRingSize};
 ghost use Rattle.actors.specs.Commands.{ServesScript};
 ghost use Rattle.actors.specs.ActorJobs.{IsForCommands};
 ghost use Rattle.actors.specs.Actors.{IsUnused};
-ghost use Rattle.rx_queues.specs.Passes.{HasQueue, IsTakePassOf, jobs_taken, place_taken_from, queue_of, workers_of, commands_of};
+ghost use Rattle.rx_queues.specs.Passes.{HasQueue, IsTakePassOf, jobs_taken, place_taken_from, queue_of, workers_of, command_count_of};
 ghost use Rattle.shards.specs.NewShards.{IsNamed};
 
 use crate::asserting::{holds_of, same_fact};
@@ -275,7 +275,7 @@ fn filled<R: Wait>(
     requires place { (place ≡ queue_of 1 who) × (place ≤ 2) }
     ensures take { IfOk result
         (λ filled. IsTakePassOf filled.0 filled.1 × (place_taken_from filled.1 ≡ place) × (jobs_taken filled.1 ≡ [])) }
-    ensures jobs { IfOk result (λ filled. (workers_of filled.0 ≡ 1) × (commands_of filled.0 ≡ count)) }
+    ensures jobs { IfOk result (λ filled. (workers_of filled.0 ≡ 1) × (command_count_of filled.0 ≡ count)) }
 {
     let (queues, mut put, mut takes) = Queues::open(alloc, 1, count, count)?;
     let take = takes.remove(place);

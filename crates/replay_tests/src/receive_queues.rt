@@ -1,7 +1,7 @@
 //! What no clause says: rows worked out elsewhere, and that jobs come through.
 
 ghost use Rattle.std.specs.Prelude.{◌≡◌, ◌<◌, ◌≤◌, ◌+◌, length, IfSome};
-ghost use Rattle.rx_queues.specs.Passes.{HasQueue, FitsAt, workers_of, records_of, commands_of, queue_of, IsPutPassOf, IsTakePassOf};
+ghost use Rattle.rx_queues.specs.Passes.{HasQueue, FitsAt, workers_of, record_count_of, command_count_of, queue_of, IsPutPassOf, IsTakePassOf};
 ghost use Rattle.rx_queues.specs.Passes.{TakeAtTheirPlaces};
 
 use crate::asserting::{holds, same, same_at};
@@ -106,7 +106,7 @@ fn caller_at(workers: usize, place: usize) -> Caller
 // A job for the caller: the frame or the command of this number, or a note.
 fn job_for(queues: &Queues, who: Caller, number: usize) -> Job
     requires queue { HasQueue (workers_of queues.now) who }
-    requires number { (number < records_of queues.now) × (number < commands_of queues.now) }
+    requires number { (number < record_count_of queues.now) × (number < command_count_of queues.now) }
     ensures { FitsAt queues.now (queue_of (workers_of queues.now) who) result }
 {
     let _ = queues;
@@ -136,7 +136,7 @@ fn put_jobs<R: Wait>(
     count: usize,
 ) -> PutPass
     requires queue { HasQueue (workers_of queues.now) who }
-    requires count { (count ≤ records_of queues.now) × (count ≤ commands_of queues.now) }
+    requires count { (count ≤ record_count_of queues.now) × (count ≤ command_count_of queues.now) }
     requires pass { IsPutPassOf queues.now pass }
     ensures { IsPutPassOf queues.now result }
 {
@@ -172,7 +172,7 @@ fn pass_through<R: Threads + Wait + Sync>(
     count: usize,
 ) -> (PutPass, usize)
     requires queue { HasQueue (workers_of queues.now) who }
-    requires count { (count ≤ records_of queues.now) × (count ≤ commands_of queues.now) }
+    requires count { (count ≤ record_count_of queues.now) × (count ≤ command_count_of queues.now) }
     requires put { IsPutPassOf queues.now put }
     requires take { IsTakePassOf queues.now take }
     ensures { IsPutPassOf queues.now result.0 }
@@ -181,7 +181,7 @@ fn pass_through<R: Threads + Wait + Sync>(
         rt,
         move ||
             requires queue { HasQueue (workers_of queues.now) who }
-            requires count { (count ≤ records_of queues.now) × (count ≤ commands_of queues.now) }
+            requires count { (count ≤ record_count_of queues.now) × (count ≤ command_count_of queues.now) }
             requires put { IsPutPassOf queues.now put }
             ensures { IsPutPassOf queues.entry.now result }
         { put_jobs(rt, queues, who, put, count) },
@@ -216,7 +216,7 @@ fn in_lockstep<R: Wait>(
     count: usize,
 ) -> usize
     requires queue { HasQueue (workers_of queues.now) who }
-    requires count { (count ≤ records_of queues.now) × (count ≤ commands_of queues.now) }
+    requires count { (count ≤ record_count_of queues.now) × (count ≤ command_count_of queues.now) }
     requires put { IsPutPassOf queues.now put.old }
     requires take { IsTakePassOf queues.now take.old }
     ensures put { IsPutPassOf queues.now put.new }

@@ -21,7 +21,7 @@ use Rattle.shard_port.specs.PassSessions.{session_at, AreCallsWithin}
 use Rattle.shards.specs.NewShards.{shard_at}
 use Rattle.runs.specs.ShardRuns.{HasMore, HasRunOver, HasStoppedOver, IsFullAfter}
 use Rattle.runs.specs.Updates.{served_by, updates_at, AreUpdated}
-use Rattle.runs.specs.SingleRuns.{AreJournalsOf, HasRunAlone, HasStoppedAlone}
+use Rattle.runs.specs.SingleRuns.{AreLegalJournalsOf, HasRunAlone, HasStoppedAlone}
 
 module _ (program : Program) (start : MachineState) (options : Options) (worker : ℕ) (updates : List MapUpdate) (before after : List JournaledShard)
     (journals : JournalsView) (were : AreUpdated program.maps options updates before) (maps_are : journals.maps ≡ program.maps)
@@ -37,7 +37,7 @@ module _ (program : Program) (start : MachineState) (options : Options) (worker 
     among_old number below = subst (λ (n : ℕ). number < n) (closed ∙ count) below
 
     are_journals : ((number : ℕ) → number < length before → (shard_at after number).plan ≡ (shard_at before number).plan) →
-        AreJournalsOf program.maps options journals
+        AreLegalJournalsOf program.maps options journals
     are_journals same_plan = record {
       maps_are = maps_are;
       options_are = options_are;

@@ -30,7 +30,7 @@ pub record IsLegalAt (maps : List MapDef) (options : Options) (number : ℕ) (en
   pub legal : IsLegalJournal plan entries
 
 -- one legal journal for each shard that is opened for these maps
-pub record AreJournalsOf (maps : List MapDef) (options : Options) (journals : JournalsView) : Type 0 where
+pub record AreLegalJournalsOf (maps : List MapDef) (options : Options) (journals : JournalsView) : Type 0 where
   pub maps_are : journals.maps ≡ maps
   pub options_are : journals.options ≡ options
   pub count : length journals.shards ≡ length maps * options.shards
@@ -41,7 +41,7 @@ pub record AreJournalsOf (maps : List MapDef) (options : Options) (journals : Jo
 pub record HasRunAlone (program : Program) (start : MachineState) (options : Options) (worker : ℕ) (updates : List MapUpdate)
     (verdict : Verdict)
     (steps : ℕ) (frame : FrameView) (journals : JournalsView) : Type 0 where
-  pub journals_are : AreJournalsOf program.maps options journals
+  pub journals_are : AreLegalJournalsOf program.maps options journals
   pub exchanges : List Exchange
   pub ended : HasEnded program start exchanges verdict steps frame
   pub within : AreCallsWithin (length journals.shards) exchanges
@@ -60,7 +60,7 @@ pub record IsCutBehind (before : List Entry) (worker number : ℕ) (exchanges : 
 pub record WasRefusedAlone (program : Program) (start : MachineState) (options : Options) (worker : ℕ) (updates : List MapUpdate)
     (frame : FrameView)
     (journals : JournalsView) (shard : ℕ) : Type 0 where
-  pub journals_are : AreJournalsOf program.maps options journals
+  pub journals_are : AreLegalJournalsOf program.maps options journals
   pub exchanges : List Exchange
   pub refused : Call
   pub named : shard ≡ shard_of_call refused

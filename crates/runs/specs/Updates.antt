@@ -16,9 +16,9 @@ use Rattle.semantics.specs.History.{meets, IsLegalJournal}
 use Rattle.semantics.specs.SequentialShard.{update_answer}
 use Rattle.semantics.specs.ShardPlan.{plan_at}
 use Rattle.shard_core.specs.JournaledShard.{JournaledShard, state_of}
-use Rattle.shard_core.specs.Calls.{IsFullFor, after_call}
+use Rattle.shard_core.specs.Calls.{IsFullFor, shard_with_call}
 use Rattle.shard_core.specs.Calls as shard
-use Rattle.map_port.specs.Served.{Maps, shard_of, update_call}
+use Rattle.map_port.specs.Served.{Maps, served_shard, update_call}
 use Rattle.shards.specs.NewShards.{shard_at}
 
 -- maps, and how many shards each of them has
@@ -27,7 +27,7 @@ served_by maps options = record { maps = maps; shards = options.shards }
 
 -- the number of the shard that the update's key belongs to
 abbrev pub shard_of_update : Maps → MapUpdate → ℕ
-shard_of_update served update = shard_of served update.map update.key
+shard_of_update served update = served_shard served update.map update.key
 
 -- the update as a call, whether or not the key is there
 abbrev pub call_of_update : Maps → MapUpdate → Call
@@ -95,7 +95,7 @@ pub record IsFullForUpdate (maps : List MapDef) (options : Options) (updates : L
 -- the controller may make the update on this shard
 abbrev pub may_update : Option JournaledShard → MapUpdate → Bool
 may_update (Some one) update =
-    meets one.plan (reverse one.journal) Controller (shard.update_call one update.key update.value (flags_number Any))
+    meets one.plan (reverse one.journal) Controller (shard.shard_update_call one update.key update.value (flags_number Any))
 may_update None update = false
 
 -- the shard of this number took the update, or gave another answer; either way it has the entry
@@ -105,11 +105,11 @@ pub record IsUpdateMade (before : List JournaledShard) (number : ℕ) (update : 
   pub known : slice_get before number ≡ Some one
   pub answered : answer ≡ update_answer one.plan (state_of one) update.key (flags_number Any)
   pub legal : IsLegalJournal one.plan
-      (after_call one Controller (shard.update_call one update.key update.value (flags_number Any)) (Answer answer)).journal
+      (shard_with_call one Controller (shard.shard_update_call one update.key update.value (flags_number Any)) (Answer answer)).journal
   pub put_back : after ≡ slice_set before number
-      (after_call one Controller (shard.update_call one update.key update.value (flags_number Any)) (Answer answer))
+      (shard_with_call one Controller (shard.shard_update_call one update.key update.value (flags_number Any)) (Answer answer))
 
 pub record IsFull (before : List JournaledShard) (number : ℕ) (update : MapUpdate) : Type 0 where
   pub one : JournaledShard
   pub known : slice_get before number ≡ Some one
-  pub full : IsFullFor one (shard.update_call one update.key update.value (flags_number Any))
+  pub full : IsFullFor one (shard.shard_update_call one update.key update.value (flags_number Any))

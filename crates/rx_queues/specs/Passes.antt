@@ -31,12 +31,12 @@ abbrev pub workers_of : Queues → ℕ
 workers_of queues = queues.workers
 
 -- how many records there are, whose frames may go to workers
-abbrev pub records_of : Queues → ℕ
-records_of queues = queues.records
+abbrev pub record_count_of : Queues → ℕ
+record_count_of queues = queues.records
 
 -- how many commands there are, which may go to the controller
-abbrev pub commands_of : Queues → ℕ
-commands_of queues = queues.commands
+abbrev pub command_count_of : Queues → ℕ
+command_count_of queues = queues.commands
 
 -- what the queue at a place is for, among queues for N workers, records and commands
 abbrev pub purpose_at : ℕ → ℕ → ℕ → ℕ → Purpose

@@ -5,7 +5,7 @@ ghost use Rattle.std.specs.Prelude.{IfOk, IfErr, IfSome, OnErr, IsErrOf, OnOk, t
 ghost use Rattle.std.specs.Prelude.{MatchOption, option_map, slice_index_or};
 ghost use Rattle.crossbeam_queue.specs.Passes.{view, IsPassOf, IsSamePass, ruled_capacity};
 ghost use Rattle.rx_queues.specs.Fifo.{Fits, IsTakenInOrder, known, no_purpose, putter, taker};
-ghost use Rattle.rx_queues.specs.Passes.{queue_of, HasQueue, workers_of, records_of, commands_of, FitsAt, jobs_put, jobs_taken};
+ghost use Rattle.rx_queues.specs.Passes.{queue_of, HasQueue, workers_of, record_count_of, command_count_of, FitsAt, jobs_put, jobs_taken};
 ghost use Rattle.rx_queues.specs.Passes.{jobs_put_for, with_job_at, IsPutPassOf};
 ghost use Rattle.rx_queues.specs.Passes.{IsTakePassOf, place_taken_from, AreTakePasses, IsPutPassFor, IsTakePassFor, WasFull};
 ghost use Rattle.rx_queues.specs.Spread.{worker_of_flow};
@@ -73,7 +73,7 @@ impl Queues {
         commands: usize,
     ) -> Result<(Queues, PutPass, Vec<TakePass>), OpenFault>
         ensures workers { IfOk result (λ opened. workers_of opened.0 ≡ workers) }
-        ensures jobs { IfOk result (λ opened. (records_of opened.0 ≡ records) × (commands_of opened.0 ≡ commands)) }
+        ensures jobs { IfOk result (λ opened. (record_count_of opened.0 ≡ records) × (command_count_of opened.0 ≡ commands)) }
         ensures put { IfOk result (λ opened. IsPutPassOf opened.0 opened.1 × (jobs_put opened.1 ≡ replicate (workers + 2) [])) }
         ensures take { IfOk result (λ opened. AreTakePasses opened.0 opened.2.items) }
         ensures bad_options { IsErrOf result BadOptions ↔ ¬ ((1 ≤ workers) × (workers ≤ 8)) }

@@ -23,7 +23,7 @@ use Rattle.semantics.specs.Semantics.{next_step}
 use Rattle.semantics.specs.Reclamation.{is_worker, is_inside}
 use Rattle.semantics.specs.ShardPlan.{ShardPlan, plan_for_map, plan_at, AreOptions}
 use Rattle.semantics.specs.History.{shard_of_call, Meets, journal_is_full, IsLegalStep, IsLegalHistory}
-use Rattle.semantics.specs.System.{Setting, program_of, SystemState, SystemEvent, BeginsRun, DoesInstruction, CallsShard, LeavesShard, Controls, Reclaims, WorkerState, Idle, Runs, Leaves, worker_state, history_of, with_worker, with_entry, is_entered, entry_for, input_frame, opening_system, run_over, without_shard, is_local, DoesNext, MayLeave, MayCall, CanHappen, CanAllHappen, after_local, after_instruction, after_call, after_run_call, after_asking, after_shard_call, after_leaving, after_event, system_after}
+use Rattle.semantics.specs.System.{Setting, program_of_setting, SystemState, SystemEvent, BeginsRun, DoesInstruction, CallsShard, LeavesShard, Controls, Reclaims, WorkerState, Idle, Runs, Leaves, worker_state, history_of, with_worker, with_entry, is_entered, entry_for, input_frame, opening_system, run_over, without_shard, is_local, DoesNext, MayLeave, MayCall, CanHappen, CanAllHappen, after_local, after_instruction, after_call, after_run_call, after_asking, after_shard_call, after_leaving, after_event, system_after}
 use Rattle.semantics.proofs.QuietLemmas.{IsQuiet, run_is_quiet}
 use Rattle.semantics.specs.Safety.{IsServedAt, after_enter, IsServedCall, DoesNotTrap, IsSafeWorker, IsSafeImage}
 use Rattle.semantics.proofs.shared.SystemSteps.{state_there, state_elsewhere, history_there, history_elsewhere, gone, same_everywhere}
@@ -357,7 +357,7 @@ calls_soundly : (setting : Setting) (system : SystemState) (worker : ℕ) (now :
 calls_soundly setting system worker Idle good orderly is safe = orderly
 calls_soundly setting system worker (Leaves entered) good orderly is safe = orderly
 calls_soundly setting system worker (Runs state entered) good orderly is safe =
-    asking_orderly setting system worker state entered (next_step (program_of setting) state) good orderly is (run_is_quiet (program_of setting) state) safe.goes_on
+    asking_orderly setting system worker state entered (next_step (program_of_setting setting) state) good orderly is (run_is_quiet (program_of_setting setting) state) safe.goes_on
 
 does_soundly : (setting : Setting) (system : SystemState) (worker : ℕ) (state : MachineState) (entered : List ℕ) (step : Step) → IsSetting setting → IsOrderly setting system → worker_state system worker ≡ Runs state entered →
     IsTrue (is_local step) → IsOrderly setting (with_worker system worker (after_local step entered (Runs state entered)))
@@ -372,7 +372,7 @@ instruction_soundly : (setting : Setting) (system : SystemState) (worker : ℕ) 
 instruction_soundly setting system worker Idle good orderly is can = absurd can
 instruction_soundly setting system worker (Leaves entered) good orderly is can = absurd can
 instruction_soundly setting system worker (Runs state entered) good orderly is can =
-    does_soundly setting system worker state entered (next_step (program_of setting) state) good orderly is can
+    does_soundly setting system worker state entered (next_step (program_of_setting setting) state) good orderly is can
 
 leaves_soundly : (setting : Setting) (system : SystemState) (worker shard : ℕ) (now : WorkerState) → IsSetting setting → IsOrderly setting system → worker_state system worker ≡ now → MayLeave now shard →
     IsOrderly setting (after_leaving setting system worker shard now)

@@ -12,7 +12,7 @@ use Rattle.semantics.specs.Step.{Step, CallsMap, Exits}
 use Rattle.semantics.specs.Semantics.{next_step}
 use Rattle.semantics.specs.ShardPlan.{plan_at}
 use Rattle.semantics.specs.History.{shard_of_call, journal_is_full}
-use Rattle.semantics.specs.System.{Setting, program_of, SystemState, WorkerState, Runs, worker_state, history_of, is_entered, entry_for}
+use Rattle.semantics.specs.System.{Setting, program_of_setting, SystemState, WorkerState, Runs, worker_state, history_of, is_entered, entry_for}
 use Rattle.semantics.specs.System.{SystemEvent, BeginsRun, DoesInstruction, CallsShard, Controls, Reclaims, after_event}
 
 -- what a run is begun on: a frame, at a time in nanoseconds, with a worker's number
@@ -57,16 +57,16 @@ answer_to (Some plan) system who call =
     if journal_is_full plan (history_of system plan.number) call then None else Some (entry_for plan system who call).reply
 answer_to None system who call = None
 
-abbrev pub answer_in : Setting → SystemState → SystemEvent → List (Option Reply)
-answer_in setting system (Controls call) =
+abbrev pub answers_of_event : Setting → SystemState → SystemEvent → List (Option Reply)
+answers_of_event setting system (Controls call) =
     answer_to (plan_at setting.maps setting.options (shard_of_call call)) system Controller call ∷ []
-answer_in setting system event = []
+answers_of_event setting system event = []
 
 -- the answers to the controller, from this state of the system on
 abbrev pub answered : Setting → SystemState → List SystemEvent → List (Option Reply)
 answered setting system [] = []
 answered setting system (event ∷ later) =
-    answer_in setting system event ++ answered setting (after_event setting system event) later
+    answers_of_event setting system event ++ answered setting (after_event setting system event) later
 
 -- a call of a run, or the Enter before it, ends the run where the shard's journal is full for it
 abbrev pub stop_for : Option ShardPlan → SystemState → Call → List Ending
@@ -82,7 +82,7 @@ stop_at setting system entered (CallsMap call next) =
 stop_at setting system entered step = []
 
 abbrev pub stop_of : Setting → SystemState → WorkerState → List Ending
-stop_of setting system (Runs state entered) = stop_at setting system entered (next_step (program_of setting) state)
+stop_of setting system (Runs state entered) = stop_at setting system entered (next_step (program_of_setting setting) state)
 stop_of setting system state = []
 
 -- and an instruction ends it where it exits
@@ -91,7 +91,7 @@ exit_at (Exits verdict last) = Exited verdict last.frame.bytes last.steps ∷ []
 exit_at step = []
 
 abbrev pub exit_of : Setting → WorkerState → List Ending
-exit_of setting (Runs state entered) = exit_at (next_step (program_of setting) state)
+exit_of setting (Runs state entered) = exit_at (next_step (program_of_setting setting) state)
 exit_of setting state = []
 
 abbrev pub ending_in : Setting → ℕ → SystemState → SystemEvent → List Ending

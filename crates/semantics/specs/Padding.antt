@@ -9,15 +9,15 @@ pub record IsPadded (n count : ℕ) (bytes : List ℕ) : Type 0 where
   pub fits : count ≤ n
   pub zeros : drop count bytes ≡ replicate (n - count) 0
 
-abbrev pub count_of : List ℕ → ℕ
-count_of xs = length xs
+abbrev pub byte_count : List ℕ → ℕ
+byte_count xs = length xs
 
 -- the bytes, and zeros up to n
 abbrev pub padded : ℕ → List ℕ → List ℕ
 padded n xs = xs ++ replicate (n - length xs) 0
 
 pub padded-take : {A : Type 0} (n count : ℕ) (bytes : List ℕ) → IsPadded n count bytes → (make : List ℕ → ℕ → A) →
-    make (padded n (take count bytes)) (count_of (take count bytes)) ≡ make bytes count
+    make (padded n (take count bytes)) (byte_count (take count bytes)) ≡ make bytes count
 padded-take n count bytes kept make =
     let fits : count ≤ length bytes = rw kept.whole kept.fits in
     let counted : length (take count bytes) ≡ count = length-take-le count bytes fits in

@@ -33,15 +33,15 @@ pub record Asked : Type 0 where
   pub commands : List (List Call)
 
 -- a record without a whole Ethernet header is not run
-abbrev pub is_short : Captured → Bool
-is_short one = nat_lt (length one.bytes) 14
+abbrev pub is_short_record : Captured → Bool
+is_short_record one = nat_lt (length one.bytes) 14
 
 -- a run is begun on a record's frame, at its moment in nanoseconds, and gets its worker's number
 abbrev pub input_of : ℕ → Captured → Input
 input_of worker one = record { frame = one.bytes; now = (one.seconds * 1000000 + one.micros) * 1000; told = worker }
 
 abbrev pub is_run_by : (List ℕ → ℕ) → ℕ → Captured → Bool
-is_run_by worker_of worker one = not (is_short one) && (worker_of one.bytes == worker)
+is_run_by worker_of worker one = not (is_short_record one) && (worker_of one.bytes == worker)
 
 -- a worker's share of the records, in the capture's order
 abbrev pub inputs_of : Asked → ℕ → List Input
@@ -49,7 +49,7 @@ inputs_of asked worker = map (input_of worker) (filter (is_run_by asked.worker_o
 
 -- the worker that runs the record, if it is run
 abbrev pub runner_of : (List ℕ → ℕ) → Captured → Option ℕ
-runner_of worker_of one = if is_short one then None else Some (worker_of one.bytes)
+runner_of worker_of one = if is_short_record one then None else Some (worker_of one.bytes)
 
 abbrev pub calls_of : Asked → List Call
 calls_of asked = asked.updates ++ flat_map (λ calls. calls) asked.commands

@@ -16,7 +16,7 @@ use Rattle.semantics.specs.Semantics.{next_step}
 use Rattle.semantics.specs.ShardPlan.{ShardPlan, plan_at, AreOptions}
 use Rattle.semantics.specs.SequentialShard.{is_kept, shard_after}
 use Rattle.semantics.specs.History.{shard_of_call, Meets}
-use Rattle.semantics.specs.System.{Setting, program_of, SystemState, WorkerState, Runs, worker_state, history_of, is_entered}
+use Rattle.semantics.specs.System.{Setting, program_of_setting, SystemState, WorkerState, Runs, worker_state, history_of, is_entered}
 use Rattle.semantics.specs.System.{SystemEvent, CanAllHappen, system_after}
 
 -- a call on a cell that is not freed
@@ -52,7 +52,7 @@ DoesNotTrap setting system worker entered step = Unit {0}
 
 -- a run that goes on does not trap, and has done fewer instructions than the image has slots
 pub record IsSafeRun (setting : Setting) (system : SystemState) (worker : ℕ) (entered : List ℕ) (state : MachineState) : Type 0 where
-  pub goes_on : DoesNotTrap setting system worker entered (next_step (program_of setting) state)
+  pub goes_on : DoesNotTrap setting system worker entered (next_step (program_of_setting setting) state)
   pub bounded : state.steps < total_slots setting.code
 
 abbrev pub IsSafeWorker : Setting → SystemState → ℕ → WorkerState → Type 0

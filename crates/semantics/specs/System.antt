@@ -27,8 +27,8 @@ pub record Setting : Type 0 where
   pub code : List Insn
   pub options : Options
 
-abbrev pub program_of : Setting → Program
-program_of setting = record { code = setting.code; maps = setting.maps; shards = setting.options.shards }
+abbrev pub program_of_setting : Setting → Program
+program_of_setting setting = record { code = setting.code; maps = setting.maps; shards = setting.options.shards }
 
 pub data WorkerState : Type 0 where
   Idle : WorkerState
@@ -108,7 +108,7 @@ calls_map (CallsMap call next) = true
 calls_map step = false
 
 abbrev pub DoesNext : Setting → WorkerState → (Step → Bool) → Type 0
-DoesNext setting (Runs state entered) test = IsTrue (test (next_step (program_of setting) state))
+DoesNext setting (Runs state entered) test = IsTrue (test (next_step (program_of_setting setting) state))
 DoesNext setting other test = ⊥
 
 abbrev pub MayLeave : WorkerState → ℕ → Type 0
@@ -144,7 +144,7 @@ after_local (Exits verdict last) entered before = run_over entered
 after_local step entered before = before
 
 abbrev pub after_instruction : Setting → WorkerState → WorkerState
-after_instruction setting (Runs state entered) = after_local (next_step (program_of setting) state) entered (Runs state entered)
+after_instruction setting (Runs state entered) = after_local (next_step (program_of_setting setting) state) entered (Runs state entered)
 after_instruction setting other = other
 
 -- the entry that a served call writes
@@ -182,7 +182,7 @@ after_asking setting system worker state entered step = system
 
 abbrev pub after_shard_call : Setting → SystemState → ℕ → WorkerState → SystemState
 after_shard_call setting system worker (Runs state entered) =
-    after_asking setting system worker state entered (next_step (program_of setting) state)
+    after_asking setting system worker state entered (next_step (program_of_setting setting) state)
 after_shard_call setting system worker other = system
 
 abbrev pub without_shard : ℕ → List ℕ → List ℕ

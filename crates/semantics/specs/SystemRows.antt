@@ -59,8 +59,8 @@ abbrev pub cell_at : ℕ → CellRef
 cell_at id = record { shard = 0; id = id }
 
 -- a key and a value of these first bytes
-abbrev pub key_of : ℕ → List ℕ
-key_of byte = byte ∷ 0 ∷ 0 ∷ 0 ∷ []
+abbrev pub key_of_byte : ℕ → List ℕ
+key_of_byte byte = byte ∷ 0 ∷ 0 ∷ 0 ∷ []
 
 abbrev pub value_of : ℕ → List ℕ
 value_of byte = byte ∷ 0 ∷ 0 ∷ 0 ∷ 0 ∷ 0 ∷ 0 ∷ 0 ∷ []
@@ -87,7 +87,7 @@ abbrev pub RunOverAnArray : Type 0
 RunOverAnArray = Happens (setting_over Array first_path)
     (BeginsRun 0 (frame_of 3) 0 0 ∷ instructions 11 ++ CallsShard 0 ∷ CallsShard 0 ∷ DoesInstruction 0 ∷ CallsShard 0 ∷
     instructions 3 ++ LeavesShard 0 0 ∷ [])
-    (by_worker (Enter 0) Entered ∷ by_worker (Lookup 0 (key_of 0)) (Cell (cell_at 0)) ∷ by_worker (Load (cell_at 0) 0 8) (Word 0) ∷
+    (by_worker (Enter 0) Entered ∷ by_worker (Lookup 0 (key_of_byte 0)) (Cell (cell_at 0)) ∷ by_worker (Load (cell_at 0) 0 8) (Word 0) ∷
     by_worker (Leave 0) Left ∷ [])
 
 -- ---- one run over a hash map: it sets a key, finds it, adds to its number, and reads the sum
@@ -107,8 +107,8 @@ RunOverAHashMap = Happens (setting_over Hash counting)
     (BeginsRun 0 (frame_of 0) 0 0 ∷ instructions 8 ++ CallsShard 0 ∷ CallsShard 0 ∷ instructions 3 ++ CallsShard 0 ∷
     instructions 2 ++ CallsShard 0 ∷ CallsShard 0 ∷
     DoesInstruction 0 ∷ LeavesShard 0 0 ∷ [])
-    (by_worker (Enter 0) Entered ∷ by_worker (Update 0 (key_of 7) (value_of 2) 0) (Answer (pos 0)) ∷
-    by_worker (Lookup 0 (key_of 7)) (Cell (cell_at 0)) ∷
+    (by_worker (Enter 0) Entered ∷ by_worker (Update 0 (key_of_byte 7) (value_of 2) 0) (Answer (pos 0)) ∷
+    by_worker (Lookup 0 (key_of_byte 7)) (Cell (cell_at 0)) ∷
     by_worker (Atomic (cell_at 0) 0 8 1 1 0) (Word 2) ∷ by_worker (Load (cell_at 0) 0 8) (Word 3) ∷ by_worker (Leave 0) Left ∷ [])
 
 -- ---- a key goes while a run holds its cell: the run still reads its bytes, and the cell is freed only after it
@@ -121,13 +121,13 @@ looking_up =
 
 abbrev pub HeldCellOutlivesItsKey : Type 0
 HeldCellOutlivesItsKey = Happens (setting_over Hash looking_up)
-    (Controls (Update 0 (key_of 1) (value_of 5) 0) ∷ BeginsRun 0 (frame_of 0) 0 0 ∷ instructions 4 ++ CallsShard 0 ∷ CallsShard 0 ∷
-    Controls (Delete 0 (key_of 1)) ∷ Reclaims 0 ∷
-    Controls (Update 0 (key_of 2) (value_of 9) 0) ∷ DoesInstruction 0 ∷ CallsShard 0 ∷ instructions 2 ++ LeavesShard 0 0 ∷ Reclaims 0 ∷ [])
-    (by_controller (Update 0 (key_of 1) (value_of 5) 0) (Answer (pos 0)) ∷ by_worker (Enter 0) Entered ∷
-    by_worker (Lookup 0 (key_of 1)) (Cell (cell_at 0)) ∷
-    by_controller (Delete 0 (key_of 1)) (Answer (pos 0)) ∷ by_reclaimer (Reclaim 0) (Freed 0) ∷
-    by_controller (Update 0 (key_of 2) (value_of 9) 0) (Answer (pos 0)) ∷
+    (Controls (Update 0 (key_of_byte 1) (value_of 5) 0) ∷ BeginsRun 0 (frame_of 0) 0 0 ∷ instructions 4 ++ CallsShard 0 ∷ CallsShard 0 ∷
+    Controls (Delete 0 (key_of_byte 1)) ∷ Reclaims 0 ∷
+    Controls (Update 0 (key_of_byte 2) (value_of 9) 0) ∷ DoesInstruction 0 ∷ CallsShard 0 ∷ instructions 2 ++ LeavesShard 0 0 ∷ Reclaims 0 ∷ [])
+    (by_controller (Update 0 (key_of_byte 1) (value_of 5) 0) (Answer (pos 0)) ∷ by_worker (Enter 0) Entered ∷
+    by_worker (Lookup 0 (key_of_byte 1)) (Cell (cell_at 0)) ∷
+    by_controller (Delete 0 (key_of_byte 1)) (Answer (pos 0)) ∷ by_reclaimer (Reclaim 0) (Freed 0) ∷
+    by_controller (Update 0 (key_of_byte 2) (value_of 9) 0) (Answer (pos 0)) ∷
     by_worker (Load (cell_at 0) 0 8) (Word 5) ∷ by_worker (Leave 0) Left ∷ by_reclaimer (Reclaim 0) (Freed 1) ∷ [])
 
 -- ---- a journal of 16 with one run inside and 15 entries: its Lookup is refused, the run is over, and its Leave is entry 16
@@ -135,8 +135,8 @@ HeldCellOutlivesItsKey = Happens (setting_over Hash looking_up)
 abbrev pub FullJournalHasRoomForLeave : Type 0
 FullJournalHasRoomForLeave = Happens (setting_over Hash looking_up)
     (BeginsRun 0 (frame_of 0) 0 0 ∷ instructions 4 ++ CallsShard 0 ∷
-    replicate 14 (Controls (Update 0 (key_of 1) (value_of 5) 0)) ++ CallsShard 0 ∷ LeavesShard 0 0 ∷ [])
-    (by_worker (Enter 0) Entered ∷ replicate 14 (by_controller (Update 0 (key_of 1) (value_of 5) 0) (Answer (pos 0))) ++
+    replicate 14 (Controls (Update 0 (key_of_byte 1) (value_of 5) 0)) ++ CallsShard 0 ∷ LeavesShard 0 0 ∷ [])
+    (by_worker (Enter 0) Entered ∷ replicate 14 (by_controller (Update 0 (key_of_byte 1) (value_of 5) 0) (Answer (pos 0))) ++
     by_worker (Leave 0) Left ∷ [])
 
 -- ---- an unsafe program

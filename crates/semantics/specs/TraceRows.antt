@@ -22,11 +22,11 @@ use Rattle.semantics.specs.RegisterValue.{RegisterValue, Uninitialized, Number, 
 use Rattle.semantics.specs.MachineState.{MachineState, register_value, initial_state}
 use Rattle.semantics.specs.Program.{Program}
 use Rattle.semantics.specs.RunTrace.{RunStand, HasExited, RunTrace, trace_of}
-use Rattle.semantics.specs.SystemRows.{one_map, cell_at, key_of, frame_of}
+use Rattle.semantics.specs.SystemRows.{one_map, cell_at, key_of_byte, frame_of}
 use Rattle.semantics.specs.System.{input_frame}
 
-abbrev pub program_over : List Insn → Program
-program_over code = record { code = code; maps = one_map Hash; shards = 1 }
+abbrev pub program_of_code : List Insn → Program
+program_of_code code = record { code = code; maps = one_map Hash; shards = 1 }
 
 -- a run with these registers R0 and R2, and a cell's first byte in R1
 abbrev pub run_with : RegisterValue → RegisterValue → MachineState
@@ -37,7 +37,7 @@ run_with first third = record (initial_state (input_frame (frame_of 0)) 0 0) {
 -- the instruction makes the call; by its reply R0 and R2 become these numbers, and the run ends by R0
 abbrev pub Asks : Insn → ℕ → ℕ → Call → Reply → ℕ → ℕ → Verdict → Type 0
 Asks insn first third call reply first_after third_after verdict =
-    trace_of 2 (program_over (insn ∷ Exit ∷ [])) (run_with (Number first) (Number third)) (reply ∷ []) ≡
+    trace_of 2 (program_of_code (insn ∷ Exit ∷ [])) (run_with (Number first) (Number third)) (reply ∷ []) ≡
     record {
       calls = call ∷ [];
       stand = HasExited verdict (record (run_with (Number first_after) (Number third_after)) { slot = 1; steps = 2 });
@@ -102,7 +102,7 @@ frame_left (HasExited verdict last) = Some last.frame
 frame_left stand = None
 
 abbrev pub trace_from_start : ℕ → List Insn → List Reply → RunTrace
-trace_from_start count code replies = trace_of count (program_over code) (initial_state (input_frame (frame_of 0)) 0 0) replies
+trace_from_start count code replies = trace_of count (program_of_code code) (initial_state (input_frame (frame_of 0)) 0 0) replies
 
 -- a key of 7 at R10 - 4 in R2, and the map in R1
 abbrev pub key_prepared : List Insn
@@ -117,7 +117,7 @@ abbrev pub moving_head : ℤ → List Insn
 moving_head delta = Alu Bits64 Mov R2 (Imm delta) ∷ CallHelper (pos 44) ∷ Alu Bits64 Mov R0 (Imm (pos 3)) ∷ Exit ∷ []
 
 pub record HelpersAsk : Type 0 where
-  pub delete_calls : (trace_from_start 6 deleting (Answer (negsuc 1) ∷ [])).calls ≡ Delete 0 (key_of 7) ∷ []
+  pub delete_calls : (trace_from_start 6 deleting (Answer (negsuc 1) ∷ [])).calls ≡ Delete 0 (key_of_byte 7) ∷ []
   pub delete_absent : verdict_left (trace_from_start 6 deleting (Answer (negsuc 1) ∷ [])).stand ≡ Some Aborted
   pub delete_done : verdict_left (trace_from_start 6 deleting (Answer (pos 0) ∷ [])).stand ≡ Some Aborted
   pub head_moved : frame_left (trace_from_start 4 (moving_head (negsuc 19)) []).stand ≡
@@ -160,4 +160,4 @@ third_left stand = None
 abbrev pub SpilledPointersComeBack : Type 0
 SpilledPointersComeBack =
     (value : RegisterValue) → IsTrue (is_pointer value) →
-    third_left (trace_of 3 (program_over spilling) (run_with (Number 2) value) []).stand ≡ Some value
+    third_left (trace_of 3 (program_of_code spilling) (run_with (Number 2) value) []).stand ≡ Some value

@@ -21,7 +21,7 @@ pub struct Bytes<const N: usize> {
 
 impl<const N: usize> Model for Bytes<N> {
     ghost use Rattle.std.specs.Prelude.{ℕ, List, take};
-    ghost use Rattle.semantics.specs.Padding.{IsPadded, padded, padded-take, count_of};
+    ghost use Rattle.semantics.specs.Padding.{IsPadded, padded, padded-take, byte_count};
 
     ghost Value = { List ℕ };
 
@@ -29,7 +29,7 @@ impl<const N: usize> Model for Bytes<N> {
 
     ghost invariant = { λ b. IsPadded N b.len b.bytes };
 
-    ghost inverse = { λ xs. record { bytes = padded N xs; len = count_of xs } };
+    ghost inverse = { λ xs. record { bytes = padded N xs; len = byte_count xs } };
 
     ghost inverse_ok = { λ b kept. padded-take N b.len b.bytes kept (λ bytes len. record { bytes = bytes; len = len }) };
 }

@@ -39,7 +39,7 @@ use Rattle.shard_core.specs.declared.keys.KeyTable.TheVariants.{Indices, Hashed,
 use Rattle.shard_core.specs.KeyTables.{cell_in, FitsPlan, IsKeyed, IsRemoved, IsInserted, touched_in, is_full_of, victim_cell, without_victim_in}
 use Rattle.shard_core.specs.Sections.{ReaderEpochs, with_epoch_after, retires, epoch_at, readers_of}
 use Rattle.shard_core.specs.Contents.{CanCreate, CanRetire, IsPut, with_evicted}
-use Rattle.shard_core.specs.ShardFields.{waiting, IsBalanced, IsContents}
+use Rattle.shard_core.specs.ShardFields.{waiting, HasAllPlaces, IsContents}
 use Rattle.shard_core.proofs.EpochLemmas.{EndsEpoch, IsFloorOf, with_retirement, epochs_end, stamps_given, each_of_both, floor_tells}
 use Rattle.shard_core.proofs.StateLemmas.{apart_after, key_gone, IsGone}
 use Rattle.shard_core.proofs.KeyLemmas.{IsNoUse, IsUseOf, keyed_kind, cell_in_is, cell_in_present, fits_touched, keys_touched, fits_removed, keys_removed}
@@ -108,7 +108,7 @@ absent_answer kind plan state key flags is absent =
 -- ---- an Update
 
 pub put_kept : (plan : ShardPlan) (history : List Entry) (cells : CellTable) (keys : KeyTable) (key : List ℕ) (cell : ℕ) → IsPlan plan → IsContents plan (epoch_at plan history) history (shard_after plan history) cells keys
-    → cell_in keys key ≡ Some cell → IsTrue (T.is_kept cells cell)
+    → cell_in keys key ≡ Some cell → IsTrue (T.is_kept_id cells cell)
 put_kept plan history cells keys key cell is contents found =
     table_keeps plan history (shard_after plan history) cells keys cell contents
     (found_kept plan.definition.kind plan history key cell refl is.equal_parts is.limits.some_part (sym (cell_in_is keys plan history (shard_after plan history) key contents.fits contents.has) ∙ found))
@@ -122,7 +122,7 @@ some_present : (key : List ℕ) (gone : PresentKey) (present : List PresentKey) 
 some_present key gone [] found = absurd cc
 some_present key gone (one ∷ rest) found = omega arith
 
-keyed_balance : (kind : MapKind) (plan : ShardPlan) (state : SequentialShard) (cells : CellTable) → (kind ≡ Array → ⊥) → IsBalanced kind plan state cells
+keyed_balance : (kind : MapKind) (plan : ShardPlan) (state : SequentialShard) (cells : CellTable) → (kind ≡ Array → ⊥) → HasAllPlaces kind plan state cells
     → (cells.places ≡ 2 * capacity plan) × (cells.free + (length state.present + length state.retired) ≡ 2 * capacity plan)
 keyed_balance Array plan state cells keyed balance = absurd (keyed refl)
 keyed_balance Hash plan state cells keyed balance = balance

@@ -15,12 +15,12 @@ use Rattle.semantics.specs.declared.plan.ShardPlan.{ShardPlan}
 use Rattle.semantics.specs.declared.plan.PresentKey.{PresentKey}
 use Rattle.semantics.specs.declared.plan.RetiredCell.{RetiredCell}
 use Rattle.semantics.specs.SequentialShard.{SequentialShard, cell_of_present, cell_bytes, with_cell, with_new_key, is_kept, is_kept_of_kind, lookup_reply}
-use Rattle.map_cells.specs.CellTable.{CellTable, cell_at, with_new_cell, with_bytes}
+use Rattle.map_cells.specs.CellTable.{CellTable, cell_of_id, with_new_cell, with_bytes}
 use Rattle.lru_maps.proofs.shared.ByUse.{use_by_lookup, no_use_by_lookup}
 use Rattle.shard_core.specs.declared.keys.KeyTable.{KeyTable}
 use Rattle.shard_core.specs.KeyTables.{cell_in, touched_in, FitsPlan, HasKeys, IsInserted}
 use Rattle.shard_core.specs.Contents.{filled_table}
-use Rattle.shard_core.specs.ShardFields.{IsBalanced, IsContents}
+use Rattle.shard_core.specs.ShardFields.{HasAllPlaces, IsContents}
 use Rattle.shard_core.proofs.MirrorLemmas.{within_table, mirrors_set, mirrors_push}
 use Rattle.shard_core.proofs.KeyLemmas.{IsNoUse, IsUseOf, keyed_kind, keys_on, fits_touched, keys_touched, inserted_keyed, fits_inserted, keys_inserted}
 
@@ -64,7 +64,7 @@ contents_looked plan who number key (Some cell) history state cells keys keys_af
 
 -- ---- a kept cell is read
 
-pub kept_bytes : (plan : ShardPlan) {epochs : ℕ → ℕ} (history : List Entry) (state : SequentialShard) (cells : CellTable) (keys : KeyTable) (cell : ℕ) → IsContents plan epochs history state cells keys → IsTrue (is_kept plan state cell) → cell_at cells cell ≡ Some (cell_bytes state cell)
+pub kept_bytes : (plan : ShardPlan) {epochs : ℕ → ℕ} (history : List Entry) (state : SequentialShard) (cells : CellTable) (keys : KeyTable) (cell : ℕ) → IsContents plan epochs history state cells keys → IsTrue (is_kept plan state cell) → cell_of_id cells cell ≡ Some (cell_bytes state cell)
 kept_bytes plan history state cells keys cell contents kept = contents.mirrored cell kept
 
 -- ---- and written
@@ -74,7 +74,7 @@ kept_of_written Array state cell bytes id kept = subst (λ count. nat_lt id coun
 kept_of_written Hash state cell bytes id kept = kept
 kept_of_written LruHash state cell bytes id kept = kept
 
-balance_of_written : (kind : MapKind) (plan : ShardPlan) (state : SequentialShard) (cells : CellTable) (cell : ℕ) (bytes : List ℕ) → IsBalanced kind plan state cells → IsBalanced kind plan (with_cell state cell bytes) (with_bytes cells cell bytes)
+balance_of_written : (kind : MapKind) (plan : ShardPlan) (state : SequentialShard) (cells : CellTable) (cell : ℕ) (bytes : List ℕ) → HasAllPlaces kind plan state cells → HasAllPlaces kind plan (with_cell state cell bytes) (with_bytes cells cell bytes)
 balance_of_written Array plan state cells cell bytes balance = tt
 balance_of_written Hash plan state cells cell bytes balance = balance
 balance_of_written LruHash plan state cells cell bytes balance = balance
@@ -111,8 +111,8 @@ kept_of_created Array state key value id keyed kept = absurd (keyed refl)
 kept_of_created Hash state key value id keyed kept = kept_of_new state key value id kept
 kept_of_created LruHash state key value id keyed kept = kept_of_new state key value id kept
 
-balance_of_created : (kind : MapKind) (plan : ShardPlan) (state : SequentialShard) (cells : CellTable) (key value : List ℕ) → (kind ≡ Array → ⊥) → 0 < cells.free → IsBalanced kind plan state cells
-    → IsBalanced kind plan (with_new_key state key value) (with_new_cell cells value)
+balance_of_created : (kind : MapKind) (plan : ShardPlan) (state : SequentialShard) (cells : CellTable) (key value : List ℕ) → (kind ≡ Array → ⊥) → 0 < cells.free → HasAllPlaces kind plan state cells
+    → HasAllPlaces kind plan (with_new_key state key value) (with_new_cell cells value)
 balance_of_created Array plan state cells key value keyed free balance = absurd (keyed refl)
 balance_of_created Hash plan state cells key value keyed free balance = (balance.0, omega (arith, free, balance.1))
 balance_of_created LruHash plan state cells key value keyed free balance = (balance.0, omega (arith, free, balance.1))

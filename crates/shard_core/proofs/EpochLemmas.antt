@@ -21,17 +21,17 @@ use Rattle.semantics.specs.SequentialShard.{SequentialShard, cell_of_key, withou
 use Rattle.semantics.proofs.shared.LawLemmas.{updated_where-keeps, after_eviction-keeps}
 use Rattle.semantics.proofs.shared.HoldingLemmas.{each_weaker}
 use Rattle.semantics.proofs.shared.UseLemmas.{first_parts}
-use Rattle.shard_core.specs.Sections.{ReaderEpochs, epoch_of, with_next_epoch, retires, one_if, epoch_at, entered_epochs, readers_of}
+use Rattle.shard_core.specs.Sections.{ReaderEpochs, epoch_of, with_next_epoch, retires, one_where, epoch_at, entered_epochs, readers_of}
 use Rattle.shard_core.proofs.FlagLemmas.{KeepsSections}
 use Rattle.shard_core.proofs.StateLemmas.{apart_after}
 
 -- ---- the epoch of a place
 
-at_most_one : (test : Bool) → one_if test ≤ 1
+at_most_one : (test : Bool) → one_where test ≤ 1
 at_most_one true = omega arith
 at_most_one false = omega arith
 
-both_true : (first second : Bool) → first ≡ true → second ≡ true → one_if (first && second) ≡ 1
+both_true : (first second : Bool) → first ≡ true → second ≡ true → one_where (first && second) ≡ 1
 both_true true true a b = refl
 both_true true false a b = cc
 both_true false second a b = cc
@@ -46,7 +46,7 @@ epoch_grows plan (entry ∷ older) early late ordered =
     by_tests (nat_lt (length older) early) (nat_lt (length older) late) (retires plan older entry.call) refl refl (epoch_grows plan older early late ordered)
   where
     by_tests : (first second goes : Bool) → nat_lt (length older) early ≡ first → nat_lt (length older) late ≡ second → epoch_at plan older early ≤ epoch_at plan older late
-        → epoch_at plan older early + one_if (first && goes) ≤ epoch_at plan older late + one_if (second && goes)
+        → epoch_at plan older early + one_where (first && goes) ≤ epoch_at plan older late + one_where (second && goes)
     by_tests false second goes a b rest = omega (arith, rest)
     by_tests true true goes a b rest = omega (arith, rest)
     by_tests true false goes a b rest =
@@ -60,13 +60,13 @@ epoch_past plan [] place past = refl
 epoch_past plan (entry ∷ older) place past =
     let later : nat_lt (length older) place ≡ true = lt-ltb (length older) place (omega (arith, past)) in
     let last : nat_lt (length older) (suc (length older)) ≡ true = lt-ltb (length older) (suc (length older)) (omega arith) in
-    rw (later, last) (ap (λ n. n + one_if (retires plan older entry.call)) (epoch_past plan older place (omega (arith, past)) ∙ sym (epoch_past plan older (suc (length older)) (omega arith))))
+    rw (later, last) (ap (λ n. n + one_where (retires plan older entry.call)) (epoch_past plan older place (omega (arith, past)) ∙ sym (epoch_past plan older (suc (length older)) (omega arith))))
 
 -- a retirement ends the present epoch, and nothing else does
-pub present_after : (plan : ShardPlan) (entry : Entry) (older : List Entry) → epoch_at plan (entry ∷ older) (length (entry ∷ older)) ≡ epoch_at plan older (length older) + one_if (retires plan older entry.call)
+pub present_after : (plan : ShardPlan) (entry : Entry) (older : List Entry) → epoch_at plan (entry ∷ older) (length (entry ∷ older)) ≡ epoch_at plan older (length older) + one_where (retires plan older entry.call)
 present_after plan entry older =
     let last : nat_lt (length older) (suc (length older)) ≡ true = lt-ltb (length older) (suc (length older)) (omega arith) in
-    rw last (ap (λ n. n + one_if (retires plan older entry.call)) (epoch_past plan older (suc (length older)) (omega arith)))
+    rw last (ap (λ n. n + one_where (retires plan older entry.call)) (epoch_past plan older (suc (length older)) (omega arith)))
 
 pub epochs_are_few : (plan : ShardPlan) (history : List Entry) (place : ℕ) → epoch_at plan history place ≤ length history
 epochs_are_few plan [] place = omega arith
@@ -202,7 +202,7 @@ readers_kept plan who call reply older keeps =
     ∙ entered_epochs_before plan entry older in
     rw (present_after plan entry older, same) (by_goes (retires plan older call))
   where
-    by_goes : (goes : Bool) → record { present = epoch_at plan older (length older) + one_if goes; epochs = entered_epochs (epoch_at plan older) older } ≡ with_retirement goes (readers_of plan older)
+    by_goes : (goes : Bool) → record { present = epoch_at plan older (length older) + one_where goes; epochs = entered_epochs (epoch_at plan older) older } ≡ with_retirement goes (readers_of plan older)
     by_goes true = refl
     by_goes false = (let none : epoch_at plan older (length older) + 0 ≡ epoch_at plan older (length older) = omega arith in
         ap (λ n. record { present = n; epochs = entered_epochs (epoch_at plan older) older }) none)

@@ -24,7 +24,7 @@ use Rattle.semantics.specs.History.{IsLegalHistory}
 use Rattle.semantics.proofs.shared.IdLemmas.{ids_count}
 use Rattle.semantics.proofs.shared.KeptLemmas.{held_is_kept_of_plan, opened_count}
 use Rattle.map_cells.specs.CellTable.{CellTable}
-use Rattle.shard_core.specs.ShardFields.{IsBalanced}
+use Rattle.shard_core.specs.ShardFields.{HasAllPlaces}
 use Rattle.shard_core.specs.FewHeld.{is_among, AreOnce, FewAreHeld}
 
 -- ---- numbers that are there once are no more than the list that has them all
@@ -158,7 +158,7 @@ array_cells plan history is =
 -- ---- so few cells are held
 
 few_of_kind : (kind : MapKind) (plan : ShardPlan) (state : SequentialShard) (cells : CellTable) (ids : List ℕ) →
-    (kind ≡ Array → length state.cells ≡ capacity plan) → IsBalanced kind plan state cells → AreOnce ids →
+    (kind ≡ Array → length state.cells ≡ capacity plan) → HasAllPlaces kind plan state cells → AreOnce ids →
     ((cell : ℕ) → is_among cell ids ≡ true → is_kept_of_kind kind state cell ≡ true) → length ids ≤ 2 * capacity plan
 few_of_kind Array plan state cells ids opened balance once kept =
     let most = few_of ids (below (length state.cells)) once
@@ -178,7 +178,7 @@ few_of_kind LruHash plan state cells ids opened balance once kept =
     omega (arith, most, many, all)
 
 pub few_held : (plan : ShardPlan) (history : List Entry) (cells : CellTable) → IsPlan plan → IsLegalHistory plan history →
-    IsBalanced plan.definition.kind plan (shard_after plan history) cells → FewAreHeld plan history
+    HasAllPlaces plan.definition.kind plan (shard_after plan history) cells → FewAreHeld plan history
 few_held plan history cells is legal balance = record {
   most = λ worker ids known once held.
       let most : plan.workers ≤ 8 = is.at_most_eight in

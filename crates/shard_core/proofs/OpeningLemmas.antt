@@ -15,7 +15,7 @@ use Rattle.shard_core.specs.declared.keys.KeyTable.{KeyTable}
 use Rattle.shard_core.specs.KeyTables.{FitsPlan, HasKeys}
 use Rattle.shard_core.specs.Sections.{no_readers}
 use Rattle.shard_core.specs.Contents.{opened_table}
-use Rattle.shard_core.specs.ShardFields.{Mirrors, IsBalanced, IsShard}
+use Rattle.shard_core.specs.ShardFields.{Mirrors, HasAllPlaces, IsShard}
 
 abbrev opened_state : MapKind → ShardPlan → SequentialShard
 opened_state kind plan = record { present = []; cells = opening_cells kind plan; retired = [] }
@@ -59,7 +59,7 @@ room_opened Array plan =
 room_opened Hash plan = omega arith
 room_opened LruHash plan = omega arith
 
-balance_opened : (kind : MapKind) (plan : ShardPlan) → IsBalanced kind plan (opened_state kind plan) (opened_table kind plan)
+balance_opened : (kind : MapKind) (plan : ShardPlan) → HasAllPlaces kind plan (opened_state kind plan) (opened_table kind plan)
 balance_opened Array plan = tt
 balance_opened Hash plan = (refl, omega arith)
 balance_opened LruHash plan = (refl, omega arith)

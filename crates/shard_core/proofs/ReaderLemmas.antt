@@ -8,13 +8,13 @@ use Rattle.std.proofs.lemmas.List.Sums.{sum_by-set, sum_by-cons, count_by-le-len
 use Rattle.semantics.specs.Reclamation.{began_after}
 use Rattle.semantics.proofs.shared.ConditionLemmas.{first_true, second_true}
 use Rattle.epochs.specs.EpochCounts.{EpochCounts, run_count, AllEnteredAfter}
-use Rattle.shard_core.specs.Sections.{is_of_epoch, one_if, IsCounted}
+use Rattle.shard_core.specs.Sections.{is_of_epoch, one_where, IsCounted}
 
 -- with a worker outside there is room for a run more
 pub room_for_one : (book : EpochCounts) (epochs : List (Option ℕ)) (count worker : ℕ) → IsCounted book epochs count → worker < length epochs → length epochs ≡ 8 → get_or epochs worker None ≡ None → run_count book < 8
 room_for_one book epochs count worker counted within long outside =
     let changed = sum_by-set (λ one. cond (is_some one) 1 0) epochs worker (Some 0) None within in
-    let none : one_if (is_some (get_or epochs worker None)) ≡ 0 = ap (λ (one : Option ℕ). one_if (is_some one)) outside in
+    let none : one_where (is_some (get_or epochs worker None)) ≡ 0 = ap (λ (one : Option ℕ). one_where (is_some one)) outside in
     let most = count_by-le-length is_some (set epochs worker (Some 0)) in
     let same = length-set epochs worker (Some 0) in
     let all = counted.all in
@@ -30,7 +30,7 @@ all_began stamp [] after = refl
 all_began stamp (None ∷ rest) after = all_began stamp rest (λ epoch some. after epoch (let more = one_more (is_of_epoch epoch) None rest in omega (arith, some, more)))
 all_began stamp (Some entered ∷ rest) after =
     let more = one_more (is_of_epoch entered) (Some entered) rest in
-    let own : one_if (entered == entered) ≡ 1 = ap one_if (eq-eqb entered entered refl) in
+    let own : one_where (entered == entered) ≡ 1 = ap one_where (eq-eqb entered entered refl) in
     let here : stamp < entered = after entered (omega (arith, more, own)) in
     rw (lt-ltb stamp entered here) (all_began stamp rest (λ epoch some. after epoch (let more = one_more (is_of_epoch epoch) (Some entered) rest in omega (arith, some, more))))
 
@@ -42,7 +42,7 @@ each_began stamp (Some entered ∷ rest) all epoch some = elim (cases_Bool (ente
       let is : entered ≡ epoch = eqb-true entered epoch same in
       omega (arith, here, is))
   | inr apart ↦ (let more = one_more (is_of_epoch epoch) (Some entered) rest in
-      let none : one_if (entered == epoch) ≡ 0 = ap one_if apart in
+      let none : one_where (entered == epoch) ≡ 0 = ap one_where apart in
       each_began stamp rest (second_true (nat_lt stamp entered) (list_all (began_after stamp) rest) all) epoch (omega (arith, more, none, some)))
 ]
 

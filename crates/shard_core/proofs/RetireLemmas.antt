@@ -20,7 +20,7 @@ use Rattle.map_cells.specs.declared.retired.Retired.{Retired}
 use Rattle.map_cells.specs.CellTable.{CellTable, retired_at, unused_retired, with_retired, is_below, freed_below, without_cells, IsNotRetired, IsLatestStamp}
 use Rattle.shard_core.specs.declared.keys.KeyTable.{KeyTable}
 use Rattle.shard_core.specs.KeyTables.{FitsPlan, HasKeys, IsKeyed}
-use Rattle.shard_core.specs.ShardFields.{Mirrors, waiting, IsBalanced, IsContents}
+use Rattle.shard_core.specs.ShardFields.{Mirrors, waiting, HasAllPlaces, IsContents}
 use Rattle.shard_core.proofs.MirrorLemmas.{mirrors_fewer, mirrors_without, length-without, IsNone}
 use Rattle.shard_core.proofs.StateLemmas.{IsGone, key_gone}
 use Rattle.shard_core.proofs.KeyLemmas.{IsNoUse, keyed_kind, keys_on}
@@ -124,7 +124,7 @@ kept_of_one_less Hash state place gone id keyed there kept = kept_of_retired sta
 kept_of_one_less LruHash state place gone id keyed there kept = kept_of_retired state place gone id there kept
 
 balance_of_retired : (kind : MapKind) (plan : ShardPlan) (state : SequentialShard) (cells : CellTable) (place stamp : ℕ) (gone : PresentKey) → (kind ≡ Array → ⊥) → length (filter (λ (one : PresentKey). not (one.cell == gone.cell)) state.present) + 1 ≡ length state.present
-    → IsBalanced kind plan state cells → IsBalanced kind plan (without_key state place gone) (with_retired cells gone.cell stamp)
+    → HasAllPlaces kind plan state cells → HasAllPlaces kind plan (without_key state place gone) (with_retired cells gone.cell stamp)
 balance_of_retired Array plan state cells place stamp gone keyed fewer balance = absurd (keyed refl)
 balance_of_retired Hash plan state cells place stamp gone keyed fewer balance = (balance.0, omega (arith, balance.1, fewer))
 balance_of_retired LruHash plan state cells place stamp gone keyed fewer balance = (balance.0, omega (arith, balance.1, fewer))
@@ -280,7 +280,7 @@ kept_of_freed epochs history state id sound pairs kept = by_present (list_any (�
           (each_passing (λ (one : RetiredCell). one.cell ≡ id → ⊥) (is_reclaimable history) state.retired (waiting_apart history id state.retired pairs kept)),
     )
 
-balance_of_freed : (floor : ℕ) (history : List Entry) (plan : ShardPlan) (state : SequentialShard) (cells : CellTable) → length (filter (is_below floor) cells.retired) ≡ length (filter (is_reclaimable history) state.retired) → IsBalanced Hash plan state cells → IsBalanced Hash plan (after_reclaim history state) (freed_below floor cells)
+balance_of_freed : (floor : ℕ) (history : List Entry) (plan : ShardPlan) (state : SequentialShard) (cells : CellTable) → length (filter (is_below floor) cells.retired) ≡ length (filter (is_reclaimable history) state.retired) → HasAllPlaces Hash plan state cells → HasAllPlaces Hash plan (after_reclaim history state) (freed_below floor cells)
 balance_of_freed floor history plan state cells same balance =
     let both : length (filter (is_reclaimable history) state.retired) + length (filter (λ (one : RetiredCell). not (is_reclaimable history one)) state.retired) ≡ length state.retired =
     length-filter_both (is_reclaimable history) (λ (one : RetiredCell). not (is_reclaimable history one)) (λ one. refl) state.retired in
@@ -308,7 +308,7 @@ mirrored_of_freed epochs Hash floor history plan state cells freed sound pairs a
 mirrored_of_freed epochs LruHash floor history plan state cells freed sound pairs array retired mirrored = mirrored_freed epochs floor history state cells freed sound pairs mirrored
 
 balance_of_kind_freed : (kind : MapKind) (floor : ℕ) (history : List Entry) (plan : ShardPlan) (state : SequentialShard) (cells : CellTable) → length (filter (is_below floor) cells.retired) ≡ length (filter (is_reclaimable history) state.retired)
-    → IsBalanced kind plan state cells → IsBalanced kind plan (after_reclaim history state) (freed_below floor cells)
+    → HasAllPlaces kind plan state cells → HasAllPlaces kind plan (after_reclaim history state) (freed_below floor cells)
 balance_of_kind_freed Array floor history plan state cells same balance = tt
 balance_of_kind_freed Hash floor history plan state cells same balance = balance_of_freed floor history plan state cells same balance
 balance_of_kind_freed LruHash floor history plan state cells same balance = balance_of_freed floor history plan state cells same balance

@@ -26,8 +26,8 @@ use Rattle.semantics.specs.Reclamation.{is_inside, is_reclaimable}
 use Rattle.semantics.specs.History.{is_outside_worker, is_inside_worker, meets, journal_is_full, IsLegalHistory}
 use Rattle.semantics.proofs.shared.ConditionLemmas.{first_true}
 use Rattle.semantics.proofs.shared.HoldingLemmas.{each_weaker}
-use Rattle.journal.specs.Journaled.{Journaled, with_entry}
-use Rattle.map_cells.specs.CellTable.{CellTable, cell_at, bytes_of_cell, number_at, with_number}
+use Rattle.journal.specs.Journaled.{Journaled, journal_with_entry}
+use Rattle.map_cells.specs.CellTable.{CellTable, cell_of_id, bytes_of_cell, cell_number_at, with_number}
 use Rattle.map_cells.specs.CellTable as T
 use Rattle.shard_core.specs.declared.keys.KeyTable.{KeyTable}
 use Rattle.shard_core.specs.Sections.{ReaderEpochs, retires, epoch_at, readers_of}
@@ -132,7 +132,7 @@ pub record IsStep (plan : ShardPlan) (history : List Entry) (who : Caller) (call
 pub step_taken : (plan : ShardPlan) (journal : Journaled) (cells cells_after : CellTable) (keys keys_after : KeyTable) (readers readers_after : ReaderEpochs)
     (who : Caller) (call : Call) (reply : Reply) (entry : Entry) → IsShard plan journal cells keys readers
     → IsStep plan (reverse journal.entries) who call reply cells_after keys_after readers_after → entry ≡ record { who = who; call = call; reply = reply }
-    → IsShard plan (with_entry journal entry) cells_after keys_after readers_after
+    → IsShard plan (journal_with_entry journal entry) cells_after keys_after readers_after
 step_taken plan journal cells cells_after keys keys_after readers readers_after who call reply entry shard step same =
     let history : List Entry = reverse journal.entries in
     let made : Entry = record { who = who; call = call; reply = reply } in
@@ -155,7 +155,7 @@ pub section_taken : (plan : ShardPlan) (journal : Journaled) (cells : CellTable)
     → IsNoUse (record { who = who; call = call; reply = reply })
     → readers_after ≡ readers_of plan (record { who = who; call = call; reply = reply } ∷ reverse journal.entries)
     → entry ≡ record { who = who; call = call; reply = reply }
-    → IsShard plan (with_entry journal entry) cells keys readers_after
+    → IsShard plan (journal_with_entry journal entry) cells keys readers_after
 section_taken plan journal cells keys readers readers_after who call reply entry shard met has_room replied stays none readers_are same =
     let history : List Entry = reverse journal.entries in
     let made : Entry = record { who = who; call = call; reply = reply } in
@@ -174,11 +174,11 @@ section_taken plan journal cells keys readers readers_after who call reply entry
 
 -- ---- kept cells
 
-pub table_keeps : (plan : ShardPlan) {epochs : ℕ → ℕ} (history : List Entry) (state : SequentialShard) (cells : CellTable) (keys : KeyTable) (cell : ℕ) → IsContents plan epochs history state cells keys → IsTrue (is_kept plan state cell) → IsTrue (T.is_kept cells cell)
+pub table_keeps : (plan : ShardPlan) {epochs : ℕ → ℕ} (history : List Entry) (state : SequentialShard) (cells : CellTable) (keys : KeyTable) (cell : ℕ) → IsContents plan epochs history state cells keys → IsTrue (is_kept plan state cell) → IsTrue (T.is_kept_id cells cell)
 table_keeps plan history state cells keys cell contents kept = ap is_some (kept_bytes plan history state cells keys cell contents kept)
 
 pub kept_number : (plan : ShardPlan) {epochs : ℕ → ℕ} (history : List Entry) (state : SequentialShard) (cells : CellTable) (keys : KeyTable) (cell offset size : ℕ) → IsContents plan epochs history state cells keys → IsTrue (is_kept plan state cell)
-    → number_at cells cell offset size ≡ number_in_cell state cell offset size
+    → cell_number_at cells cell offset size ≡ number_in_cell state cell offset size
 kept_number plan history state cells keys cell offset size contents kept =
     ap (λ found. number_of_bytes (take size (drop offset (bytes_of_cell found)))) (kept_bytes plan history state cells keys cell contents kept)
 
@@ -186,7 +186,7 @@ kept_number plan history state cells keys cell offset size contents kept =
 pub contents_stored : (plan : ShardPlan) {epochs : ℕ → ℕ} (entry : Entry) (history : List Entry) (state : SequentialShard) (cells : CellTable) (keys : KeyTable) (cell offset size value : ℕ) → IsNoUse entry → IsTrue (is_kept plan state cell)
     → IsContents plan epochs history state cells keys → IsContents plan epochs (entry ∷ history) (with_number_in_cell state cell offset size value) (with_number cells cell offset size value) keys
 contents_stored plan entry history state cells keys cell offset size value none kept contents =
-    let same : bytes_of_cell (cell_at cells cell) ≡ cell_bytes state cell = ap bytes_of_cell (kept_bytes plan history state cells keys cell contents kept) in
+    let same : bytes_of_cell (cell_of_id cells cell) ≡ cell_bytes state cell = ap bytes_of_cell (kept_bytes plan history state cells keys cell contents kept) in
     rw same (contents_written plan history (entry ∷ history) state cells keys keys cell (overwritten_at offset (bytes_of_number size value) (cell_bytes state cell)) kept contents
     contents.fits (keys_on keys entry history state.present none contents.has))
 
@@ -194,7 +194,7 @@ contents_stored plan entry history state cells keys cell offset size value none 
 pub contents_changed : (plan : ShardPlan) {epochs : ℕ → ℕ} (entry : Entry) (history : List Entry) (state : SequentialShard) (cells : CellTable) (keys : KeyTable) (cell offset size op value expected : ℕ) (operation : AtomicOp) → IsNoUse entry → IsTrue (is_kept plan state cell)
     → atomic_op_of op ≡ Some operation → IsContents plan epochs history state cells keys
     → IsContents plan epochs (entry ∷ history) (with_number_in_cell state cell offset size (changed_by (atomic_op_of op) size (number_in_cell state cell offset size) value expected))
-    (with_number cells cell offset size (atomic_result (8 * size) operation (number_at cells cell offset size) value expected)) keys
+    (with_number cells cell offset size (atomic_result (8 * size) operation (cell_number_at cells cell offset size) value expected)) keys
 contents_changed plan entry history state cells keys cell offset size op value expected operation none kept known contents =
     rw (known, kept_number plan history state cells keys cell offset size contents kept)
     (contents_stored plan entry history state cells keys cell offset size (atomic_result (8 * size) operation (number_in_cell state cell offset size) value expected) none kept contents)

@@ -4,7 +4,7 @@ use Rattle.ebpf_decode.specs.declared.map.MapKind.{MapKind}
 use Rattle.ebpf_decode.specs.declared.map.MapKind.TheVariants.{Array}
 use Rattle.semantics.specs.declared.plan.ShardPlan.{ShardPlan}
 use Rattle.semantics.specs.ShardPlan.{capacity}
-use Rattle.map_cells.specs.CellTable.{CellTable, empty_table, is_kept, with_new_cell, with_bytes, with_retired, IsNotRetired, IsLatestStamp}
+use Rattle.map_cells.specs.CellTable.{CellTable, empty_table, is_kept_id, with_new_cell, with_bytes, with_retired, IsNotRetired, IsLatestStamp}
 use Rattle.shard_core.specs.declared.keys.KeyTable.{KeyTable}
 use Rattle.shard_core.specs.Sections.{ReaderEpochs, with_epoch_after}
 use Rattle.shard_core.specs.KeyTables.{MayGrow, victim_cell, touched_in, without_victim_in, IsInserted}
@@ -28,7 +28,7 @@ opened_table kind plan = empty_table plan.definition.value_size (2 * capacity pl
 
 -- the cell may be retired with this stamp
 pub record CanRetire (cells : CellTable) (cell stamp : ℕ) : Type 0 where
-  pub kept : IsTrue (is_kept cells cell)
+  pub kept : IsTrue (is_kept_id cells cell)
   pub once : IsNotRetired cells cell
   pub room : length cells.retired < cells.places
   pub latest : IsLatestStamp cells stamp

@@ -24,5 +24,5 @@ abbrev pub sequential_reply : JournaledShard → Call → Reply
 sequential_reply shard call = reply_of shard.plan (reverse shard.journal) (state_of shard) call
 
 -- the shard with one entry more
-abbrev pub with_entry : JournaledShard → Entry → JournaledShard
-with_entry shard entry = record { plan = shard.plan; journal = shard.journal ++ entry ∷ [] }
+abbrev pub shard_with_entry : JournaledShard → Entry → JournaledShard
+shard_with_entry shard entry = record { plan = shard.plan; journal = shard.journal ++ entry ∷ [] }

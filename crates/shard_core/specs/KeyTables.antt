@@ -8,24 +8,24 @@ use Rattle.semantics.specs.LittleEndian.{number_of_bytes}
 use Rattle.semantics.specs.declared.plan.ShardPlan.{ShardPlan}
 use Rattle.semantics.specs.ShardPlan.{capacity}
 use Rattle.semantics.specs.SequentialShard.{cell_of_present}
-use Rattle.plain_maps.specs.ArrayTable.{cell_of_index}
+use Rattle.plain_maps.specs.ArrayTable.{cell_of_array_index}
 use Rattle.plain_maps.specs.HashTable.{HashTable, cell_of}
-use Rattle.lru_maps.specs.LruTable.{LruTable, cell_of_key, touched, with_new_key, without_key, victim, without_victim}
+use Rattle.lru_maps.specs.LruTable.{LruTable, cell_of_lru_key, touched, with_newest_key, table_without_key, victim, without_victim}
 use Rattle.lru_maps.specs.ByUse.{IsByUse}
 use Rattle.shard_core.specs.declared.keys.KeyTable.{KeyTable}
 use Rattle.shard_core.specs.declared.keys.KeyTable.TheVariants.{Indices, Hashed, Recent}
 
 -- the cell of a key
 abbrev pub cell_in : KeyTable → List ℕ → Option ℕ
-cell_in (Indices indices) key = cell_of_index indices.max_entries indices.parts (number_of_bytes key)
+cell_in (Indices indices) key = cell_of_array_index indices.max_entries indices.parts (number_of_bytes key)
 cell_in (Hashed keys) key = cell_of keys key
-cell_in (Recent keys) key = cell_of_key keys key
+cell_in (Recent keys) key = cell_of_lru_key keys key
 
 -- how many keys are there; of an array none is counted
-abbrev pub count_in : KeyTable → ℕ
-count_in (Indices indices) = 0
-count_in (Hashed keys) = length keys.entries
-count_in (Recent keys) = length keys.entries
+abbrev pub key_count : KeyTable → ℕ
+key_count (Indices indices) = 0
+key_count (Hashed keys) = length keys.entries
+key_count (Recent keys) = length keys.entries
 
 -- how many bytes a key has that may be asked for
 abbrev pub IsAskedSize : KeyTable → ℕ → Type 0
@@ -57,10 +57,10 @@ IsKeyed (Hashed keys) = Unit {0}
 IsKeyed (Recent keys) = Unit {0}
 
 -- there may be one more key now
-abbrev pub HasRoom : KeyTable → Type 0
-HasRoom (Indices indices) = ⊥
-HasRoom (Hashed keys) = length keys.entries < keys.capacity
-HasRoom (Recent keys) = length keys.entries < keys.capacity
+abbrev pub HasRoomForKey : KeyTable → Type 0
+HasRoomForKey (Indices indices) = ⊥
+HasRoomForKey (Hashed keys) = length keys.entries < keys.capacity
+HasRoomForKey (Recent keys) = length keys.entries < keys.capacity
 
 -- or once the key is gone that was used longest ago
 abbrev pub MayGrow : KeyTable → Type 0
@@ -101,7 +101,7 @@ IsInsertedInto key id old new = ⊥
 abbrev pub IsInserted : List ℕ → ℕ → KeyTable → KeyTable → Type 0
 IsInserted key id (Indices old) new = ⊥
 IsInserted key id (Hashed old) new = IsInsertedInto key id old new
-IsInserted key id (Recent old) new = new ≡ Recent (with_new_key key id old)
+IsInserted key id (Recent old) new = new ≡ Recent (with_newest_key key id old)
 
 -- a key is there no more
 abbrev pub IsRemovedFrom : List ℕ → HashTable → KeyTable → Type 0
@@ -114,4 +114,4 @@ IsRemovedFrom key old new = ⊥
 abbrev pub IsRemoved : List ℕ → KeyTable → KeyTable → Type 0
 IsRemoved key (Indices old) new = ⊥
 IsRemoved key (Hashed old) new = IsRemovedFrom key old new
-IsRemoved key (Recent old) new = new ≡ Recent (without_key key old)
+IsRemoved key (Recent old) new = new ≡ Recent (table_without_key key old)

@@ -51,13 +51,13 @@ abbrev pub retires : ShardPlan → List Entry → Call → Bool
 retires plan history call =
     nat_lt (length (shard_after plan history).retired) (length (shard_after_call plan history (shard_after plan history) call).retired)
 
-abbrev pub one_if : Bool → ℕ
-one_if test = if test then 1 else 0
+abbrev pub one_where : Bool → ℕ
+one_where test = if test then 1 else 0
 
 -- how many retirements are before this place
 abbrev pub epoch_at : ShardPlan → List Entry → ℕ → ℕ
 epoch_at plan [] place = 0
-epoch_at plan (entry ∷ older) place = epoch_at plan older place + one_if (nat_lt (length older) place && retires plan older entry.call)
+epoch_at plan (entry ∷ older) place = epoch_at plan older place + one_where (nat_lt (length older) place && retires plan older entry.call)
 
 -- of each worker, by its number, the epoch of its Enter that no Leave follows; `epochs` is the epoch of each place
 abbrev pub entered_epochs : (ℕ → ℕ) → List Entry → List (Option ℕ)

@@ -27,9 +27,9 @@ abbrev pub waiting : (ℕ → ℕ) → RetiredCell → Retired
 waiting epochs gone = record { id = gone.cell; stamp = epochs gone.since }
 
 -- the places that are no present or retired cell's are free; an array's cells are there from the opening on
-abbrev pub IsBalanced : MapKind → ShardPlan → SequentialShard → CellTable → Type 0
-IsBalanced Array plan state cells = Unit {0}
-IsBalanced kind plan state cells =
+abbrev pub HasAllPlaces : MapKind → ShardPlan → SequentialShard → CellTable → Type 0
+HasAllPlaces Array plan state cells = Unit {0}
+HasAllPlaces kind plan state cells =
     (cells.places ≡ 2 * capacity plan) × (cells.free + (length state.present + length state.retired) ≡ 2 * capacity plan)
 
 -- cells and keys are those of a state, which this history led to; `epochs` is the epoch of each place
@@ -40,7 +40,7 @@ pub record IsContents (plan : ShardPlan) (epochs : ℕ → ℕ) (history : List 
   pub mirrored : Mirrors (is_kept plan state) cells.cells state.cells
   pub retired : cells.retired ≡ reverse (map (waiting epochs) state.retired)
   pub id_room : length (opening_cells plan.definition.kind plan) + plan.reserve ≤ cells.ids
-  pub balance : IsBalanced plan.definition.kind plan state cells
+  pub balance : HasAllPlaces plan.definition.kind plan state cells
   pub fits : FitsPlan keys plan
   pub has : HasKeys keys history state.present
 

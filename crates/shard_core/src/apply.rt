@@ -2,7 +2,7 @@
 
 ghost use Rattle.std.specs.Prelude.{◌≡◌, ◌↔◌, IsErr, IfOk, IfErr, OnErr, reverse};
 ghost use Rattle.semantics.specs.History.{Meets, IsLegalJournal, IsJournalFull};
-ghost use Rattle.shard_core.specs.JournaledShard.{sequential_reply, with_entry};
+ghost use Rattle.shard_core.specs.JournaledShard.{sequential_reply, shard_with_entry};
 
 use crate::shard::Shard;
 use journal::{AtomicChange, CellRange};
@@ -16,7 +16,7 @@ impl Shard {
     pub fn apply(&mut self, who: Caller, call: &Call) -> Result<Reply, JournalFull>
         requires { Meets self.old.plan (reverse self.old.journal) who call.now }
         ensures replied { IfOk result (λ reply. reply ≡ sequential_reply self.old call.now) }
-        ensures entered { IfOk result (λ reply. self.new ≡ with_entry self.old (record { who = who; call = call.now; reply = reply })) }
+        ensures entered { IfOk result (λ reply. self.new ≡ shard_with_entry self.old (record { who = who; call = call.now; reply = reply })) }
         ensures legal { IsLegalJournal self.new.plan self.new.journal }
         ensures full { IsErr result ↔ IsJournalFull self.old.plan (reverse self.old.journal) call.now }
         ensures names_the_shard { IfErr result (λ fault. fault.shard ≡ self.old.plan.number) }

@@ -2,8 +2,8 @@
 
 ghost use Rattle.std.specs.Prelude.{◌≡◌, ◌≢◌, pos, ◌+◌, ◌≤◌, ◌<◌, ◌^◌, ℕ, IsTrue, IfOk, Some, None, List, length};
 ghost use Rattle.semantics.specs.PlanLimits.{IsPlan};
-ghost use Rattle.map_cells.specs.CellTable.{is_kept, with_retired};
-ghost use Rattle.shard_core.specs.KeyTables.{cell_in, victim_cell, without_victim_in, IsAskedSize, IsKeyed, HasRoom, MayGrow, IsRemoved};
+ghost use Rattle.map_cells.specs.CellTable.{is_kept_id, with_retired};
+ghost use Rattle.shard_core.specs.KeyTables.{cell_in, victim_cell, without_victim_in, IsAskedSize, IsKeyed, HasRoomForKey, MayGrow, IsRemoved};
 ghost use Rattle.shard_core.specs.Sections.{with_next_epoch, with_epoch_after};
 ghost use Rattle.shard_core.specs.Contents.{opened_table, filled_table, with_evicted, CanCreate, CanRetire, IsPut};
 
@@ -56,7 +56,7 @@ pub(crate) fn put_value(
 )
     requires size { IsAskedSize keys.old (length key.now) }
     requires value { length value.now ≡ cells.old.value_size }
-    requires kept { (cell : ℕ) → cell_in keys.old key.now ≡ Some cell → IsTrue (is_kept cells.old cell) }
+    requires kept { (cell : ℕ) → cell_in keys.old key.now ≡ Some cell → IsTrue (is_kept_id cells.old cell) }
     requires room { code ≡ pos 0 → cell_in keys.old key.now ≡ None → CanCreate cells.old keys.old readers.old.present }
     requires stamps { readers.old.present < 2 ^ 62 }
     ensures done { code ≡ pos 0 →
@@ -79,7 +79,7 @@ fn write_value(
 )
     requires size { IsAskedSize keys.old (length key.now) }
     requires value { length value.now ≡ cells.old.value_size }
-    requires kept { (cell : ℕ) → cell_in keys.old key.now ≡ Some cell → IsTrue (is_kept cells.old cell) }
+    requires kept { (cell : ℕ) → cell_in keys.old key.now ≡ Some cell → IsTrue (is_kept_id cells.old cell) }
     requires room { cell_in keys.old key.now ≡ None → CanCreate cells.old keys.old readers.old.present }
     requires stamps { readers.old.present < 2 ^ 62 }
     ensures { IsPut (cell_in keys.old key.now) key.now value.now cells.old keys.old readers.old cells.new keys.new readers.new }
@@ -105,7 +105,7 @@ fn make_room(cells: &mut Cells, keys: &mut KeyTable, readers: &mut Readers)
     ensures readers { readers.new ≡ with_epoch_after (victim_cell keys.old) readers.old }
     ensures shape { (cells.new.value_size ≡ cells.old.value_size) × (cells.new.free ≡ cells.old.free) × (cells.new.ids ≡ cells.old.ids) }
     ensures count { length cells.new.cells ≡ length cells.old.cells }
-    ensures room { HasRoom keys.new }
+    ensures room { HasRoomForKey keys.new }
     ensures size { (size : ℕ) → IsAskedSize keys.old size → IsAskedSize keys.new size }
     ensures absent { (q : List ℕ) → cell_in keys.old q ≡ None → cell_in keys.new q ≡ None }
 {

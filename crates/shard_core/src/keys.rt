@@ -5,9 +5,9 @@ ghost use Rattle.semantics.specs.declared.call.Entry.{Entry};
 ghost use Rattle.semantics.specs.declared.plan.ShardPlan.{ShardPlan};
 ghost use Rattle.semantics.specs.declared.plan.PresentKey.{PresentKey};
 ghost use Rattle.semantics.specs.PlanLimits.{IsPlan};
-ghost use Rattle.shard_core.specs.KeyTables.{cell_in, count_in, IsAskedSize, touched_in, victim_cell, without_victim_in, IsInserted};
-ghost use Rattle.shard_core.specs.KeyTables.{IsRemoved, FitsPlan, HasKeys, IsKeyed, HasRoom, MayGrow, is_full_of};
-ghost use Rattle.lru_maps.specs.LruTable.{cell_of_key, victim, without_victim};
+ghost use Rattle.shard_core.specs.KeyTables.{cell_in, key_count, IsAskedSize, touched_in, victim_cell, without_victim_in, IsInserted};
+ghost use Rattle.shard_core.specs.KeyTables.{IsRemoved, FitsPlan, HasKeys, IsKeyed, HasRoomForKey, MayGrow, is_full_of};
+ghost use Rattle.lru_maps.specs.LruTable.{cell_of_lru_key, victim, without_victim};
 
 use ebpf_decode::MapKind;
 use lru_maps::LruShard;
@@ -76,7 +76,7 @@ impl KeyTable {
 
     /// How many keys are there; of an array none is counted.
     pub(crate) fn len(&self) -> usize
-        ensures { result ≡ count_in self.now }
+        ensures { result ≡ key_count self.now }
     {
         match self {
             KeyTable::Indices { .. } => 0,
@@ -90,7 +90,7 @@ impl KeyTable {
         requires { MayGrow self.old }
         ensures cell { result ≡ victim_cell self.old }
         ensures table { self.new ≡ without_victim_in self.old }
-        ensures room { HasRoom self.new }
+        ensures room { HasRoomForKey self.new }
         ensures size { (size : ℕ) → IsAskedSize self.old size → IsAskedSize self.new size }
         ensures absent { (q : List ℕ) → cell_in self.old q ≡ None → cell_in self.new q ≡ None }
     {
@@ -105,7 +105,7 @@ impl KeyTable {
     pub(crate) fn insert(&mut self, key: &[u8], id: u64)
         requires size { IsAskedSize self.old (length key.now) }
         requires absent { cell_in self.old key.now ≡ None }
-        requires room { HasRoom self.old }
+        requires room { HasRoomForKey self.old }
         ensures { IsInserted key.now id self.old self.new }
     {
         match self {
@@ -154,7 +154,7 @@ fn evict_if_full(keys: &mut LruShard) -> Option<u64>
     ensures cell { result ≡ (if is_full_of keys.old then option_map (λ entry. entry.1) (victim keys.old) else None) }
     ensures table { keys.new ≡ (if is_full_of keys.old then without_victim keys.old else keys.old) }
     ensures room { length keys.new.entries < keys.new.capacity }
-    ensures absent { (q : List ℕ) → cell_of_key keys.old q ≡ None → cell_of_key keys.new q ≡ None }
+    ensures absent { (q : List ℕ) → cell_of_lru_key keys.old q ≡ None → cell_of_lru_key keys.new q ≡ None }
 {
     if keys.len() < keys.capacity() {
         None

@@ -26,8 +26,8 @@ ghost use Rattle.semantics.specs.SequentialShard.{update_answer, delete_answer, 
 ghost use Rattle.semantics.specs.History.{journal_is_full, IsLegalJournal};
 ghost use Rattle.shard_core.specs.FewHeld.{FewAreHeld};
 ghost use Rattle.shard_core.specs.JournaledShard.{opened_shard, state_of, sequential_reply};
-ghost use Rattle.shard_core.specs.Calls.{MayCall, IsFullFor, after_call, enter_call, leave_call, lookup_call, load_call, store_call};
-ghost use Rattle.shard_core.specs.Calls.{atomic_call, update_call, delete_call, reclaim_call};
+ghost use Rattle.shard_core.specs.Calls.{MayCallShard, IsFullFor, shard_with_call, enter_call, leave_call, shard_lookup_call, load_call, store_call};
+ghost use Rattle.shard_core.specs.Calls.{shard_atomic_call, shard_update_call, shard_delete_call, reclaim_call};
 
 use crate::contents::{open_cells, put_value, retire_key};
 use crate::keys::KeyTable;
@@ -152,8 +152,8 @@ impl Shard {
     /// A worker enters: from now on it finds no cell that was retired before. Refused where the journal is full for an Enter; then nothing
     /// is changed.
     pub fn enter(&mut self, who: Caller) -> Result<(), JournalFull>
-        requires { MayCall self.old who (enter_call self.old) }
-        ensures entered { OnOk result (self.new ≡ after_call self.old who (enter_call self.old) Entered) }
+        requires { MayCallShard self.old who (enter_call self.old) }
+        ensures entered { OnOk result (self.new ≡ shard_with_call self.old who (enter_call self.old) Entered) }
         ensures legal { IsLegalJournal self.new.plan self.new.journal }
         ensures full { IsErr result ↔ IsFullFor self.old (enter_call self.old) }
         ensures names_the_shard { IfErr result (λ fault. fault.shard ≡ self.old.plan.number) }
@@ -172,8 +172,8 @@ impl Shard {
 
     /// A worker leaves, and lets its cells go. Never refused.
     pub fn leave(&mut self, who: Caller)
-        requires { MayCall self.old who (leave_call self.old) }
-        ensures entered { self.new ≡ after_call self.old who (leave_call self.old) Left }
+        requires { MayCallShard self.old who (leave_call self.old) }
+        ensures entered { self.new ≡ shard_with_call self.old who (leave_call self.old) Left }
         ensures legal { IsLegalJournal self.new.plan self.new.journal }
     {
         let Some(worker) = who.worker() else {
@@ -187,13 +187,13 @@ impl Shard {
     /// changed.
     #[inline(always)]
     pub fn lookup(&mut self, who: Caller, key: &[u8]) -> Result<Option<u64>, JournalFull>
-        requires { MayCall self.old who (lookup_call self.old key.now) }
+        requires { MayCallShard self.old who (shard_lookup_call self.old key.now) }
         ensures replied { IfOk result
-            (λ found. lookup_reply self.old.plan found ≡ sequential_reply self.old (lookup_call self.old key.now)) }
+            (λ found. lookup_reply self.old.plan found ≡ sequential_reply self.old (shard_lookup_call self.old key.now)) }
         ensures entered { IfOk result
-            (λ found. self.new ≡ after_call self.old who (lookup_call self.old key.now) (lookup_reply self.old.plan found)) }
+            (λ found. self.new ≡ shard_with_call self.old who (shard_lookup_call self.old key.now) (lookup_reply self.old.plan found)) }
         ensures legal { IsLegalJournal self.new.plan self.new.journal }
-        ensures full { IsErr result ↔ IsFullFor self.old (lookup_call self.old key.now) }
+        ensures full { IsErr result ↔ IsFullFor self.old (shard_lookup_call self.old key.now) }
         ensures names_the_shard { IfErr result (λ fault. fault.shard ≡ self.old.plan.number) }
         ensures refused_unchanged { OnErr result (self.new ≡ self.old) }
     {
@@ -208,10 +208,10 @@ impl Shard {
     /// The number that some bytes of a held cell make, the lowest first. Refused where the journal is full; then nothing is changed.
     #[inline(always)]
     pub fn load(&mut self, who: Caller, range: &CellRange) -> Result<u64, JournalFull>
-        requires { MayCall self.old who (load_call self.old range.now) }
+        requires { MayCallShard self.old who (load_call self.old range.now) }
         ensures of_its_cell { IfOk result
             (λ value. value ≡ number_in_cell (state_of self.old) range.now.cell range.now.offset range.now.size) }
-        ensures entered { IfOk result (λ value. self.new ≡ after_call self.old who (load_call self.old range.now) (Word value)) }
+        ensures entered { IfOk result (λ value. self.new ≡ shard_with_call self.old who (load_call self.old range.now) (Word value)) }
         ensures legal { IsLegalJournal self.new.plan self.new.journal }
         ensures full { IsErr result ↔ IsFullFor self.old (load_call self.old range.now) }
         ensures names_the_shard { IfErr result (λ fault. fault.shard ≡ self.old.plan.number) }
@@ -228,8 +228,8 @@ impl Shard {
     /// Writes a number into some bytes of a held cell, the lowest first. Refused where the journal is full; then nothing is changed.
     #[inline(always)]
     pub fn store(&mut self, who: Caller, range: &CellRange, value: u64) -> Result<(), JournalFull>
-        requires { MayCall self.old who (store_call self.old range.now value) }
-        ensures entered { OnOk result (self.new ≡ after_call self.old who (store_call self.old range.now value) Done) }
+        requires { MayCallShard self.old who (store_call self.old range.now value) }
+        ensures entered { OnOk result (self.new ≡ shard_with_call self.old who (store_call self.old range.now value) Done) }
         ensures legal { IsLegalJournal self.new.plan self.new.journal }
         ensures full { IsErr result ↔ IsFullFor self.old (store_call self.old range.now value) }
         ensures names_the_shard { IfErr result (λ fault. fault.shard ≡ self.old.plan.number) }
@@ -252,11 +252,11 @@ impl Shard {
         range: &CellRange,
         change: &AtomicChange,
     ) -> Result<u64, JournalFull>
-        requires { MayCall self.old who (atomic_call self.old range.now change.now) }
+        requires { MayCallShard self.old who (shard_atomic_call self.old range.now change.now) }
         ensures of_its_cell { IfOk result (λ old. old ≡ number_in_cell (state_of self.old) range.now.cell range.now.offset range.now.size) }
-        ensures entered { IfOk result (λ old. self.new ≡ after_call self.old who (atomic_call self.old range.now change.now) (Word old)) }
+        ensures entered { IfOk result (λ old. self.new ≡ shard_with_call self.old who (shard_atomic_call self.old range.now change.now) (Word old)) }
         ensures legal { IsLegalJournal self.new.plan self.new.journal }
-        ensures full { IsErr result ↔ IsFullFor self.old (atomic_call self.old range.now change.now) }
+        ensures full { IsErr result ↔ IsFullFor self.old (shard_atomic_call self.old range.now change.now) }
         ensures names_the_shard { IfErr result (λ fault. fault.shard ≡ self.old.plan.number) }
         ensures refused_unchanged { OnErr result (self.new ≡ self.old) }
     {
@@ -303,12 +303,12 @@ impl Shard {
         value: &[u8],
         flags: u64,
     ) -> Result<i32, JournalFull>
-        requires { MayCall self.old who (update_call self.old key.now value.now flags) }
+        requires { MayCallShard self.old who (shard_update_call self.old key.now value.now flags) }
         ensures answered { IfOk result (λ code. code ≡ update_answer self.old.plan (state_of self.old) key.now flags) }
         ensures entered { IfOk result
-            (λ code. self.new ≡ after_call self.old who (update_call self.old key.now value.now flags) (Answer code)) }
+            (λ code. self.new ≡ shard_with_call self.old who (shard_update_call self.old key.now value.now flags) (Answer code)) }
         ensures legal { IsLegalJournal self.new.plan self.new.journal }
-        ensures full { IsErr result ↔ IsFullFor self.old (update_call self.old key.now value.now flags) }
+        ensures full { IsErr result ↔ IsFullFor self.old (shard_update_call self.old key.now value.now flags) }
         ensures names_the_shard { IfErr result (λ fault. fault.shard ≡ self.old.plan.number) }
         ensures refused_unchanged { OnErr result (self.new ≡ self.old) }
     {
@@ -331,11 +331,11 @@ impl Shard {
     /// Takes a key out as bpf(2) has it, and returns its answer: 0, and then its cell waits for its readers; or Linux's error number,
     /// negated, and then no key goes. Refused where the journal is full; then nothing is changed.
     pub fn delete(&mut self, who: Caller, key: &[u8]) -> Result<i32, JournalFull>
-        requires { MayCall self.old who (delete_call self.old key.now) }
+        requires { MayCallShard self.old who (shard_delete_call self.old key.now) }
         ensures answered { IfOk result (λ code. code ≡ delete_answer self.old.plan (state_of self.old) key.now) }
-        ensures entered { IfOk result (λ code. self.new ≡ after_call self.old who (delete_call self.old key.now) (Answer code)) }
+        ensures entered { IfOk result (λ code. self.new ≡ shard_with_call self.old who (shard_delete_call self.old key.now) (Answer code)) }
         ensures legal { IsLegalJournal self.new.plan self.new.journal }
-        ensures full { IsErr result ↔ IsFullFor self.old (delete_call self.old key.now) }
+        ensures full { IsErr result ↔ IsFullFor self.old (shard_delete_call self.old key.now) }
         ensures names_the_shard { IfErr result (λ fault. fault.shard ≡ self.old.plan.number) }
         ensures refused_unchanged { OnErr result (self.new ≡ self.old) }
     {
@@ -357,9 +357,9 @@ impl Shard {
     /// Frees the retired cells that no run inside can hold, since each entered after they were retired, and says how many they were.
     /// Refused where the journal is full; then nothing is changed.
     pub fn reclaim(&mut self, who: Caller) -> Result<u64, JournalFull>
-        requires { MayCall self.old who (reclaim_call self.old) }
+        requires { MayCallShard self.old who (reclaim_call self.old) }
         ensures replied { IfOk result (λ count. Freed count ≡ sequential_reply self.old (reclaim_call self.old)) }
-        ensures entered { IfOk result (λ count. self.new ≡ after_call self.old who (reclaim_call self.old) (Freed count)) }
+        ensures entered { IfOk result (λ count. self.new ≡ shard_with_call self.old who (reclaim_call self.old) (Freed count)) }
         ensures legal { IsLegalJournal self.new.plan self.new.journal }
         ensures full { IsErr result ↔ IsFullFor self.old (reclaim_call self.old) }
         ensures names_the_shard { IfErr result (λ fault. fault.shard ≡ self.old.plan.number) }

@@ -27,7 +27,7 @@ use Rattle.shards.specs.CallerView.{CallerView}
 use Rattle.shards.specs.SharedMaps.{ArePlans}
 use Rattle.shard_port.specs.Asking.{asked_entry}
 use Rattle.shard_port.specs.PortView.{cell_of_handle, handle_of, has_small_cell}
-use Rattle.shard_port.specs.PassPorts.{entering, IsAskedAt}
+use Rattle.shard_port.specs.PassPorts.{entering_by_own, IsAskedAt}
 use Rattle.semantics.proofs.shared.CellBytes.{number_below}
 use Rattle.semantics.proofs.shared.CallNumbers.{not_over}
 use Rattle.semantics.specs.Cells.{word_in}
@@ -40,18 +40,18 @@ use Rattle.shard_port.proofs.GivenLemmas.{sizes_at, small_of_kind, plan_reserve,
 -- what the caller had seen when its call was answered
 pub older_of : {plan : ShardPlan} {number worker : ℕ} {before after : CallerView} {call : Call} {reply : Reply} →
     IsAskedAt plan number worker before after call reply → List Entry
-older_of {plan} {number} {worker} {before} asked = entering worker number before.own ++ asked.earlier
+older_of {plan} {number} {worker} {before} asked = entering_by_own worker number before.own ++ asked.earlier
 
 pub legal_step : (plan : ShardPlan) (number worker : ℕ) (before after : CallerView) (call : Call) (reply : Reply) →
     (asked : IsAskedAt plan number worker before after call reply) →
-    IsLegalStep plan (entering worker number before.own ++ asked.earlier) (asked_entry worker call reply) ×
-    IsLegalHistory plan (entering worker number before.own ++ asked.earlier)
+    IsLegalStep plan (entering_by_own worker number before.own ++ asked.earlier) (asked_entry worker call reply) ×
+    IsLegalHistory plan (entering_by_own worker number before.own ++ asked.earlier)
 legal_step plan number worker before after call reply asked = subst (IsLegalHistory plan) asked.seen asked.legal
 
 pub answered : (plan : ShardPlan) (number worker : ℕ) (before after : CallerView) (call : Call) (reply : Reply) →
     (asked : IsAskedAt plan number worker before after call reply) →
-    reply ≡ reply_of plan (entering worker number before.own ++ asked.earlier)
-    (shard_after plan (entering worker number before.own ++ asked.earlier)) call
+    reply ≡ reply_of plan (entering_by_own worker number before.own ++ asked.earlier)
+    (shard_after plan (entering_by_own worker number before.own ++ asked.earlier)) call
 answered plan number worker before after call reply asked = (legal_step plan number worker before after call reply asked).0.step.replied
 
 -- ---- lookups
@@ -94,7 +94,7 @@ pub small_lookup : (maps : List MapDef) (options : Options) (count : ℕ) (plan 
     IsTrue (has_small_cell reply)
 small_lookup maps options count plan number worker before after key reply plans are image within asked =
     let at = small_shard maps options count plan number plans are image within in
-    let history : List Entry = entering worker number before.own ++ asked.earlier in
+    let history : List Entry = entering_by_own worker number before.own ++ asked.earlier in
     let step = legal_step (plan number) number worker before after (Lookup number key) reply asked in
     let room : length history + inside_count history + 0 + 1 ≤ (plan number).reserve =
     not_over (plan number).reserve (length history + inside_count history + 0 + 1) step.0.room in
@@ -109,7 +109,7 @@ pub found_told : (plan : ShardPlan) (number worker : ℕ) (before after : Caller
     IsTrue (has_small_cell reply) → IsAskedAt plan number worker before after (Lookup number key) reply →
     reply ≡ reply_of_handle cell_of_handle (handle_of reply)
 found_told plan number worker before after key reply small asked =
-    let history : List Entry = entering worker number before.own ++ asked.earlier in
+    let history : List Entry = entering_by_own worker number before.own ++ asked.earlier in
     let is : reply ≡ lookup_reply plan (cell_of_key plan (shard_after plan history) key) =
     answered plan number worker before after (Lookup number key) reply asked in
     subst (λ (one : Reply). one ≡ reply_of_handle cell_of_handle (handle_of one)) (sym is)
@@ -121,7 +121,7 @@ pub lookup_formed : (maps : List MapDef) (options : Options) (count : ℕ) (plan
     IsReplyTo (program_over (served_by maps options)) (Lookup number key) reply
 lookup_formed maps options count plan number worker before after key reply plans are image within asked =
     let at = small_shard maps options count plan number plans are image within in
-    let history : List Entry = entering worker number before.own ++ asked.earlier in
+    let history : List Entry = entering_by_own worker number before.own ++ asked.earlier in
     subst (IsReplyTo (program_over (served_by maps options)) (Lookup number key))
     (sym (answered (plan number) number worker before after (Lookup number key) reply asked))
     (found_formed (served_by maps options) (plan number) number key (cell_of_key (plan number) (shard_after (plan number) history) key)
@@ -133,7 +133,7 @@ lookup_formed maps options count plan number worker before after key reply plans
 pub word_below : (plan : ShardPlan) (number worker : ℕ) (before after : CallerView) (cell : CellRef) (offset size value : ℕ) →
     IsAskedAt plan number worker before after (Load cell offset size) (Word value) → value < 256 ^ size
 word_below plan number worker before after cell offset size value asked =
-    let history : List Entry = entering worker number before.own ++ asked.earlier in
+    let history : List Entry = entering_by_own worker number before.own ++ asked.earlier in
     let legal = legal_step plan number worker before after (Load cell offset size) (Word value) asked in
     subst (λ (one : Reply). word_in one < 256 ^ size)
     (sym (answered plan number worker before after (Load cell offset size) (Word value) asked))
@@ -143,7 +143,7 @@ pub changed_below : (plan : ShardPlan) (number worker : ℕ) (before after : Cal
     (offset size op value expected old : ℕ) →
     IsAskedAt plan number worker before after (Atomic cell offset size op value expected) (Word old) → old < 256 ^ size
 changed_below plan number worker before after cell offset size op value expected old asked =
-    let history : List Entry = entering worker number before.own ++ asked.earlier in
+    let history : List Entry = entering_by_own worker number before.own ++ asked.earlier in
     let legal = legal_step plan number worker before after (Atomic cell offset size op value expected) (Word old) asked in
     subst (λ (one : Reply). word_in one < 256 ^ size)
     (sym (answered plan number worker before after (Atomic cell offset size op value expected) (Word old) asked))

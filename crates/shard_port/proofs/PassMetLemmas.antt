@@ -25,7 +25,7 @@ use Rattle.semantics.specs.Reclamation.{is_inside, holds}
 use Rattle.semantics.specs.ServedCalls.{IsKeyOf, IsPairOf}
 use Rattle.semantics.specs.History.{is_inside_worker, is_holder, is_own_key, is_load_size, is_in_cell, Meets}
 use Rattle.semantics.proofs.shared.ConditionLemmas.{first_true, second_true, bytes_test}
-use Rattle.map_port.specs.Served.{Maps, shard_of, IsReadable, IsStorable, IsAtomic, lookup_call, update_call, delete_call, atomic_call}
+use Rattle.map_port.specs.Served.{Maps, served_shard, IsReadable, IsStorable, IsAtomic, lookup_call, update_call, delete_call, atomic_call}
 use Rattle.shards.specs.SharedMaps.{ArePlans}
 use Rattle.shards.specs.Passes.{PassView, own_at}
 use Rattle.shards.proofs.shared.Keys as keys
@@ -40,7 +40,7 @@ use Rattle.shard_port.proofs.shared.PassAskLemmas.{planned_at, below_workers}
 -- ---- keys
 
 pub shard_known : (served : Maps) (map : ℕ) (key : List ℕ) (definition : MapDef) → slice_get served.maps map ≡ Some definition →
-    shard_of served map key ≡ shard_of_key map definition.kind served.shards key
+    served_shard served map key ≡ shard_of_key map definition.kind served.shards key
 shard_known served map key definition known = rw known refl
 
 pub index_size : (maps : List MapDef) (options : Options) (map : ℕ) (key : List ℕ) (definition : MapDef) → AreImageMaps maps →
@@ -69,7 +69,7 @@ inside_worker options plan Reclaimer number own same below = cc
 pub at_key : (maps : List MapDef) (options : Options) (count : ℕ) (plan : ℕ → ShardPlan) (who : Caller) (own : List Entry) (map : ℕ)
     (key : List ℕ) → ArePlans maps options count plan → AreOptions maps options → IsTrue (is_worker_below options.workers who) →
     (of_map : IsKeyOf maps map key) →
-    IsAtKey options count plan who own (shard_of (served_by maps options) map key) of_map.definition key
+    IsAtKey options count plan who own (served_shard (served_by maps options) map key) of_map.definition key
 at_key maps options count plan who own map key plans are below of_map =
     let definition : MapDef = of_map.definition in
     let at : keys.IsAtKey maps options count plan (shard_of_key map definition.kind options.shards key) definition key =
@@ -88,8 +88,8 @@ at_key maps options count plan who own map key plans are below of_map =
 pub lookup_met : (maps : List MapDef) (options : Options) (count : ℕ) (plan : ℕ → ShardPlan) (who : Caller) (own : List Entry) (map : ℕ)
     (key : List ℕ) → ArePlans maps options count plan → AreOptions maps options → IsTrue (is_worker_below options.workers who) →
     IsKeyOf maps map key →
-    Meets (plan (shard_of (served_by maps options) map key))
-    (inside_own (worker_number who) (shard_of (served_by maps options) map key) own) who (lookup_call (served_by maps options) map key)
+    Meets (plan (served_shard (served_by maps options) map key))
+    (inside_own (worker_number who) (served_shard (served_by maps options) map key) own) who (lookup_call (served_by maps options) map key)
 lookup_met maps options count plan who own map key plans are below of_map =
     let at = at_key maps options count plan who own map key plans are below of_map in
     both_true _ _ at.numbered (both_true _ _ at.inside at.own_key)
@@ -97,8 +97,8 @@ lookup_met maps options count plan who own map key plans are below of_map =
 pub delete_met : (maps : List MapDef) (options : Options) (count : ℕ) (plan : ℕ → ShardPlan) (who : Caller) (own : List Entry) (map : ℕ)
     (key : List ℕ) → ArePlans maps options count plan → AreOptions maps options → IsTrue (is_worker_below options.workers who) →
     IsKeyOf maps map key →
-    Meets (plan (shard_of (served_by maps options) map key))
-    (inside_own (worker_number who) (shard_of (served_by maps options) map key) own) who (delete_call (served_by maps options) map key)
+    Meets (plan (served_shard (served_by maps options) map key))
+    (inside_own (worker_number who) (served_shard (served_by maps options) map key) own) who (delete_call (served_by maps options) map key)
 delete_met maps options count plan (Worker worker) own map key plans are below of_map =
     let at = at_key maps options count plan (Worker worker) own map key plans are below of_map in
     both_true _ _ at.numbered (both_true _ _ at.inside at.own_key)
@@ -108,12 +108,12 @@ delete_met maps options count plan Reclaimer own map key plans are below of_map 
 pub update_met : (maps : List MapDef) (options : Options) (count : ℕ) (plan : ℕ → ShardPlan) (who : Caller) (own : List Entry) (map : ℕ)
     (key value : List ℕ) (flags : ℕ) → ArePlans maps options count plan → AreOptions maps options →
     IsTrue (is_worker_below options.workers who) → flags < 2 ^ 64 → IsPairOf maps map key value →
-    Meets (plan (shard_of (served_by maps options) map key))
-    (inside_own (worker_number who) (shard_of (served_by maps options) map key) own) who
+    Meets (plan (served_shard (served_by maps options) map key))
+    (inside_own (worker_number who) (served_shard (served_by maps options) map key) own) who
     (update_call (served_by maps options) map key value flags)
 update_met maps options count plan (Worker worker) own map key value flags plans are below few pair =
     let at = at_key maps options count plan (Worker worker) own map key plans are below pair.at in
-    let number : ℕ = shard_of (served_by maps options) map key in
+    let number : ℕ = served_shard (served_by maps options) map key in
     let sized : length value ≡ (plan number).definition.value_size =
     pair.value_size ∙ ap (λ (one : MapDef). one.value_size) (sym at.defined) in
     both_true _ _ at.numbered

@@ -16,7 +16,7 @@ use Rattle.semantics.specs.RunTrace.{IsReplyTo}
 use Rattle.journal.specs.Entries.{found_reply}
 use Rattle.journals.specs.JournalsView.{AreImageMaps}
 use Rattle.semantics.specs.ServedCalls.{IsKeyOf, IsPairOf}
-use Rattle.map_port.specs.Served.{shard_of, IsReadable, IsStorable, IsAtomic, program_over, lookup_call, update_call, delete_call, reply_of_handle}
+use Rattle.map_port.specs.Served.{served_shard, IsReadable, IsStorable, IsAtomic, program_over, lookup_call, update_call, delete_call, reply_of_handle}
 use Rattle.semantics.proofs.shared.PlanLemmas.{some_shards}
 use Rattle.shards.specs.Passes.{PassView, view_at, own_at, IsElsewhereSame}
 use Rattle.shards.specs.SharedMaps.{SharedMaps, ArePlans}
@@ -64,35 +64,35 @@ refused_one count plan shards shards' before after call stands same within elsew
 -- ---- keys
 
 key_within : (count : ℕ) (plan : ℕ → ShardPlan) (shards : SharedMaps) (before : PassView) (map : ℕ) (key : List ℕ) (number : ℕ) →
-    Stands count plan shards before → IsKeyOf shards.maps map key → number ≡ shard_of (served_of shards) map key → number < count
+    Stands count plan shards before → IsKeyOf shards.maps map key → number ≡ served_shard (served_of shards) map key → number < count
 key_within count plan shards before map key number stands of_map is =
-    let at : IsAtKey shards.options count plan before.who (own_at before number) (shard_of (served_of shards) map key) of_map.definition key =
+    let at : IsAtKey shards.options count plan before.who (own_at before number) (served_shard (served_of shards) map key) of_map.definition key =
     at_key shards.maps shards.options count plan before.who (own_at before number) map key stands.plans stands.options stands.below of_map in
     subst (λ (n : ℕ). n < count) (sym is) at.within
 
 pub met_lookup : (count : ℕ) (plan : ℕ → ShardPlan) (shards : SharedMaps) (pass : PassView) (map : ℕ) (key : List ℕ) (number : ℕ)
-    (bytes : List ℕ) → Stands count plan shards pass → IsKeyOf shards.maps map key → number ≡ shard_of (served_of shards) map key →
+    (bytes : List ℕ) → Stands count plan shards pass → IsKeyOf shards.maps map key → number ≡ served_shard (served_of shards) map key →
     bytes ≡ key → Meets (plan number) (inside_own (worker_number pass.who) number (own_at pass number)) pass.who (Lookup number bytes)
 met_lookup count plan shards pass map key number bytes stands of_map is same =
     subst (λ (list : List ℕ). Meets (plan number) (inside_own (worker_number pass.who) number (own_at pass number)) pass.who (Lookup number list))
     (sym same)
     (subst (λ (n : ℕ). Meets (plan n) (inside_own (worker_number pass.who) n (own_at pass n)) pass.who (Lookup n key)) (sym is)
-    (lookup_met shards.maps shards.options count plan pass.who (own_at pass (shard_of (served_of shards) map key)) map key stands.plans
+    (lookup_met shards.maps shards.options count plan pass.who (own_at pass (served_shard (served_of shards) map key)) map key stands.plans
     stands.options stands.below of_map))
 
 pub met_delete : (count : ℕ) (plan : ℕ → ShardPlan) (shards : SharedMaps) (pass : PassView) (map : ℕ) (key : List ℕ) (number : ℕ)
-    (bytes : List ℕ) → Stands count plan shards pass → IsKeyOf shards.maps map key → number ≡ shard_of (served_of shards) map key →
+    (bytes : List ℕ) → Stands count plan shards pass → IsKeyOf shards.maps map key → number ≡ served_shard (served_of shards) map key →
     bytes ≡ key → Meets (plan number) (inside_own (worker_number pass.who) number (own_at pass number)) pass.who (Delete number bytes)
 met_delete count plan shards pass map key number bytes stands of_map is same =
     subst (λ (list : List ℕ). Meets (plan number) (inside_own (worker_number pass.who) number (own_at pass number)) pass.who (Delete number list))
     (sym same)
     (subst (λ (n : ℕ). Meets (plan n) (inside_own (worker_number pass.who) n (own_at pass n)) pass.who (Delete n key)) (sym is)
-    (delete_met shards.maps shards.options count plan pass.who (own_at pass (shard_of (served_of shards) map key)) map key stands.plans
+    (delete_met shards.maps shards.options count plan pass.who (own_at pass (served_shard (served_of shards) map key)) map key stands.plans
     stands.options stands.below of_map))
 
 pub met_update : (count : ℕ) (plan : ℕ → ShardPlan) (shards : SharedMaps) (pass : PassView) (map : ℕ) (key value : List ℕ) (flags : ℕ)
     (number : ℕ) (bytes value_bytes : List ℕ) → Stands count plan shards pass → flags < 2 ^ 64 → IsPairOf shards.maps map key value →
-    number ≡ shard_of (served_of shards) map key → bytes ≡ key → value_bytes ≡ value →
+    number ≡ served_shard (served_of shards) map key → bytes ≡ key → value_bytes ≡ value →
     Meets (plan number) (inside_own (worker_number pass.who) number (own_at pass number)) pass.who (Update number bytes value_bytes flags)
 met_update count plan shards pass map key value flags number bytes value_bytes stands few pair is same same_value =
     subst (λ (list : List ℕ). Meets (plan number) (inside_own (worker_number pass.who) number (own_at pass number)) pass.who
@@ -100,7 +100,7 @@ met_update count plan shards pass map key value flags number bytes value_bytes s
     (subst (λ (list : List ℕ). Meets (plan number) (inside_own (worker_number pass.who) number (own_at pass number)) pass.who
     (Update number list value flags)) (sym same)
     (subst (λ (n : ℕ). Meets (plan n) (inside_own (worker_number pass.who) n (own_at pass n)) pass.who (Update n key value flags)) (sym is)
-    (update_met shards.maps shards.options count plan pass.who (own_at pass (shard_of (served_of shards) map key)) map key value flags
+    (update_met shards.maps shards.options count plan pass.who (own_at pass (served_shard (served_of shards) map key)) map key value flags
     stands.plans stands.options stands.below few pair)))
 
 lookup_same : (number number' : ℕ) (bytes key : List ℕ) → number ≡ number' → bytes ≡ key → Lookup number bytes ≡ Lookup number' key
@@ -118,7 +118,7 @@ update_same number number' bytes key value_bytes value flags is same same_value 
 -- the reply of a lookup, whose cell has a handle
 pub small_found : (count : ℕ) (plan : ℕ → ShardPlan) (shards : SharedMaps) (before after : PassView) (map : ℕ) (key : List ℕ) (number : ℕ)
     (bytes : List ℕ) (found : Option ℕ) → Stands count plan shards before → IsKeyOf shards.maps map key →
-    number ≡ shard_of (served_of shards) map key →
+    number ≡ served_shard (served_of shards) map key →
     IsAskedBy (plan number) number before after (Lookup number bytes)
     (found_reply number found) → IsTrue (has_small_cell (found_reply number found))
 small_found count plan shards before after map key number bytes found stands of_map is asked =
@@ -128,7 +128,7 @@ small_found count plan shards before after map key number bytes found stands of_
 
 pub lookup_given : (count : ℕ) (plan : ℕ → ShardPlan) (shards shards' : SharedMaps) (before after : PassView) (map : ℕ) (key : List ℕ)
     (number : ℕ) (bytes : List ℕ) (found : Option ℕ) (handle : ℕ) → Stands count plan shards before → shards' ≡ shards →
-    IsElsewhereSame number before after → IsKeyOf shards.maps map key → number ≡ shard_of (served_of shards) map key → bytes ≡ key →
+    IsElsewhereSame number before after → IsKeyOf shards.maps map key → number ≡ served_shard (served_of shards) map key → bytes ≡ key →
     handle ≡ handle_of (found_reply number found) →
     IsAskedBy (plan number) number before after (Lookup number bytes)
     (found_reply number found) →
@@ -147,46 +147,46 @@ lookup_given count plan shards shards' before after map key number bytes found h
     found_told (plan number) number (worker_number before.who) (view_at before number) (view_at after number) bytes reply small asked.at
     ∙ ap (reply_of_handle cell_of_handle) (sym told) in
     subst (λ (call : Call). PassGives plan count (port_of shards before) call (reply_of_handle cell_of_handle handle) (port_of shards' after))
-    (lookup_same number (shard_of (served_of shards) map key) bytes key is same)
+    (lookup_same number (served_shard (served_of shards) map key) bytes key is same)
     (subst (λ (one : Reply). PassGives plan count (port_of shards before) (Lookup number bytes) one (port_of shards' after)) by_handle given)
 
 pub lookup_refused : (count : ℕ) (plan : ℕ → ShardPlan) (shards shards' : SharedMaps) (before after : PassView) (map : ℕ) (key : List ℕ)
     (number : ℕ) (bytes : List ℕ) → Stands count plan shards before → shards' ≡ shards → IsElsewhereSame number before after →
-    IsKeyOf shards.maps map key → number ≡ shard_of (served_of shards) map key → bytes ≡ key →
+    IsKeyOf shards.maps map key → number ≡ served_shard (served_of shards) map key → bytes ≡ key →
     IsTurnedAwayBy (plan number) number before after (Lookup number bytes) →
     PassRefuses plan count (port_of shards before) (lookup_call (served_of shards) map key) (port_of shards' after)
 lookup_refused count plan shards shards' before after map key number bytes stands same_shards elsewhere of_map is same away =
     subst (λ (call : Call). PassRefuses plan count (port_of shards before) call (port_of shards' after))
-    (lookup_same number (shard_of (served_of shards) map key) bytes key is same)
+    (lookup_same number (served_shard (served_of shards) map key) bytes key is same)
     (refused_one count plan shards shards' before after (Lookup number bytes) stands same_shards
     (key_within count plan shards before map key number stands of_map is) elsewhere away)
 
 pub delete_given : (count : ℕ) (plan : ℕ → ShardPlan) (shards shards' : SharedMaps) (before after : PassView) (map : ℕ) (key : List ℕ)
     (number : ℕ) (bytes : List ℕ) (code told : ℤ) → Stands count plan shards before → shards' ≡ shards → IsElsewhereSame number before after →
-    IsKeyOf shards.maps map key → number ≡ shard_of (served_of shards) map key → bytes ≡ key → FitsSigned w32 code →
+    IsKeyOf shards.maps map key → number ≡ served_shard (served_of shards) map key → bytes ≡ key → FitsSigned w32 code →
     told ≡ code → IsAskedBy (plan number) number before after (Delete number bytes) (Answer code) →
     PassGives plan count (port_of shards before) (delete_call (served_of shards) map key) (Answer told) (port_of shards' after)
 delete_given count plan shards shards' before after map key number bytes code told stands same_shards elsewhere of_map is same fits is_told asked =
     subst (λ (call : Call). PassGives plan count (port_of shards before) call (Answer told) (port_of shards' after))
-    (delete_same number (shard_of (served_of shards) map key) bytes key is same)
+    (delete_same number (served_shard (served_of shards) map key) bytes key is same)
     (subst (λ (z : ℤ). PassGives plan count (port_of shards before) (Delete number bytes) (Answer z) (port_of shards' after)) (sym is_told)
     (given_one count plan shards shards' before after (Delete number bytes) (Answer code) stands same_shards
     (key_within count plan shards before map key number stands of_map is) elsewhere tt fits asked))
 
 pub delete_refused : (count : ℕ) (plan : ℕ → ShardPlan) (shards shards' : SharedMaps) (before after : PassView) (map : ℕ) (key : List ℕ)
     (number : ℕ) (bytes : List ℕ) → Stands count plan shards before → shards' ≡ shards → IsElsewhereSame number before after →
-    IsKeyOf shards.maps map key → number ≡ shard_of (served_of shards) map key → bytes ≡ key →
+    IsKeyOf shards.maps map key → number ≡ served_shard (served_of shards) map key → bytes ≡ key →
     IsTurnedAwayBy (plan number) number before after (Delete number bytes) →
     PassRefuses plan count (port_of shards before) (delete_call (served_of shards) map key) (port_of shards' after)
 delete_refused count plan shards shards' before after map key number bytes stands same_shards elsewhere of_map is same away =
     subst (λ (call : Call). PassRefuses plan count (port_of shards before) call (port_of shards' after))
-    (delete_same number (shard_of (served_of shards) map key) bytes key is same)
+    (delete_same number (served_shard (served_of shards) map key) bytes key is same)
     (refused_one count plan shards shards' before after (Delete number bytes) stands same_shards
     (key_within count plan shards before map key number stands of_map is) elsewhere away)
 
 pub update_given : (count : ℕ) (plan : ℕ → ShardPlan) (shards shards' : SharedMaps) (before after : PassView) (map : ℕ)
     (key value : List ℕ) (flags number : ℕ) (bytes value_bytes : List ℕ) (code told : ℤ) → Stands count plan shards before → shards' ≡ shards →
-    IsElsewhereSame number before after → IsPairOf shards.maps map key value → number ≡ shard_of (served_of shards) map key →
+    IsElsewhereSame number before after → IsPairOf shards.maps map key value → number ≡ served_shard (served_of shards) map key →
     bytes ≡ key → value_bytes ≡ value → FitsSigned w32 code →
     told ≡ code → IsAskedBy (plan number) number before after
     (Update number bytes value_bytes flags) (Answer code) →
@@ -194,14 +194,14 @@ pub update_given : (count : ℕ) (plan : ℕ → ShardPlan) (shards shards' : Sh
 update_given count plan shards shards' before after map key value flags number bytes value_bytes code told stands same_shards elsewhere pair is same
     same_value fits is_told asked =
     subst (λ (call : Call). PassGives plan count (port_of shards before) call (Answer told) (port_of shards' after))
-    (update_same number (shard_of (served_of shards) map key) bytes key value_bytes value flags is same same_value)
+    (update_same number (served_shard (served_of shards) map key) bytes key value_bytes value flags is same same_value)
     (subst (λ (z : ℤ). PassGives plan count (port_of shards before) (Update number bytes value_bytes flags) (Answer z) (port_of shards' after))
     (sym is_told) (given_one count plan shards shards' before after (Update number bytes value_bytes flags) (Answer code) stands same_shards
     (key_within count plan shards before map key number stands pair.at is) elsewhere tt fits asked))
 
 pub update_refused : (count : ℕ) (plan : ℕ → ShardPlan) (shards shards' : SharedMaps) (before after : PassView) (map : ℕ)
     (key value : List ℕ) (flags number : ℕ) (bytes value_bytes : List ℕ) → Stands count plan shards before → shards' ≡ shards →
-    IsElsewhereSame number before after → IsPairOf shards.maps map key value → number ≡ shard_of (served_of shards) map key →
+    IsElsewhereSame number before after → IsPairOf shards.maps map key value → number ≡ served_shard (served_of shards) map key →
     bytes ≡ key → value_bytes ≡ value →
     IsTurnedAwayBy (plan number) number before after
     (Update number bytes value_bytes flags) →
@@ -209,7 +209,7 @@ pub update_refused : (count : ℕ) (plan : ℕ → ShardPlan) (shards shards' : 
 update_refused count plan shards shards' before after map key value flags number bytes value_bytes stands same_shards elsewhere pair is same
     same_value away =
     subst (λ (call : Call). PassRefuses plan count (port_of shards before) call (port_of shards' after))
-    (update_same number (shard_of (served_of shards) map key) bytes key value_bytes value flags is same same_value)
+    (update_same number (served_shard (served_of shards) map key) bytes key value_bytes value flags is same same_value)
     (refused_one count plan shards shards' before after (Update number bytes value_bytes flags) stands same_shards
     (key_within count plan shards before map key number stands pair.at is) elsewhere away)
 

@@ -18,7 +18,7 @@ use Rattle.shard_port.specs.Asking.{enter_by, leave_by, asked_entry}
 use Rattle.shard_port.specs.PortView.{IsRunCall}
 use Rattle.shard_port.specs.PortLaws.{same_worker, inside_after_call}
 use Rattle.shard_port.specs.Sessions.{exchange_entry, is_asked_of, exchange_entries, behind_enter, session}
-use Rattle.shard_port.specs.PassPorts.{PassPort, worker_number, entering, inside_own, IsAskedAt, CannotEnterAt, CannotCallAt, CannotEnterBy, CannotCallBy, IsTurnedAwayBy, ViewHasLeft, PassGives, PassRefuses, IsFinishedBy}
+use Rattle.shard_port.specs.PassPorts.{PassPort, worker_number, entering_by_own, inside_own, IsAskedAt, CannotEnterAt, CannotCallAt, CannotEnterBy, CannotCallBy, IsTurnedAwayBy, ViewHasLeft, PassGives, PassRefuses, IsFinishedBy}
 use Rattle.shard_port.specs.PassPortLaws.{inside_once, stays_inside}
 use Rattle.shard_port.specs.PassSessions.{session_at, IsOutsideAt, AreCallsWithin, HasSessions, IsVisitedAt, IsKeptOut, HasRefusedSessions}
 use Rattle.shard_port.proofs.PassDeedLemmas.{done_deeds, call_deeds, enter_deeds}
@@ -60,7 +60,7 @@ grown_on entries before middle after one same begins = record {
 asked_begins : (plan : ShardPlan) (number worker : ℕ) (before after : CallerView) (call : Call) (reply : Reply) →
     IsAskedAt plan number worker before after call reply → BeginsWith after.seen before.seen
 asked_begins plan number worker before after call reply asked =
-    let first : List Entry = entering worker number before.own in (
+    let first : List Entry = entering_by_own worker number before.own in (
       asked_entry worker call reply ∷ first ++ asked.begins.0,
       asked.seen ∙ ap (λ (list : List Entry). asked_entry worker call reply ∷ first ++ list) asked.begins.1
           ∙ ap (λ (list : List Entry). asked_entry worker call reply ∷ list) (sym (append_assoc first asked.begins.0 before.seen)),
@@ -319,7 +319,7 @@ kept_out plan worker number entries before middle after finished written cannot 
 call_begins : (plan : ShardPlan) (worker number : ℕ) (call : Call) (middle after : CallerView) →
     CannotCallAt plan number worker middle after call → BeginsWith after.seen middle.seen
 call_begins plan worker number call middle after cannot =
-    let first : List Entry = entering worker number middle.own in (
+    let first : List Entry = entering_by_own worker number middle.own in (
       first ++ cannot.begins.0,
       cannot.seen ∙ ap (λ (list : List Entry). first ++ list) cannot.begins.1
           ∙ sym (append_assoc first cannot.begins.0 middle.seen),

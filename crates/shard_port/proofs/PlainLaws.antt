@@ -17,7 +17,7 @@ use Rattle.semantics.specs.declared.plan.ShardPlan.{ShardPlan}
 use Rattle.semantics.specs.declared.call.Entry.{Entry}
 use Rattle.semantics.specs.ShardPlan.{plan_at}
 use Rattle.semantics.specs.History.{shard_of_call, IsLegalJournal}
-use Rattle.shard_core.specs.JournaledShard.{JournaledShard, with_entry, opened_shard}
+use Rattle.shard_core.specs.JournaledShard.{JournaledShard, shard_with_entry, opened_shard}
 use Rattle.shards.specs.Opening.{AreOpened}
 use Rattle.map_port.specs.Exchanges.{Exchange, IsChain}
 use Rattle.shard_port.specs.Asking.{is_in, left, entered, all_left, leave_by, CannotEnter, CannotCall, IsTurnedAwayAmong}
@@ -163,9 +163,9 @@ opened_outside maps options shards worker number shard opened known =
 
 pub calls_keep_serving : (maps : List MapDef) (options : Options) (shards : List JournaledShard) (number : ℕ) (shard : JournaledShard)
     (entry : Entry) → ServesMaps maps options shards → slice_get shards number ≡ Some shard → SetsBytes entry.call →
-    IsLegalJournal shard.plan (with_entry shard entry).journal → ServesMaps maps options (slice_set shards number (with_entry shard entry))
+    IsLegalJournal shard.plan (shard_with_entry shard entry).journal → ServesMaps maps options (slice_set shards number (shard_with_entry shard entry))
 calls_keep_serving maps options shards number shard entry serve known sets legal =
-    ∥∥₁_map serve (λ (are : AreShardsOf maps options shards). shards_with maps options shards number shard (with_entry shard entry) are
+    ∥∥₁_map serve (λ (are : AreShardsOf maps options shards). shards_with maps options shards number shard (shard_with_entry shard entry) are
     known refl legal
     (bytes_with_entry shard entry sets (are.each number shard known).bytes))
 

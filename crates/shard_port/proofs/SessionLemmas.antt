@@ -8,7 +8,7 @@ use Rattle.semantics.specs.declared.call.Reply.{Reply}
 use Rattle.semantics.specs.declared.call.Entry.{Entry}
 use Rattle.semantics.specs.Reclamation.{is_inside}
 use Rattle.semantics.specs.History.{shard_of_call}
-use Rattle.shard_core.specs.JournaledShard.{JournaledShard, with_entry}
+use Rattle.shard_core.specs.JournaledShard.{JournaledShard, shard_with_entry}
 use Rattle.map_port.specs.Exchanges.{Exchange, IsChain}
 use Rattle.shard_port.specs.Asking.{is_in, enter_by, leave_by, entered, left, asked_entry, all_left}
 use Rattle.shard_port.specs.PortView.{PortView, IsRunCall, IsGivenBy}
@@ -18,16 +18,16 @@ use Rattle.shard_port.specs.Sessions.{exchange_entry, is_asked_of, exchange_entr
 -- ---- inside and outside
 
 inside_with : (worker : ℕ) (shard : JournaledShard) (call : Call) (reply : Reply) → IsRunCall call → is_in worker shard ≡ true →
-    is_in worker (with_entry shard (asked_entry worker call reply)) ≡ true
+    is_in worker (shard_with_entry shard (asked_entry worker call reply)) ≡ true
 inside_with worker shard call reply run inside =
     rw (newest_first shard (asked_entry worker call reply)) (inside_after_call worker call reply (reverse shard.journal) run inside)
 
 enters_with : (worker : ℕ) (shard : JournaledShard) → is_in worker shard ≡ false →
-    entered worker shard ≡ with_entry shard (enter_by worker shard.plan.number)
+    entered worker shard ≡ shard_with_entry shard (enter_by worker shard.plan.number)
 enters_with worker shard outside = ap (λ (inside : Bool).
     record { plan = shard.plan; journal = shard.journal ++ (if inside then [] else enter_by worker shard.plan.number ∷ []) }) outside
 
-inside_entered : (worker : ℕ) (shard : JournaledShard) → is_in worker (with_entry shard (enter_by worker shard.plan.number)) ≡ true
+inside_entered : (worker : ℕ) (shard : JournaledShard) → is_in worker (shard_with_entry shard (enter_by worker shard.plan.number)) ≡ true
 inside_entered worker shard = rw (newest_first shard (enter_by worker shard.plan.number), same_worker worker) refl
 
 outside_left : (worker : ℕ) (shard : JournaledShard) → is_in worker (left worker shard) ≡ false
@@ -63,14 +63,14 @@ set_other (first ∷ rest) (suc number) (suc at) new other = set_other rest numb
 
 step_here : (before after : PortView) (call : Call) (reply : Reply) (number : ℕ) (shard : JournaledShard) →
     IsGivenBy before call reply after → slice_get before.shards number ≡ Some shard → (shard_of_call call == number) ≡ true →
-    slice_get after.shards number ≡ Some (with_entry (entered before.worker shard) (asked_entry before.worker call reply))
+    slice_get after.shards number ≡ Some (shard_with_entry (entered before.worker shard) (asked_entry before.worker call reply))
 step_here before after call reply number shard given known here =
     let among = given.answered in
     let place : shard_of_call call ≡ number = grind (arith, nat_tests) in
     let known_there : slice_get before.shards (shard_of_call call) ≡ Some shard = ap (slice_get before.shards) place ∙ known in
     let same : among.shard ≡ shard = cc (among.known, known_there) in
-    let new : among.new ≡ with_entry (entered before.worker shard) (asked_entry before.worker call reply) = among.answered.written ∙
-    ap (λ (one : JournaledShard). with_entry (entered before.worker one) (asked_entry before.worker call reply)) same in
+    let new : among.new ≡ shard_with_entry (entered before.worker shard) (asked_entry before.worker call reply) = among.answered.written ∙
+    ap (λ (one : JournaledShard). shard_with_entry (entered before.worker one) (asked_entry before.worker call reply)) same in
     ap (λ shards. slice_get shards number) among.put_back ∙
     ap (λ n. slice_get (slice_set before.shards (shard_of_call call) among.new) n) (sym place)
     ∙ set_here before.shards (shard_of_call call) among.shard among.new among.known ∙ ap Some new
@@ -104,10 +104,10 @@ after_inside before after (exchange ∷ later) chain number shard known inside =
         IsInsideAfter before.worker after number shard (map (exchange_entry before.worker)
         (cond here (exchange ∷ filter (is_asked_of number) later) (filter (is_asked_of number) later)))
     by_place true is onward =
-        let new : JournaledShard = with_entry shard (exchange_entry before.worker exchange) in
+        let new : JournaledShard = shard_with_entry shard (exchange_entry before.worker exchange) in
         let there : slice_get chain.0.shards number ≡ Some new =
         step_here before chain.0 exchange.call exchange.reply number shard chain.1 known is ∙
-        ap (λ (one : JournaledShard). Some (with_entry one (exchange_entry before.worker exchange)))
+        ap (λ (one : JournaledShard). Some (shard_with_entry one (exchange_entry before.worker exchange)))
         (stays_entered before.worker shard inside) in
         let still : is_in before.worker new ≡ true = inside_with before.worker shard exchange.call exchange.reply chain.1.run_call inside in
         let rest : IsInsideAfter chain.0.worker after number new (exchange_entries chain.0.worker number later) =
@@ -140,7 +140,7 @@ pub record IsWritten (worker : ℕ) (after : PortView) (number : ℕ) (shard : J
       (session worker shard.plan.number entries)
 
 left_inside : (worker : ℕ) (shard : JournaledShard) → is_in worker shard ≡ true →
-    left worker shard ≡ with_entry shard (leave_by worker shard.plan.number)
+    left worker shard ≡ shard_with_entry shard (leave_by worker shard.plan.number)
 left_inside worker shard inside = ap (λ (test : Bool).
     record { plan = shard.plan; journal = shard.journal ++ (if test then leave_by worker shard.plan.number ∷ [] else []) }) inside
 
@@ -176,12 +176,12 @@ after_outside before after (exchange ∷ later) chain number shard known outside
         let others : List Entry = exchange_entries worker number later in
         let enter : Entry = enter_by worker shard.plan.number in
         let leave : Entry = leave_by worker shard.plan.number in
-        let new : JournaledShard = with_entry (with_entry shard enter) first in
+        let new : JournaledShard = shard_with_entry (shard_with_entry shard enter) first in
         let there : slice_get chain.0.shards number ≡ Some new =
         step_here before chain.0 exchange.call exchange.reply number shard chain.1 known is ∙
-        ap (λ (one : JournaledShard). Some (with_entry one first)) (enters_with worker shard outside) in
+        ap (λ (one : JournaledShard). Some (shard_with_entry one first)) (enters_with worker shard outside) in
         let inside : is_in worker new ≡ true =
-        inside_with worker (with_entry shard enter) exchange.call exchange.reply chain.1.run_call (inside_entered worker shard) in
+        inside_with worker (shard_with_entry shard enter) exchange.call exchange.reply chain.1.run_call (inside_entered worker shard) in
         let rest : IsInsideAfter chain.0.worker after number new (exchange_entries chain.0.worker number later) =
         after_inside chain.0 after later chain.2 number new there (rw chain.1.same_worker inside) in
         let same : IsInsideAfter worker after number new others =
@@ -228,7 +228,7 @@ left_twice worker shard outside =
     let outside_plain : is_in worker shard ≡ false = subst (λ (one : JournaledShard). is_in worker one ≡ false) plain outside in
     ap (λ (one : JournaledShard). left worker (entered worker one)) plain
     ∙ ap (left worker) (enters_with worker shard outside_plain)
-    ∙ left_inside worker (with_entry shard enter) (inside_entered worker shard)
+    ∙ left_inside worker (shard_with_entry shard enter) (inside_entered worker shard)
     ∙ ap (λ journal. record { plan = shard.plan; journal = journal }) (append_assoc shard.journal (enter ∷ []) (leave ∷ []))
 
 -- what a refusal adds to a shard: nothing, or the Enter for its call

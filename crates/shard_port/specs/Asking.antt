@@ -9,7 +9,7 @@ use Rattle.semantics.specs.declared.call.Entry.{Entry}
 use Rattle.semantics.specs.Reclamation.{is_inside}
 use Rattle.semantics.specs.History.{shard_of_call, meets, Meets, journal_is_full, IsJournalFull, IsLegalJournal}
 use Rattle.journal.specs.Entries.{enter_entry, leave_entry}
-use Rattle.shard_core.specs.JournaledShard.{JournaledShard, sequential_reply, with_entry}
+use Rattle.shard_core.specs.JournaledShard.{JournaledShard, sequential_reply, shard_with_entry}
 
 -- ---- entering and leaving
 
@@ -60,7 +60,7 @@ pub record EntersAndCalls (worker : ℕ) (before : JournaledShard) (call : Call)
   pub met : Meets before.plan (reverse (entered worker before).journal) (Worker worker) call
   pub room : IsFalse (journal_is_full before.plan (reverse (entered worker before).journal) call)
   pub replied : reply ≡ sequential_reply (entered worker before) call
-  pub written : after ≡ with_entry (entered worker before) (asked_entry worker call reply)
+  pub written : after ≡ shard_with_entry (entered worker before) (asked_entry worker call reply)
 
 -- there was no room for the Enter, and nothing was changed
 pub record CannotEnter (worker : ℕ) (before : JournaledShard) (after : JournaledShard) : Type 0 where

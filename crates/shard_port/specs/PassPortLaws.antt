@@ -75,10 +75,10 @@ kept_place plan count before after call reply given shard cell false is held =
     subst (λ (own : List Entry). IsTrue (holds_own (Worker (worker_number before.pass.who)) own cell))
     (sym (ap (λ (view : CallerView). view.own) (given.elsewhere.others shard other))) held
 
-kept_by : (plan : ℕ → ShardPlan) (count : ℕ) (before after : PassPort) (call : Call) (reply : Reply) →
+pass_kept_by : (plan : ℕ → ShardPlan) (count : ℕ) (before after : PassPort) (call : Call) (reply : Reply) →
     PassGives plan count before call reply after →
     (map shard cell : ℕ) → IsTrue (has_found before map shard cell) → IsTrue (has_found after map shard cell)
-kept_by plan count before after call reply given map shard cell held =
+pass_kept_by plan count before after call reply given map shard cell held =
     let own : IsTrue (shard / before.served.shards == map) =
     first_true (shard / before.served.shards == map) (holds_own before.pass.who (own_at before.pass shard) cell) held in
     let there : IsTrue (holds_own before.pass.who (own_at before.pass shard) cell) =
@@ -97,7 +97,7 @@ pub pass_keeps : (plan : ℕ → ShardPlan) (count : ℕ) (before after : PassPo
     Keeps before.served after.served (has_found before) (has_found after) cell_of_handle cell_of_handle
 pass_keeps plan count before after call reply given = record {
   same = given.same_maps;
-  kept = kept_by plan count before after call reply given;
+  kept = pass_kept_by plan count before after call reply given;
   named = λ map handle held. refl;
 }
 
@@ -110,10 +110,10 @@ found_own worker number shard key cell own =
     (inside_after_call worker (Lookup shard key) (Cell cell) (inside_own worker number own) tt (inside_once worker number own))
     (rw (same_worker worker, same_worker cell.id) refl)
 
-found_by : (plan : ℕ → ShardPlan) (count : ℕ) (before after : PassPort) (shard : ℕ) (key : List ℕ) (cell : CellRef) →
+pass_found_by : (plan : ℕ → ShardPlan) (count : ℕ) (before after : PassPort) (shard : ℕ) (key : List ℕ) (cell : CellRef) →
     PassGives plan count before (Lookup shard key) (Cell cell) after →
     IsHandedOut (program_over before.served) (has_found after) (Lookup shard key) (Cell cell)
-found_by plan count before after shard key cell given map definition known own =
+pass_found_by plan count before after shard key cell given map definition known own =
     let parts : ℕ = before.served.shards in
     let part : ℕ = part_of_key definition.kind parts key in
     let below : part < parts = mod-lt (shard_number_of_key definition.kind key) given.some_shard in
@@ -130,22 +130,22 @@ found_by plan count before after shard key cell given map definition known own =
     subst (λ (n : ℕ). IsTrue (holds_own after.pass.who (own_at after.pass n) cell.id)) (sym given.formed) theirs in
     rw given.same_maps (both_true _ _ of_map_test there)
 
-found_in : (plan : ℕ → ShardPlan) (count : ℕ) (before after : PassPort) (shard : ℕ) (key : List ℕ) (reply : Reply) →
+pass_found_in : (plan : ℕ → ShardPlan) (count : ℕ) (before after : PassPort) (shard : ℕ) (key : List ℕ) (reply : Reply) →
     PassGives plan count before (Lookup shard key) reply after →
     IsHandedOut (program_over before.served) (has_found after) (Lookup shard key) reply
-found_in plan count before after shard key (Cell cell) given = found_by plan count before after shard key cell given
-found_in plan count before after shard key Entered given = tt
-found_in plan count before after shard key Left given = tt
-found_in plan count before after shard key Null given = tt
-found_in plan count before after shard key (Word value) given = tt
-found_in plan count before after shard key Done given = tt
-found_in plan count before after shard key (Answer code) given = tt
-found_in plan count before after shard key (Freed freed) given = tt
+pass_found_in plan count before after shard key (Cell cell) given = pass_found_by plan count before after shard key cell given
+pass_found_in plan count before after shard key Entered given = tt
+pass_found_in plan count before after shard key Left given = tt
+pass_found_in plan count before after shard key Null given = tt
+pass_found_in plan count before after shard key (Word value) given = tt
+pass_found_in plan count before after shard key Done given = tt
+pass_found_in plan count before after shard key (Answer code) given = tt
+pass_found_in plan count before after shard key (Freed freed) given = tt
 
 pub pass_hands_out : (plan : ℕ → ShardPlan) (count : ℕ) (before after : PassPort) (call : Call) (reply : Reply) →
     PassGives plan count before call reply after →
     IsHandedOut (program_over before.served) (has_found after) call reply
-pass_hands_out plan count before after (Lookup shard key) reply given = found_in plan count before after shard key reply given
+pass_hands_out plan count before after (Lookup shard key) reply given = pass_found_in plan count before after shard key reply given
 pass_hands_out plan count before after (Enter shard) reply given = tt
 pass_hands_out plan count before after (Leave shard) reply given = tt
 pass_hands_out plan count before after (Load cell offset size) reply given = tt

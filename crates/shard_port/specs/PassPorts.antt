@@ -35,12 +35,12 @@ worker_number who = 0
 -- ---- entering and leaving
 
 -- the entry by which the worker enters, if it is not inside
-abbrev pub entering : ℕ → ℕ → List Entry → List Entry
-entering worker number own = if is_inside worker own then [] else enter_by worker number ∷ []
+abbrev pub entering_by_own : ℕ → ℕ → List Entry → List Entry
+entering_by_own worker number own = if is_inside worker own then [] else enter_by worker number ∷ []
 
 -- its own entries, once it is inside
 abbrev pub inside_own : ℕ → ℕ → List Entry → List Entry
-inside_own worker number own = entering worker number own ++ own
+inside_own worker number own = entering_by_own worker number own ++ own
 
 -- the deeds by which it enters and leaves, if it is outside or inside
 abbrev pub entered_deeds : ℕ → ℕ → List Entry → List Deed
@@ -56,7 +56,7 @@ left_deeds worker number own = if is_inside worker own then Wrote (leave_by work
 pub record IsAskedAt (plan : ShardPlan) (number worker : ℕ) (before after : CallerView) (call : Call) (reply : Reply) : Type 0 where
   pub earlier : List Entry
   pub begins : BeginsWith earlier before.seen
-  pub seen : after.seen ≡ asked_entry worker call reply ∷ entering worker number before.own ++ earlier
+  pub seen : after.seen ≡ asked_entry worker call reply ∷ entering_by_own worker number before.own ++ earlier
   pub legal : IsLegalHistory plan after.seen
   pub own : after.own ≡ asked_entry worker call reply ∷ inside_own worker number before.own
 
@@ -69,7 +69,7 @@ pub record CannotEnterAt (plan : ShardPlan) (number worker : ℕ) (before after 
 pub record CannotCallAt (plan : ShardPlan) (number worker : ℕ) (before after : CallerView) (call : Call) : Type 0 where
   pub earlier : List Entry
   pub begins : BeginsWith earlier before.seen
-  pub seen : after.seen ≡ entering worker number before.own ++ earlier
+  pub seen : after.seen ≡ entering_by_own worker number before.own ++ earlier
   pub legal : IsLegalHistory plan after.seen
   pub full : IsJournalFull plan after.seen call
   pub own : after.own ≡ inside_own worker number before.own

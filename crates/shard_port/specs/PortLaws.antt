@@ -19,7 +19,7 @@ use Rattle.semantics.specs.History.{IsLegalHistory}
 use Rattle.semantics.proofs.shared.ConditionLemmas.{first_true, second_true}
 use Rattle.semantics.proofs.shared.HoldingLemmas.{found_cell, held_by_lookup, guarded}
 use Rattle.semantics.specs.ServedCalls.{IsHandedOut}
-use Rattle.shard_core.specs.JournaledShard.{JournaledShard, with_entry}
+use Rattle.shard_core.specs.JournaledShard.{JournaledShard, shard_with_entry}
 use Rattle.map_port.specs.Served.{Keeps, program_over}
 use Rattle.shard_port.specs.Asking.{is_in, entered, asked_entry, enter_by, EntersAndCalls}
 use Rattle.shard_port.specs.PortView.{PortView, IsGivenBy, IsRunCall, cell_of_handle, holds_at, is_handed_out}
@@ -83,17 +83,17 @@ inside_after_call worker (Update shard key value flags) reply history run inside
 inside_after_call worker (Delete shard key) reply history run inside = rw (same_worker worker) inside
 
 -- the newest entry is first in the history
-pub newest_first : (shard : JournaledShard) (entry : Entry) → reverse (with_entry shard entry).journal ≡ entry ∷ reverse shard.journal
+pub newest_first : (shard : JournaledShard) (entry : Entry) → reverse (shard_with_entry shard entry).journal ≡ entry ∷ reverse shard.journal
 newest_first shard entry = reverse-append shard.journal (entry ∷ [])
 
-held_after : (worker cell : ℕ) (before : JournaledShard) (call : Call) (reply : Reply) (after : JournaledShard) → IsRunCall call →
+still_held : (worker cell : ℕ) (before : JournaledShard) (call : Call) (reply : Reply) (after : JournaledShard) → IsRunCall call →
     EntersAndCalls worker before call reply after → holds worker cell (reverse before.journal) ≡ true →
     holds worker cell (reverse after.journal) ≡ true
-held_after worker cell before call reply after run answered held =
+still_held worker cell before call reply after run answered held =
     let inside : is_in worker before ≡ true = held_is_inside before.plan worker cell (reverse before.journal) answered.legal held in
-    let written : after ≡ with_entry before (asked_entry worker call reply) = answered.written ∙
-    ap (λ shard. with_entry shard (asked_entry worker call reply)) (stays_entered worker before inside) in
-    let kept : holds worker cell (reverse (with_entry before (asked_entry worker call reply)).journal) ≡ true =
+    let written : after ≡ shard_with_entry before (asked_entry worker call reply) = answered.written ∙
+    ap (λ shard. shard_with_entry shard (asked_entry worker call reply)) (stays_entered worker before inside) in
+    let kept : holds worker cell (reverse (shard_with_entry before (asked_entry worker call reply)).journal) ≡ true =
     rw (newest_first before (asked_entry worker call reply))
     (held_after_call worker cell call reply (reverse before.journal) run held) in
     subst (λ (shard : JournaledShard). holds worker cell (reverse shard.journal) ≡ true) (sym written) kept
@@ -133,7 +133,7 @@ kept_by before after call reply given map shard cell held =
     let among = given.answered in
     let kept : holds_at before.worker (slice_get (slice_set before.shards _ among.new) shard) cell ≡ true =
     held_among before.worker cell before.shards _ among.shard among.new among.known
-    (held_after before.worker cell among.shard call reply among.new given.run_call among.answered) shard there in
+    (still_held before.worker cell among.shard call reply among.new given.run_call among.answered) shard there in
     rw (given.same_maps, given.same_worker, among.put_back) (both_true _ _ own kept)
 
 pub keeps_by : (before after : PortView) (call : Call) (reply : Reply) → IsGivenBy before call reply after →
@@ -150,7 +150,7 @@ held_new worker before shard key cell after answered =
     let entry : Entry = asked_entry worker (Lookup shard key) (Cell cell) in
     let found : holds worker cell.id (entry ∷ reverse (entered worker before).journal) ≡ true =
     rw (same_worker worker, same_worker cell.id) refl in
-    let kept : holds worker cell.id (reverse (with_entry (entered worker before) entry).journal) ≡ true =
+    let kept : holds worker cell.id (reverse (shard_with_entry (entered worker before) entry).journal) ≡ true =
     rw (newest_first (entered worker before) entry) found in
     subst (λ (one : JournaledShard). holds worker cell.id (reverse one.journal) ≡ true) (sym answered.written) kept
 
@@ -173,20 +173,20 @@ found_by before after shard key cell given map definition known own =
     rw there held in
     rw (given.same_maps, given.same_worker, among.put_back) (both_true _ _ of_map_test held_there)
 
-found_in : (before after : PortView) (shard : ℕ) (key : List ℕ) (reply : Reply) → IsGivenBy before (Lookup shard key) reply after →
+port_found_in : (before after : PortView) (shard : ℕ) (key : List ℕ) (reply : Reply) → IsGivenBy before (Lookup shard key) reply after →
     IsHandedOut (program_over before.served) (is_handed_out after) (Lookup shard key) reply
-found_in before after shard key (Cell cell) given = found_by before after shard key cell given
-found_in before after shard key Entered given = tt
-found_in before after shard key Left given = tt
-found_in before after shard key Null given = tt
-found_in before after shard key (Word value) given = tt
-found_in before after shard key Done given = tt
-found_in before after shard key (Answer code) given = tt
-found_in before after shard key (Freed count) given = tt
+port_found_in before after shard key (Cell cell) given = found_by before after shard key cell given
+port_found_in before after shard key Entered given = tt
+port_found_in before after shard key Left given = tt
+port_found_in before after shard key Null given = tt
+port_found_in before after shard key (Word value) given = tt
+port_found_in before after shard key Done given = tt
+port_found_in before after shard key (Answer code) given = tt
+port_found_in before after shard key (Freed count) given = tt
 
 pub hands_out_by : (before after : PortView) (call : Call) (reply : Reply) → IsGivenBy before call reply after →
     IsHandedOut (program_over before.served) (is_handed_out after) call reply
-hands_out_by before after (Lookup shard key) reply given = found_in before after shard key reply given
+hands_out_by before after (Lookup shard key) reply given = port_found_in before after shard key reply given
 hands_out_by before after (Enter shard) reply given = tt
 hands_out_by before after (Leave shard) reply given = tt
 hands_out_by before after (Load cell offset size) reply given = tt

@@ -6,7 +6,7 @@ use Rattle.semantics.specs.declared.options.Options.{Options}
 use Rattle.semantics.specs.declared.call.Call.{Call}
 use Rattle.semantics.specs.declared.call.Entry.{Entry}
 use Rattle.semantics.specs.History.{shard_of_call, IsLegalJournal}
-use Rattle.shard_core.specs.JournaledShard.{JournaledShard, with_entry}
+use Rattle.shard_core.specs.JournaledShard.{JournaledShard, shard_with_entry}
 use Rattle.shards.specs.Opening.{AreOpened}
 use Rattle.map_port.specs.Exchanges.{Exchange, IsChain}
 use Rattle.shard_port.specs.Asking.{is_in, enter_by, leave_by, asked_entry, all_left}
@@ -100,4 +100,4 @@ abbrev pub CallsKeepServing : Type 0
 CallsKeepServing =
     (maps : List MapDef) (options : Options) (shards : List JournaledShard) (number : ℕ) (shard : JournaledShard) (entry : Entry) →
     ServesMaps maps options shards → slice_get shards number ≡ Some shard → SetsBytes entry.call →
-    IsLegalJournal shard.plan (with_entry shard entry).journal → ServesMaps maps options (slice_set shards number (with_entry shard entry))
+    IsLegalJournal shard.plan (shard_with_entry shard entry).journal → ServesMaps maps options (slice_set shards number (shard_with_entry shard entry))

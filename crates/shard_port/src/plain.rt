@@ -34,7 +34,7 @@ pub struct PlainPort<'a> {
 
 impl<'a> PlainPort<'a> {
     ghost use Rattle.semantics.specs.ServedCalls.{IsKeyOf};
-    ghost use Rattle.map_port.specs.Served.{shard_of};
+    ghost use Rattle.map_port.specs.Served.{served_shard};
     ghost use Rattle.shard_port.specs.PlainPorts.{maps_of};
 
     /// The worker's port over the shards of the image's maps, which were opened with these options. It enters none yet.
@@ -65,7 +65,7 @@ impl<'a> PlainPort<'a> {
     /// The shard of a map's key.
     fn shard_of(&self, map: u32, key: &Key) -> u32
         requires { IsKeyOf (maps_of self.now).maps map key.now }
-        ensures { result ≡ shard_of (maps_of self.now) map key.now }
+        ensures { result ≡ served_shard (maps_of self.now) map key.now }
     {
         shard_of_map(self.image.maps(), self.options.shards, map, key)
     }

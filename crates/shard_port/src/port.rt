@@ -34,7 +34,7 @@ pub struct ShardPort<'a, B: Naming, W: Wait, G: Gate> {
 
 impl<'a, B: Naming, W: Wait, G: Gate> ShardPort<'a, B, W, G> {
     ghost use Rattle.semantics.specs.ServedCalls.{IsKeyOf};
-    ghost use Rattle.map_port.specs.Served.{shard_of};
+    ghost use Rattle.map_port.specs.Served.{served_shard};
     ghost use Rattle.shard_port.specs.PassPorts.{served_of};
 
     /// The port of a worker's pass, over the shards of a program's maps. It enters none yet. Replies are counted on from the tally's.
@@ -62,7 +62,7 @@ impl<'a, B: Naming, W: Wait, G: Gate> ShardPort<'a, B, W, G> {
     /// The shard of a map's key.
     fn shard_of(&self, map: u32, key: &Key) -> u32
         requires { IsKeyOf (served_of self.now.shards.now).maps map key.now }
-        ensures { result ≡ shard_of (served_of self.now.shards.now) map key.now }
+        ensures { result ≡ served_shard (served_of self.now.shards.now) map key.now }
     {
         self.shards.planned();
         shard_of_map(self.shards.maps(), self.shards.options().shards, map, key)

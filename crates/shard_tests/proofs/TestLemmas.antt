@@ -6,7 +6,7 @@ use Rattle.semantics.specs.declared.call.CellRef.{CellRef}
 use Rattle.semantics.specs.ServedCalls.{Held, IsKeyOf, IsPairOf, IsHandedOut}
 use Rattle.semantics.specs.Program.{value_size_of}
 use Rattle.map_port.specs.Served.{Maps, program_over, lookup_call, reply_of_handle, IsReadable}
-use Rattle.shard_tests.specs.ExampleMaps.{array_of, hash_of, example_maps}
+use Rattle.shard_tests.specs.ExampleMaps.{array_of, hash_map_of, example_maps}
 use Rattle.shard_port.proofs.shared.MayAskLemmas.{shard_of_known}
 
 pub record IsExample (served : Maps) (map : ℕ) : Type 0 where
@@ -30,7 +30,7 @@ example served (suc zero) maps below = record {
   value_size = refl;
 }
 example served (suc (suc zero)) maps below = record {
-  definition = hash_of 2;
+  definition = hash_map_of 2;
   known = ap (λ all. slice_get all 2) maps;
   key_size = refl;
   value_size = refl;

@@ -6,8 +6,8 @@ use Rattle.ebpf_decode.specs.declared.map.MapKind.TheVariants.{Array, Hash}
 abbrev pub array_of : ℕ → MapDef
 array_of entries = record { kind = Array; key_size = 4; value_size = 8; max_entries = entries }
 
-abbrev pub hash_of : ℕ → MapDef
-hash_of entries = record { kind = Hash; key_size = 4; value_size = 8; max_entries = entries }
+abbrev pub hash_map_of : ℕ → MapDef
+hash_map_of entries = record { kind = Hash; key_size = 4; value_size = 8; max_entries = entries }
 
 abbrev pub example_maps : List MapDef
-example_maps = array_of 1 ∷ array_of 3 ∷ hash_of 2 ∷ []
+example_maps = array_of 1 ∷ array_of 3 ∷ hash_map_of 2 ∷ []

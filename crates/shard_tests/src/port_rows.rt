@@ -6,7 +6,7 @@ ghost use Rattle.std.specs.Prelude.{◌≡◌, ◌<◌, ◌≤◌, IfOk, OnOk, A
 ghost use Rattle.semantics.specs.ShardPlan.{AreOptions};
 ghost use Rattle.map_port.specs.Served.{IsReadable};
 ghost use Rattle.shard_port.specs.PortView.{ServesMaps};
-ghost use Rattle.shard_tests.specs.ExampleMaps.{array_of, hash_of, example_maps};
+ghost use Rattle.shard_tests.specs.ExampleMaps.{array_of, hash_map_of, example_maps};
 
 use crate::asserting::{holds, same};
 use ebpf_decode::{Image, Insn, MapDef, MapKind, Version};
@@ -71,7 +71,7 @@ fn array_of(max_entries: u32) -> MapDef
 }
 
 fn hash_of(max_entries: u32) -> MapDef
-    ensures { result ≡ hash_of max_entries }
+    ensures { result ≡ hash_map_of max_entries }
 {
     MapDef {
         kind: MapKind::Hash,

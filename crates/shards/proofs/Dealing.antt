@@ -15,7 +15,7 @@ use Rattle.shards.specs.LockRule.{caller_at, caller_place, pass_of, nobody}
 use Rattle.shards.specs.Seats.{has_shard, view_of}
 use Rattle.shards.specs.ShardPasses.{ShardPassView, shard_pass_view}
 use Rattle.shards.specs.Passes.{badge_at, view_at, pass_view, shard_pass_at, no_part, IsPartOf, IsPass}
-use Rattle.shards.specs.NewShards.{IsNewBadge, row_at, is_dealt_at, IsDealer, IsNewSeat, IsPartOfSeat, view_of_known}
+use Rattle.shards.specs.NewShards.{IsNewBadge, badges_at, is_dealt_at, IsDealer, IsNewSeat, IsPartOfSeat, view_of_known}
 use Rattle.shards.specs.HeldCells.{HeldIds, most_held, room_at, room_of}
 use Rattle.shards.proofs.PartLemmas.{view_is}
 use Rattle.shards.proofs.Settling.{same_or_other}
@@ -37,14 +37,14 @@ room_enough Reclaimer most room enough = omega arith
 
 module _ (table : ℕ → TableId) (key : ℕ → KeyedPlan) (count : ℕ) (rooms : List ℕ) (dealt : List Bool) (rows : List (List (Badge Known))) (place : ℕ) (who : Caller)
     (dealer : IsDealer table key count rooms dealt rows) (waits : is_dealt_at dealt place ≡ false) (placed : place ≡ caller_place who) where
-  pub place_within : (number : ℕ) → number < length rows → place < length (row_at rows number)
+  pub place_within : (number : ℕ) → number < length rows → place < length (badges_at rows number)
   place_within number below = (dealer.waiting number (let sized = dealer.sized in omega (arith, sized, below)) place waits).0
 
-  new_at_seat : (number : ℕ) → number < length rows → IsNewBadge (table number) (key number) who (badge_at (row_at rows number) place)
-  new_at_seat number below = subst (λ (w : Caller). IsNewBadge (table number) (key number) w (badge_at (row_at rows number) place)) (ap caller_at placed ∙ caller_is who)
+  new_at_seat : (number : ℕ) → number < length rows → IsNewBadge (table number) (key number) who (badge_at (badges_at rows number) place)
+  new_at_seat number below = subst (λ (w : Caller). IsNewBadge (table number) (key number) w (badge_at (badges_at rows number) place)) (ap caller_at placed ∙ caller_is who)
       (dealer.waiting number (let sized = dealer.sized in omega (arith, sized, below)) place waits).1
 
-  pub new_seat : (number : ℕ) (held : HeldIds) → number < length rows → room_of who (room_at rooms number) ≤ held.room → IsNewSeat (badge_at (row_at rows number) place) held
+  pub new_seat : (number : ℕ) (held : HeldIds) → number < length rows → room_of who (room_at rooms number) ≤ held.room → IsNewSeat (badge_at (badges_at rows number) place) held
   new_seat number held below enough = record {
     key = key number;
     who = who;
@@ -52,8 +52,8 @@ module _ (table : ℕ → TableId) (key : ℕ → KeyedPlan) (count : ℕ) (room
     room = (let more = room_enough who (most_held (key number).plan) (room_at rooms number) (dealer.enough number (let sized = dealer.sized in omega (arith, sized, below))) in omega (arith, more, enough));
   }
 
-  module _ (parts : List ShardPassView) (same_count : length parts ≡ length rows) (made : (number : ℕ) → number < length rows → IsPartOfSeat (badge_at (row_at rows number) place) (shard_pass_at parts number)) where
-    part_is : (number : ℕ) → number < length rows → shard_pass_at parts number ≡ view_of_known (badge_at (row_at rows number) place).table_id (pass_of (key number) who [] [])
+  module _ (parts : List ShardPassView) (same_count : length parts ≡ length rows) (made : (number : ℕ) → number < length rows → IsPartOfSeat (badge_at (badges_at rows number) place) (shard_pass_at parts number)) where
+    part_is : (number : ℕ) → number < length rows → shard_pass_at parts number ≡ view_of_known (badge_at (badges_at rows number) place).table_id (pass_of (key number) who [] [])
     part_is number below = made number below (pass_of (key number) who [] []) (new_at_seat number below).fresh
 
     pub nothing_at : (deeds : List Deed) (number : ℕ) → view_at (pass_view who parts deeds) number ≡ nothing_seen
@@ -77,8 +77,8 @@ module _ (table : ℕ → TableId) (key : ℕ → KeyedPlan) (count : ℕ) (room
 
 pub rest_of_rows : (table : ℕ → TableId) (key : ℕ → KeyedPlan) (count : ℕ) (rooms : List ℕ) (dealt : List Bool) (rows rows' : List (List (Badge Known))) (place : ℕ) →
     IsDealer table key count rooms dealt rows → place < length dealt → length rows' ≡ length rows →
-    ((number other : ℕ) → other ≢ place → badge_at (row_at rows' number) other ≡ badge_at (row_at rows number) other) →
-    ((number : ℕ) → length (row_at rows' number) ≡ length (row_at rows number)) →
+    ((number other : ℕ) → other ≢ place → badge_at (badges_at rows' number) other ≡ badge_at (badges_at rows number) other) →
+    ((number : ℕ) → length (badges_at rows' number) ≡ length (badges_at rows number)) →
     IsDealer table key count rooms (slice_set dealt place true) rows'
 rest_of_rows table key count room dealt rows rows' place dealer below same_count others lengths = record {
   sized = same_count ∙ dealer.sized;
@@ -95,29 +95,29 @@ rest_of_rows table key count room dealt rows rows' place dealer below same_count
 
 -- ---- one row after another
 
-pub row_there : (rows : List (List (Badge Known))) (number : ℕ) (row : List (Badge Known)) → number < length rows → row ≡ slice_index_or rows number row → row ≡ row_at rows number
+pub row_there : (rows : List (List (Badge Known))) (number : ℕ) (row : List (Badge Known)) → number < length rows → row ≡ slice_index_or rows number row → row ≡ badges_at rows number
 row_there rows number row below is = is ∙ or_within rows row [] number below
 
 -- one more seat is taken out of its row
 module _ (old rows : List (List (Badge Known))) (number place : ℕ) (row after : List (Badge Known)) (below : number < length rows) (is : row ≡ slice_index_or rows number row)
     (others : (other : ℕ) → other ≢ place → badge_at after other ≡ badge_at row other) (same_length : length after ≡ length row) where
-  row_is : row ≡ row_at rows number
+  row_is : row ≡ badges_at rows number
   row_is = row_there rows number row below is
 
-  pub rows_left : ((k : ℕ) → number ≤ k → row_at rows k ≡ row_at old k) → (k : ℕ) → number + 1 ≤ k → row_at (slice_set rows number after) k ≡ row_at old k
+  pub rows_left : ((k : ℕ) → number ≤ k → badges_at rows k ≡ badges_at old k) → (k : ℕ) → number + 1 ≤ k → badges_at (slice_set rows number after) k ≡ badges_at old k
   rows_left were k past = or_set_else rows number k after [] (λ same. omega (arith, past, same)) ∙ were k (omega (arith, past))
 
-  pub others_left : ((k other : ℕ) → other ≢ place → badge_at (row_at rows k) other ≡ badge_at (row_at old k) other) →
-      (k other : ℕ) → other ≢ place → badge_at (row_at (slice_set rows number after) k) other ≡ badge_at (row_at old k) other
+  pub others_left : ((k other : ℕ) → other ≢ place → badge_at (badges_at rows k) other ≡ badge_at (badges_at old k) other) →
+      (k other : ℕ) → other ≢ place → badge_at (badges_at (slice_set rows number after) k) other ≡ badge_at (badges_at old k) other
   others_left were k other apart = ⊎_elim
-      (λ (here : k ≡ number). ap (λ (n : ℕ). badge_at (row_at (slice_set rows number after) n) other) here ∙ ap (λ (r : List (Badge Known)). badge_at r other) (or_set_here rows number after [] below)
-      ∙ others other apart ∙ ap (λ (r : List (Badge Known)). badge_at r other) row_is ∙ ap (λ (n : ℕ). badge_at (row_at rows n) other) (sym here) ∙ were k other apart)
+      (λ (here : k ≡ number). ap (λ (n : ℕ). badge_at (badges_at (slice_set rows number after) n) other) here ∙ ap (λ (r : List (Badge Known)). badge_at r other) (or_set_here rows number after [] below)
+      ∙ others other apart ∙ ap (λ (r : List (Badge Known)). badge_at r other) row_is ∙ ap (λ (n : ℕ). badge_at (badges_at rows n) other) (sym here) ∙ were k other apart)
       (λ (elsewhere : k ≢ number). ap (λ (r : List (Badge Known)). badge_at r other) (or_set_else rows number k after [] elsewhere) ∙ were k other apart) (same_or_other k number)
 
-  pub lengths_left : ((k : ℕ) → length (row_at rows k) ≡ length (row_at old k)) → (k : ℕ) → length (row_at (slice_set rows number after) k) ≡ length (row_at old k)
+  pub lengths_left : ((k : ℕ) → length (badges_at rows k) ≡ length (badges_at old k)) → (k : ℕ) → length (badges_at (slice_set rows number after) k) ≡ length (badges_at old k)
   lengths_left were k = ⊎_elim
-      (λ (here : k ≡ number). ap (λ (n : ℕ). length (row_at (slice_set rows number after) n)) here ∙ ap (λ (r : List (Badge Known)). length r) (or_set_here rows number after [] below)
-      ∙ same_length ∙ ap (λ (r : List (Badge Known)). length r) row_is ∙ ap (λ (n : ℕ). length (row_at rows n)) (sym here) ∙ were k)
+      (λ (here : k ≡ number). ap (λ (n : ℕ). length (badges_at (slice_set rows number after) n)) here ∙ ap (λ (r : List (Badge Known)). length r) (or_set_here rows number after [] below)
+      ∙ same_length ∙ ap (λ (r : List (Badge Known)). length r) row_is ∙ ap (λ (n : ℕ). length (badges_at rows n)) (sym here) ∙ were k)
       (λ (elsewhere : k ≢ number). ap (λ (r : List (Badge Known)). length r) (or_set_else rows number k after [] elsewhere) ∙ were k) (same_or_other k number)
 
 -- one more part is made

@@ -18,7 +18,7 @@ use Rattle.shards.specs.declared.order_rule.OrderKey.{OrderKey}
 use Rattle.shards.specs.LockRule.{caller_at}
 use Rattle.shards.specs.OrderRule.{IsFresh, IsOrderOf, AreCallerPlaces, no_order_place, order_place_at}
 use Rattle.shards.specs.Opening.{AreOpened}
-use Rattle.shards.specs.NewShards.{OpenedShards, AreAtOrder, shard_at, NewShardView, no_shard, new_at, IsOpening, IsNamed, IsNamedAt, row_at, is_dealt_at, HasAllSeats, IsDealer}
+use Rattle.shards.specs.NewShards.{OpenedShards, AreAtOrder, shard_at, NewShardView, no_shard, new_at, IsOpening, IsNamed, IsNamedAt, badges_at, is_dealt_at, HasAllSeats, IsDealer}
 use Rattle.shards.proofs.Openings.{opened_at}
 use Rattle.shards.specs.GuardedView.{keys}
 use Rattle.shards.specs.HeldCells.{room_at, IsRoomOf}
@@ -62,9 +62,9 @@ all_wait table plan order name count rooms maps options shards rows dealt openin
   sized = rows_are_as_many ∙ sym named.count_is;
   waiting = λ number below place waits.
       let there : number < length rows = (let a = rows_are_as_many in let count_is = named.count_is in omega (arith, a, count_is)) in
-      let row = each_at (HasAllSeats table (keys plan order) shards) rows number (row_at rows number) rows_are there (or_within rows [] (row_at rows number) number there) in
+      let row = each_at (HasAllSeats table (keys plan order) shards) rows number (badges_at rows number) rows_are there (or_within rows [] (badges_at rows number) number there) in
       let few = below_places (options.workers + 2) place (ap (λ (d : List Bool). is_dealt_at d place) (sym dealt_is) ∙ waits) in
-      let long : place < length (row_at rows number) =
+      let long : place < length (badges_at rows number) =
       (let a = row.count in let b = opening.places number (let a = rows_are_as_many in omega (arith, a, there)) in omega (arith, a, b, few)) in
       (long, row.fresh place long);
   roomed = as_many ∙ sym named.count_is;

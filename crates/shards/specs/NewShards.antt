@@ -87,8 +87,8 @@ pub record IsNamedAt (table : ℕ → TableId) (plan : ℕ → ShardPlan) (order
 
 -- ---- seats that wait for their callers: a row for each shard, with a place for each caller
 
-abbrev pub row_at : List (List (Badge Known)) → ℕ → List (Badge Known)
-row_at rows number = slice_index_or rows number []
+abbrev pub badges_at : List (List (Badge Known)) → ℕ → List (Badge Known)
+badges_at rows number = slice_index_or rows number []
 
 abbrev pub is_dealt_at : List Bool → ℕ → Bool
 is_dealt_at dealt place = slice_index_or dealt place true
@@ -101,7 +101,7 @@ HasSeatsLeft table key dealt number row = (place : ℕ) → is_dealt_at dealt pl
 pub record IsDealer (table : ℕ → TableId) (key : ℕ → KeyedPlan) (count : ℕ) (rooms : List ℕ)
     (dealt : List Bool) (rows : List (List (Badge Known))) : Type 0 where
   pub sized : length rows ≡ count
-  pub waiting : (number : ℕ) → number < count → HasSeatsLeft table key dealt number (row_at rows number)
+  pub waiting : (number : ℕ) → number < count → HasSeatsLeft table key dealt number (badges_at rows number)
   pub roomed : length rooms ≡ count
   pub enough : (number : ℕ) → number < count → IsRoomOf (λ (n : ℕ). (key n).plan) number (room_at rooms number)
 

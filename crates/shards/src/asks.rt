@@ -7,7 +7,7 @@ ghost use Rattle.semantics.specs.declared.call.Reply.{Reply};
 ghost use Rattle.semantics.specs.declared.call.Reply.TheVariants.{Entered, Left, Word, Done, Answer, Freed};
 ghost use Rattle.semantics.specs.Sections.{section_change};
 ghost use Rattle.semantics.specs.History.{IsLegalJournal};
-ghost use Rattle.shard_core.specs.Calls.{MayCall, IsFullFor, after_call};
+ghost use Rattle.shard_core.specs.Calls.{MayCallShard, IsFullFor, shard_with_call};
 ghost use Rattle.semantics.specs.Reclamation.{held_change};
 ghost use Rattle.journal.specs.Entries.{found_reply, leave_entry, load_on, store_on, atomic_on};
 ghost use Rattle.shards.specs.declared.deeds.Deed.TheVariants.{Wrote};
@@ -44,8 +44,8 @@ pub trait Ask: Copy {
 
     /// Makes the call for a caller that may make it. Refused where the journal is full; then nothing is changed.
     fn make(self, shard: &mut Shard, who: Caller) -> Result<Self::Answer, JournalFull>
-        requires { MayCall shard.old who (asks self shard.old.plan.number) }
-        ensures entered { IfOk result (λ answer. shard.new ≡ after_call shard.old who (asks self shard.old.plan.number)
+        requires { MayCallShard shard.old who (asks self shard.old.plan.number) }
+        ensures entered { IfOk result (λ answer. shard.new ≡ shard_with_call shard.old who (asks self shard.old.plan.number)
             (replies shard.old.plan.number answer)) }
         ensures legal { IsLegalJournal shard.new.plan shard.new.journal }
         ensures full { IsErr result ↔ IsFullFor shard.old (asks self shard.old.plan.number) }

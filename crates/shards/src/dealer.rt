@@ -5,7 +5,7 @@ ghost use Rattle.std.specs.Prelude.{slice_set};
 ghost use Rattle.shards.specs.CallerView.{nothing_seen};
 ghost use Rattle.shards.specs.HeldCells.{held_at, most_held, room_of};
 ghost use Rattle.shards.specs.LockRule.{caller_place};
-ghost use Rattle.shards.specs.NewShards.{row_at, is_dealt_at, IsNewSeat, IsPartOfSeat};
+ghost use Rattle.shards.specs.NewShards.{badges_at, is_dealt_at, IsNewSeat, IsPartOfSeat};
 ghost use Rattle.shards.specs.Passes.{badge_at, shard_pass_at, view_at};
 ghost use Rattle.shards.specs.declared.pass_fault.PassFault.TheVariants.{BadOptions, PassTaken};
 
@@ -104,15 +104,15 @@ fn column(
     requires room { length rows.old.items ≤ vec_capacity parts }
     requires held { length held.items ≡ length rows.old.items }
     requires none { (number : ℕ) → number < length rows.old.items → (held_at held.items number).ids ≡ [] }
-    requires waiting { (number : ℕ) → number < length rows.old.items → place < length (row_at rows.old.items number) }
+    requires waiting { (number : ℕ) → number < length rows.old.items → place < length (badges_at rows.old.items number) }
     requires new { (number : ℕ) → number < length rows.old.items →
-        IsNewSeat (badge_at (row_at rows.old.items number) place) (held_at held.items number) }
+        IsNewSeat (badge_at (badges_at rows.old.items number) place) (held_at held.items number) }
     ensures count { (length result.items ≡ length rows.old.items) × (length rows.new.items ≡ length rows.old.items) }
     ensures parts { (number : ℕ) → number < length rows.old.items →
-        IsPartOfSeat (badge_at (row_at rows.old.items number) place) (shard_pass_at result.items number) }
+        IsPartOfSeat (badge_at (badges_at rows.old.items number) place) (shard_pass_at result.items number) }
     ensures others { (number other : ℕ) → other ≢ place →
-        badge_at (row_at rows.new.items number) other ≡ badge_at (row_at rows.old.items number) other }
-    ensures lengths { (number : ℕ) → length (row_at rows.new.items number) ≡ length (row_at rows.old.items number) }
+        badge_at (badges_at rows.new.items number) other ≡ badge_at (badges_at rows.old.items number) other }
+    ensures lengths { (number : ℕ) → length (badges_at rows.new.items number) ≡ length (badges_at rows.old.items number) }
 {
     'rows: for number in 0..rows.len() {
         let seat = rows[number].take(place).into_seat();

@@ -38,7 +38,7 @@ use Rattle.disasm.proofs.shared.Bytes.{word_byte, signed_word, sign_word, widest
 use Rattle.disasm.proofs.shared.Numbers.{whole, hex_value, hex_all}
 use Rattle.source_form.specs.declared.words.Form.{Form}
 use Rattle.source_form.specs.declared.words.Form.TheVariants.{Plain, Jump, Call, Wide, MapRow}
-use Rattle.source_form.specs.SourceText.{parts_at, is_heading, form_of, is_number_byte, begins_number, begins, number_in, number_meaning, is_upper_word, word_told, plain_value, immediate_meaning, early_meaning, last_meaning, operands_meaning}
+use Rattle.source_form.specs.SourceText.{parts_at, is_heading, operand_form_of, is_number_byte, begins_number, begins_with, number_in, number_meaning, is_upper_word, word_told, plain_value, immediate_meaning, early_meaning, last_meaning, operands_meaning}
 use Rattle.source_form.proofs.NumberReading.{number_again, number_none}
 use Rattle.source_form.proofs.Trimming.{both, other, no_mark, one_part, first_part, ascii_byte, solid, EndsWell, ends_word, ends_before, begin_kept, IsTrimmed, trim_same, trim_space}
 
@@ -109,7 +109,7 @@ head_form head = Plain
 -- what the stem alone says of the first word
 abbrev StemTells : Head → Type 0
 StemTells h =
-    (is_heading (head_stem h ++ head_suffix h) ≡ false) × (form_of (head_stem h ++ head_suffix h) ≡ head_form h) ×
+    (is_heading (head_stem h ++ head_suffix h) ≡ false) × (operand_form_of (head_stem h ++ head_suffix h) ≡ head_form h) ×
     IsExact (head_stem h) × (eqb (length (head_stem h)) 0 ≡ false)
 
 stem_tells : (h : Head) → StemTells h
@@ -215,7 +215,7 @@ pub record IsFirstWord (h : Head) : Type 0 where
   pub exact : IsExact (head_name h)
   pub some : 0 < length (head_name h)
   pub no_heading : is_heading (head_name h) ≡ false
-  pub form : form_of (head_name h) ≡ head_form h
+  pub form : operand_form_of (head_name h) ≡ head_form h
 
 pub is_first_word : (h : Head) → IsFirstWord h
 unfolding head_name
@@ -460,7 +460,7 @@ is_lower n lt = grind (arith, nat_tests)
 lower_told : (text : List ℕ) (n : ℕ) → n < 2 ^ 31 → number_meaning text ≡ Ok text → word_told text (Some n) ≡ Ok text
 lower_told text n lt short = rw (is_lower n lt) short
 
-no_prefix : (text : List ℕ) → all_bytes digit_byte text ≡ true → begins text (48 ∷ 120 ∷ []) ≡ false
+no_prefix : (text : List ℕ) → all_bytes digit_byte text ≡ true → begins_with text (48 ∷ 120 ∷ []) ≡ false
 no_prefix [] a = refl
 no_prefix (x ∷ []) a = grind (arith, nat_tests)
 no_prefix (x ∷ y ∷ more) a =
@@ -487,7 +487,7 @@ immediate_number (pos n) fits =
     let text : List ℕ = decimal n in
     let short = short_number (pos n) (widest_fits (pos n) fits) in
     let plain = no_prefix text (decimal_digits n (omega arith)) in
-    rw plain (chosen_told text (begins text (48 ∷ [])) (number_in 10 text) short
+    rw plain (chosen_told text (begins_with text (48 ∷ [])) (number_in 10 text) short
     (value_told text (number_in 10 text) n (decimal_again n (omega arith)) (omega arith) short))
 immediate_number (negsuc n) fits =
     let text : List ℕ = signed_decimal (negsuc n) in

@@ -6,7 +6,7 @@ use Rattle.source_form.specs.declared.fault.LineFault.{LineFault}
 use Rattle.source_form.specs.declared.fault.LineFault.TheVariants as line_faults
 use Rattle.source_form.specs.declared.fault.SourceFault.{SourceFault}
 use Rattle.source_form.specs.SourceText.{line_meaning, on_line, meaning_from}
-use Rattle.source_form.specs.Told.{IsToldBy, IsToldOf, fault_at}
+use Rattle.source_form.specs.Told.{IsToldBy, IsToldOf, line_fault_at}
 
 from : {X Y : Type 0} (f : X → Y) (xs : List X) (i : ℕ) (d : X) → i < length xs → drop i (map f xs) ≡ f (get_or xs i d) ∷ drop (suc i) (map f xs)
 from f [] i d lt = absurd (omega (arith, lt))
@@ -46,7 +46,7 @@ pub line_ok : (line : ℕ) (m : Result (List ℕ) Problem) (text : List ℕ) (ne
 line_ok line m text next e = ap (λ (r : Result (List ℕ) Problem). on_line line r next) e
 
 pub line_err : (place : ℕ) (m : Result (List ℕ) Problem) (whole : Result (List ℕ) SourceFault) (fault : LineFault) (next : List ℕ → Result (List ℕ) SourceFault)
-    → whole ≡ on_line (place + 1) m next → IsToldBy m fault → IsToldOf whole (fault_at place fault)
+    → whole ≡ on_line (place + 1) m next → IsToldBy m fault → IsToldOf whole (line_fault_at place fault)
 line_err place m whole (line_faults.Bad problem) next is told = is ∙ ap (λ (r : Result (List ℕ) Problem). on_line (place + 1) r next) told
 line_err place m whole line_faults.Memory next is told = tt
 
@@ -59,5 +59,5 @@ kept f xs place d so_far text so_far' whole lt told grown is =
 
 -- a line that has a problem
 pub stopped : {X : Type 0} (f : X → List ℕ) (xs : List X) (place : ℕ) (d : X) (so_far : List ℕ) (fault : LineFault) (whole : Result (List ℕ) SourceFault) → place < length xs
-    → IsToldBy (line_meaning (map f xs) place (f (get_or xs place d))) fault → meaning_from (map f xs) place so_far (drop place (map f xs)) ≡ whole → IsToldOf whole (fault_at place fault)
+    → IsToldBy (line_meaning (map f xs) place (f (get_or xs place d))) fault → meaning_from (map f xs) place so_far (drop place (map f xs)) ≡ whole → IsToldOf whole (line_fault_at place fault)
 stopped f xs place d so_far fault whole lt told is = line_err place _ whole fault _ (sym is ∙ goes f xs place d so_far lt) told

@@ -5,7 +5,7 @@ use Rattle.std.specs.Result.{OkIff, result_ok}
 use Rattle.std.specs.Str.Parse.{AllDigits, IsNumeral, digits_value, ParsesUnsigned, without_leading_plus}
 use Rattle.std.proofs.lemmas.Str.Parse.{without_leading_plus_none}
 use Rattle.std.proofs.lemmas.Bool.Decides.{nat_tests}
-use Rattle.source_form.specs.SourceText.{begins, all_digits, number_in}
+use Rattle.source_form.specs.SourceText.{begins_with, all_digits, number_in}
 use Rattle.source_form.proofs.Trimming.{both}
 
 joined : (a b : Bool) → a ≡ true → b ≡ true → (a && b) ≡ true
@@ -60,11 +60,11 @@ chosen false v P (Ok x) to from h = absurd (false_not_true (to h.0)) where
 chosen true v P (Err e) to from h = absurd (h (from refl))
 chosen false v P (Err e) to from h = refl
 
-no_plus : (bs : List ℕ) → begins bs (43 ∷ []) ≡ false → get_or bs 0 0 ≢ 43
+no_plus : (bs : List ℕ) → begins_with bs (43 ∷ []) ≡ false → get_or bs 0 0 ≢ 43
 no_plus [] e = λ is. absurd (omega (arith, is))
 no_plus (b ∷ bs) e = λ is. grind (arith, nat_tests)
 
-pub number_read : {E : Type 0} (radix : ℕ) (bs : List ℕ) (r : Result ℕ E) → begins bs (43 ∷ []) ≡ false → ParsesUnsigned 64 radix bs r → result_ok r ≡ number_in radix bs
+pub number_read : {E : Type 0} (radix : ℕ) (bs : List ℕ) (r : Result ℕ E) → begins_with bs (43 ∷ []) ≡ false → ParsesUnsigned 64 radix bs r → result_ok r ≡ number_in radix bs
 unfolding test
 number_read radix bs r e h =
     let plain : without_leading_plus bs ≡ bs = without_leading_plus_none bs (no_plus bs e) in
@@ -79,13 +79,13 @@ none_if false v = refl
 pub number_none : (radix : ℕ) (ds : List ℕ) → all_digits radix ds ≡ false → number_in radix ds ≡ None
 number_none radix ds e = rw e (sym (none_if _ _))
 
-pub plus_16 : (bs : List ℕ) → begins bs (43 ∷ []) ≡ true → None ≡ number_in 16 bs
+pub plus_16 : (bs : List ℕ) → begins_with bs (43 ∷ []) ≡ true → None ≡ number_in 16 bs
 plus_16 [] e = refl
 plus_16 (b ∷ bs) e =
     let same : b ≡ 43 = grind (arith, nat_tests) in
     rw same (none_if _ _)
 
-pub plus_10 : (bs : List ℕ) → begins bs (43 ∷ []) ≡ true → None ≡ number_in 10 bs
+pub plus_10 : (bs : List ℕ) → begins_with bs (43 ∷ []) ≡ true → None ≡ number_in 10 bs
 plus_10 [] e = refl
 plus_10 (b ∷ bs) e =
     let same : b ≡ 43 = grind (arith, nat_tests) in

@@ -1,6 +1,6 @@
 -- What begins as a source does: behind blanks and comments there is the word of its first line.
 use Rattle.std.specs.Prelude.{ℕ, Bool, true, false, not, ◌||◌, ◌==◌, List, [], ◌∷◌, codes, if◌then◌else◌}
-use Rattle.source_form.specs.SourceText.{begins}
+use Rattle.source_form.specs.SourceText.{begins_with}
 
 -- white space of ASCII
 abbrev pub is_blank : ℕ → Bool
@@ -18,7 +18,7 @@ goes_into in_comment b = if in_comment then not (b == 10) else b == 35
 unfoldable pub begins_behind : List ℕ → Bool → Bool
 begins_behind [] in_comment = false
 begins_behind (b ∷ more) in_comment =
-    if is_word_byte in_comment b then begins (b ∷ more) (codes "version") else begins_behind more (goes_into in_comment b)
+    if is_word_byte in_comment b then begins_with (b ∷ more) (codes "version") else begins_behind more (goes_into in_comment b)
 
 abbrev pub begins_as_source : List ℕ → Bool
 begins_as_source text = begins_behind text false

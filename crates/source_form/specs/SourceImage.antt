@@ -28,7 +28,7 @@ pub record IsOfText (source : List ℕ) (fault : SourceFault) : Type 0 where
   pub fault_is : IsTextFault (statements_of source) text fault
 
 -- why no image comes of the source: the fault of a line, or one of the text that all lines mean
-abbrev pub Explains : List ℕ → SourceFault → Type 0
-Explains source (BadLine line problem) = (source_meaning source ≡ Err (BadLine line problem)) ⊎ IsOfText source (BadLine line problem)
-Explains source (Image fault) = IsOfText source (Image fault)
-Explains source Memory = Unit {0}
+abbrev pub ExplainsSource : List ℕ → SourceFault → Type 0
+ExplainsSource source (BadLine line problem) = (source_meaning source ≡ Err (BadLine line problem)) ⊎ IsOfText source (BadLine line problem)
+ExplainsSource source (Image fault) = IsOfText source (Image fault)
+ExplainsSource source Memory = Unit {0}

@@ -35,8 +35,8 @@ after_mark mark text = after_first (λ b. b == mark) text
 abbrev pub has_mark : ℕ → List ℕ → Bool
 has_mark mark text = nat_lt (position_or_len (λ b. b == mark) text) (length text)
 
-abbrev pub begins : List ℕ → List ℕ → Bool
-begins text front = starts_with (λ a b. a == b) text front
+abbrev pub begins_with : List ℕ → List ℕ → Bool
+begins_with text front = starts_with (λ a b. a == b) text front
 
 abbrev pub all_but_last : List ℕ → List ℕ
 all_but_last xs = take (length xs - 1) xs
@@ -66,12 +66,12 @@ abbrev pub label_of : List ℕ → List ℕ
 label_of s = before_mark 58 s
 
 -- the instruction or heading
-abbrev pub words_of : List ℕ → List ℕ
-words_of s = if has_label s then trim (after_mark 58 s) else s
+abbrev pub statement_words : List ℕ → List ℕ
+statement_words s = if has_label s then trim (after_mark 58 s) else s
 
 -- the statement means a line of the exact text
 abbrev pub has_text : List ℕ → Bool
-has_text s = not (length (words_of s) == 0)
+has_text s = not (length (statement_words s) == 0)
 
 -- the first line and those of maps are as they are
 abbrev pub is_heading : List ℕ → Bool
@@ -82,9 +82,9 @@ abbrev pub names_map : List ℕ → Bool
 names_map word = bytes_eq word (codes "ldmap") || bytes_eq word (codes "ldval")
 
 -- what the operands may be: of a jump a label, of a call a helper's name, of lddw a number of 64 bits, of a map its number
-abbrev pub form_of : List ℕ → Form
-form_of word =
-    if begins word (codes "j") then Jump
+abbrev pub operand_form_of : List ℕ → Form
+operand_form_of word =
+    if begins_with word (codes "j") then Jump
     else (if bytes_eq word (codes "call") then Call
     else (if bytes_eq word (codes "lddw") then Wide
     else (if names_map word then MapRow else Plain)))
@@ -98,11 +98,11 @@ slots_of_word word =
     else (if bytes_eq word (codes "lddw") || names_map word then 2 else 1)
 
 abbrev pub slots_of : List ℕ → ℕ
-slots_of s = if has_text s then slots_of_word (first_word (words_of s)) else 0
+slots_of s = if has_text s then slots_of_word (first_word (statement_words s)) else 0
 
 -- the slot of the first instruction from a line on
-abbrev pub slot_at : List (List ℕ) → ℕ → ℕ
-slot_at statements place = sum_by slots_of (take place statements)
+abbrev pub slot_of_line : List (List ℕ) → ℕ → ℕ
+slot_of_line statements place = sum_by slots_of (take place statements)
 
 abbrev pub is_label_of : List ℕ → List ℕ → Bool
 is_label_of name s = has_label s && bytes_eq (label_of s) name
@@ -158,8 +158,8 @@ number_meaning operand = if has_mark 120 operand then hex_meaning (before_mark 1
 -- a number that is written without a sign: in hexadecimal, or in decimal with no zero in front
 abbrev pub plain_value : List ℕ → Option ℕ
 plain_value operand =
-    if begins operand (codes "0x") then number_in 16 (drop 2 operand)
-    else (if begins operand (codes "0") then None else number_in 10 operand)
+    if begins_with operand (codes "0x") then number_in 16 (drop 2 operand)
+    else (if begins_with operand (codes "0") then None else number_in 10 operand)
 
 -- a number of 32 bits that is too large for a signed one means the same bits: the negative number with them
 abbrev pub is_upper_word : ℕ → Bool
@@ -176,7 +176,7 @@ immediate_meaning operand = word_told operand (plain_value operand)
 -- ---- last operands
 
 abbrev pub wide_value : List ℕ → Option ℕ
-wide_value operand = if begins operand (codes "0x") then number_in 16 (drop 2 operand) else number_in 10 operand
+wide_value operand = if begins_with operand (codes "0x") then number_in 16 (drop 2 operand) else number_in 10 operand
 
 abbrev pub wide_told : Option ℕ → Result (List ℕ) Problem
 wide_told (Some value) = Ok (codes "0x" ++ hex_digits 16 value)
@@ -191,7 +191,7 @@ begins_number operand = is_number_byte (slice_index_or operand 0 0)
 
 -- a helper's name is with or without bpf_
 abbrev pub plain_name : List ℕ → List ℕ
-plain_name name = if begins name (codes "bpf_") then drop 4 name else name
+plain_name name = if begins_with name (codes "bpf_") then drop 4 name else name
 
 abbrev pub helper_named : List ℕ → Option Helper
 helper_named name =
@@ -212,7 +212,7 @@ helper_meaning operand = if begins_number operand then number_meaning operand el
 
 -- the distance from the jump's line to the label's
 abbrev pub target_told : List (List ℕ) → ℕ → Option ℕ → Result (List ℕ) Problem
-target_told statements place (Some target) = Ok (with_sign (distance (slot_at statements target) (slot_at statements place)))
+target_told statements place (Some target) = Ok (with_sign (distance (slot_of_line statements target) (slot_of_line statements place)))
 target_told statements place None = Err UnknownLabel
 
 abbrev pub target_meaning : List (List ℕ) → ℕ → List ℕ → Result (List ℕ) Problem
@@ -254,7 +254,7 @@ operands_meaning statements place form so_far (operand ∷ next ∷ more) =
 abbrev pub instruction_meaning : List (List ℕ) → ℕ → List ℕ → List ℕ → Result (List ℕ) Problem
 instruction_meaning statements place word list =
     if length list == 0 then Ok word
-    else operands_meaning statements place (form_of word) (word ++ codes " ") (map trim (parts_at 44 list))
+    else operands_meaning statements place (operand_form_of word) (word ++ codes " ") (map trim (parts_at 44 list))
 
 -- ---- statements
 
@@ -290,7 +290,7 @@ rest_meaning statements place words = if length words == 0 then Ok [] else text_
 
 -- what the statement of the line at a place means
 abbrev pub line_meaning : List (List ℕ) → ℕ → List ℕ → Result (List ℕ) Problem
-line_meaning statements place s = then_told (front_meaning statements place s) (λ _. rest_meaning statements place (words_of s))
+line_meaning statements place s = then_told (front_meaning statements place s) (λ _. rest_meaning statements place (statement_words s))
 
 -- ---- sources
 

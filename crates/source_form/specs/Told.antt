@@ -23,6 +23,6 @@ label_answer None = Ok []
 label_answer (Some problem) = Err problem
 
 -- the fault of the line at a place, which counts from 0
-abbrev pub fault_at : ℕ → LineFault → SourceFault
-fault_at place (line_faults.Bad problem) = BadLine (place + 1) problem
-fault_at place line_faults.Memory = Memory
+abbrev pub line_fault_at : ℕ → LineFault → SourceFault
+line_fault_at place (line_faults.Bad problem) = BadLine (place + 1) problem
+line_fault_at place line_faults.Memory = Memory

@@ -5,7 +5,7 @@ ghost use Rattle.ebpf_decode.specs.ImageContents.{Contents};
 ghost use Rattle.disasm.specs.AssemblyText.{IsAssemblyText};
 ghost use Rattle.source_form.specs.declared.fault.SourceFault.TheVariants.{Memory};
 ghost use Rattle.source_form.specs.SourceText.{line_of_text};
-ghost use Rattle.source_form.specs.SourceImage.{IsSource, IsTextFault, Explains};
+ghost use Rattle.source_form.specs.SourceImage.{IsSource, IsTextFault, ExplainsSource};
 
 use crate::fault::{Problem, SourceFault};
 use crate::lines::statements_of;
@@ -58,7 +58,7 @@ fn image_of(alloc: Global, statements: &[&str], text: &str) -> Result<Image, Sou
 /// so spelled; or 23 where memory is refused.
 pub fn assemble_source(alloc: Global, source: &str) -> Result<Image, SourceFault>
     ensures found { IfOk result (λ image. IsSource source.now image) }
-    ensures refused { IfErr result (λ fault. Explains source.now fault) }
+    ensures refused { IfErr result (λ fault. ExplainsSource source.now fault) }
     ensures only { (image : Contents) → IsSource source.now image → IfOk result (λ made. made ≡ image) }
     ensures accepts { (image : Contents) → IsSource source.now image → IfErr result (λ fault. fault ≡ Memory) }
 {

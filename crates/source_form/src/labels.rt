@@ -2,7 +2,7 @@
 
 ghost use Rattle.std.specs.Prelude.{◌≡◌, ◌≤◌, ◌<◌, ◌+◌, ◌*◌, ◌^◌, IfOk, IfErr, Ok, map, length, string_bytes, List, ℕ};
 ghost use Rattle.disasm.specs.AssemblyText.{with_sign};
-ghost use Rattle.source_form.specs.SourceText.{slots_of_word, slots_of, slot_at, distance, target_told, target_meaning};
+ghost use Rattle.source_form.specs.SourceText.{slots_of_word, slots_of, slot_of_line, distance, target_told, target_meaning};
 ghost use Rattle.source_form.specs.SourceText.{is_label_of, label_place, is_name, label_told, label_meaning, front_meaning};
 ghost use Rattle.source_form.specs.Told.{IsToldBy, label_answer};
 
@@ -43,7 +43,7 @@ pub(crate) fn slots_of(statement: &str) -> u128
 fn slot_at(statements: &[&str], place: usize) -> u128
     requires inside { place ≤ length statements.now }
     ensures small { result ≤ 2 * place }
-    ensures slot { result ≡ slot_at (map (λ line. line.now) statements.now) place }
+    ensures slot { result ≡ slot_of_line (map (λ line. line.now) statements.now) place }
 {
     let mut slot: u128 = 0;
     let mut line = 0;

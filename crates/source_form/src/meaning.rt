@@ -2,7 +2,7 @@
 
 ghost use Rattle.std.specs.Prelude.{◌≡◌, ◌≤◌, ◌<◌, ◌^◌, [], IfOk, IfErr, Ok, map, length, string_bytes, List, ℕ};
 ghost use Rattle.source_form.specs.SourceText.{words_meaning, text_meaning, rest_meaning, line_meaning, meaning_from, source_meaning};
-ghost use Rattle.source_form.specs.Told.{IsToldBy, IsToldOf, fault_at};
+ghost use Rattle.source_form.specs.Told.{IsToldBy, IsToldOf, line_fault_at};
 
 use crate::fault::{LineFault, SourceFault};
 use crate::labels::front_problem;
@@ -82,7 +82,7 @@ pub(crate) fn line_text(
 /// The fault of a line, counted from 0.
 fn fault_at(place: usize, fault: LineFault) -> SourceFault
     requires { place < 2 ^ 63 }
-    ensures { result ≡ fault_at place fault }
+    ensures { result ≡ line_fault_at place fault }
 {
     match fault {
         LineFault::Bad(problem) => SourceFault::BadLine {

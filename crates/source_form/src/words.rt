@@ -4,7 +4,7 @@ ghost use Rattle.std.specs.Prelude.{◌≡◌, ◌<◌, IfSome, IfNone, true, fa
 ghost use Rattle.std.specs.List.{list_all};
 ghost use Rattle.text_lines.specs.Lines.{finishes};
 ghost use Rattle.source_form.specs.SourceText.{before_mark, all_but_last, statement, first_word, after_first_word};
-ghost use Rattle.source_form.specs.SourceText.{has_label, label_of, words_of, has_text, is_heading, names_map, form_of};
+ghost use Rattle.source_form.specs.SourceText.{has_label, label_of, statement_words, has_text, is_heading, names_map, operand_form_of};
 ghost use Rattle.source_form.specs.SourceText.{is_number_byte, begins_number, is_name, is_name_byte};
 
 /// What the operands of an instruction may be, the last one above all.
@@ -82,7 +82,7 @@ pub(crate) fn label_of(statement: &str) -> Option<&str>
 
 /// The instruction or heading of the statement, without its label.
 pub(crate) fn words_of(statement: &str) -> &str
-    ensures { result.now ≡ words_of statement.now }
+    ensures { result.now ≡ statement_words statement.now }
 {
     match statement.split_once(':') {
         Some((_, words)) => words.trim(),
@@ -113,7 +113,7 @@ pub(crate) fn names_map(word: &str) -> bool
 
 /// What the operands behind this first word may be.
 pub(crate) fn form_of(word: &str) -> Form
-    ensures { result ≡ form_of word.now }
+    ensures { result ≡ operand_form_of word.now }
 {
     if word.starts_with("j") {
         return Form::Jump;

@@ -10,7 +10,7 @@ use Rattle.semantics.specs.declared.verdict.Verdict.TheVariants as V
 use Rattle.semantics.specs.LittleEndian.{bytes_of_number}
 use Rattle.semantics.specs.Program.{shard_of_key}
 use Rattle.block_runs.specs.Plan.{Plan, Asks, either}
-use Rattle.conntrack.specs.Steering.{SteeringSizes, look, read, record_of, counted, has_flow, service_bytes_of}
+use Rattle.conntrack.specs.Steering.{SteeringSizes, look, read, record_of, counted_end, has_flow, service_bytes_of}
 use Rattle.steer.proofs.Tunnelling.{tunnelled}
 use Rattle.conntrack.specs.declared.steering_maps.SteeringMap.TheVariants as M
 
@@ -29,10 +29,10 @@ is_ready state = state % 2 ^ 32 == 1
 
 -- to the backend with this record
 abbrev pub sent : SteeringSizes → ℕ → ℕ → ℕ → FrameView → Plan
-sent setting source macs backend frame = counted setting V.Tx (tunnelled frame source macs backend)
+sent setting source macs backend frame = counted_end setting V.Tx (tunnelled frame source macs backend)
 
 abbrev pub dropped : SteeringSizes → FrameView → Plan
-dropped setting frame = counted setting V.Drop frame
+dropped setting frame = counted_end setting V.Drop frame
 
 -- this backend is noted for the flow
 abbrev pub noted : SteeringSizes → ℕ → FrameView → Plan → Plan
@@ -75,7 +75,7 @@ by_tunnel setting flags frame =
 -- a flow for a service
 abbrev pub by_service : SteeringSizes → FrameView → Plan
 by_service setting frame =
-    record_of setting M.Vips (service_bytes_of frame.bytes) (λ flags. by_tunnel setting flags frame) (counted setting V.Pass frame)
+    record_of setting M.Vips (service_bytes_of frame.bytes) (λ flags. by_tunnel setting flags frame) (counted_end setting V.Pass frame)
 
 abbrev pub steered : SteeringSizes → FrameView → Plan
-steered setting frame = either (has_flow frame.bytes) (by_service setting frame) (counted setting V.Pass frame)
+steered setting frame = either (has_flow frame.bytes) (by_service setting frame) (counted_end setting V.Pass frame)

@@ -10,7 +10,7 @@ use Rattle.semantics.specs.MachineState.{MachineState, StackByte}
 use Rattle.semantics.specs.Semantics.{verdict_number}
 use Rattle.block_runs.specs.Plan.{Plan, Ends}
 use Rattle.block_runs.proofs.shared.Blocks.{Promise, Meets, Arrives}
-use Rattle.conntrack.specs.Steering.{SteeringSizes, counted}
+use Rattle.conntrack.specs.Steering.{SteeringSizes, counted_end}
 use Rattle.steer.proofs.Promises.{AtEnd, AtCount, AtVerdict, program, promise, after_count, End, Count, Drop}
 use Rattle.steer.specs.PartStarts.{with_r6, any_stack, reg, place}
 use Rattle.block_runs.proofs.shared.SpelledStates.{spelled, as_spelled}
@@ -40,7 +40,7 @@ end_meets leaves setting code state plan at =
 count_from : (setting : SteeringSizes) (code : List Insn) (verdict : Verdict) (r : ℕ → RegisterValue) (p : ℕ → StackByte) (frame : FrameView)
     (generation worker now steps : ℕ) →
     Meets (after_count setting) (program setting code) count_block
-    (spelled 208 (with_r6 (Number (verdict_number verdict)) (r 7) (r 8) (r 9) r) (any_stack p) frame generation worker now steps) (counted setting verdict frame)
+    (spelled 208 (with_r6 (Number (verdict_number verdict)) (r 7) (r 8) (r 9) r) (any_stack p) frame generation worker now steps) (counted_end setting verdict frame)
 unfolding slot_count
 count_from setting code verdict r p frame generation worker now steps = (
   refl,
@@ -61,7 +61,7 @@ count_meets setting code state plan at =
 drop_from : (setting : SteeringSizes) (code : List Insn) (r : ℕ → RegisterValue) (p : ℕ → StackByte) (frame : FrameView)
     (generation worker now steps : ℕ) →
     Meets (Arrives (promise setting) 208 ((Count, count_block) ∷ (End, end_block) ∷ [])) (program setting code) drop_block
-    (spelled 207 (with_r6 (r 6) (r 7) (r 8) (r 9) r) (any_stack p) frame generation worker now steps) (counted setting V.Drop frame)
+    (spelled 207 (with_r6 (r 6) (r 7) (r 8) (r 9) r) (any_stack p) frame generation worker now steps) (counted_end setting V.Drop frame)
 unfolding slot_count
 drop_from setting code r p frame generation worker now steps =
     record { verdict = V.Drop; here = record { slot = refl; registers = refl; stack = refl }; plan_is = refl }
@@ -69,7 +69,7 @@ drop_from setting code r p frame generation worker now steps =
 pass_from : (setting : SteeringSizes) (code : List Insn) (r : ℕ → RegisterValue) (p : ℕ → StackByte) (frame : FrameView)
     (generation worker now steps : ℕ) →
     Meets (Arrives (promise setting) 207 ((Drop, drop_block) ∷ (Count, count_block) ∷ (End, end_block) ∷ [])) (program setting code) pass_block
-    (spelled 205 (with_r6 (r 6) (r 7) (r 8) (r 9) r) (any_stack p) frame generation worker now steps) (counted setting V.Pass frame)
+    (spelled 205 (with_r6 (r 6) (r 7) (r 8) (r 9) r) (any_stack p) frame generation worker now steps) (counted_end setting V.Pass frame)
 unfolding slot_count
 pass_from setting code r p frame generation worker now steps =
     record { verdict = V.Pass; here = record { slot = refl; registers = refl; stack = refl }; plan_is = refl }

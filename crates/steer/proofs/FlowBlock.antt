@@ -11,7 +11,7 @@ use Rattle.semantics.specs.RegisterValue.{RegisterValue, Number, Uninitialized, 
 use Rattle.semantics.specs.MachineState.{MachineState, Unwritten, initial_registers}
 use Rattle.block_runs.specs.Plan.{Plan, either}
 use Rattle.block_runs.proofs.shared.Blocks.{Meets, Arrives}
-use Rattle.conntrack.specs.Steering.{SteeringSizes, counted}
+use Rattle.conntrack.specs.Steering.{SteeringSizes, counted_end}
 use Rattle.steer.proofs.Conversation.{steered, by_service}
 use Rattle.steer.proofs.Promises.{AtFlow, program, promise, came_in, from_key}
 use Rattle.steer.specs.PartStarts.{IsLong, long_frame, packet_start}
@@ -124,7 +124,7 @@ short_from setting code worker now steps frame short =
         stack = refl;
       };
       plan_is =
-          ap (λ t. either t (by_service setting frame) (counted setting V.Pass frame)) (flow.short_has_none frame.bytes short);
+          ap (λ t. either t (by_service setting frame) (counted_end setting V.Pass frame)) (flow.short_has_none frame.bytes short);
     })
 
 -- ---- the block

@@ -9,7 +9,7 @@ use Rattle.isa.specs.Words.{signed_value}
 use Rattle.semantics.specs.LittleEndian.{reaches}
 use Rattle.semantics.specs.Comparison.{is_at_most_end}
 use Rattle.semantics.specs.declared.verdict.Verdict.TheVariants as V
-use Rattle.conntrack.specs.Steering.{SteeringSizes, has_flow, counted}
+use Rattle.conntrack.specs.Steering.{SteeringSizes, has_flow, counted_end}
 use Rattle.steer.proofs.Conversation.{steered, by_service}
 use Rattle.block_runs.specs.Plan.{either}
 use Rattle.steer.specs.PartStarts.{long_frame}
@@ -78,14 +78,14 @@ none_of true not_so = absurd (not_so refl)
 none_of false not_so = refl
 
 pub passes : (setting : SteeringSizes) (byte : ℕ → ℕ) (rest : List ℕ) → (FlowFacts byte rest → ⊥) →
-    steered setting (came_in byte rest) ≡ counted setting V.Pass (came_in byte rest)
+    steered setting (came_in byte rest) ≡ counted_end setting V.Pass (came_in byte rest)
 passes setting byte rest not_so =
-    ap (λ t. either t (by_service setting (came_in byte rest)) (counted setting V.Pass (came_in byte rest)))
+    ap (λ t. either t (by_service setting (came_in byte rest)) (counted_end setting V.Pass (came_in byte rest)))
     (none_of (has_flow (long_frame byte rest)) (λ is. not_so (flow_facts byte rest is)))
 
 pub serves : (setting : SteeringSizes) (byte : ℕ → ℕ) (rest : List ℕ) → FlowFacts byte rest → steered setting (came_in byte rest) ≡ by_service setting (came_in byte rest)
 serves setting byte rest facts =
-    ap (λ t. either t (by_service setting (came_in byte rest)) (counted setting V.Pass (came_in byte rest))) (is_flow byte rest facts)
+    ap (λ t. either t (by_service setting (came_in byte rest)) (counted_end setting V.Pass (came_in byte rest))) (is_flow byte rest facts)
 
 -- ---- the tests
 

@@ -9,10 +9,10 @@ use Rattle.wire.specs.FlowBytes.{be_bytes}
 use Rattle.wire.specs.PlainIpv4.{total_length, type_of_service}
 use Rattle.steer.proofs.Tunnelling.{tunnelled_with}
 use Rattle.block_runs.specs.Plan.{Plan, Ends}
-use Rattle.steer.specs.PartStarts.{place, reg, with_r6, packet_start, any_stack, tunnel_stack, long_frame, IsLong, IsAt, FlowStart}
+use Rattle.steer.specs.PartStarts.{place, reg, with_r6, packet_start, any_stack, tunnel_stack, long_frame, IsLong, IsAtPart, FlowStart}
 use Rattle.steer.specs.PartStarts.{VipStart, GuardsStart, TrackingStart, RingStart, TunnelStart, VerdictStart, CountStart}
 use Rattle.block_runs.proofs.shared.Blocks.{Promise, Named, Arrives}
-use Rattle.conntrack.specs.Steering.{SteeringSizes, counted}
+use Rattle.conntrack.specs.Steering.{SteeringSizes, counted_end}
 use Rattle.steer.proofs.Conversation.{sent, by_ring, by_note, by_tunnel, by_service, steered}
 use Rattle.semantics.specs.declared.verdict.Verdict.{Verdict}
 use Rattle.semantics.specs.declared.verdict.Verdict.TheVariants as V
@@ -38,12 +38,12 @@ pub record AtEnd (setting : SteeringSizes) (state : MachineState) (plan : Plan) 
 pub record AtCount (setting : SteeringSizes) (state : MachineState) (plan : Plan) : Type 0 where
   pub verdict : Verdict
   pub here : CountStart verdict state
-  pub plan_is : plan ≡ counted setting verdict state.frame
+  pub plan_is : plan ≡ counted_end setting verdict state.frame
 
 -- the verdicts of frames that are not sent
 pub record AtVerdict (start : ℕ) (verdict : Verdict) (setting : SteeringSizes) (state : MachineState) (plan : Plan) : Type 0 where
   pub here : VerdictStart start state
-  pub plan_is : plan ≡ counted setting verdict state.frame
+  pub plan_is : plan ≡ counted_end setting verdict state.frame
 
 pub record AtTunnel (setting : SteeringSizes) (state : MachineState) (plan : Plan) : Type 0 where
   pub source : ℕ
@@ -77,7 +77,7 @@ pub record AtRing (setting : SteeringSizes) (state : MachineState) (plan : Plan)
   pub source : ℕ
   pub macs : ℕ
   pub here :
-      IsAt 122 (Number (fnv1a64_of (flow_bytes_of state.frame.bytes))
+      IsAtPart 122 (Number (fnv1a64_of (flow_bytes_of state.frame.bytes))
       ∷ drop 1 (with_r6 ContextPointer packet_start (Number flags) (reg state.registers 9) (reg state.registers)))
       (tunnel_stack (place state.stack) source macs (flow_bytes_of state.frame.bytes)) state
   pub plan_is : plan ≡ by_ring setting flags source macs state.frame
@@ -107,7 +107,7 @@ pub record AtVip (setting : SteeringSizes) (state : MachineState) (plan : Plan) 
 
 pub record AtKey (setting : SteeringSizes) (state : MachineState) (plan : Plan) : Type 0 where
   pub here :
-      IsAt 23 (reg state.registers 0 ∷ reg state.registers 1 ∷ reg state.registers 2 ∷ reg state.registers 3 ∷ Number (slice_index state.frame.bytes 23)
+      IsAtPart 23 (reg state.registers 0 ∷ reg state.registers 1 ∷ reg state.registers 2 ∷ reg state.registers 3 ∷ Number (slice_index state.frame.bytes 23)
       ∷ reg state.registers 5 ∷ ContextPointer ∷ packet_start ∷ reg state.registers 8 ∷ Number (total_length state.frame.bytes) ∷ StackPointer (pos 0) ∷ [])
       (any_stack (place state.stack)) state
   pub plan_is : plan ≡ by_service setting state.frame

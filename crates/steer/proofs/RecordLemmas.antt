@@ -7,7 +7,7 @@ use Rattle.wire.specs.FrameView.{FrameView}
 use Rattle.wire.specs.PlainIpv4.{total_length, time_to_live}
 use Rattle.semantics.specs.LittleEndian.{bytes_of_number, number_of_bytes}
 use Rattle.ipip.specs.Encapsulation.{encapsulated_frame, outer_header}
-use Rattle.conntrack.specs.Layouts.{vip_of, flow_of, backend_of, tunnel_of, flow_bytes, word_at}
+use Rattle.conntrack.specs.Layouts.{vip_of, flow_record_of, backend_of, tunnel_of, flow_bytes, record_word_at}
 use Rattle.conntrack.specs.SteeringRule.{fits_tunnel, tunnel_to}
 use Rattle.steer.proofs.Tunnelling.{tunnelled}
 use Rattle.steer.proofs.Conversation.{is_notrack, is_up, is_ready}
@@ -21,14 +21,14 @@ notrack_is word = ap (λ n. not (n == 0)) (and_mask word 1) ∙ odd word
 
 pub up_is : (word : ℕ) → word < 256 ^ 8 → is_up word ≡ (backend_of (bytes_of_number 8 word)).is_up
 up_is word small =
-    let upper : word / 4294967296 ≡ word_at 4 (bytes_of_number 8 word) = omega arith in
+    let upper : word / 4294967296 ≡ record_word_at 4 (bytes_of_number 8 word) = omega arith in
     ap (λ n. n == 1) upper
 
-pub ready_is : (before : List ℕ) (word : ℕ) → word_at 16 (before ++ bytes_of_number 8 word) ≡ number_of_bytes (bytes_of_number 4 word) →
+pub ready_is : (before : List ℕ) (word : ℕ) → record_word_at 16 (before ++ bytes_of_number 8 word) ≡ number_of_bytes (bytes_of_number 4 word) →
     is_ready word ≡ (tunnel_of (before ++ bytes_of_number 8 word)).is_ready
 ready_is before word at = ap (λ n. n == 1) (low_four word ∙ sym at)
 
-pub note_key : (word : ℕ) → bytes_of_number 4 word ≡ bytes_of_number 4 (flow_of (bytes_of_number 8 word)).backend
+pub note_key : (word : ℕ) → bytes_of_number 4 word ≡ bytes_of_number 4 (flow_record_of (bytes_of_number 8 word)).backend
 note_key word = sym (bytes_back (bytes_of_number 4 word) (small_number 4 word))
 
 pub fits_is : (frame : List ℕ) → fits_tunnel frame ≡ (not (time_to_live frame == 0) && not (nat_lt 1480 (total_length frame)))

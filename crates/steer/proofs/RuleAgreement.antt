@@ -20,11 +20,11 @@ use Rattle.conntrack.specs.declared.choosing.Assigned.{Assigned}
 use Rattle.conntrack.specs.declared.choosing.Records.{Records}
 use Rattle.conntrack.specs.declared.choosing.Choice.{Choice}
 use Rattle.conntrack.specs.declared.choosing.Choice.TheVariants as C
-use Rattle.conntrack.specs.Layouts.{vip_of, flow_of, backend_of, tunnel_of, owner_of}
+use Rattle.conntrack.specs.Layouts.{vip_of, flow_record_of, backend_of, tunnel_of, owner_of}
 use Rattle.conntrack.specs.SteeringRule.{fits_tunnel, tracked_choice, ring_choice, tunnel_to}
 use Rattle.conntrack.specs.declared.steering_maps.SteeringMap.TheVariants as M
 use Rattle.block_runs.specs.Plan.{Plan, Asks, either}
-use Rattle.conntrack.specs.Steering.{SteeringSizes, look, read, record_of, counted, has_flow, steering, finish, ending, choice_in}
+use Rattle.conntrack.specs.Steering.{SteeringSizes, look, read, record_of, counted_end, has_flow, steering, finish, ending, choice_in}
 use Rattle.conntrack.specs.Steering.{no_records, read_service, pass_guard, read_tunnel, read_note, read_slot, read_owner, unless_tracked}
 use Rattle.steer.proofs.Conversation.{dropped, sent, noted, by_ring, by_note, by_service, by_tunnel, steered, is_up, is_ready, is_notrack}
 use Rattle.block_runs.proofs.shared.Agreement.{Agrees, agrees_same, agree_forks}
@@ -91,8 +91,8 @@ module _ (setting : SteeringSizes) (frame : FrameView) (program : Program) where
     noted_as note onward = Asks (Update (shard_of_key 1 LruHash setting.shards (flow_bytes_of frame.bytes)) (flow_bytes_of frame.bytes) note 0) (λ reply. onward)
 
     pub sent_is : (backend : ℕ) → sent setting source macs backend frame ≡
-        counted setting V.Tx (encapsulated_frame (tunnel_to tunnel (backend_of (bytes_of_number 8 backend)).address) frame)
-    sent_is backend = ap (counted setting V.Tx) (sym (same_frame frame source macs state backend))
+        counted_end setting V.Tx (encapsulated_frame (tunnel_to tunnel (backend_of (bytes_of_number 8 backend)).address) frame)
+    sent_is backend = ap (counted_end setting V.Tx) (sym (same_frame frame source macs state backend))
 
     ends_by : (tracked : Option Assigned) (owner backend : ℕ) → owner < 4294967296 → (up notrack : Bool) →
         choice_in frame.bytes (with_slot tracked (owner_of_slot owner backend)) ≡ unwrap_or (ring_choice vip (with_slot tracked (owner_of_slot owner backend))) C.Drop →
@@ -161,7 +161,7 @@ module _ (setting : SteeringSizes) (frame : FrameView) (program : Program) where
     -- ---- the backend that was noted
 
     abbrev as_noted : ℕ → Option BackendRecord → Option Assigned
-    as_noted note backend = Some (record { number = (flow_of (bytes_of_number 8 note)).backend; «record» = backend })
+    as_noted note backend = Some (record { number = (flow_record_of (bytes_of_number 8 note)).backend; «record» = backend })
 
     abbrev if_tracked : Bool → Option Choice → Option Choice
     if_tracked notrack choice = if notrack then None else choice
@@ -180,11 +180,11 @@ module _ (setting : SteeringSizes) (frame : FrameView) (program : Program) where
         (tracked_choice vip (with_slot (as_noted note (Some (backend_of (bytes_of_number 8 backend)))) None)))
     noted_by note backend served tracks false up =
         to_ring (as_noted note (Some (backend_of (bytes_of_number 8 backend)))) served
-        (λ slot. (λ i. if_tracked (tracks i) (if up i then Some (C.Tx (flow_of (bytes_of_number 8 note)).backend (backend_of (bytes_of_number 8 backend)).address false) else None)))
+        (λ slot. (λ i. if_tracked (tracks i) (if up i then Some (C.Tx (flow_record_of (bytes_of_number 8 note)).backend (backend_of (bytes_of_number 8 backend)).address false) else None)))
     noted_by note backend served tracks true up =
         let tracked : tracked_choice vip (with_slot (as_noted note (Some (backend_of (bytes_of_number 8 backend)))) None)
-        ≡ Some (C.Tx (flow_of (bytes_of_number 8 note)).backend (backend_of (bytes_of_number 8 backend)).address false) =
-        (λ i. if_tracked (tracks i) (if up i then Some (C.Tx (flow_of (bytes_of_number 8 note)).backend (backend_of (bytes_of_number 8 backend)).address false) else None)) in
+        ≡ Some (C.Tx (flow_record_of (bytes_of_number 8 note)).backend (backend_of (bytes_of_number 8 backend)).address false) =
+        (λ i. if_tracked (tracks i) (if up i then Some (C.Tx (flow_record_of (bytes_of_number 8 note)).backend (backend_of (bytes_of_number 8 backend)).address false) else None)) in
         subst (λ (c : Option Choice). Agrees program (sent setting source macs backend frame)
         (unless_tracked setting frame (with_slot (as_noted note (Some (backend_of (bytes_of_number 8 backend)))) None) c)) (sym tracked)
         (leaf program setting frame _ (with_slot (as_noted note (Some (backend_of (bytes_of_number 8 backend)))) None) _

@@ -14,7 +14,7 @@ use Rattle.semantics.specs.MachineState.{MachineState, StackByte}
 use Rattle.block_runs.specs.Plan.{Plan}
 use Rattle.block_runs.proofs.shared.Blocks.{Meets, Arrives}
 use Rattle.steer.proofs.Tunnelling.{tunnelled_with, header_checksum}
-use Rattle.conntrack.specs.Steering.{SteeringSizes, counted}
+use Rattle.conntrack.specs.Steering.{SteeringSizes, counted_end}
 use Rattle.steer.proofs.Conversation.{sent}
 use Rattle.steer.proofs.Promises.{AtTunnel, AtChecksum, program, promise, came_in, is_came_in, from_checksum, from_pass}
 use Rattle.steer.specs.PartStarts.{IsLong, packet_start, with_r6, tunnel_stack, any_stack, long_frame, reg, place}
@@ -99,7 +99,7 @@ checksum_from setting code source macs backend old first second r p worker now s
         registers = refl;
         stack = refl;
       };
-      plan_is = ap (λ check. counted setting V.Tx (tunnelled_with check old source macs backend)) (sym written);
+      plan_is = ap (λ check. counted_end setting V.Tx (tunnelled_with check old source macs backend)) (sym written);
     }
   where
     low : (n : ℕ) → n % 256 < 256

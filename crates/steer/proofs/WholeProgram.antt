@@ -21,12 +21,12 @@ use Rattle.block_runs.proofs.shared.BlockLaw.{blocks_join, does_more}
 use Rattle.block_runs.proofs.shared.Agreement.{does_agreeing, agrees_same}
 use Rattle.conntrack.specs.Layouts.{backend_of}
 use Rattle.conntrack.specs.SteeringRule.{tunnel_to}
-use Rattle.conntrack.specs.Steering.{SteeringSizes, steering, read_service, pass_guard, read_note, read_slot, counted}
+use Rattle.conntrack.specs.Steering.{SteeringSizes, steering, read_service, pass_guard, read_note, read_slot, counted_end}
 use Rattle.conntrack.proofs.shared.RuleLemmas.{passes_test}
 use Rattle.conntrack.proofs.shared.ResultLemmas.{finished_runs}
 use Rattle.steer.specs.ShippedProgram.{shipped_image}
 use Rattle.steer.specs.SteeringLaws.{ShippedSteers, ExitedRunsAreResults, shipped_program, of_size}
-use Rattle.steer.specs.PartLaws.{DoesFrom, vip_in, tunnel_in, records_in, FlowDoesItsPart, VipDoesItsPart, GuardsDoTheirPart}
+use Rattle.steer.specs.PartLaws.{DoesFrom, vip_in, tunnel_in, records_of_words, FlowDoesItsPart, VipDoesItsPart, GuardsDoTheirPart}
 use Rattle.steer.specs.PartLaws.{TrackingDoesItsPart}
 use Rattle.steer.specs.PartLaws.{RingDoesItsPart, TunnelDoesItsPart, CountDoesItsPart, PassIsCounted, DropIsCounted}
 use Rattle.steer.proofs.Conversation.{steered, by_service, by_tunnel, by_note, by_ring, sent}
@@ -145,35 +145,35 @@ guards_part setting is flags state here flow =
 pub tracking_part : TrackingDoesItsPart
 unfolding slot_count
 tracking_part setting is flags source macs word state here past =
-    does_agreeing 219 (shipped_program setting) state (by_note setting flags source macs state.frame) (read_note setting state.frame (vip_in flags) (records_in flags source macs word None)) (note_agrees setting state.frame (shipped_program setting) flags source macs word (record { flow = passes_test state.frame.bytes past.flow; fits = past.fits; ready = past.ready }))
+    does_agreeing 219 (shipped_program setting) state (by_note setting flags source macs state.frame) (read_note setting state.frame (vip_in flags) (records_of_words flags source macs word None)) (note_agrees setting state.frame (shipped_program setting) flags source macs word (record { flow = passes_test state.frame.bytes past.flow; fits = past.fits; ready = past.ready }))
     (starting setting is state (by_note setting flags source macs state.frame) 57 (AtTracking setting) here.slot (record { flags = flags; source = source; macs = macs; here = here; plan_is = refl }) (λ at. at))
 
 pub ring_part : RingDoesItsPart
 unfolding slot_count
 ring_part setting is flags source macs word tracked state here past none =
-    does_agreeing 219 (shipped_program setting) state (by_ring setting flags source macs state.frame) (read_slot setting state.frame (records_in flags source macs word tracked)) (ring_agrees setting state.frame (shipped_program setting) flags source macs word tracked (record { flow = passes_test state.frame.bytes past.flow; fits = past.fits; ready = past.ready }) (λ slot. none))
+    does_agreeing 219 (shipped_program setting) state (by_ring setting flags source macs state.frame) (read_slot setting state.frame (records_of_words flags source macs word tracked)) (ring_agrees setting state.frame (shipped_program setting) flags source macs word tracked (record { flow = passes_test state.frame.bytes past.flow; fits = past.fits; ready = past.ready }) (λ slot. none))
     (starting setting is state (by_ring setting flags source macs state.frame) 76 (AtHash setting) here.slot (record { flags = flags; source = source; macs = macs; here = here; plan_is = refl }) (λ at. at))
 
 pub tunnel_part : TunnelDoesItsPart
 unfolding slot_count
 tunnel_part setting is source macs word backend fits state here =
-    does_agreeing 219 (shipped_program setting) state (sent setting source macs backend state.frame) (counted setting V.Tx (encapsulated_frame (tunnel_to (tunnel_in source macs word) (backend_of (bytes_of_number 8 backend)).address) state.frame)) (agrees_same (shipped_program setting) _ _ (sent_is setting state.frame (shipped_program setting) 0 source macs word backend))
+    does_agreeing 219 (shipped_program setting) state (sent setting source macs backend state.frame) (counted_end setting V.Tx (encapsulated_frame (tunnel_to (tunnel_in source macs word) (backend_of (bytes_of_number 8 backend)).address) state.frame)) (agrees_same (shipped_program setting) _ _ (sent_is setting state.frame (shipped_program setting) 0 source macs word backend))
     (starting setting is state (sent setting source macs backend state.frame) 153 (AtTunnel setting) here.slot (record { source = source; macs = macs; backend = backend; backend_fits = fits; here = here; plan_is = refl }) (λ at. at))
 
 pub count_part : CountDoesItsPart
 unfolding slot_count
 count_part setting is verdict state here =
-    starting setting is state (counted setting verdict state.frame) 208 (AtCount setting) here.slot (record { verdict = verdict; here = here; plan_is = refl }) (λ at. at)
+    starting setting is state (counted_end setting verdict state.frame) 208 (AtCount setting) here.slot (record { verdict = verdict; here = here; plan_is = refl }) (λ at. at)
 
 pub pass_part : PassIsCounted
 unfolding slot_count
 pass_part setting is state here =
-    starting setting is state (counted setting V.Pass state.frame) 205 (AtVerdict 205 V.Pass setting) here.slot (record { here = here; plan_is = refl }) (λ at. at)
+    starting setting is state (counted_end setting V.Pass state.frame) 205 (AtVerdict 205 V.Pass setting) here.slot (record { here = here; plan_is = refl }) (λ at. at)
 
 pub drop_part : DropIsCounted
 unfolding slot_count
 drop_part setting is state here =
-    starting setting is state (counted setting V.Drop state.frame) 207 (AtVerdict 207 V.Drop setting) here.slot (record { here = here; plan_is = refl }) (λ at. at)
+    starting setting is state (counted_end setting V.Drop state.frame) 207 (AtVerdict 207 V.Drop setting) here.slot (record { here = here; plan_is = refl }) (λ at. at)
 
 -- ---- from the beginning of a run
 

@@ -16,7 +16,7 @@ use Rattle.conntrack.specs.declared.choosing.Assigned.{Assigned}
 use Rattle.conntrack.specs.declared.choosing.Records.{Records}
 use Rattle.conntrack.specs.Layouts.{vip_of, backend_of, tunnel_of}
 use Rattle.conntrack.specs.SteeringRule.{fits_tunnel, tracked_choice, tunnel_to}
-use Rattle.conntrack.specs.Steering.{SteeringSizes, steering, read_service, pass_guard, read_note, read_slot, counted}
+use Rattle.conntrack.specs.Steering.{SteeringSizes, steering, read_service, pass_guard, read_note, read_slot, counted_end}
 use Rattle.steer.specs.SteeringLaws.{shipped_program}
 use Rattle.steer.specs.PartStarts.{FlowStart, VipStart, GuardsStart, TrackingStart, RingStart, TunnelStart, VerdictStart, CountStart}
 
@@ -32,8 +32,8 @@ vip_in flags = vip_of (bytes_of_number 8 flags)
 abbrev pub tunnel_in : ℕ → ℕ → ℕ → TunnelRecord
 tunnel_in source macs word = tunnel_of (bytes_of_number 8 source ++ (bytes_of_number 8 macs ++ bytes_of_number 8 word))
 
-abbrev pub records_in : ℕ → ℕ → ℕ → ℕ → Option Assigned → Records
-records_in flags source macs word tracked =
+abbrev pub records_of_words : ℕ → ℕ → ℕ → ℕ → Option Assigned → Records
+records_of_words flags source macs word tracked =
     record { vip = Some (vip_in flags); tunnel = Some (tunnel_in source macs word); tracked = tracked; slot = None }
 
 -- the frame has a flow and can go through the tunnel, which is set up
@@ -68,38 +68,38 @@ abbrev pub TrackingDoesItsPart : Type 0
 TrackingDoesItsPart =
     (setting : SteeringSizes) → IsRingSize setting.size → (flags source macs word : ℕ) (state : MachineState) →
     TrackingStart flags source macs state → IsPastGuards state.frame.bytes (tunnel_in source macs word) →
-    DoesFrom setting state (read_note setting state.frame (vip_in flags) (records_in flags source macs word None))
+    DoesFrom setting state (read_note setting state.frame (vip_in flags) (records_of_words flags source macs word None))
 
 -- ring: the owner of the flow's slot, where no noted backend gets the frame
 abbrev pub RingDoesItsPart : Type 0
 RingDoesItsPart =
     (setting : SteeringSizes) → IsRingSize setting.size → (flags source macs word : ℕ) (tracked : Option Assigned) (state : MachineState) →
     RingStart flags source macs state → IsPastGuards state.frame.bytes (tunnel_in source macs word) →
-    tracked_choice (vip_in flags) (records_in flags source macs word tracked) ≡ None →
-    DoesFrom setting state (read_slot setting state.frame (records_in flags source macs word tracked))
+    tracked_choice (vip_in flags) (records_of_words flags source macs word tracked) ≡ None →
+    DoesFrom setting state (read_slot setting state.frame (records_of_words flags source macs word tracked))
 
 -- tunnel: the frame goes into the tunnel to the chosen backend, and is sent
 abbrev pub TunnelDoesItsPart : Type 0
 TunnelDoesItsPart =
     (setting : SteeringSizes) → IsRingSize setting.size → (source macs word backend : ℕ) → backend < 2 ^ 64 → (state : MachineState) →
     TunnelStart source macs backend state →
-    DoesFrom setting state (counted setting V.Tx
+    DoesFrom setting state (counted_end setting V.Tx
     (encapsulated_frame (tunnel_to (tunnel_in source macs word) (backend_of (bytes_of_number 8 backend)).address) state.frame))
 
 -- count: the verdict's count is raised, and the run ends with it
 abbrev pub CountDoesItsPart : Type 0
 CountDoesItsPart =
     (setting : SteeringSizes) → IsRingSize setting.size → (verdict : Verdict) (state : MachineState) → CountStart verdict state →
-    DoesFrom setting state (counted setting verdict state.frame)
+    DoesFrom setting state (counted_end setting verdict state.frame)
 
 -- count, at the block for frames that pass
 abbrev pub PassIsCounted : Type 0
 PassIsCounted =
     (setting : SteeringSizes) → IsRingSize setting.size → (state : MachineState) → VerdictStart 205 state →
-    DoesFrom setting state (counted setting V.Pass state.frame)
+    DoesFrom setting state (counted_end setting V.Pass state.frame)
 
 -- count, at the block for frames that are dropped
 abbrev pub DropIsCounted : Type 0
 DropIsCounted =
     (setting : SteeringSizes) → IsRingSize setting.size → (state : MachineState) → VerdictStart 207 state →
-    DoesFrom setting state (counted setting V.Drop state.frame)
+    DoesFrom setting state (counted_end setting V.Drop state.frame)

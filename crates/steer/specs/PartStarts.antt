@@ -71,7 +71,7 @@ pub record IsLong (frame : FrameView) : Type 0 where
 -- ---- states
 
 -- a run that has read the frame's headers, and has not moved it
-pub record IsAt (start : ℕ) (known : List RegisterValue) (written : List StackByte) (state : MachineState) : Type 0 where
+pub record IsAtPart (start : ℕ) (known : List RegisterValue) (written : List StackByte) (state : MachineState) : Type 0 where
   pub slot : state.slot ≡ start
   pub registers : state.registers ≡ known
   pub stack : state.stack ≡ written
@@ -98,19 +98,19 @@ pub record FlowStart (state : MachineState) : Type 0 where
 
 abbrev pub VipStart : MachineState → Type 0
 VipStart state =
-    IsAt 34 (with_r6 ContextPointer packet_start (reg state.registers 8) (Number (total_length state.frame.bytes)) (reg state.registers))
+    IsAtPart 34 (with_r6 ContextPointer packet_start (reg state.registers 8) (Number (total_length state.frame.bytes)) (reg state.registers))
     (service_stack (place state.stack) (service_bytes_of state.frame.bytes) (flow_bytes_of state.frame.bytes)) state
 
 -- with the service's flags
 abbrev pub GuardsStart : ℕ → MachineState → Type 0
 GuardsStart flags state =
-    IsAt 41 (with_r6 ContextPointer packet_start (Number flags) (Number (total_length state.frame.bytes)) (reg state.registers))
+    IsAtPart 41 (with_r6 ContextPointer packet_start (Number flags) (Number (total_length state.frame.bytes)) (reg state.registers))
     (flow_stack (place state.stack) (flow_bytes_of state.frame.bytes)) state
 
 -- with the service's flags and the tunnel's record too
 abbrev pub RecordsStart : ℕ → ℕ → ℕ → ℕ → MachineState → Type 0
 RecordsStart start flags source macs state =
-    IsAt start (with_r6 ContextPointer packet_start (Number flags) (reg state.registers 9) (reg state.registers))
+    IsAtPart start (with_r6 ContextPointer packet_start (Number flags) (reg state.registers 9) (reg state.registers))
     (tunnel_stack (place state.stack) source macs (flow_bytes_of state.frame.bytes)) state
 
 abbrev pub TrackingStart : ℕ → ℕ → ℕ → MachineState → Type 0
@@ -122,7 +122,7 @@ RingStart = RecordsStart 76
 -- with the tunnel's record and the chosen backend's
 abbrev pub TunnelStart : ℕ → ℕ → ℕ → MachineState → Type 0
 TunnelStart source macs backend state =
-    IsAt 153 (with_r6 ContextPointer packet_start (reg state.registers 8) (Number backend) (reg state.registers))
+    IsAtPart 153 (with_r6 ContextPointer packet_start (reg state.registers 8) (Number backend) (reg state.registers))
     (tunnel_stack (place state.stack) source macs (flow_bytes_of state.frame.bytes)) state
 
 -- at one of the two blocks that fix a verdict, whatever R6 to R9 are

@@ -4,8 +4,8 @@ use Rattle.std.specs.Prelude.{ℤ, pos, negsuc}
 -- ---- what a run finds in its context
 
 -- the packet's start
-abbrev pub packet_start : ℤ
-packet_start = pos 0
+abbrev pub packet_start_place : ℤ
+packet_start_place = pos 0
 
 -- the packet's end
 abbrev pub packet_end : ℤ
@@ -22,28 +22,28 @@ abbrev pub version : ℤ
 version = pos 14
 
 -- the type of service
-abbrev pub type_of_service : ℤ
-type_of_service = pos 15
+abbrev pub type_of_service_place : ℤ
+type_of_service_place = pos 15
 
 -- the packet's length
-abbrev pub total_length : ℤ
-total_length = pos 16
+abbrev pub total_length_place : ℤ
+total_length_place = pos 16
 
 -- flags and offset of a fragment
 abbrev pub fragment : ℤ
 fragment = pos 20
 
 -- the time to live
-abbrev pub time_to_live : ℤ
-time_to_live = pos 22
+abbrev pub time_to_live_place : ℤ
+time_to_live_place = pos 22
 
 -- the protocol
 abbrev pub protocol : ℤ
 protocol = pos 23
 
 -- the header's checksum
-abbrev pub header_checksum : ℤ
-header_checksum = pos 24
+abbrev pub header_checksum_place : ℤ
+header_checksum_place = pos 24
 
 -- the source address, and after it the destination address
 abbrev pub source : ℤ
@@ -88,8 +88,8 @@ abbrev pub flow_protocol : ℤ
 flow_protocol = negsuc 3
 
 -- the service's key, of eight bytes
-abbrev pub service_key : ℤ
-service_key = negsuc 23
+abbrev pub service_key_place : ℤ
+service_key_place = negsuc 23
 
 -- the port in it, the protocol and a zero
 abbrev pub service_port : ℤ
@@ -126,8 +126,8 @@ number = negsuc 55
 -- ---- where words begin in records
 
 -- a record's first word
-abbrev pub first_word : ℤ
-first_word = pos 0
+abbrev pub first_word_place : ℤ
+first_word_place = pos 0
 
 -- the owner's number plus 1, in a slot's record
 abbrev pub owner : ℤ
@@ -168,8 +168,8 @@ abbrev pub most_packet : ℤ
 most_packet = pos 2034
 
 -- the bytes of an Ethernet header
-abbrev pub ethernet_header : ℤ
-ethernet_header = pos 14
+abbrev pub ethernet_header_length : ℤ
+ethernet_header_length = pos 14
 
 -- all bits of flags and offset but "don't fragment", as a number of the frame's own byte order
 abbrev pub fragment_bits : ℤ
@@ -188,8 +188,8 @@ abbrev pub most_tunnelled : ℤ
 most_tunnelled = pos 1480
 
 -- the bytes of the outer header
-abbrev pub outer_header : ℤ
-outer_header = pos 20
+abbrev pub outer_header_length : ℤ
+outer_header_length = pos 20
 
 -- the bytes of an Ethernet header and the outer header
 abbrev pub new_headers : ℤ
@@ -204,8 +204,8 @@ abbrev pub fixed_words : ℤ
 fixed_words = pos 1152
 
 -- the lower sixteen bits
-abbrev pub low_half : ℤ
-low_half = pos 65535
+abbrev pub low_half_mask : ℤ
+low_half_mask = pos 65535
 
 -- the service's flag for no tracking
 abbrev pub notrack : ℤ
@@ -220,5 +220,5 @@ abbrev pub up : ℤ
 up = pos 1
 
 -- a lookup found nothing, or a slot has no owner
-abbrev pub nothing : ℤ
-nothing = pos 0
+abbrev pub found_nothing : ℤ
+found_nothing = pos 0

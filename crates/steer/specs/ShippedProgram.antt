@@ -31,14 +31,14 @@ use Rattle.steer.specs.declared.layout.Line.{Line}
 use Rattle.steer.specs.declared.layout.Line.TheVariants.{Do, Jump}
 use Rattle.steer.specs.declared.layout.Line.TheVariants.{JumpIf as JumpTo}
 use Rattle.steer.specs.Layout.{slots_in, laid_out}
-use Rattle.steer.specs.ProgramNames.{destination, destination_mac, destination_mac_rest, ethernet_header, ether_type, first_word}
+use Rattle.steer.specs.ProgramNames.{destination, destination_mac, destination_mac_rest, ethernet_header_length, ether_type, first_word_place}
 use Rattle.steer.specs.ProgramNames.{fixed_words, flow_key, flow_ports, flow_protocol, fragment, fragment_bits, headers}
-use Rattle.steer.specs.ProgramNames.{header_checksum, index, ipv4, least_packet, low_half, most_packet, most_tunnelled}
-use Rattle.steer.specs.ProgramNames.{new_headers, nothing, notrack, number, outer_header, owner, packet_end, packet_start}
-use Rattle.steer.specs.ProgramNames.{plain_header, ports, protocol, ready, service_key, service_port, source, source_mac}
-use Rattle.steer.specs.ProgramNames.{source_mac_rest, tcp, time_to_live, total_length, tunnel, tunnel_destination_mac}
+use Rattle.steer.specs.ProgramNames.{header_checksum_place, index, ipv4, least_packet, low_half_mask, most_packet, most_tunnelled}
+use Rattle.steer.specs.ProgramNames.{new_headers, found_nothing, notrack, number, outer_header_length, owner, packet_end, packet_start_place}
+use Rattle.steer.specs.ProgramNames.{plain_header, ports, protocol, ready, service_key_place, service_port, source, source_mac}
+use Rattle.steer.specs.ProgramNames.{source_mac_rest, tcp, time_to_live_place, total_length_place, tunnel, tunnel_destination_mac}
 use Rattle.steer.specs.ProgramNames.{tunnel_destination_mac_rest, tunnel_macs, tunnel_macs_word, tunnel_ready_word}
-use Rattle.steer.specs.ProgramNames.{tunnel_source_mac, tunnel_source_word, type_of_service, udp, unfragmented_ttl_64_ipip, up}
+use Rattle.steer.specs.ProgramNames.{tunnel_source_mac, tunnel_source_word, type_of_service_place, udp, unfragmented_ttl_64_ipip, up}
 use Rattle.steer.specs.ProgramNames.{version}
 
 -- so far below
@@ -59,14 +59,14 @@ abbrev pub decided : Verdict → Insn
 decided verdict = Alu Bits64 Mov R6 (Imm (pos (verdict_number verdict)))
 
 -- the call of a helper, by Linux's number of it
-abbrev pub call_of : Helper → Insn
-call_of helper = CallHelper (pos (helper_number helper))
+abbrev pub helper_call : Helper → Insn
+helper_call helper = CallHelper (pos (helper_number helper))
 
 -- the frame has a flow: an unfragmented IPv4 datagram without options, of TCP or UDP, whole in the frame
 abbrev pub flow_lines : List Line
 flow_lines =
     Do (Alu Bits64 Mov R6 (Reg R1)) ∷
-    Do (Ldx U32 R7 R6 packet_start) ∷
+    Do (Ldx U32 R7 R6 packet_start_place) ∷
     Do (Ldx U32 R8 R6 packet_end) ∷
     Do (Alu Bits64 Mov R2 (Reg R7)) ∷
     Do (Alu Bits64 Add R2 (Imm headers)) ∷
@@ -75,12 +75,12 @@ flow_lines =
     JumpTo Bits64 Ne R3 (Imm ipv4) B.Pass ∷
     Do (Ldx U8 R3 R7 version) ∷
     JumpTo Bits64 Ne R3 (Imm plain_header) B.Pass ∷
-    Do (Ldx U16 R9 R7 total_length) ∷
+    Do (Ldx U16 R9 R7 total_length_place) ∷
     Do (End ToBig Swap16 R9) ∷
     JumpTo Bits64 Lt R9 (Imm least_packet) B.Pass ∷
     JumpTo Bits64 Gt R9 (Imm most_packet) B.Pass ∷
     Do (Alu Bits64 Mov R2 (Reg R7)) ∷
-    Do (Alu Bits64 Add R2 (Imm ethernet_header)) ∷
+    Do (Alu Bits64 Add R2 (Imm ethernet_header_length)) ∷
     Do (Alu Bits64 Add R2 (Reg R9)) ∷
     JumpTo Bits64 Gt R2 (Reg R8) B.Pass ∷
     Do (Ldx U16 R3 R7 fragment) ∷
@@ -98,7 +98,7 @@ key_lines =
     Do (Stx U32 R10 R3 flow_ports) ∷
     Do (Stx U32 R10 R4 flow_protocol) ∷
     Do (Alu Bits64 Rsh R2 (Imm (pos 32))) ∷
-    Do (Stx U32 R10 R2 service_key) ∷
+    Do (Stx U32 R10 R2 service_key_place) ∷
     Do (Alu Bits64 Rsh R3 (Imm (pos 16))) ∷
     Do (Alu Bits64 Lsh R4 (Imm (pos 16))) ∷
     Do (Alu Bits64 Or R3 (Reg R4)) ∷
@@ -109,23 +109,23 @@ abbrev pub vip_lines : List Line
 vip_lines =
     Do (of_map Vips) ∷
     Do (Alu Bits64 Mov R2 (Reg R10)) ∷
-    Do (Alu Bits64 Add R2 (Imm service_key)) ∷
-    Do (call_of MapLookupElem) ∷
-    JumpTo Bits64 Eq R0 (Imm nothing) B.Pass ∷
-    Do (Ldx U64 R8 R0 first_word) ∷ []
+    Do (Alu Bits64 Add R2 (Imm service_key_place)) ∷
+    Do (helper_call MapLookupElem) ∷
+    JumpTo Bits64 Eq R0 (Imm found_nothing) B.Pass ∷
+    Do (Ldx U64 R8 R0 first_word_place) ∷ []
 
 -- the packet can be tunnelled, and the tunnel is set up
 abbrev pub guards_lines : List Line
 guards_lines =
-    Do (Ldx U8 R3 R7 time_to_live) ∷
+    Do (Ldx U8 R3 R7 time_to_live_place) ∷
     JumpTo Bits64 Eq R3 (Imm (pos 0)) B.Drop ∷
     JumpTo Bits64 Gt R9 (Imm most_tunnelled) B.Drop ∷
     Do (St U32 R10 index (pos 0)) ∷
     Do (of_map Ctl) ∷
     Do (Alu Bits64 Mov R2 (Reg R10)) ∷
     Do (Alu Bits64 Add R2 (Imm index)) ∷
-    Do (call_of MapLookupElem) ∷
-    JumpTo Bits64 Eq R0 (Imm nothing) B.Drop ∷
+    Do (helper_call MapLookupElem) ∷
+    JumpTo Bits64 Eq R0 (Imm found_nothing) B.Drop ∷
     Do (Ldx U64 R3 R0 tunnel_ready_word) ∷
     JumpTo Bits32 Ne R3 (Imm ready) B.Drop ∷
     Do (Ldx U64 R3 R0 tunnel_source_word) ∷
@@ -140,16 +140,16 @@ tracking_lines =
     Do (of_map Flows) ∷
     Do (Alu Bits64 Mov R2 (Reg R10)) ∷
     Do (Alu Bits64 Add R2 (Imm flow_key)) ∷
-    Do (call_of MapLookupElem) ∷
-    JumpTo Bits64 Eq R0 (Imm nothing) B.Hash ∷
-    Do (Ldx U64 R3 R0 first_word) ∷
+    Do (helper_call MapLookupElem) ∷
+    JumpTo Bits64 Eq R0 (Imm found_nothing) B.Hash ∷
+    Do (Ldx U64 R3 R0 first_word_place) ∷
     Do (Stx U32 R10 R3 index) ∷
     Do (of_map Backends) ∷
     Do (Alu Bits64 Mov R2 (Reg R10)) ∷
     Do (Alu Bits64 Add R2 (Imm index)) ∷
-    Do (call_of MapLookupElem) ∷
-    JumpTo Bits64 Eq R0 (Imm nothing) B.Hash ∷
-    Do (Ldx U64 R9 R0 first_word) ∷
+    Do (helper_call MapLookupElem) ∷
+    JumpTo Bits64 Eq R0 (Imm found_nothing) B.Hash ∷
+    Do (Ldx U64 R9 R0 first_word_place) ∷
     Do (Alu Bits64 Mov R3 (Reg R9)) ∷
     Do (Alu Bits64 Rsh R3 (Imm (pos 32))) ∷
     JumpTo Bits64 Eq R3 (Imm up) B.Tunnel ∷ []
@@ -183,18 +183,18 @@ ring_lines size =
     Do (of_map Ring) ∷
     Do (Alu Bits64 Mov R2 (Reg R10)) ∷
     Do (Alu Bits64 Add R2 (Imm index)) ∷
-    Do (call_of MapLookupElem) ∷
-    JumpTo Bits64 Eq R0 (Imm nothing) B.Drop ∷
+    Do (helper_call MapLookupElem) ∷
+    JumpTo Bits64 Eq R0 (Imm found_nothing) B.Drop ∷
     Do (Ldx U32 R3 R0 owner) ∷
-    JumpTo Bits64 Eq R3 (Imm nothing) B.Drop ∷
+    JumpTo Bits64 Eq R3 (Imm found_nothing) B.Drop ∷
     Do (Alu Bits64 Sub R3 (Imm (pos 1))) ∷
     Do (Stx U64 R10 R3 number) ∷
     Do (of_map Backends) ∷
     Do (Alu Bits64 Mov R2 (Reg R10)) ∷
     Do (Alu Bits64 Add R2 (Imm number)) ∷
-    Do (call_of MapLookupElem) ∷
-    JumpTo Bits64 Eq R0 (Imm nothing) B.Drop ∷
-    Do (Ldx U64 R9 R0 first_word) ∷
+    Do (helper_call MapLookupElem) ∷
+    JumpTo Bits64 Eq R0 (Imm found_nothing) B.Drop ∷
+    Do (Ldx U64 R9 R0 first_word_place) ∷
     Do (Alu Bits64 Mov R3 (Reg R9)) ∷
     Do (Alu Bits64 Rsh R3 (Imm (pos 32))) ∷
     JumpTo Bits64 Ne R3 (Imm up) B.Drop ∷
@@ -205,18 +205,18 @@ ring_lines size =
     Do (Alu Bits64 Mov R3 (Reg R10)) ∷
     Do (Alu Bits64 Add R3 (Imm number)) ∷
     Do (Alu Bits64 Mov R4 (Imm (pos 0))) ∷
-    Do (call_of MapUpdateElem) ∷ []
+    Do (helper_call MapUpdateElem) ∷ []
 
 -- the frame is moved, and its new headers are written, all but the checksum
 abbrev pub tunnel_lines : List Line
 tunnel_lines =
-    Do (Ldx U8 R8 R7 type_of_service) ∷
-    Do (Ldx U16 R7 R7 total_length) ∷
+    Do (Ldx U8 R8 R7 type_of_service_place) ∷
+    Do (Ldx U16 R7 R7 total_length_place) ∷
     Do (Alu Bits64 Mov R1 (Reg R6)) ∷
-    Do (Alu Bits64 Mov R2 (Imm (negated outer_header))) ∷
-    Do (call_of XdpAdjustHead) ∷
+    Do (Alu Bits64 Mov R2 (Imm (negated outer_header_length))) ∷
+    Do (helper_call XdpAdjustHead) ∷
     JumpTo Bits64 Ne R0 (Imm (pos 0)) B.Drop ∷
-    Do (Ldx U32 R1 R6 packet_start) ∷
+    Do (Ldx U32 R1 R6 packet_start_place) ∷
     Do (Ldx U32 R2 R6 packet_end) ∷
     Do (Alu Bits64 Mov R3 (Reg R1)) ∷
     Do (Alu Bits64 Add R3 (Imm new_headers)) ∷
@@ -234,9 +234,9 @@ tunnel_lines =
     Do (Alu Bits64 Or R8 (Imm plain_header)) ∷
     Do (Stx U16 R1 R8 version) ∷
     Do (End ToBig Swap16 R7) ∷
-    Do (Alu Bits64 Add R7 (Imm outer_header)) ∷
+    Do (Alu Bits64 Add R7 (Imm outer_header_length)) ∷
     Do (End ToBig Swap16 R7) ∷
-    Do (Stx U32 R1 R7 total_length) ∷
+    Do (Stx U32 R1 R7 total_length_place) ∷
     Do (St U32 R1 fragment unfragmented_ttl_64_ipip) ∷
     Do (Ldx U32 R4 R10 tunnel) ∷
     Do (Stx U32 R1 R4 source) ∷
@@ -252,18 +252,18 @@ checksum_lines =
     Do (Alu Bits64 Add R4 (Imm fixed_words)) ∷
     Do (Alu Bits64 Mov R3 (Reg R4)) ∷
     Do (Alu Bits64 Rsh R3 (Imm (pos 16))) ∷
-    Do (Alu Bits64 And R4 (Imm low_half)) ∷
+    Do (Alu Bits64 And R4 (Imm low_half_mask)) ∷
     Do (Alu Bits64 Add R4 (Reg R3)) ∷
     Do (Alu Bits64 Mov R3 (Reg R4)) ∷
     Do (Alu Bits64 Rsh R3 (Imm (pos 16))) ∷
-    Do (Alu Bits64 And R4 (Imm low_half)) ∷
+    Do (Alu Bits64 And R4 (Imm low_half_mask)) ∷
     Do (Alu Bits64 Add R4 (Reg R3)) ∷
     Do (Alu Bits64 Mov R3 (Reg R4)) ∷
     Do (Alu Bits64 Rsh R3 (Imm (pos 16))) ∷
-    Do (Alu Bits64 And R4 (Imm low_half)) ∷
+    Do (Alu Bits64 And R4 (Imm low_half_mask)) ∷
     Do (Alu Bits64 Add R4 (Reg R3)) ∷
-    Do (Alu Bits64 Xor R4 (Imm low_half)) ∷
-    Do (Stx U16 R1 R4 header_checksum) ∷
+    Do (Alu Bits64 Xor R4 (Imm low_half_mask)) ∷
+    Do (Stx U16 R1 R4 header_checksum_place) ∷
     Do (decided V.Tx) ∷
     Jump B.Count ∷ []
 
@@ -285,10 +285,10 @@ count_lines =
     Do (of_map Stats) ∷
     Do (Alu Bits64 Mov R2 (Reg R10)) ∷
     Do (Alu Bits64 Add R2 (Imm index)) ∷
-    Do (call_of MapLookupElem) ∷
-    JumpTo Bits64 Eq R0 (Imm nothing) B.End ∷
+    Do (helper_call MapLookupElem) ∷
+    JumpTo Bits64 Eq R0 (Imm found_nothing) B.End ∷
     Do (Alu Bits64 Mov R1 (Imm (pos 1))) ∷
-    Do (AtomicUpdate Bits64 AtomicAdd R0 R1 first_word) ∷ []
+    Do (AtomicUpdate Bits64 AtomicAdd R0 R1 first_word_place) ∷ []
 
 -- the verdict
 abbrev pub end_lines : List Line
@@ -337,58 +337,58 @@ count_start = drop_start + slots_in drop_lines
 abbrev pub end_start : ℕ
 end_start = count_start + slots_in count_lines
 
-abbrev pub start_of : Block → ℕ
-start_of B.Flow = flow_start
-start_of B.Key = key_start
-start_of B.Vip = vip_start
-start_of B.Guards = guards_start
-start_of B.Tracking = tracking_start
-start_of B.Hash = hash_start
-start_of B.Ring = ring_start
-start_of B.Tunnel = tunnel_start
-start_of B.Checksum = checksum_start
-start_of B.Pass = pass_start
-start_of B.Drop = drop_start
-start_of B.Count = count_start
-start_of B.End = end_start
+abbrev pub block_start : Block → ℕ
+block_start B.Flow = flow_start
+block_start B.Key = key_start
+block_start B.Vip = vip_start
+block_start B.Guards = guards_start
+block_start B.Tracking = tracking_start
+block_start B.Hash = hash_start
+block_start B.Ring = ring_start
+block_start B.Tunnel = tunnel_start
+block_start B.Checksum = checksum_start
+block_start B.Pass = pass_start
+block_start B.Drop = drop_start
+block_start B.Count = count_start
+block_start B.End = end_start
 
 -- ---- the blocks, laid out
 
 abbrev pub flow_block : List Insn
-flow_block = laid_out start_of flow_start flow_lines
+flow_block = laid_out block_start flow_start flow_lines
 
 abbrev pub key_block : List Insn
-key_block = laid_out start_of key_start key_lines
+key_block = laid_out block_start key_start key_lines
 
 abbrev pub vip_block : List Insn
-vip_block = laid_out start_of vip_start vip_lines
+vip_block = laid_out block_start vip_start vip_lines
 
 abbrev pub guards_block : List Insn
-guards_block = laid_out start_of guards_start guards_lines
+guards_block = laid_out block_start guards_start guards_lines
 
 abbrev pub tracking_block : List Insn
-tracking_block = laid_out start_of tracking_start tracking_lines
+tracking_block = laid_out block_start tracking_start tracking_lines
 
 abbrev pub ring_block : ℕ → List Insn
-ring_block size = laid_out start_of ring_start (ring_lines size)
+ring_block size = laid_out block_start ring_start (ring_lines size)
 
 abbrev pub tunnel_block : List Insn
-tunnel_block = laid_out start_of tunnel_start tunnel_lines
+tunnel_block = laid_out block_start tunnel_start tunnel_lines
 
 abbrev pub checksum_block : List Insn
-checksum_block = laid_out start_of checksum_start checksum_lines
+checksum_block = laid_out block_start checksum_start checksum_lines
 
 abbrev pub pass_block : List Insn
-pass_block = laid_out start_of pass_start pass_lines
+pass_block = laid_out block_start pass_start pass_lines
 
 abbrev pub drop_block : List Insn
-drop_block = laid_out start_of drop_start drop_lines
+drop_block = laid_out block_start drop_start drop_lines
 
 abbrev pub count_block : List Insn
-count_block = laid_out start_of count_start count_lines
+count_block = laid_out block_start count_start count_lines
 
 abbrev pub end_block : List Insn
-end_block = laid_out start_of end_start end_lines
+end_block = laid_out block_start end_start end_lines
 
 -- ---- the program
 

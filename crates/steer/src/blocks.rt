@@ -5,7 +5,7 @@
 //! key (8 at -24), an index (4 at -28), the tunnel's record (the first 16 bytes at -48), the chosen backend's number (8 at -56).
 
 ghost use Rattle.std.specs.Prelude.{◌≡◌, ◌≤◌, ◌++◌, OnOk};
-ghost use Rattle.steer.specs.ShippedProgram.{call_of, of_map, decided, hash_block, hash_byte, flow_lines, key_lines, vip_lines};
+ghost use Rattle.steer.specs.ShippedProgram.{helper_call, of_map, decided, hash_block, hash_byte, flow_lines, key_lines, vip_lines};
 ghost use Rattle.steer.specs.ShippedProgram.{guards_lines};
 ghost use Rattle.steer.specs.ShippedProgram.{tracking_lines, ring_lines, tunnel_lines, checksum_lines, pass_lines, drop_lines};
 ghost use Rattle.steer.specs.ShippedProgram.{count_lines, end_lines};
@@ -131,7 +131,7 @@ use std::alloc::AllocError;
 
 /// The call of a helper.
 fn call(helper: Helper) -> Insn
-    ensures { result ≡ call_of helper }
+    ensures { result ≡ helper_call helper }
 {
     CallHelper {
         helper: helper.number(),

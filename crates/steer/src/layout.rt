@@ -2,7 +2,7 @@
 
 ghost use Rattle.std.specs.Prelude.{◌≡◌, ◌≤◌, ◌-◌, ◌++◌, length, pos, OnOk};
 ghost use Rattle.steer.specs.Layout.{line_slots, insn_of, laid_out};
-ghost use Rattle.steer.specs.ShippedProgram.{start_of};
+ghost use Rattle.steer.specs.ShippedProgram.{block_start};
 
 use ebpf_decode::Insn;
 use isa::{Register, SourceOperand, Test, Width};
@@ -30,7 +30,7 @@ impl Block {
     /// The slot at which the block starts: after all slots of the blocks before it.
     #[tactic(auto, unfolding(ebpf_decode::specs::InstructionEncoding::slot_count))]
     pub(crate) fn start(self) -> u32
-        ensures start { result ≡ start_of self }
+        ensures start { result ≡ block_start self }
         ensures most { result ≤ 217 }
     {
         match self {
@@ -85,7 +85,7 @@ impl Line {
 
     /// Its instruction, where the next one is at this slot.
     fn laid_out(self, next: u32) -> Insn
-        ensures { result ≡ insn_of start_of next self }
+        ensures { result ≡ insn_of block_start next self }
     {
         match self {
             Line::Do(insn) => insn,
@@ -111,7 +111,7 @@ impl Line {
 
 /// How far the block's start is from a slot, 0 where it is not after it.
 fn distance(next: u32, to: Block) -> i16
-    ensures { result ≡ pos (start_of to - next) }
+    ensures { result ≡ pos (block_start to - next) }
 {
     let start = to.start();
     if next < start {
@@ -124,7 +124,7 @@ fn distance(next: u32, to: Block) -> i16
 /// Puts the block's lines behind the code.
 pub(crate) fn put(code: &mut Vec<Insn>, block: Block, lines: &[Line]) -> Result<(), AllocError>
     requires { length lines.now ≤ 64 }
-    ensures { OnOk result (code.new.items ≡ code.old.items ++ laid_out start_of (start_of block) lines.now) }
+    ensures { OnOk result (code.new.items ≡ code.old.items ++ laid_out block_start (block_start block) lines.now) }
 {
     let mut slot = block.start();
     'lines: for line in lines {

@@ -25,7 +25,7 @@ use Rattle.semantics.specs.SequentialShard.{SequentialShard, shard_after, shard_
 use Rattle.semantics.specs.ShardPlan.{capacity}
 use Rattle.semantics.proofs.shared.CallNumbers.{same_number}
 use Rattle.semantics.proofs.shared.ConditionLemmas.{first_true, second_true}
-use Rattle.actors.specs.Commands.{AnsweredUpdate, with_updates, with_update, update_entry}
+use Rattle.actors.specs.Commands.{AnsweredUpdate, with_updates, with_update, controller_entry}
 use Rattle.actors.specs.SharedUpdates.{shard_of}
 use Rattle.steered_replays.specs.Counting.{IsQuiet}
 
@@ -230,7 +230,7 @@ updates_put maps options number parts cell first (made ∷ later) history =
     updates_put maps options number parts cell first later (with_update maps options number made history)
     ∙ ap (put_made (is_in_cell maps options number parts cell) later) (by (shard_of maps options made.update == number))
   where
-    by : (test : Bool) → last_put parts cell first (if test then update_entry number made ∷ history else history)
+    by : (test : Bool) → last_put parts cell first (if test then controller_entry number made ∷ history else history)
         ≡ (if test && (is_success made.answer && (number_of_bytes made.update.key / parts == cell)) then made.update.value else last_put parts cell first history)
     by true = refl
     by false = refl

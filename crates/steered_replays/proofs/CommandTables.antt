@@ -18,8 +18,8 @@ use Rattle.control.specs.declared.ring_changes.Slot.{Slot}
 use Rattle.control.specs.declared.update.Update.{Update as Change}
 use Rattle.control.specs.declared.update.Update.TheVariants.{Vip, Backend}
 use Rattle.control.specs.Controlling.{ControllerState, IsTable, has_number, has_address, up_after, up_refusal, down_refusal, action_refusal, refusal_of, down_update, first_updates}
-use Rattle.control.specs.RingChanges.{is_same_owner, change_at, changes_below, slot_update, slot_updates}
-use Rattle.actors.specs.Commands.{AnsweredUpdate, CommandDone, AreDone, IsDoneBy, IsNothing, IsCarriedOut, IsTurnedDown, done_update, all_done, made_in}
+use Rattle.control.specs.RingChanges.{is_same_owner, slot_change, changes_below, slot_update, slot_updates}
+use Rattle.actors.specs.Commands.{AnsweredUpdate, CommandDone, AreDone, IsDoneBy, IsNothing, IsFullyDone, IsTurnedDown, done_update, all_done, made_in}
 use Rattle.steered_replays.specs.TablesAtEnd.{up_left, record_after, record_left}
 use Rattle.steered_replays.proofs.ArrayShards.{is_success, put_made, put_both, none_put}
 
@@ -85,11 +85,11 @@ module _ (old new : List ℕ) (slot : ℕ) where
 
   next_put : (n : ℕ) → n < 65538 → IsPutBelow n → IsPutBelow (suc n)
   next_put n few before =
-      let whole : put_below (suc n) ≡ put_made (is_at 2 slot) (all_done (slot_updates (change_at old new n))) (put_below n) =
-      ap (λ l. put_made (is_at 2 slot) (all_done l) (owned (slice_get old slot))) (slot_updates_both (changes_below old new n) (change_at old new n))
-      ∙ ap (λ l. put_made (is_at 2 slot) l (owned (slice_get old slot))) (all_done_both (slot_updates (changes_below old new n)) (slot_updates (change_at old new n)))
-      ∙ put_both (is_at 2 slot) (all_done (slot_updates (changes_below old new n))) (all_done (slot_updates (change_at old new n))) (owned (slice_get old slot)) in
-      let step : put_made (is_at 2 slot) (all_done (slot_updates (change_at old new n))) (put_below n) ≡ (if n == slot then owned (slice_get new slot) else put_below n) =
+      let whole : put_below (suc n) ≡ put_made (is_at 2 slot) (all_done (slot_updates (slot_change old new n))) (put_below n) =
+      ap (λ l. put_made (is_at 2 slot) (all_done l) (owned (slice_get old slot))) (slot_updates_both (changes_below old new n) (slot_change old new n))
+      ∙ ap (λ l. put_made (is_at 2 slot) l (owned (slice_get old slot))) (all_done_both (slot_updates (changes_below old new n)) (slot_updates (slot_change old new n)))
+      ∙ put_both (is_at 2 slot) (all_done (slot_updates (changes_below old new n))) (all_done (slot_updates (slot_change old new n))) (owned (slice_get old slot)) in
+      let step : put_made (is_at 2 slot) (all_done (slot_updates (slot_change old new n))) (put_below n) ≡ (if n == slot then owned (slice_get new slot) else put_below n) =
       change_puts n few (put_below n) (n == slot) refl (is_same_owner (slice_get old n) (slice_get new n)) refl
       (λ is. let here : n ≡ slot = eqb-true n slot is in before.left (omega (arith, here))) in
       record {
@@ -186,7 +186,7 @@ kept_down state one answer why state' turned = record {
 }
 
 pub step_of : (state : ControllerState) (one : CommandDone) (state' : ControllerState) (fault : Option ControlFault) → IsDoneBy fault state one state' → fault ≢ Some JournalFull →
-    ((fault ≡ None) × IsCarriedOut state one state') ⊎ IsKept state one fault state'
+    ((fault ≡ None) × IsFullyDone state one state') ⊎ IsKept state one fault state'
 step_of state one state' None did free = inl (refl, did)
 step_of state one state' (Some UnknownBackend) did free = inr (kept_nothing state one UnknownBackend state' did.0)
 step_of state one state' (Some BackendTwice) did free = inr (kept_nothing state one BackendTwice state' did.0)
@@ -197,7 +197,7 @@ step_of state one state' (Some BadSize) did free = absurd did
 step_of state one state' (Some (BadLine line)) did free = absurd did
 
 abbrev pub IsStep : ControllerState → CommandDone → ControllerState → Type 0
-IsStep state one state' = ((one.fault ≡ None) × IsCarriedOut state one state') ⊎ IsKept state one one.fault state'
+IsStep state one state' = ((one.fault ≡ None) × IsFullyDone state one state') ⊎ IsKept state one one.fault state'
 
 -- ---- the lookup table
 

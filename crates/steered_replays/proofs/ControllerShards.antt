@@ -17,7 +17,7 @@ use Rattle.control.specs.declared.update.Update.{Update as Change}
 use Rattle.control.specs.declared.update.Update.TheVariants.{Vip, Ring, Backend, Tunnel}
 use Rattle.control.specs.Controlling.{ControllerState}
 use Rattle.control.specs.MapUpdates.{UpdateBytes, map_update}
-use Rattle.actors.specs.Commands.{AnsweredUpdate, CommandDone, AreDone, IsDoneBy, IsNothing, all_done, made_in, with_updates, with_update, update_entry}
+use Rattle.actors.specs.Commands.{AnsweredUpdate, CommandDone, AreDone, IsDoneBy, IsNothing, all_done, made_in, with_updates, with_update, controller_entry}
 use Rattle.actors.specs.SharedUpdates.{shard_of}
 use Rattle.steered_replays.proofs.ResultCounts.{all_both}
 
@@ -76,7 +76,7 @@ module _ (size : ℕ) (options : Options) (some : 0 < options.shards) (number : 
   one_aside made of history =
       let below : shard_of (steering_maps size) options made.update < 5 * options.shards =
       subst (λ (update : UpdateBytes). shard_of (steering_maps size) options update < 5 * options.shards) (sym of.1) (change_below size options some of.0) in
-      ap (λ (test : Bool). if test then update_entry number made ∷ history else history)
+      ap (λ (test : Bool). if test then controller_entry number made ∷ history else history)
       (not_there (shard_of (steering_maps size) options made.update) number (5 * options.shards) below past)
 
   all_aside : (made : List AnsweredUpdate) → AllByRecursion IsOfChange made → (history : List Entry) →

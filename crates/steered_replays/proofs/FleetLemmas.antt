@@ -29,7 +29,7 @@ use Rattle.conntrack.specs.SteeringRule.{choice_for_service, choice_of, choice_i
 use Rattle.control.specs.declared.command.Action.{Action}
 use Rattle.control.specs.declared.command.Action.TheVariants.{Down}
 use Rattle.control.specs.Controlling.{IsTable, has_number, without_backend, up_after}
-use Rattle.steered_replays.specs.TablesAtEnd.{MapsAt, value_at, up_left, no_record, record_left, AreTables, IsRecordedUp}
+use Rattle.steered_replays.specs.TablesAtEnd.{MapsAt, value_at, up_left, no_record, record_left, AreTablesAtEnd, IsRecordedUp}
 use Rattle.steered_replays.specs.Fleets.{SameTables, slot_of_flow, owner_in, assigned_in, owner_of_flow, IsSentByTable, sent_to, server_of, OwnersAreSentTo, SomeAreSentTo, FramesAreSent, StrangersAgree, StrangersMove}
 
 -- ---- the same tables
@@ -229,7 +229,7 @@ chosen size now frame vip choice sent =
     ∙ ap (λ (noted : Option Choice). unwrap_or noted (unwrap_or (choice_of (not vip.is_notrack) sent.records.slot) Drop)) sent.no_note
     ∙ ap (λ (slot : Option Assigned). unwrap_or (choice_of (not vip.is_notrack) slot) Drop) sent.slot_read
 
-module _ (size : ℕ) (done : List Action) (now : MapsAt) (tables : AreTables size done now) (some : 0 < size) where
+module _ (size : ℕ) (done : List Action) (now : MapsAt) (tables : AreTablesAtEnd size done now) (some : 0 < size) where
   slot_owner : (up : List Server) → IsTable size up tables.owners → AllByRecursion (IsRecordedUp done) up → (slot : ℕ) → slot < size → (vip : VipRecord) →
       unwrap_or (choice_of (not vip.is_notrack) (assigned_in now (owner_in (value_at now Ring (bytes_of_number 4 slot))))) Drop
       ≡ sent_to vip (server_of up (slice_get tables.owners slot))
@@ -390,8 +390,8 @@ module _ (vip : VipRecord) where
   same_server up gone (Some number) owned its =
       let one = its.known number refl in find_left up number gone (left_is_other up number gone one.0 one.1)
 
-module _ (size : ℕ) (done : List Action) (number : ℕ) (before after : MapsAt) (some : 0 < size) (tables : AreTables size done before)
-    (its : AreTables size (done ++ Down number ∷ []) after) (frame : List ℕ) (vip : VipRecord) (choice later : Choice)
+module _ (size : ℕ) (done : List Action) (number : ℕ) (before after : MapsAt) (some : 0 < size) (tables : AreTablesAtEnd size done before)
+    (its : AreTablesAtEnd size (done ++ Down number ∷ []) after) (frame : List ℕ) (vip : VipRecord) (choice later : Choice)
     (sent : IsSentByTable size before frame vip choice) (also : IsSentByTable size after frame vip later) where
   abbrev slot : ℕ
   slot = slot_of_flow size frame

@@ -27,7 +27,7 @@ use Rattle.semantics.specs.SequentialShard.{SequentialShard, shard_after, shard_
 use Rattle.semantics.specs.LeastRecentlyUsed.{least_recently_used}
 use Rattle.semantics.specs.Linux.{errno_code, success}
 use Rattle.semantics.specs.declared.linux.Errno.TheVariants.{TooBig, NoMemory}
-use Rattle.actors.specs.Commands.{AnsweredUpdate, with_updates, with_update, update_entry}
+use Rattle.actors.specs.Commands.{AnsweredUpdate, with_updates, with_update, controller_entry}
 use Rattle.actors.specs.SharedUpdates.{shard_of}
 use Rattle.steered_replays.specs.Counting.{IsQuiet}
 use Rattle.steered_replays.proofs.ArrayShards.{is_success, succeeded}
@@ -218,7 +218,7 @@ updates_keep maps options number key (made ∷ later) history =
     updates_keep maps options number key later (with_update maps options number made history)
     ∙ ap (kept_made (is_key_in maps options number key) later) (by (shard_of maps options made.update == number))
   where
-    by : (test : Bool) → last_kept key (if test then update_entry number made ∷ history else history)
+    by : (test : Bool) → last_kept key (if test then controller_entry number made ∷ history else history)
         ≡ (if test && (is_success made.answer && bytes_eq made.update.key key) then Some made.update.value else last_kept key history)
     by true = refl
     by false = refl

@@ -21,7 +21,7 @@ use Rattle.semantics.specs.SequentialShard.{SequentialShard, cell_of_present, ce
 use Rattle.semantics.specs.SequentialShard.{without_key, without_found, after_eviction, with_new_key, with_value, updated_where, present_key, shard_after_call, shard_after, lookup_reply}
 use Rattle.semantics.proofs.shared.LawLemmas.{updated_where-keeps, after_eviction-keeps}
 use Rattle.conntrack.specs.Layouts.{flow_bytes}
-use Rattle.steered_replays.specs.StickyFlows.{Evicts, LeavesNote, AllLeaveNote, noting, NotesAreFound}
+use Rattle.steered_replays.specs.StickyFlows.{Evicts, LeavesNote, AllLeaveNote, noting_entry, NotesAreFound}
 
 -- ---- keys that are present: their cells fall, so no two have one cell
 
@@ -315,13 +315,13 @@ has_put plan lru history key value cell None is put_in =
     }
 
 has_noted : (plan : ShardPlan) → plan.definition.kind ≡ LruHash → (who : Caller) (number flags cell backend : ℕ) (key : List ℕ) (before : List Entry) →
-    IsLegalHistory plan (noting who number key backend flags ∷ before) →
-    cell_of_key plan (shard_after plan (noting who number key backend flags ∷ before)) key ≡ Some cell →
-    Has key (flow_bytes (record { backend = backend })) cell (shard_after plan (noting who number key backend flags ∷ before))
+    IsLegalHistory plan (noting_entry who number key backend flags ∷ before) →
+    cell_of_key plan (shard_after plan (noting_entry who number key backend flags ∷ before)) key ≡ Some cell →
+    Has key (flow_bytes (record { backend = backend })) cell (shard_after plan (noting_entry who number key backend flags ∷ before))
 has_noted plan lru who number flags cell backend key before legal put_in =
     let answered : update_answer plan (shard_after plan before) key flags ≡ success = (let replied = legal.0.step.replied in cc replied) in
     let value : List ℕ = flow_bytes (record { backend = backend }) in
-    let after : shard_after plan (noting who number key backend flags ∷ before) ≡ with_value plan before (shard_after plan before) key value (cell_of_key plan (shard_after plan before) key) =
+    let after : shard_after plan (noting_entry who number key backend flags ∷ before) ≡ with_value plan before (shard_after plan before) key value (cell_of_key plan (shard_after plan before) key) =
     ap (λ (answer : ℤ). updated_where answer (with_value plan before (shard_after plan before) key value (cell_of_key plan (shard_after plan before) key)) (shard_after plan before)) answered in
     subst (Has key value cell) (sym after)
     (has_put plan lru before key value cell (cell_of_key plan (shard_after plan before) key) refl
@@ -332,7 +332,7 @@ note_back n small = omega arith
 
 pub notes_are_found : NotesAreFound
 notes_are_found plan history key number cell lru legal noted =
-    let put = noting noted.who noted.shard key number noted.flags in
+    let put = noting_entry noted.who noted.shard key number noted.flags in
     let own : IsLegalHistory plan (noted.since ++ put ∷ noted.before) = subst (IsLegalHistory plan) noted.history_is legal in
     let first : Has key (flow_bytes (record { backend = number })) cell (shard_after plan (put ∷ noted.before)) =
     has_noted plan lru noted.who noted.shard noted.flags cell number key noted.before (legal_before plan noted.since (put ∷ noted.before) own) noted.put_in in

@@ -34,9 +34,9 @@ use Rattle.conntrack.specs.declared.records.TunnelRecord.{TunnelRecord}
 use Rattle.conntrack.specs.declared.records.VipRecord.{VipRecord}
 use Rattle.conntrack.specs.declared.steering_maps.SteeringMap.{SteeringMap}
 use Rattle.conntrack.specs.declared.steering_maps.SteeringMap.TheVariants.{Vips, Flows, Ring, Backends, Ctl, Stats}
-use Rattle.conntrack.specs.Layouts.{vip_of, flow_of, backend_of, tunnel_of, owner_of}
+use Rattle.conntrack.specs.Layouts.{vip_of, flow_record_of, backend_of, tunnel_of, owner_of}
 use Rattle.conntrack.specs.Steering as steering
-use Rattle.conntrack.specs.Steering.{SteeringSizes, has_flow, service_bytes_of, count_call, choice_in, no_records, found_or, look, read, record_of, counted, noting, ending, finish, read_backend, read_owner, read_slot, unless_tracked, read_note, read_tunnel, pass_guard, read_service}
+use Rattle.conntrack.specs.Steering.{SteeringSizes, has_flow, service_bytes_of, count_call, choice_in, no_records, found_or, look, read, record_of, counted_end, noting, ending, finish, read_backend, read_owner, read_slot, unless_tracked, read_note, read_tunnel, pass_guard, read_service}
 use Rattle.conntrack.specs.SteeringRule.{flow_update, verdict_of_choice, frame_after, fits_tunnel, tracked_choice}
 use Rattle.shards.specs.Passes.{PassView, own_at}
 use Rattle.shard_port.specs.Asking.{enter_by, leave_by}
@@ -98,8 +98,8 @@ module _ (sizes : SteeringSizes) (some : 0 < sizes.shards) where
   found_asked call found absent one other _ named = other
 
   look_asked : (map : SteeringMap) (key : List ℕ) (found : CellRef → Plan) (absent : Plan) →
-      ((cell : CellRef) → cell.shard ≡ steering.shard_of sizes map key → Asked (found cell)) → Asked absent → Asked (look sizes map key found absent)
-  look_asked map key found absent one other = (inl tt, found_asked (Lookup (steering.shard_of sizes map key) key) found absent one other)
+      ((cell : CellRef) → cell.shard ≡ steering.steering_shard sizes map key → Asked (found cell)) → Asked absent → Asked (look sizes map key found absent)
+  look_asked map key found absent one other = (inl tt, found_asked (Lookup (steering.steering_shard sizes map key) key) found absent one other)
 
   read_asked : (cell : CellRef) (offset size : ℕ) (on : ℕ → Plan) → ((word : ℕ) → Asked (on word)) → Asked (read cell offset size on)
   read_asked cell offset size on each = (inl tt, λ reply named. each (word_in reply))
@@ -109,7 +109,7 @@ module _ (sizes : SteeringSizes) (some : 0 < sizes.shards) where
   record_asked map key known absent each other =
       look_asked map key (λ cell. read cell 0 8 known) absent (λ cell same. read_asked cell 0 8 known each) other
 
-  counted_asked : (verdict : Verdict) (frame : FrameView) → Asked (counted sizes verdict frame)
+  counted_asked : (verdict : Verdict) (frame : FrameView) → Asked (counted_end sizes verdict frame)
   counted_asked verdict frame =
       look_asked Stats (bytes_of_number 4 (verdict_number verdict)) (λ cell. Asks (count_call cell) (λ reply. Ends verdict frame)) (Ends verdict frame)
       (λ cell same. (inr (inr (omega (arith, same))), λ reply named. tt)) tt
@@ -122,7 +122,7 @@ module _ (sizes : SteeringSizes) (some : 0 < sizes.shards) where
 
   ending_asked : (frame : FrameView) (tunnel : Option TunnelRecord) (choice : Choice) → Asked (ending sizes frame tunnel choice)
   ending_asked frame tunnel choice =
-      noting_asked (flow_update frame.bytes choice) (counted sizes (verdict_of_choice choice) (frame_after tunnel choice frame))
+      noting_asked (flow_update frame.bytes choice) (counted_end sizes (verdict_of_choice choice) (frame_after tunnel choice frame))
       (counted_asked (verdict_of_choice choice) (frame_after tunnel choice frame))
 
   finish_asked : (frame : FrameView) (records : Records) → Asked (finish sizes frame records)
@@ -155,12 +155,12 @@ module _ (sizes : SteeringSizes) (some : 0 < sizes.shards) where
 
   abbrev noted : FrameView → VipRecord → Records → ℕ → Plan
   noted frame vip records word =
-      read_backend sizes (flow_of (bytes_of_number 8 word)).backend (λ assigned.
+      read_backend sizes (flow_record_of (bytes_of_number 8 word)).backend (λ assigned.
       unless_tracked sizes frame (record records { tracked = Some assigned }) (tracked_choice vip (record records { tracked = Some assigned })))
 
   noted_asked : (frame : FrameView) (vip : VipRecord) (records : Records) (word : ℕ) → Asked (noted frame vip records word)
   noted_asked frame vip records word =
-      backend_asked (flow_of (bytes_of_number 8 word)).backend
+      backend_asked (flow_record_of (bytes_of_number 8 word)).backend
       (λ assigned. unless_tracked sizes frame (record records { tracked = Some assigned }) (tracked_choice vip (record records { tracked = Some assigned })))
       (λ assigned. unless_asked frame (record records { tracked = Some assigned }) (tracked_choice vip (record records { tracked = Some assigned })))
 

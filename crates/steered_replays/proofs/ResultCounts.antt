@@ -19,7 +19,7 @@ use Rattle.semantics.specs.Semantics.{verdict_number}
 use Rattle.map_port.specs.Exchanges.{Exchange}
 use Rattle.conntrack.specs.declared.steering_maps.SteeringMap.TheVariants.{Stats}
 use Rattle.conntrack.specs.SteeringRule.{flow_update}
-use Rattle.conntrack.specs.Steering.{SteeringSizes, shard_of, count_call}
+use Rattle.conntrack.specs.Steering.{SteeringSizes, steering_shard, count_call}
 use Rattle.conntrack.specs.Results.{IsResult, IsRaised, IsNotFound, IsNoCell, change_of, changes_in, note_call, count_key, count_lookup}
 use Rattle.steered_replays.specs.Counting.{IsQuiet, IsCounting, raised_by}
 use Rattle.steered_replays.proofs.CountLemmas.{quiet_raises}
@@ -36,7 +36,7 @@ module _ {A : Type 0} where
 -- ---- where a verdict's count is
 
 abbrev pub count_shard : SteeringSizes → Verdict → ℕ
-count_shard setting verdict = shard_of setting Stats (count_key verdict)
+count_shard setting verdict = steering_shard setting Stats (count_key verdict)
 
 abbrev pub count_id : SteeringSizes → Verdict → ℕ
 count_id setting verdict = verdict_number verdict / setting.shards

@@ -28,7 +28,7 @@ use Rattle.control.specs.declared.command.Command.{Command}
 use Rattle.control.specs.Controlling.{opened_controller}
 use Rattle.actors.specs.declared.outcome.Outcome.{Outcome}
 use Rattle.actors.specs.Accounted.{IsAccounted}
-use Rattle.actors.specs.Commands.{AnsweredUpdate, CommandDone, made_in, with_updates, with_update, update_entry}
+use Rattle.actors.specs.Commands.{AnsweredUpdate, CommandDone, made_in, with_updates, with_update, controller_entry}
 use Rattle.actors.specs.Parts.{round_count}
 use Rattle.actors.specs.Rounds.{IsReclaim, IsReclaimedBy}
 use Rattle.actors.specs.SharedUpdates.{shard_of}
@@ -84,7 +84,7 @@ updates_kept maps options number [] history all = all
 updates_kept maps options number (one ∷ made) history all =
     updates_kept maps options number made (with_update maps options number one history) (by (shard_of maps options one.update == number))
   where
-    by : (test : Bool) → AllByRecursion IsKept (if test then update_entry number one ∷ history else history)
+    by : (test : Bool) → AllByRecursion IsKept (if test then controller_entry number one ∷ history else history)
     by true = (inr (refl, tt), all)
     by false = all
 

@@ -18,7 +18,7 @@ use Rattle.semantics.specs.History.{IsLegalHistory}
 use Rattle.semantics.specs.LittleEndian.{number_of_bytes, bytes_of_number}
 use Rattle.semantics.specs.SequentialShard.{shard_after, number_in_cell, reply_of}
 use Rattle.map_port.specs.Exchanges.{Exchange, calls_in, replies_in}
-use Rattle.block_runs.specs.Plan.{Plan, Asks, Ends, Ending, Ended, Waiting, RunOutcome, either, plan_outcome, plan_after}
+use Rattle.block_runs.specs.Plan.{Plan, Asks, Ends, PlanEnding, Ended, Waiting, RunOutcome, either, plan_outcome, plan_after}
 use Rattle.shard_port.specs.Sessions.{exchange_entry}
 use Rattle.conntrack.specs.declared.choosing.Assigned.{Assigned}
 use Rattle.conntrack.specs.declared.choosing.Choice.TheVariants.{Tx}
@@ -27,29 +27,29 @@ use Rattle.conntrack.specs.declared.records.BackendRecord.{BackendRecord}
 use Rattle.conntrack.specs.declared.records.TunnelRecord.{TunnelRecord}
 use Rattle.conntrack.specs.declared.records.VipRecord.{VipRecord}
 use Rattle.conntrack.specs.declared.steering_maps.SteeringMap.TheVariants.{Flows, Backends}
-use Rattle.conntrack.specs.Layouts.{vip_of, flow_of, backend_of, tunnel_of}
-use Rattle.conntrack.specs.Steering.{SteeringSizes, steering, ending, counted, count_call, found_or, shard_of, has_flow, read_service}
+use Rattle.conntrack.specs.Layouts.{vip_of, flow_record_of, backend_of, tunnel_of}
+use Rattle.conntrack.specs.Steering.{SteeringSizes, steering, ending, counted_end, count_call, found_or, steering_shard, has_flow, read_service}
 use Rattle.conntrack.specs.Steering.{read_tunnel, read_note, read_slot, read_backend, unless_tracked, finish, no_records, record_of, read}
 use Rattle.conntrack.specs.SteeringLaws.{FlowsStick, FindsNote}
 use Rattle.conntrack.specs.SteeringRule.{fits_tunnel, tracked_choice, frame_after}
 use Rattle.conntrack.proofs.shared.RuleLemmas.{passes_test}
 use Rattle.steered_replays.specs.SteeredRuns.{EndsByRule}
-use Rattle.steered_replays.specs.StickyFlows.{LeavesNote, AllLeaveNote, noting, IsNoted, RunOfNoted, ChoosesNoted, NotedFlowsStick}
+use Rattle.steered_replays.specs.StickyFlows.{LeavesNote, AllLeaveNote, noting_entry, IsBackendNoted, RunOfNoted, ChoosesNoted, NotedFlowsStick}
 use Rattle.steered_replays.proofs.CountLemmas.{lookups_find}
 use Rattle.steered_replays.proofs.NoteLemmas.{legal_before, notes_are_found}
 
 -- ---- outcomes
 
-abbrev done : List Call → Ending → RunOutcome
+abbrev done : List Call → PlanEnding → RunOutcome
 done calls at_end = record { calls = calls; ending = at_end }
 
-rest_of : (call first : Call) (calls : List Call) (outcome : RunOutcome) (at_end : Ending) →
+rest_of : (call first : Call) (calls : List Call) (outcome : RunOutcome) (at_end : PlanEnding) →
     done (call ∷ outcome.calls) outcome.ending ≡ done (first ∷ calls) at_end →
     outcome ≡ done calls at_end
 rest_of call first calls outcome at_end is = ap (λ (o : RunOutcome). record { calls = drop 1 o.calls; ending = o.ending }) is
 
 -- after its first exchanges a plan goes on with what is left of it
-goes_on : (plan : Plan) (asked later : List Exchange) (at_end : Ending) →
+goes_on : (plan : Plan) (asked later : List Exchange) (at_end : PlanEnding) →
     plan_outcome plan (replies_in (asked ++ later)) ≡ done (calls_in (asked ++ later)) at_end →
     plan_outcome (plan_after plan (replies_in asked)) (replies_in later) ≡ done (calls_in later) at_end
 goes_on plan [] later at_end is = is
@@ -60,7 +60,7 @@ goes_on (Asks call onward) (one ∷ asked) later at_end is =
     (rest_of call one.call (calls_in (asked ++ later)) (plan_outcome (onward one.reply) (replies_in (asked ++ later))) at_end is)
 
 -- the exchange is of the plan's call
-first_call : (call : Call) (onward : Reply → Plan) (one : Exchange) (later : List Exchange) (at_end : Ending) →
+first_call : (call : Call) (onward : Reply → Plan) (one : Exchange) (later : List Exchange) (at_end : PlanEnding) →
     plan_outcome (Asks call onward) (replies_in (one ∷ later)) ≡ done (calls_in (one ∷ later)) at_end → one.call ≡ call
 first_call call onward one later at_end is =
     let calls : call ∷ (plan_outcome (onward one.reply) (replies_in later)).calls ≡ one.call ∷ calls_in later = ap (λ (o : RunOutcome). o.calls) is in
@@ -72,7 +72,7 @@ replies_joined (x ∷ xs) ys = ap (λ rest. x.reply ∷ rest) (replies_joined xs
 
 -- a counted verdict ends with it
 counted_ends : (setting : SteeringSizes) (sent left : FrameView) (verdict : Verdict) (last : List Exchange) →
-    plan_outcome (counted setting V.Tx sent) (replies_in last) ≡ done (calls_in last) (Ended verdict left) →
+    plan_outcome (counted_end setting V.Tx sent) (replies_in last) ≡ done (calls_in last) (Ended verdict left) →
     (verdict ≡ V.Tx) × (left ≡ sent)
 counted_ends setting sent left verdict [] is = (let ends : Waiting ≡ Ended verdict left = ap (λ (o : RunOutcome). o.ending) is in absurd cc ends)
 counted_ends setting sent left verdict (one ∷ rest) is = by one.reply (replies_in rest) (ap (λ (o : RunOutcome). o.ending) is)
@@ -112,7 +112,7 @@ on_backend setting frame vip tunnel number word =
     on_assigned setting frame vip tunnel (record { number = number; «record» = Some (backend_of (bytes_of_number 8 word)) })
 
 abbrev on_word : SteeringSizes → FrameView → VipRecord → TunnelRecord → ℕ → Plan
-on_word setting frame vip tunnel word = read_backend setting (flow_of (bytes_of_number 8 word)).backend (on_assigned setting frame vip tunnel)
+on_word setting frame vip tunnel word = read_backend setting (flow_record_of (bytes_of_number 8 word)).backend (on_assigned setting frame vip tunnel)
 
 abbrev on_note : SteeringSizes → FrameView → VipRecord → TunnelRecord → Plan
 on_note setting frame vip tunnel =
@@ -134,10 +134,10 @@ lookup_leaves plan key asked cell shard history call is = subst (LeavesNote plan
     (record { other_key = refl; other_cell = refl; no_eviction = λ evicts. (let same = evicts.call_is in cc same) })
 
 -- after entries that leave it, a note is as before
-noted_on : (plan : ShardPlan) (key : List ℕ) (number cell : ℕ) (newer history : List Entry) → IsNoted plan key number cell history →
-    AllLeaveNote plan key cell newer history → IsNoted plan key number cell (newer ++ history)
+noted_on : (plan : ShardPlan) (key : List ℕ) (number cell : ℕ) (newer history : List Entry) → IsBackendNoted plan key number cell history →
+    AllLeaveNote plan key cell newer history → IsBackendNoted plan key number cell (newer ++ history)
 noted_on plan key number cell newer history noted all =
-    let put = noting noted.who noted.shard key number noted.flags in
+    let put = noting_entry noted.who noted.shard key number noted.flags in
     record {
       who = noted.who;
       shard = noted.shard;
@@ -150,7 +150,7 @@ noted_on plan key number cell newer history noted all =
       untouched = all_joined plan key cell newer noted.since (put ∷ noted.before) (subst (AllLeaveNote plan key cell newer) noted.history_is all) noted.untouched;
     }
 
-number_back : (n : ℕ) → n < 2 ^ 32 → (flow_of (bytes_of_number 8 n)).backend ≡ n
+number_back : (n : ℕ) → n < 2 ^ 32 → (flow_record_of (bytes_of_number 8 n)).backend ≡ n
 number_back n small = omega arith
 
 index_back : (n : ℕ) → n < 2 ^ 32 → number_of_bytes (bytes_of_number 4 n) ≡ n
@@ -200,8 +200,8 @@ module _ (sticks : FlowsStick) (setting : SteeringSizes) (frame : FrameView) (tu
       (goes_on (steering setting frame) run.guards (run.flow_lookup ∷ past_lookup) (Ended verdict left)
       (subst (λ (xs : List Exchange). plan_outcome (steering setting frame) (replies_in xs) ≡ done (calls_in xs) (Ended verdict left)) run.exchanges_are ends.plan))
 
-  lookup_call : run.flow_lookup.call ≡ Lookup (shard_of setting Flows key) key
-  lookup_call = first_call (Lookup (shard_of setting Flows key) key) (found_or (λ cell. read cell 0 8 (on_word setting frame vip ready)) (read_slot setting frame (records_of vip ready None)))
+  lookup_call : run.flow_lookup.call ≡ Lookup (steering_shard setting Flows key) key
+  lookup_call = first_call (Lookup (steering_shard setting Flows key) key) (found_or (λ cell. read cell 0 8 (on_word setting frame vip ready)) (read_slot setting frame (records_of vip ready None)))
       run.flow_lookup past_lookup (Ended verdict left) from_lookup
 
   abbrev noted_cell : CellRef
@@ -219,7 +219,7 @@ module _ (sticks : FlowsStick) (setting : SteeringSizes) (frame : FrameView) (tu
   lookup_reply_is : run.flow_lookup.reply ≡ Cell noted_cell
   lookup_reply_is =
       legal_lookup.0.step.replied ∙ ap (reply_of run.flows run.noted.earlier (shard_after run.flows run.noted.earlier)) lookup_call
-      ∙ (notes_are_found run.flows run.noted.earlier key number run.noted.cell run.noted.kind_is legal_lookup.1 run.noted.noted).0 (shard_of setting Flows key)
+      ∙ (notes_are_found run.flows run.noted.earlier key number run.noted.cell run.noted.kind_is legal_lookup.1 run.noted.noted).0 (steering_shard setting Flows key)
 
   -- the Load of the note
   from_load : plan_outcome (read noted_cell 0 8 (on_word setting frame vip ready)) (replies_in past_lookup) ≡ done (calls_in past_lookup) (Ended verdict left)
@@ -230,11 +230,11 @@ module _ (sticks : FlowsStick) (setting : SteeringSizes) (frame : FrameView) (tu
   load_call : run.flow_load.call ≡ Load noted_cell 0 8
   load_call = first_call (Load noted_cell 0 8) (λ reply. on_word setting frame vip ready (word_in reply)) run.flow_load past_load (Ended verdict left) from_load
 
-  noted_at_load : IsNoted run.flows key number run.noted.cell at_load
+  noted_at_load : IsBackendNoted run.flows key number run.noted.cell at_load
   noted_at_load =
       noted_on run.flows key number run.noted.cell run.noted.between (exchange_entry worker run.flow_lookup ∷ run.noted.earlier)
       (noted_on run.flows key number run.noted.cell (exchange_entry worker run.flow_lookup ∷ []) run.noted.earlier run.noted.noted
-      (lookup_leaves run.flows key key run.noted.cell (shard_of setting Flows key) run.noted.earlier run.flow_lookup.call lookup_call, tt))
+      (lookup_leaves run.flows key key run.noted.cell (steering_shard setting Flows key) run.noted.earlier run.flow_lookup.call lookup_call, tt))
       run.noted.untouched
 
   load_reply_is : run.flow_load.reply ≡ Word number
@@ -245,22 +245,22 @@ module _ (sticks : FlowsStick) (setting : SteeringSizes) (frame : FrameView) (tu
   small : number < 2 ^ 32
   small = run.noted.noted.fits
 
-  noted_number : (flow_of (bytes_of_number 8 number)).backend ≡ number
+  noted_number : (flow_record_of (bytes_of_number 8 number)).backend ≡ number
   noted_number = number_back number small
 
   -- the Lookup of the backend
   abbrev backend_key : List ℕ
-  backend_key = bytes_of_number 4 (flow_of (bytes_of_number 8 number)).backend
+  backend_key = bytes_of_number 4 (flow_record_of (bytes_of_number 8 number)).backend
 
   from_backend : plan_outcome (on_word setting frame vip ready number) (replies_in past_load) ≡ done (calls_in past_load) (Ended verdict left)
   from_backend =
       subst (λ (reply : Reply). plan_outcome (plan_after (read noted_cell 0 8 (on_word setting frame vip ready)) (reply ∷ [])) (replies_in past_load) ≡ done (calls_in past_load) (Ended verdict left)) load_reply_is
       (goes_on (read noted_cell 0 8 (on_word setting frame vip ready)) (run.flow_load ∷ []) past_load (Ended verdict left) from_load)
 
-  backend_call : run.backend_lookup.call ≡ Lookup (shard_of setting Backends backend_key) backend_key
-  backend_call = first_call (Lookup (shard_of setting Backends backend_key) backend_key)
-      (found_or (λ cell. read cell 0 8 (on_backend setting frame vip ready (flow_of (bytes_of_number 8 number)).backend))
-      (on_assigned setting frame vip ready (record { number = (flow_of (bytes_of_number 8 number)).backend; «record» = None })))
+  backend_call : run.backend_lookup.call ≡ Lookup (steering_shard setting Backends backend_key) backend_key
+  backend_call = first_call (Lookup (steering_shard setting Backends backend_key) backend_key)
+      (found_or (λ cell. read cell 0 8 (on_backend setting frame vip ready (flow_record_of (bytes_of_number 8 number)).backend))
+      (on_assigned setting frame vip ready (record { number = (flow_record_of (bytes_of_number 8 number)).backend; «record» = None })))
       run.backend_lookup (run.backend_load ∷ last) (Ended verdict left) from_backend
 
   abbrev at_record : List Entry
@@ -281,7 +281,7 @@ module _ (sticks : FlowsStick) (setting : SteeringSizes) (frame : FrameView) (tu
   backend_reply_is : run.backend_lookup.reply ≡ Cell backend_cell
   backend_reply_is =
       legal_backend.0.step.replied ∙ ap (reply_of run.backends run.up.earlier (shard_after run.backends run.up.earlier)) backend_call
-      ∙ lookups_find run.backends run.up.earlier (shard_after run.backends run.up.earlier) (shard_of setting Backends backend_key) backend_key run.up.kind_is
+      ∙ lookups_find run.backends run.up.earlier (shard_after run.backends run.up.earlier) (steering_shard setting Backends backend_key) backend_key run.up.kind_is
       (subst (λ n. n < run.backends.definition.max_entries) (sym index_is) run.up.is_index)
       ∙ ap (λ n. Cell (record { shard = run.backends.number; id = n / run.backends.parts })) index_is
 
@@ -296,7 +296,7 @@ module _ (sticks : FlowsStick) (setting : SteeringSizes) (frame : FrameView) (tu
       (goes_on (on_word setting frame vip ready number) (run.backend_lookup ∷ []) (run.backend_load ∷ last) (Ended verdict left) from_backend)
 
   record_call : run.backend_load.call ≡ Load backend_cell 0 8
-  record_call = first_call (Load backend_cell 0 8) (λ reply. on_backend setting frame vip ready (flow_of (bytes_of_number 8 number)).backend (word_in reply)) run.backend_load last (Ended verdict left) from_record
+  record_call = first_call (Load backend_cell 0 8) (λ reply. on_backend setting frame vip ready (flow_record_of (bytes_of_number 8 number)).backend (word_in reply)) run.backend_load last (Ended verdict left) from_record
 
   record_reply_is : run.backend_load.reply ≡ Word word
   record_reply_is =

@@ -46,14 +46,14 @@ use Rattle.actors.specs.declared.outcome.Outcome.{Outcome}
 use Rattle.actors.specs.Accounted.{IsAccounted}
 use Rattle.actors.specs.Accounts.{runs_at}
 use Rattle.actors.specs.Actors.{numbers_from}
-use Rattle.actors.specs.Commands.{AnsweredUpdate, CommandDone, AreDone, AreNotedOf, ServesScript, all_set, made_in, with_updates, with_update, update_entry}
+use Rattle.actors.specs.Commands.{AnsweredUpdate, CommandDone, AreDone, AreNotedOf, ServesScript, all_set, made_in, with_updates, with_update, controller_entry}
 use Rattle.actors.specs.Parts.{numbers_of, refused_of, round_count}
 use Rattle.actors.specs.Rounds.{IsReclaimedBy}
 use Rattle.actors.specs.SharedUpdates.{shard_of}
 use Rattle.map_updates.specs.declared.update.MapUpdate.{MapUpdate}
 use Rattle.steered_replays.specs.Counting.{IsQuiet}
 use Rattle.steered_replays.specs.SteeredRuns.{IsSteeredReplay}
-use Rattle.steered_replays.specs.TablesAtEnd.{value_in_shard, value_at, last_histories, maps_at_end, IsRecordedUp, is_refused, carried_out, MetNoFullJournal, up_left, no_record, record_left, AreTables, IsPlainReplay, IsMoment}
+use Rattle.steered_replays.specs.TablesAtEnd.{value_in_shard, value_at, last_histories, maps_at_end, IsRecordedUp, is_refused, carried_out, MetNoFullJournal, up_left, no_record, record_left, AreTablesAtEnd, IsPlainReplay, IsMoment}
 use Rattle.steered_replays.proofs.ArrayShards.{is_success, IsSetting, IsControlled, cell_after, own_puts, last_put, last_sized, put_made, is_in_cell, updates_put, same_put}
 use Rattle.steered_replays.proofs.CallerSums.{all_of_callers, all_own}
 use Rattle.steered_replays.proofs.CommandTables.{is_at, IsNoStop, done_actions, and_action, HaveRecords, slot_done, table_done, up_done, size_done, records_done, take_done, take_unstopped}
@@ -295,7 +295,7 @@ updates_known maps options number [] history all = all
 updates_known maps options number (one ∷ made) history all =
     updates_known maps options number made (with_update maps options number one history) (by (shard_of maps options one.update == number))
   where
-    by : (test : Bool) → AllByRecursion IsKnown (if test then update_entry number one ∷ history else history)
+    by : (test : Bool) → AllByRecursion IsKnown (if test then controller_entry number one ∷ history else history)
     by true = (inr (refl, tt), all)
     by false = all
 
@@ -636,8 +636,8 @@ module _ (size : ℕ) (is_size : IsRingSize size) (script : List Command) (optio
     same_up : state.up ≡ up_left [] (done_actions done)
     same_up = up_done (opened_controller size) done state ended.1 unstopped
 
-    pub are_tables : AreTables size (carried_out outcome.refused.items 0 (take commands script)) (record { journals = outcome.journals; histories = histories })
-    are_tables = subst (λ (acts : List Action). AreTables size acts (record { journals = outcome.journals; histories = histories })) (sym are_carried) (record {
+    pub are_tables : AreTablesAtEnd size (carried_out outcome.refused.items 0 (take commands script)) (record { journals = outcome.journals; histories = histories })
+    are_tables = subst (λ (acts : List Action). AreTablesAtEnd size acts (record { journals = outcome.journals; histories = histories })) (sym are_carried) (record {
       owners = state.owners;
       table = subst (λ (up : List Server). IsTable size up state.owners) same_up
           (subst (λ (n : ℕ). IsTable n state.up state.owners) (size_done (opened_controller size) done state ended.1 unstopped)
@@ -659,7 +659,7 @@ module _ (size : ℕ) (is_size : IsRingSize size) (script : List Command) (optio
         (sym (all_taken script accounted.commands.noted all_done 0 script accounted.commands.each_once accounted.commands.are_noted));
   }
 
-  pub are_left : AreTables size (carried_out outcome.refused.items 0 script) (maps_at_end outcome.journals)
+  pub are_left : AreTablesAtEnd size (carried_out outcome.refused.items 0 script) (maps_at_end outcome.journals)
   are_left =
-      subst (λ (l : List Command). AreTables size (carried_out outcome.refused.items 0 l) (maps_at_end outcome.journals)) (take_all (length script) script (omega arith))
+      subst (λ (l : List Command). AreTablesAtEnd size (carried_out outcome.refused.items 0 l) (maps_at_end outcome.journals)) (take_all (length script) script (omega arith))
       (are_tables (length script) (last_histories outcome.journals) at_the_end)

@@ -19,7 +19,7 @@ use Rattle.conntrack.specs.SteeringRule.{IsSteered, fits_tunnel, is_set_up, trac
 use Rattle.control.specs.declared.command.Action.{Action}
 use Rattle.control.specs.declared.command.Action.TheVariants.{Down}
 use Rattle.control.specs.Controlling.{has_number}
-use Rattle.steered_replays.specs.TablesAtEnd.{MapsAt, value_at, up_left, AreTables}
+use Rattle.steered_replays.specs.TablesAtEnd.{MapsAt, value_at, up_left, AreTablesAtEnd}
 
 -- ---- the same tables
 
@@ -32,7 +32,7 @@ pub record HaveSameTables (size : ℕ) (up : List Server) (one other : MapsAt) :
 
 abbrev pub SameTables : Type 0
 SameTables =
-    (size : ℕ) (done others : List Action) (one other : MapsAt) → AreTables size done one → AreTables size others other →
+    (size : ℕ) (done others : List Action) (one other : MapsAt) → AreTablesAtEnd size done one → AreTablesAtEnd size others other →
     up_left [] done ≡ up_left [] others → HaveSameTables size (up_left [] done) one other
 
 -- ---- frames that are sent by the table
@@ -78,14 +78,14 @@ server_of up (Some number) = find (has_number number) up
 -- such a frame is sent to the owner of its flow's slot
 abbrev pub OwnersAreSentTo : Type 0
 OwnersAreSentTo =
-    (size : ℕ) (done : List Action) (now : MapsAt) (tables : AreTables size done now) (frame : List ℕ) (vip : VipRecord) (choice : Choice) →
+    (size : ℕ) (done : List Action) (now : MapsAt) (tables : AreTablesAtEnd size done now) (frame : List ℕ) (vip : VipRecord) (choice : Choice) →
     0 < size → IsSentByTable size now frame vip choice →
     choice ≡ sent_to vip (server_of (up_left [] done) (slice_get tables.owners (slot_of_flow size frame)))
 
 -- and while any backend is up, to one that is
 abbrev pub SomeAreSentTo : Type 0
 SomeAreSentTo =
-    (size : ℕ) (done : List Action) (now : MapsAt) (tables : AreTables size done now) → up_left [] done ≢ [] → (slot : ℕ) → slot < size →
+    (size : ℕ) (done : List Action) (now : MapsAt) (tables : AreTablesAtEnd size done now) → up_left [] done ≢ [] → (slot : ℕ) → slot < size →
     (server : Server) × (server_of (up_left [] done) (slice_get tables.owners slot) ≡ Some server)
 
 -- there are such frames: any with a flow that fits, for any service, once the tunnel is set up and as long as no backend is noted
@@ -97,7 +97,7 @@ FramesAreSent =
 -- so on both machines to the same backend
 abbrev pub StrangersAgree : Type 0
 StrangersAgree =
-    (size : ℕ) (done others : List Action) (one other : MapsAt) → 0 < size → AreTables size done one → AreTables size others other →
+    (size : ℕ) (done others : List Action) (one other : MapsAt) → 0 < size → AreTablesAtEnd size done one → AreTablesAtEnd size others other →
     up_left [] done ≡ up_left [] others → (frame : List ℕ) (vip : VipRecord) (choice its : Choice) →
     IsSentByTable size one frame vip choice → IsSentByTable size other frame vip its → its ≡ choice
 
@@ -106,7 +106,7 @@ StrangersAgree =
 -- before and behind the command a frame that is sent by no note goes to the same backend exactly if its flow's slot has the same owner
 abbrev pub StrangersMove : Type 0
 StrangersMove =
-    (size : ℕ) (done : List Action) (number : ℕ) (before after : MapsAt) → 0 < size → (tables : AreTables size done before)
-    (its : AreTables size (done ++ Down number ∷ []) after) (frame : List ℕ) (vip : VipRecord) (choice later : Choice) →
+    (size : ℕ) (done : List Action) (number : ℕ) (before after : MapsAt) → 0 < size → (tables : AreTablesAtEnd size done before)
+    (its : AreTablesAtEnd size (done ++ Down number ∷ []) after) (frame : List ℕ) (vip : VipRecord) (choice later : Choice) →
     IsSentByTable size before frame vip choice → IsSentByTable size after frame vip later →
     (later ≡ choice) ↔ (slice_get its.owners (slot_of_flow size frame) ≡ slice_get tables.owners (slot_of_flow size frame))

@@ -76,28 +76,28 @@ AllLeaveNote plan key cell (entry ∷ older) history =
 -- ---- notes
 
 -- an Update that notes a backend under a key
-abbrev pub noting : Caller → ℕ → List ℕ → ℕ → ℕ → Entry
-noting who shard key number flags =
+abbrev pub noting_entry : Caller → ℕ → List ℕ → ℕ → ℕ → Entry
+noting_entry who shard key number flags =
     record { who = who; call = Update shard key (flow_bytes (record { backend = number })) flags; reply = Answer success }
 
 -- At the end of the history the backend of this number is noted under the key, in this cell: an Update noted it, and no entry since
 -- changed that.
-pub record IsNoted (plan : ShardPlan) (key : List ℕ) (number cell : ℕ) (history : List Entry) : Type 0 where
+pub record IsBackendNoted (plan : ShardPlan) (key : List ℕ) (number cell : ℕ) (history : List Entry) : Type 0 where
   pub who : Caller
   pub shard : ℕ
   pub flags : ℕ
   pub since : List Entry
   pub before : List Entry
-  pub history_is : history ≡ since ++ noting who shard key number flags ∷ before
+  pub history_is : history ≡ since ++ noting_entry who shard key number flags ∷ before
   pub fits : number < 2 ^ 32
-  pub put_in : cell_of_key plan (shard_after plan (noting who shard key number flags ∷ before)) key ≡ Some cell
-  pub untouched : AllLeaveNote plan key cell since (noting who shard key number flags ∷ before)
+  pub put_in : cell_of_key plan (shard_after plan (noting_entry who shard key number flags ∷ before)) key ≡ Some cell
+  pub untouched : AllLeaveNote plan key cell since (noting_entry who shard key number flags ∷ before)
 
 -- in a legal history of an LRU map's shard a lookup of the key then finds the cell, and the cell holds the backend's number
 abbrev pub NotesAreFound : Type 0
 NotesAreFound =
     (plan : ShardPlan) (history : List Entry) (key : List ℕ) (number cell : ℕ) →
-    plan.definition.kind ≡ LruHash → IsLegalHistory plan history → IsNoted plan key number cell history →
+    plan.definition.kind ≡ LruHash → IsLegalHistory plan history → IsBackendNoted plan key number cell history →
     ((shard : ℕ) → reply_of plan history (shard_after plan history) (Lookup shard key) ≡ Cell (record { shard = plan.number; id = cell }))
     × (number_in_cell (shard_after plan history) cell 0 8 ≡ number)
 
@@ -129,7 +129,7 @@ pub record StandsNoted (plan : ShardPlan) (history : List Entry) (worker : ℕ) 
     pub earlier : List Entry
     pub history_is : history ≡ later ++ exchange_entry worker load ∷ (between ++ exchange_entry worker lookup ∷ earlier)
     pub cell : ℕ
-    pub noted : IsNoted plan key number cell earlier
+    pub noted : IsBackendNoted plan key number cell earlier
     pub untouched : AllLeaveNote plan key cell between (exchange_entry worker lookup ∷ earlier)
 
 -- The legal history of a shard of backends has these two exchanges of the worker, and when the second is made the record of this number

@@ -22,12 +22,12 @@ use Rattle.conntrack.specs.Layouts.{flow_bytes, backend_of, tunnel_of}
 use Rattle.conntrack.specs.Steering.{SteeringSizes, service_bytes_of, count_call}
 use Rattle.conntrack.specs.SteeringMaps.{map_place, map_kind, defined}
 use Rattle.steered_replays.specs.SteeredRuns.{EndsByRule}
-use Rattle.steered_replays.specs.StickyFlows.{noting, RunOfNoted}
+use Rattle.steered_replays.specs.StickyFlows.{noting_entry, RunOfNoted}
 use Rattle.semantics.specs.declared.call.Caller.TheVariants.{Controller}
 
 -- one shard to a map
-abbrev pub row_setting : SteeringSizes
-row_setting = record { shards = 1; size = 7 }
+abbrev pub sticky_setting : SteeringSizes
+sticky_setting = record { shards = 1; size = 7 }
 
 -- UDP from 10.0.0.9, port 1000, to 10.0.0.1, port 80; the packet has 28 bytes
 abbrev pub row_frame : FrameView
@@ -41,8 +41,8 @@ abbrev pub row_key : List ℕ
 row_key = flow_bytes_of row_frame.bytes
 
 -- the shard of a map, for one worker
-abbrev pub row_plan : SteeringMap → ℕ → ℕ → ShardPlan
-row_plan map key_size max_entries = record {
+abbrev pub sticky_plan : SteeringMap → ℕ → ℕ → ShardPlan
+sticky_plan map key_size max_entries = record {
   number = map_place map;
   part = 0;
   parts = 1;
@@ -108,7 +108,7 @@ row_since =
     ∷ []
 
 abbrev pub row_flows_before : List Entry
-row_flows_before = row_since ++ noting Controller 1 row_key 2 0 ∷ []
+row_flows_before = row_since ++ noting_entry Controller 1 row_key 2 0 ∷ []
 
 abbrev pub row_flows : List Entry
 row_flows = exchange_entry 0 row_flow_load ∷ exchange_entry 0 row_flow_lookup ∷ row_flows_before
@@ -123,10 +123,10 @@ row_backends = exchange_entry 0 row_backend_load ∷ exchange_entry 0 row_backen
 -- the run ends by the rule, and is one of a flow that is noted
 pub record StickyRow : Type 0 where
   pub left : FrameView
-  pub ends : EndsByRule row_setting row_frame row_exchanges Tx left
+  pub ends : EndsByRule sticky_setting row_frame row_exchanges Tx left
   pub run : RunOfNoted row_frame row_tunnel 2 row_backend 0 row_exchanges
   -- in these histories, of a shard of flows and one of backends
-  pub flows_plan : run.flows ≡ row_plan Flows 16 4096
+  pub flows_plan : run.flows ≡ sticky_plan Flows 16 4096
   pub flows_are : run.flows_history ≡ row_flows
-  pub backends_plan : run.backends ≡ row_plan Backends 4 256
+  pub backends_plan : run.backends ≡ sticky_plan Backends 4 256
   pub backends_are : run.backends_history ≡ row_backends

@@ -126,7 +126,7 @@ pub record IsRecordedUp (done : List Action) (server : Server) : Type 0 where
 -- each slot of the lookup table has one more than the number of its owner by the population of the backends that are up, which is the only
 -- one, or 0 where none is up; each backend's record is what the last command of it put there, and those that are up have their address and
 -- a 1
-pub record AreTables (size : ℕ) (done : List Action) (now : MapsAt) : Type 0 where
+pub record AreTablesAtEnd (size : ℕ) (done : List Action) (now : MapsAt) : Type 0 where
   pub owners : List ℕ
   pub table : IsTable size (up_left [] done) owners
   pub ring : (slot : ℕ) → slot < size → value_at now Ring (bytes_of_number 4 slot) ≡ Some (ring_bytes (record { owner = slice_get owners slot }))
@@ -165,14 +165,14 @@ TablesFollow =
     (size : ℕ) → IsRingSize size → (script : List Command) (options : Options) (records : List Sent) (outcome : Outcome)
     (plain : IsPlainReplay size script options records outcome) (commands : ℕ) (histories : ℕ → List Entry) →
     IsMoment size script options records outcome plain commands histories →
-    AreTables size (carried_out outcome.refused.items 0 (take commands script)) (record { journals = outcome.journals; histories = histories })
+    AreTablesAtEnd size (carried_out outcome.refused.items 0 (take commands script)) (record { journals = outcome.journals; histories = histories })
 
 -- and at the end those that the script has left
 abbrev pub TablesAreLeft : Type 0
 TablesAreLeft =
     (size : ℕ) → IsRingSize size → (script : List Command) (options : Options) (records : List Sent) (outcome : Outcome) →
     IsPlainReplay size script options records outcome →
-    AreTables size (carried_out outcome.refused.items 0 script) (maps_at_end outcome.journals)
+    AreTablesAtEnd size (carried_out outcome.refused.items 0 script) (maps_at_end outcome.journals)
 
 -- so it is of the services
 abbrev pub ServicesFollow : Type 0

@@ -19,7 +19,7 @@ ghost use Rattle.steered_replays.specs.StickyFlows.{NotesAreFound, NotedFlowsSti
 ghost use Rattle.steered_replays.specs.StickyReplays.{FlowsStayInReplays};
 ghost use Rattle.steered_replays.specs.StickyRow.{StickyRow};
 ghost use Rattle.steered_replays.specs.TablesAtEnd.{TablesFollow, TablesAreLeft, ServicesFollow, ServicesAreLeft};
-ghost use Rattle.steered_replays.specs.TablesAtEnd.{MetNoFullJournal, AreTables, carried_out, maps_at_end};
+ghost use Rattle.steered_replays.specs.TablesAtEnd.{MetNoFullJournal, AreTablesAtEnd, carried_out, maps_at_end};
 ghost use Rattle.steered_replays.specs.Fleets.{SameTables, OwnersAreSentTo, SomeAreSentTo, FramesAreSent, StrangersAgree, StrangersMove};
 ghost use Rattle.steered_replays.specs.Totals.{AreTotals, TotalsAreExact};
 
@@ -118,7 +118,7 @@ pub fn shipped_replays_are_steered(verified: &Verified, size: u32)
         AreOptions verified.now.maps options → AllByRecursion IsCaptured records →
         IsAccounted (program_of verified.now options.shards) script options records outcome →
         outcome.updates.items ≡ [] → MetNoFullJournal outcome.refused.items →
-        AreTables size (carried_out outcome.refused.items 0 script) (maps_at_end outcome.journals) }
+        AreTablesAtEnd size (carried_out outcome.refused.items 0 script) (maps_at_end outcome.journals) }
 {
     let _ = size;
     let _ = verified.image();

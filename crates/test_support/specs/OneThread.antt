@@ -15,12 +15,12 @@ pub record OneThread : Type 0 where
   pub history : List Entry
 
 -- one entry more
-abbrev pub with_entry : OneThread → Entry → OneThread
-with_entry shard entry = record { plan = shard.plan; history = entry ∷ shard.history }
+abbrev pub one_thread_with_entry : OneThread → Entry → OneThread
+one_thread_with_entry shard entry = record { plan = shard.plan; history = entry ∷ shard.history }
 
 -- the lists that the fields hold
-abbrev pub state_of : ShardState → SequentialShard
-state_of state = record { present = state.present.items; cells = state.cells.items; retired = state.retired.items }
+abbrev pub state_of_lists : ShardState → SequentialShard
+state_of_lists state = record { present = state.present.items; cells = state.cells.items; retired = state.retired.items }
 
 -- the state is what the journal leads to, and the journal is legal
 pub record IsOneThread (plan : ShardPlan) (journal : List Entry) (state : SequentialShard) : Type 0 where

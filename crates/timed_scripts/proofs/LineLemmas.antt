@@ -9,10 +9,10 @@ use Rattle.text_lines.proofs.shared.LineLemmas.{no_empty_line}
 use Rattle.control.specs.declared.command.Action.{Action}
 use Rattle.control.specs.declared.command.Command.{Command}
 use Rattle.control.specs.declared.fault.ControlFault.{ControlFault}
-use Rattle.control.specs.ScriptText.{ActionFits, IsScriptText, line_of, script_text, action_text}
+use Rattle.control.specs.ScriptText.{ActionFits, IsScriptText, script_line, script_text, action_text}
 use Rattle.timed_scripts.specs.Cutting.{cut_at, content}
 use Rattle.timed_scripts.specs.Actions.{at_once, IsOnly, SpellsAction}
-use Rattle.timed_scripts.specs.Moments.{first_moment, moment_of, records_before}
+use Rattle.timed_scripts.specs.Moments.{first_moment, moment_said, records_before}
 use Rattle.timed_scripts.specs.TimedLines.{Meaning, nothing, does, IsTimedCommand, SaysContent, Says, GoesOn}
 use Rattle.timed_scripts.specs.MeantScript.{commands_in}
 use Rattle.timed_scripts.specs.LineReading.{MayCome, IsCommandPut, IsLinePut, IsNoNext, command_line}
@@ -29,7 +29,7 @@ last_cut (x ∷ xs) (y ∷ ys) e =
     rw (first, last_cut xs ys (ap (drop 1) e)) refl
 
 text_at_once : (action : Action) → script_text (at_once action ∷ []) ≡ 48 ∷ 32 ∷ (action_text action ++ 10 ∷ [])
-unfolding line_of digits
+unfolding script_line digits
 text_at_once action = append-nil (48 ∷ 32 ∷ (action_text action ++ 10 ∷ []))
 
 script_at_once : (line words : List ℕ) (action : Action) → line ≡ 48 ∷ 32 ∷ (words ++ 10 ∷ []) → ActionFits action → words ≡ action_text action → IsScriptText line (at_once action ∷ [])
@@ -58,12 +58,12 @@ pub uncut : (records : List Sent) (text : List ℕ) → 0 < length text → cut_
 uncut records text some none nothing = λ e. let empty : length text ≡ 0 = ap length e in absurd (omega (arith, empty, some))
 uncut records text some none (does m a) = λ is. let e : ◌≡◌ {A = Option (List ℕ × List ℕ)} None (Some (is.word, action_text a)) = sym none ∙ is.taken_apart in absurd cc
 
-pub no_moment : (records : List Sent) (text word words : List ℕ) → 0 < length text → cut_at 32 text ≡ Some (word, words) → moment_of (first_moment records) word ≡ None
+pub no_moment : (records : List Sent) (text word words : List ℕ) → 0 < length text → cut_at 32 text ≡ Some (word, words) → moment_said (first_moment records) word ≡ None
     → (meaning : Meaning) → ¬ SaysContent records text meaning
 no_moment records text word words some cut none nothing = λ e. let empty : length text ≡ 0 = ap length e in absurd (omega (arith, empty, some))
 no_moment records text word words some cut none (does m a) = λ is.
     let same = cut_once 32 text word words is.word (action_text a) cut is.taken_apart in
-    let e : None ≡ Some m = sym none ∙ ap (moment_of (first_moment records)) same.0 ∙ is.moment_is in
+    let e : None ≡ Some m = sym none ∙ ap (moment_said (first_moment records)) same.0 ∙ is.moment_is in
     absurd cc
 
 pub no_action : (records : List Sent) (text word words : List ℕ) → 0 < length text → cut_at 32 text ≡ Some (word, words) → SpellsAction words false
@@ -73,7 +73,7 @@ no_action records text word words some cut none (does m a) = λ is.
     let same = cut_once 32 text word words is.word (action_text a) cut is.taken_apart in
     none a is.fits same.1
 
-pub an_action : (records : List Sent) (text word words : List ℕ) (moment : ℤ) → cut_at 32 text ≡ Some (word, words) → moment_of (first_moment records) word ≡ Some moment
+pub an_action : (records : List Sent) (text word words : List ℕ) (moment : ℤ) → cut_at 32 text ≡ Some (word, words) → moment_said (first_moment records) word ≡ Some moment
     → SpellsAction words true → (action : Action) × IsTimedCommand records text moment action × (words ≡ action_text action)
 an_action records text word words moment cut at spelled = (
   spelled.0,
@@ -94,13 +94,13 @@ may_come records least line moment action is nothing says goes =
     absurd cc
 may_come records least line moment action is (does m a) says goes =
     let word = cut_once 32 (content line) is.word (action_text action) says.word (action_text a) is.taken_apart says.taken_apart in
-    let e : Some moment ≡ Some m = sym is.moment_is ∙ ap (moment_of (first_moment records)) word.0 ∙ says.moment_is in
+    let e : Some moment ≡ Some m = sym is.moment_is ∙ ap (moment_said (first_moment records)) word.0 ∙ says.moment_is in
     let same : m ≡ moment = sym (ap (some_of moment) e) in
     subst (MayCome records least) same goes
 
 command_text : (records : List Sent) (moment : ℤ) (action : Action) (words : List ℕ) → words ≡ action_text action
     → command_line records moment words ≡ script_text (commands_in records (does moment action))
-unfolding line_of
+unfolding script_line
 command_text records moment action words is = rw is (sym (append-nil (ended (decimal (records_before moment records) ++ 32 ∷ action_text action))))
 
 pub does_next : (records : List Sent) (number : ℕ) (least : Option ℤ) (line : List ℕ) (moment : ℤ) (words : List ℕ) (r : Result (Option (Option ℤ)) ControlFault)

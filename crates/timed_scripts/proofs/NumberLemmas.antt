@@ -7,7 +7,7 @@ use Rattle.std.proofs.lemmas.Int.{ints, by_lt_z}
 use Rattle.std.proofs.Common.{ne_eqb, ap, suc-le-suc}
 use Rattle.wire.specs.declared.records.Sent.{Sent}
 use Rattle.timed_scripts.specs.Cutting.{cut_at}
-use Rattle.timed_scripts.specs.Moments.{number_after, record_moment, records_before, since, fixed_moment, moment_of}
+use Rattle.timed_scripts.specs.Moments.{number_after, record_moment, records_before, since, fixed_moment, moment_said}
 
 pub no_digit : (value : ℕ) (rest later : List ℕ) (digit : ℕ) → rest ≡ digit ∷ later → is_ascii_digit digit ≡ false → number_after value rest ≡ None
 no_digit value rest later digit is no' = rw (is, no') refl
@@ -25,10 +25,10 @@ all_read value (x ∷ xs) e = absurd (omega (arith, e))
 
 -- ---- moments
 
-pub behind_plus : (first : Option ℕ) (word later : List ℕ) → word ≡ 43 ∷ later → moment_of first word ≡ since first (cut_at 115 later)
+pub behind_plus : (first : Option ℕ) (word later : List ℕ) → word ≡ 43 ∷ later → moment_said first word ≡ since first (cut_at 115 later)
 behind_plus first word later is = rw is refl
 
-pub no_plus : (first : Option ℕ) (word : List ℕ) → ((later : List ℕ) → word ≢ 43 ∷ later) → moment_of first word ≡ fixed_moment word
+pub no_plus : (first : Option ℕ) (word : List ℕ) → ((later : List ℕ) → word ≢ 43 ∷ later) → moment_said first word ≡ fixed_moment word
 no_plus first [] none = refl
 no_plus first (x ∷ xs) none = rw (ne_eqb x 43 (λ e. none xs (ap (λ (y : ℕ). y ∷ xs) e))) refl
 

@@ -10,16 +10,17 @@ use Rattle.control.specs.declared.fault.ControlFault.TheVariants.{BadLine}
 use Rattle.control.specs.ScriptText.{CommandFits, NeverFalls, script_text}
 use Rattle.timed_scripts.specs.Cutting.{cut_at}
 use Rattle.timed_scripts.specs.Moments.{records_before}
-use Rattle.timed_scripts.specs.TimedLines.{Meaning, nothing, does, Says, AreSaid, IsFrom, GoesOn, moment_after, last_moment, AllGoOn, AreRead, StopsAt}
+use Rattle.timed_scripts.specs.TimedLines.{Meaning, nothing, does, Says, AreSaid, IsFrom, GoesOn, moment_after, last_moment, AllGoOn, AreTimedLinesRead}
+use Rattle.timed_scripts.specs.TimedLines.{StopsAt}
 use Rattle.timed_scripts.specs.MeantScript.{commands_in, commands_of, late_in, late_lines, IsMeantScript}
-use Rattle.timed_scripts.specs.LineReading.{IsLinePut, IsNoNext, ExplainsText}
+use Rattle.timed_scripts.specs.LineReading.{IsLinePut, IsNoNext, ExplainsTimedText}
 use Rattle.timed_scripts.proofs.CuttingLemmas.{cut_there, cut_parts, fst_of}
 use Rattle.timed_scripts.proofs.NumberLemmas.{before_later}
 
 -- what was made of the lines so far, and what is left
 pub record IsMadeSoFar (records : List Sent) (text rest : List ℕ) (number : ℕ) (least : Option ℤ) (made late : List ℕ) : Type 0 where
   pub meanings : List Meaning
-  pub read : AreRead records text meanings rest
+  pub read : AreTimedLinesRead records text meanings rest
   pub number_is : number ≡ 1 + length meanings
   pub least_is : least ≡ last_moment None meanings
   pub made_is : made ≡ script_text (commands_of records meanings)
@@ -118,7 +119,7 @@ line_length rest line after is = let long : length rest ≡ length (line ++ 10 �
 -- ---- where the lines stop
 
 bad : (records : List Sent) (text rest : List ℕ) (number : ℕ) (least : Option ℤ) (made late : List ℕ) → IsMadeSoFar records text rest number least made late → 0 < length rest
-    → StopsAt records least rest → ExplainsText records text (BadLine number)
+    → StopsAt records least rest → ExplainsTimedText records text (BadLine number)
 bad records text rest number least made late so_far some stops = inl (
   number,
   refl,
@@ -137,7 +138,7 @@ some_rest rest [] after is = rw is (omega arith)
 some_rest rest (x ∷ line) after is = rw is (omega arith)
 
 pub bad_here : (records : List Sent) (text rest line after : List ℕ) (number : ℕ) (least : Option ℤ) (made late : List ℕ) → IsMadeSoFar records text rest number least made late
-    → cut_at 10 rest ≡ Some (line, after) → IsNoNext records least line → ExplainsText records text (BadLine number)
+    → cut_at 10 rest ≡ Some (line, after) → IsNoNext records least line → ExplainsTimedText records text (BadLine number)
 bad_here records text rest line after number least made late so_far cut none =
     bad records text rest number least made late so_far (some_rest rest line after (cut_parts 10 rest line after cut).0) stops where
       stops : StopsAt records least rest
@@ -147,7 +148,7 @@ bad_here records text rest line after number least made late so_far cut none =
           none meaning (rw same says)
 
 pub bad_end : (records : List Sent) (text rest : List ℕ) (number : ℕ) (least : Option ℤ) (made late : List ℕ) → IsMadeSoFar records text rest number least made late
-    → cut_at 10 rest ≡ None → 0 < length rest → ExplainsText records text (BadLine number)
+    → cut_at 10 rest ≡ None → 0 < length rest → ExplainsTimedText records text (BadLine number)
 bad_end records text rest number least made late so_far none some = bad records text rest number least made late so_far some stops where
   stops : StopsAt records least rest
   stops other more meaning lacks is says =
@@ -182,7 +183,7 @@ pub finished : (records : List Sent) (text rest : List ℕ) (number : ℕ) (leas
     → IsMeantScript records text made late
 finished records text rest number least made late so_far empty = record {
   meanings = so_far.meanings;
-  read = subst (AreRead records text so_far.meanings) empty so_far.read;
+  read = subst (AreTimedLinesRead records text so_far.meanings) empty so_far.read;
   script = record {
     fit = fits_all records None so_far.read.lines so_far.meanings so_far.read.said so_far.read.go_on;
     never_falls = falls_never records None so_far.meanings so_far.read.go_on;

@@ -10,14 +10,14 @@ use Rattle.text_lines.specs.Lines.{ended}
 use Rattle.timed_scripts.specs.declared.lines.Said.{Said}
 use Rattle.timed_scripts.specs.declared.lines.Said.TheVariants.{Unknown, Nothing, Does}
 use Rattle.timed_scripts.specs.Moments.{records_before}
-use Rattle.timed_scripts.specs.TimedLines.{Meaning, IsTimedCommand, SaysContent, Says, IsFrom, GoesOn, moment_after, IsBadAfter}
+use Rattle.timed_scripts.specs.TimedLines.{Meaning, IsTimedCommand, SaysContent, Says, IsFrom, GoesOn, moment_after, IsBadAfterTimedLines}
 use Rattle.timed_scripts.specs.MeantScript.{commands_in, late_in}
 
 -- what is read of a line without its comment
-abbrev pub Tells : List Sent → List ℕ → Said → Type 0
-Tells records text Unknown = (meaning : Meaning) → ¬ SaysContent records text meaning
-Tells records text Nothing = text ≡ []
-Tells records text (Does moment words) = (action : Action) × IsTimedCommand records text moment action × (words.now ≡ action_text action)
+abbrev pub TellsSaid : List Sent → List ℕ → Said → Type 0
+TellsSaid records text Unknown = (meaning : Meaning) → ¬ SaysContent records text meaning
+TellsSaid records text Nothing = text ≡ []
+TellsSaid records text (Does moment words) = (action : Action) × IsTimedCommand records text moment action × (words.now ≡ action_text action)
 
 -- a command may come next
 abbrev pub MayCome : List Sent → Option ℤ → ℤ → Type 0
@@ -50,5 +50,5 @@ abbrev pub IsNoNext : List Sent → Option ℤ → List ℕ → Type 0
 IsNoNext records least line = (meaning : Meaning) → Says records line meaning → ¬ GoesOn records least meaning
 
 -- why no script was made of a text
-abbrev pub ExplainsText : List Sent → List ℕ → ControlFault → Type 0
-ExplainsText records text fault = ((line : ℕ) × (fault ≡ BadLine line) × IsBadAfter records text line) ⊎ (fault ≡ Memory)
+abbrev pub ExplainsTimedText : List Sent → List ℕ → ControlFault → Type 0
+ExplainsTimedText records text fault = ((line : ℕ) × (fault ≡ BadLine line) × IsBadAfterTimedLines records text line) ⊎ (fault ≡ Memory)

@@ -6,7 +6,7 @@ use Rattle.control.specs.declared.fault.ControlFault.{ControlFault}
 use Rattle.control.specs.declared.fault.ControlFault.TheVariants.{BadLine, Memory}
 use Rattle.control.specs.ScriptText.{IsScriptText}
 use Rattle.timed_scripts.specs.Moments.{records_before}
-use Rattle.timed_scripts.specs.TimedLines.{Meaning, nothing, does, IsTimedText, IsBadLine}
+use Rattle.timed_scripts.specs.TimedLines.{Meaning, nothing, does, IsTimedText, IsBadTimedLine}
 
 -- the command that a line means: its action, behind the records that come before its moment
 abbrev pub commands_in : List Sent → Meaning → List Command
@@ -39,11 +39,11 @@ pub record IsMeantScript (records : List Sent) (bytes : List ℕ) (text : List �
   pub late_is : late ≡ late_lines records 1 meanings
 
 -- why the bytes mean no script, by the line
-pub record IsRefusedAt (records : List Sent) (bytes : List ℕ) (fault : ControlFault) : Type 0 where
+pub record IsTimedScriptRefusedAt (records : List Sent) (bytes : List ℕ) (fault : ControlFault) : Type 0 where
   pub line : ℕ
   pub fault_is : fault ≡ BadLine line
-  pub bad : IsBadLine records bytes line
+  pub bad : IsBadTimedLine records bytes line
 
 -- why there is no script: a bad line, or memory was refused
-abbrev pub Explains : List Sent → List ℕ → ControlFault → Type 0
-Explains records bytes fault = IsRefusedAt records bytes fault ⊎ (fault ≡ Memory)
+abbrev pub ExplainsTimedScript : List Sent → List ℕ → ControlFault → Type 0
+ExplainsTimedScript records bytes fault = IsTimedScriptRefusedAt records bytes fault ⊎ (fault ≡ Memory)

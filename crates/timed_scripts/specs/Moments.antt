@@ -17,9 +17,9 @@ number_after value (digit ∷ digits) =
     if is_ascii_digit digit && nat_lt value 100_000_000_000 then number_after (value * 10 + (digit - 48)) digits else None
 
 -- the number below 10^12 that one decimal digit or more write
-abbrev pub number_of : List ℕ → Option ℕ
-number_of [] = None
-number_of (digit ∷ digits) = number_after 0 (digit ∷ digits)
+abbrev pub written_number : List ℕ → Option ℕ
+written_number [] = None
+written_number (digit ∷ digits) = number_after 0 (digit ∷ digits)
 
 -- so many millionths are this number of parts, where it has so many digits behind the point
 abbrev pub millionths : ℕ → ℕ → Option ℕ
@@ -34,15 +34,15 @@ millionths digits value =
 -- ---- seconds with up to six digits behind the point, in nanoseconds
 
 abbrev pub fraction_of : List ℕ → Option ℕ
-fraction_of digits = option_and_then (λ value. millionths (length digits) value) (number_of digits)
+fraction_of digits = option_and_then (λ value. millionths (length digits) value) (written_number digits)
 
 abbrev pub with_fraction : ℕ → Option ℕ → Option ℤ
 with_fraction whole None = None
 with_fraction whole (Some micros) = Some (pos whole *ℤ pos 1_000_000_000 +ℤ pos micros *ℤ pos 1_000)
 
 abbrev pub seconds_in : List ℕ → Option (List ℕ × List ℕ) → Option ℤ
-seconds_in text None = option_and_then (λ whole. with_fraction whole (Some 0)) (number_of text)
-seconds_in text (Some parts) = option_and_then (λ whole. with_fraction whole (fraction_of parts.1)) (number_of parts.0)
+seconds_in text None = option_and_then (λ whole. with_fraction whole (Some 0)) (written_number text)
+seconds_in text (Some parts) = option_and_then (λ whole. with_fraction whole (fraction_of parts.1)) (written_number parts.0)
 
 -- the seconds that a text says, as `1764324180` or `1764324180.25`
 abbrev pub seconds_of : List ℕ → Option ℤ
@@ -68,22 +68,22 @@ since None parts = None
 since (Some first) None = None
 since (Some first) (Some parts) = if is_nothing parts.1 then later_than first (seconds_of parts.0) else None
 
-abbrev pub told : Result ℤ Error → Option ℤ
-told (Ok moment) = Some moment
-told (Err error) = None
+abbrev pub moment_read : Result ℤ Error → Option ℤ
+moment_read (Ok moment) = Some moment
+moment_read (Err error) = None
 
-abbrev pub either : Option ℤ → Option ℤ → Option ℤ
-either (Some one) other = Some one
-either None other = other
+abbrev pub first_known : Option ℤ → Option ℤ → Option ℤ
+first_known (Some one) other = Some one
+first_known None other = other
 
 -- seconds since the start of 1970, or else a date and a time of RFC 3339 as jiff reads them
 abbrev pub fixed_moment : List ℕ → Option ℤ
-fixed_moment word = either (seconds_of word) (told (parse_timestamp word))
+fixed_moment word = first_known (seconds_of word) (moment_read (parse_timestamp word))
 
 -- the moment that a word says: `+180s` and `+0.5s` are from the first record on
-abbrev pub moment_of : Option ℕ → List ℕ → Option ℤ
-moment_of first [] = fixed_moment []
-moment_of first (letter ∷ letters) = if letter == 43 then since first (cut_at 115 letters) else fixed_moment (letter ∷ letters)
+abbrev pub moment_said : Option ℕ → List ℕ → Option ℤ
+moment_said first [] = fixed_moment []
+moment_said first (letter ∷ letters) = if letter == 43 then since first (cut_at 115 letters) else fixed_moment (letter ∷ letters)
 
 -- ---- records before a moment
 

@@ -7,7 +7,7 @@ use Rattle.text_lines.specs.NoText.{IsNoText}
 use Rattle.control.specs.declared.command.Action.{Action}
 use Rattle.control.specs.ScriptText.{ActionFits, action_text}
 use Rattle.timed_scripts.specs.Cutting.{cut_at, content}
-use Rattle.timed_scripts.specs.Moments.{first_moment, moment_of, records_before}
+use Rattle.timed_scripts.specs.Moments.{first_moment, moment_said, records_before}
 
 -- what a line says: nothing, or what is done at a moment
 pub data Meaning : Type 0 where
@@ -18,7 +18,7 @@ pub data Meaning : Type 0 where
 pub record IsTimedCommand (records : List Sent) (text : List ℕ) (moment : ℤ) (action : Action) : Type 0 where
   pub word : List ℕ
   pub taken_apart : cut_at 32 text ≡ Some (word, action_text action)
-  pub moment_is : moment_of (first_moment records) word ≡ Some moment
+  pub moment_is : moment_said (first_moment records) word ≡ Some moment
   pub fits : ActionFits action
 
 -- what a line has before its comment says this
@@ -64,7 +64,7 @@ AllGoOn records least (meaning ∷ meanings) = GoesOn records least meaning × A
 -- ---- texts
 
 -- the text is these lines, each ended by a line feed, that say this, and a rest
-pub record AreRead (records : List Sent) (text : List ℕ) (meanings : List Meaning) (rest : List ℕ) : Type 0 where
+pub record AreTimedLinesRead (records : List Sent) (text : List ℕ) (meanings : List Meaning) (rest : List ℕ) : Type 0 where
   pub lines : List (List ℕ)
   pub whole : AllByRecursion (λ line. Lacks 10 line) lines
   pub text_is : text ≡ flat_map ended lines ++ rest
@@ -73,7 +73,7 @@ pub record AreRead (records : List Sent) (text : List ℕ) (meanings : List Mean
 
 -- the text is a timed script, and its lines say this
 abbrev pub IsTimedText : List Sent → List ℕ → List Meaning → Type 0
-IsTimedText records text meanings = AreRead records text meanings []
+IsTimedText records text meanings = AreTimedLinesRead records text meanings []
 
 -- no whole line begins the text that says something, or what it says is earlier
 abbrev pub StopsAt : List Sent → Option ℤ → List ℕ → Type 0
@@ -81,14 +81,14 @@ StopsAt records least text = (line more : List ℕ) (meaning : Meaning) → Lack
     → Says records line meaning → ¬ GoesOn records least meaning
 
 -- behind lines of a timed script comes one that is none, or is earlier
-pub record IsBadAfter (records : List Sent) (text : List ℕ) (line : ℕ) : Type 0 where
+pub record IsBadAfterTimedLines (records : List Sent) (text : List ℕ) (line : ℕ) : Type 0 where
   pub meanings : List Meaning
   pub rest : List ℕ
-  pub read : AreRead records text meanings rest
+  pub read : AreTimedLinesRead records text meanings rest
   pub line_is : line ≡ 1 + length meanings
   pub not_ended : 0 < length rest
   pub stops : StopsAt records (last_moment None meanings) rest
 
 -- the line, counted from 1, for which the bytes are no timed script
-abbrev pub IsBadLine : List Sent → List ℕ → ℕ → Type 0
-IsBadLine records bytes line = IsNoText bytes line ⊎ (IsUtf8 bytes × IsBadAfter records bytes line)
+abbrev pub IsBadTimedLine : List Sent → List ℕ → ℕ → Type 0
+IsBadTimedLine records bytes line = IsNoText bytes line ⊎ (IsUtf8 bytes × IsBadAfterTimedLines records bytes line)

@@ -3,7 +3,7 @@
 ghost use Rattle.std.specs.Prelude.{◌≡◌, ◌<◌, IfOk, IfErr, length};
 ghost use Rattle.control.specs.declared.fault.ControlFault.TheVariants.{Memory};
 ghost use Rattle.timed_scripts.specs.Cutting.{content};
-ghost use Rattle.timed_scripts.specs.LineReading.{Tells};
+ghost use Rattle.timed_scripts.specs.LineReading.{TellsSaid};
 
 use crate::actions::is_action;
 use crate::cutting::{content, cut_at};
@@ -26,7 +26,7 @@ pub(crate) enum Said<'a> {
 /// What a line says that has more than a comment.
 fn said_by<'a>(alloc: Global, records: &[Sent], content: &'a str) -> Result<Said<'a>, ControlFault>
     requires { 0 < length content.now }
-    ensures said { IfOk result (λ said. Tells records.now content.now said) }
+    ensures said { IfOk result (λ said. TellsSaid records.now content.now said) }
     ensures memory { IfErr result (λ fault. fault ≡ Memory) }
 {
     let Some((word, words)) = cut_at(content, ' ') else {
@@ -48,7 +48,7 @@ pub(crate) fn said_in<'a>(
     records: &[Sent],
     line: &'a str,
 ) -> Result<Said<'a>, ControlFault>
-    ensures said { IfOk result (λ said. Tells records.now (content line.now) said) }
+    ensures said { IfOk result (λ said. TellsSaid records.now (content line.now) said) }
     ensures memory { IfErr result (λ fault. fault ≡ Memory) }
 {
     let content = content(line);

@@ -2,8 +2,8 @@
 
 ghost use Rattle.std.specs.Prelude.{◌≡◌, ◌≤◌, length};
 ghost use Rattle.jiff_fmt.specs.Temporal.{timestamp_view};
-ghost use Rattle.timed_scripts.specs.Moments.{record_moment, first_moment, later_than, since, told, either};
-ghost use Rattle.timed_scripts.specs.Moments.{fixed_moment, moment_of, records_before, seconds_of};
+ghost use Rattle.timed_scripts.specs.Moments.{record_moment, first_moment, later_than, since, moment_read, first_known};
+ghost use Rattle.timed_scripts.specs.Moments.{fixed_moment, moment_said, records_before, seconds_of};
 ghost use Rattle.timed_scripts.specs.Cutting.{cut_at};
 
 use crate::cutting::cut_at;
@@ -56,7 +56,7 @@ fn since(first: Option<u64>, text: &str) -> Option<i128>
 }
 
 fn told(read: Result<Timestamp, Error>) -> Option<i128>
-    ensures { result ≡ told (timestamp_view read) }
+    ensures { result ≡ moment_read (timestamp_view read) }
 {
     match read {
         Ok(timestamp) => Some(timestamp.nanosecond),
@@ -76,7 +76,7 @@ fn fixed_moment(word: &str) -> Option<i128>
 
 /// The moment that a word says, in nanoseconds since the start of 1970; `+180s` is counted from the first record.
 pub(crate) fn moment_of(first: Option<u64>, word: &str) -> Option<i128>
-    ensures { result ≡ moment_of first word.now }
+    ensures { result ≡ moment_said first word.now }
 {
     match word.strip_prefix('+') {
         Some(later) => since(first, later),

@@ -2,7 +2,7 @@
 
 ghost use Rattle.std.specs.Prelude.{◌≡◌, ◌<◌, ◌≤◌, ◌≤ℤ◌, ◌<ℤ◌, pos, Some, None, IfSome};
 ghost use Rattle.std.specs.Char.{is_ascii_digit};
-ghost use Rattle.timed_scripts.specs.Moments.{number_after, number_of, millionths, fraction_of, with_fraction, seconds_of};
+ghost use Rattle.timed_scripts.specs.Moments.{number_after, written_number, millionths, fraction_of, with_fraction, seconds_of};
 
 use crate::cutting::cut_at;
 
@@ -34,7 +34,7 @@ fn digits(text: &[u8]) -> Option<u64>
 
 /// The number below 10^12 that one digit or more write.
 fn number_of(text: &[u8]) -> Option<u64>
-    ensures value { result ≡ number_of text.now }
+    ensures value { result ≡ written_number text.now }
     ensures small { IfSome result (λ value. value < 1_000_000_000_000) }
 {
     if text.is_empty() { None } else { digits(text) }

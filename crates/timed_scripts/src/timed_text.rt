@@ -4,8 +4,8 @@ ghost use Rattle.std.specs.Prelude.{◌≡◌, IfErr, IfOk, string_bytes, true, 
 ghost use Rattle.std.specs.Option.{MatchOption};
 ghost use Rattle.control.specs.declared.fault.ControlFault.TheVariants.{Memory};
 ghost use Rattle.timed_scripts.specs.TimedLines.{IsFrom};
-ghost use Rattle.timed_scripts.specs.MeantScript.{IsMeantScript, Explains};
-ghost use Rattle.timed_scripts.specs.LineReading.{MayCome, IsCommandPut, IsLinePut, IsNoNext, ExplainsText};
+ghost use Rattle.timed_scripts.specs.MeantScript.{IsMeantScript, ExplainsTimedScript};
+ghost use Rattle.timed_scripts.specs.LineReading.{MayCome, IsCommandPut, IsLinePut, IsNoNext, ExplainsTimedText};
 
 use crate::cutting::cut_at;
 use crate::lines::{Said, said_in};
@@ -90,7 +90,7 @@ fn put_line(
 /// The script that the lines of a text mean.
 fn script_of(alloc: Global, text: &str, records: &[Sent]) -> Result<TimedScript, ControlFault>
     ensures meant { IfOk result (λ made. IsMeantScript records.now text.now (string_bytes made.text) made.late.items) }
-    ensures refused { IfErr result (λ fault. ExplainsText records.now text.now fault) }
+    ensures refused { IfErr result (λ fault. ExplainsTimedText records.now text.now fault) }
 {
     let mut made = TimedScript {
         text: String::new(alloc),
@@ -130,7 +130,7 @@ pub fn timed_script(
     records: &[Sent],
 ) -> Result<TimedScript, ControlFault>
     ensures meant { IfOk result (λ made. IsMeantScript records.now bytes.now (string_bytes made.text) made.late.items) }
-    ensures refused { IfErr result (λ fault. Explains records.now bytes.now fault) }
+    ensures refused { IfErr result (λ fault. ExplainsTimedScript records.now bytes.now fault) }
 {
     match text_or_line(bytes) {
         Ok(text) => script_of(alloc, text, records),

@@ -9,7 +9,7 @@ use Rattle.byteorder.specs.Endian.{little_number}
 use Rattle.byteorder.specs.Numbers.{little_from-take, little_from-append}
 use Rattle.wire.specs.CaptureFormat.{le32_at}
 use Rattle.traffic.specs.declared.readings.Reading.{Reading}
-use Rattle.traffic.specs.Readings.{IsRecord, alters, filled_of, frame_len, is_filled, is_skipped, kept_len, padded, read_record, read_records, read_rest, skipped_of, zeros_for}
+use Rattle.traffic.specs.Readings.{IsRecord, alters, filled_of, frame_len, is_filled, is_skipped, kept_len, padded_record, read_record, read_records, read_rest, skipped_of, zeros_for}
 
 -- the length that a record's head says, read from its front alone
 head_number : (len : ℕ) (rest : List ℕ) → 12 ≤ len → le32_at 8 (take len rest) ≡ le32_at 8 rest
@@ -28,7 +28,7 @@ record_at_front rest one len front long is =
     }
 
 -- a padded record keeps, by its head, as many bytes as its frame had
-pub padded_len : (one : List ℕ) → 16 ≤ length one → kept_len (padded one) ≡ frame_len one
+pub padded_len : (one : List ℕ) → 16 ≤ length one → kept_len (padded_record one) ≡ frame_len one
 padded_len one head =
     let zeros = drop 12 one ++ replicate (zeros_for one) 0 in
     let number = take 4 (drop 12 one) in

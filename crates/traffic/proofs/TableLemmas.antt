@@ -10,7 +10,7 @@ use Rattle.control.specs.Controlling.{ControllerState, opened_controller}
 use Rattle.traffic.specs.WrittenMaps.{MapsState}
 use Rattle.maglev.specs.Population.{share_of}
 use Rattle.traffic.specs.declared.tables.Refused.{Refused}
-use Rattle.traffic.specs.TableText.{backend_line, lines_below, record_of, AreShown, AreTables, IsShown, no_maps}
+use Rattle.traffic.specs.TableText.{backend_line, lines_below, backend_record, AreShown, AreTables, IsShown, no_maps}
 
 pub some_slots : (size : ℕ) → IsRingSize size → 0 < size
 some_slots size served =
@@ -74,14 +74,14 @@ same_line size size' number share share' backend backend' a b c =
     ∙ (ap (λ (n : ℕ). backend_line size' number n backend) b ∙ ap (λ (r : List ℕ). backend_line size' number share' r) c)
 
 one_below : (maps : MapsState) (number : ℕ) → lines_below maps (suc number) ≡
-    lines_below maps number ++ backend_line maps.size number (share_of (number + 1) maps.words) (record_of maps.backends number)
+    lines_below maps number ++ backend_line maps.size number (share_of (number + 1) maps.words) (backend_record maps.backends number)
 unfolding lines_below
 one_below maps number = refl
 
 -- the lines below a number, and that of the number
 pub line_more : (maps : MapsState) (size number share : ℕ) (backend first before after : List ℕ) → before ≡ first ++ lines_below maps number
     → after ≡ before ++ backend_line size number share backend → size ≡ maps.size → share ≡ share_of (number + 1) maps.words
-    → backend ≡ record_of maps.backends number → after ≡ first ++ lines_below maps (number + 1)
+    → backend ≡ backend_record maps.backends number → after ≡ first ++ lines_below maps (number + 1)
 line_more maps size number share backend first before after known more size_is share_is backend_is =
     let on : number + 1 ≡ suc number = omega arith in
     more

@@ -10,7 +10,7 @@ use Rattle.wire.specs.declared.records.Sent.{Sent}
 use Rattle.traffic.specs.declared.kind.FrameKind.{FrameKind}
 use Rattle.traffic.specs.declared.kind.FrameKind.TheVariants.{Short, Ipv6, Arp, Vlan, OtherType, Malformed, Options, Fragment, Icmp}
 use Rattle.traffic.specs.declared.kind.FrameKind.TheVariants.{OtherProtocol, Expired, Large, Flow}
-use Rattle.traffic.specs.Kinds.{kind_of}
+use Rattle.traffic.specs.Kinds.{frame_kind_of}
 
 -- the place of a kind in their order
 abbrev pub place_of : FrameKind → ℕ
@@ -29,11 +29,11 @@ place_of Large = 11
 place_of Flow = 12
 
 abbrev pub is_of_kind : FrameKind → Sent → Bool
-is_of_kind kind sent = place_of (kind_of sent.bytes.items) == place_of kind
+is_of_kind kind sent = place_of (frame_kind_of sent.bytes.items) == place_of kind
 
 -- how many of the frames are of this kind
-abbrev pub how_many : FrameKind → List Sent → ℕ
-how_many kind frames = length (filter (is_of_kind kind) frames)
+abbrev pub how_many_of_kind : FrameKind → List Sent → ℕ
+how_many_of_kind kind frames = length (filter (is_of_kind kind) frames)
 
 -- ---- tunnels
 
@@ -49,12 +49,12 @@ target_of frame =
     then None
     else Some (address_at 30 frame)
 
-abbrev pub is_target : ℕ → Option ℕ → Bool
-is_target address None = false
-is_target address (Some target) = target == address
+abbrev pub is_target_address : ℕ → Option ℕ → Bool
+is_target_address address None = false
+is_target_address address (Some target) = target == address
 
 abbrev pub leads_to : ℕ → Sent → Bool
-leads_to address sent = is_target address (target_of sent.bytes.items)
+leads_to address sent = is_target_address address (target_of sent.bytes.items)
 
 -- how many of the frames go through a tunnel to this address
 abbrev pub how_many_to : ℕ → List Sent → ℕ
@@ -69,6 +69,6 @@ abbrev pub count_to : Targets → ℕ → ℕ
 count_to targets address = unwrap_or (get nat_cmp targets.counts address) 0
 
 -- the address has one more, and the others have what they had
-pub record HasOneMore (old new : Targets) (address : ℕ) : Type 0 where
+pub record HasOneMoreFor (old new : Targets) (address : ℕ) : Type 0 where
   pub here : count_to new address ≡ count_to old address + 1
   pub others : (other : ℕ) → other ≢ address → count_to new other ≡ count_to old other

@@ -31,8 +31,8 @@ ipv4_kind frame =
     else if nat_lt (total_length frame) 20 || nat_lt (length frame) (14 + total_length frame) then Malformed
     else packet_kind frame
 
-abbrev pub kind_of : List ℕ → FrameKind
-kind_of frame =
+abbrev pub frame_kind_of : List ℕ → FrameKind
+frame_kind_of frame =
     if nat_lt (length frame) 14 then Short
     else if be_word_at 12 frame == 0x0800 then ipv4_kind frame
     else if be_word_at 12 frame == 0x86dd then Ipv6

@@ -8,9 +8,9 @@ use Rattle.std.proofs.lemmas.Bool.Decides.{nat_tests}
 use Rattle.conntrack.specs.SteeringMaps.{steering_maps}
 use Rattle.control.specs.MapUpdates.{UpdateBytes, IsInArray}
 use Rattle.control.specs.ListOfUpdates.{answer_if}
-use Rattle.traffic.specs.WrittenMaps.{MapsState, IsAnswered, is_key_taken}
+use Rattle.traffic.specs.WrittenMaps.{MapsState, IsUpdateAnswered, is_key_taken}
 
-pub same_size : (before after : MapsState) (update : UpdateBytes) (answer : ℤ) → IsAnswered before update answer after →
+pub same_size : (before after : MapsState) (update : UpdateBytes) (answer : ℤ) → IsUpdateAnswered before update answer after →
     steering_maps after.size ≡ steering_maps before.size
 same_size before after update answer is = ap (λ (state : MapsState). steering_maps state.size) is.state_is
 
@@ -36,7 +36,7 @@ taken size map definition is_taken true is known array = absurd (no_array size m
 taken size map definition is_taken false is known array = refl
 
 pub arrays_take : (before after : MapsState) (update : UpdateBytes) (answer : ℤ) → IsInArray (steering_maps before.size) update →
-    IsAnswered before update answer after → answer ≡ pos 0
+    IsUpdateAnswered before update answer after → answer ≡ pos 0
 arrays_take before after update answer stands is =
     is.answer_is ∙ taken before.size update.map stands.definition (is_key_taken before.keys update.key) (update.map == 0) refl
     stands.known stands.array

@@ -17,7 +17,7 @@ use Rattle.traffic.specs.declared.not_sent.NotSent.TheVariants.{NoService, Expir
 use Rattle.traffic.specs.declared.record_line.LineVerdict.{LineVerdict}
 use Rattle.traffic.specs.declared.record_line.LineVerdict.TheVariants as verdicts
 use Rattle.traffic.specs.Counting.{one_if}
-use Rattle.traffic.specs.Kinds.{is_of_flow_kind, kind_of}
+use Rattle.traffic.specs.Kinds.{is_of_flow_kind, frame_kind_of}
 use Rattle.traffic.specs.SummaryText.{dotted, line_about}
 use Rattle.control.specs.ScriptText.{transport_text}
 
@@ -34,7 +34,7 @@ is_not_sent reason kind verdict = false
 abbrev pub is_record_not_sent : NotSent → Option Sent → Option LineVerdict → Bool
 is_record_not_sent reason None verdict = false
 is_record_not_sent reason (Some sent) None = false
-is_record_not_sent reason (Some sent) (Some verdict) = is_not_sent reason (kind_of sent.bytes.items) verdict
+is_record_not_sent reason (Some sent) (Some verdict) = is_not_sent reason (frame_kind_of sent.bytes.items) verdict
 
 -- how many of the first records were not sent for this reason
 abbrev pub not_sent_below : NotSent → List Sent → List LineVerdict → ℕ → ℕ
@@ -51,11 +51,11 @@ reason_phrase NoBackend = codes "dropped, without a tunnel or a backend that is 
 abbrev pub reasons : List NotSent
 reasons = NoService ∷ Expired ∷ Large ∷ NoBackend ∷ []
 
-abbrev pub reason_line : List Sent → List LineVerdict → NotSent → List ℕ
-reason_line frames list reason = line_about (not_sent_below reason frames list (length frames)) (reason_phrase reason)
+abbrev pub not_sent_line : List Sent → List LineVerdict → NotSent → List ℕ
+not_sent_line frames list reason = line_about (not_sent_below reason frames list (length frames)) (reason_phrase reason)
 
 abbrev pub reason_lines : List Sent → List LineVerdict → List NotSent → List ℕ
-reason_lines frames list some = flat_map (reason_line frames list) some
+reason_lines frames list some = flat_map (not_sent_line frames list) some
 
 -- ---- services
 
@@ -68,7 +68,7 @@ is_to address bytes =
 -- the frame has a flow to the service
 abbrev pub is_for : Service → List ℕ → Bool
 is_for service bytes =
-    is_of_flow_kind (kind_of bytes) && not (nat_lt (length bytes) 38) && is_to service.address.0 bytes
+    is_of_flow_kind (frame_kind_of bytes) && not (nat_lt (length bytes) 38) && is_to service.address.0 bytes
     && be_word_at 36 bytes == service.port && slice_index bytes 23 == protocol_number service.transport
 
 -- how many of the frames do
@@ -90,16 +90,16 @@ abbrev pub service_line : List Sent → Service → List ℕ
 service_line frames service = line_about (how_many_for service frames) (service_phrase service)
 
 -- the service that a command names, if it names one
-abbrev pub service_of : Action → Option Service
-service_of (Vip service is_notrack) = Some service
-service_of action = None
+abbrev pub service_named : Action → Option Service
+service_named (Vip service is_notrack) = Some service
+service_named action = None
 
 abbrev pub line_of_command : List Sent → Option Service → List ℕ
 line_of_command frames None = []
 line_of_command frames (Some service) = service_line frames service
 
 abbrev pub service_lines : List Sent → List Command → List ℕ
-service_lines frames script = flat_map (λ (command : Command). line_of_command frames (service_of command.action)) script
+service_lines frames script = flat_map (λ (command : Command). line_of_command frames (service_named command.action)) script
 
 -- ---- both
 
@@ -138,9 +138,9 @@ ends = verdicts.Pass ∷ verdicts.Drop ∷ verdicts.Aborted ∷ verdicts.Tx ∷ 
 abbrev pub end_line : List LineVerdict → LineVerdict → List ℕ
 end_line list end = line_about (how_many_ended end list) (end_phrase end)
 
-abbrev pub end_lines : List LineVerdict → List LineVerdict → List ℕ
-end_lines list some = flat_map (end_line list) some
+abbrev pub end_lines_text : List LineVerdict → List LineVerdict → List ℕ
+end_lines_text list some = flat_map (end_line list) some
 
 -- the text of the frames of services, and of what a program did with frames: nothing is said of why
 abbrev pub by_program_text : List Sent → List Command → List LineVerdict → List ℕ
-by_program_text frames script list = service_lines frames script ++ end_lines list ends
+by_program_text frames script list = service_lines frames script ++ end_lines_text list ends

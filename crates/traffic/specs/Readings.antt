@@ -54,14 +54,14 @@ abbrev pub zeros_for : List ℕ → ℕ
 zeros_for one = if nat_lt 2048 (frame_len one) then 0 else frame_len one - kept_len one
 
 -- the record of its whole frame: by its head it keeps as many bytes as the frame had, and zeros follow those that it has
-abbrev pub padded : List ℕ → List ℕ
-padded one = take 8 one ++ (take 4 (drop 12 one) ++ (drop 12 one ++ replicate (zeros_for one) 0))
+abbrev pub padded_record : List ℕ → List ℕ
+padded_record one = take 8 one ++ (take 4 (drop 12 one) ++ (drop 12 one ++ replicate (zeros_for one) 0))
 
 abbrev pub is_padded : Reading → List ℕ → Bool
 is_padded reading one = reading.pad_cut && is_snapped one
 
 abbrev pub with_padding : Reading → List ℕ → List ℕ
-with_padding reading one = if is_padded reading one then padded one else one
+with_padding reading one = if is_padded reading one then padded_record one else one
 
 -- the record of a frame of at most 2048 bytes gets zeros
 abbrev pub is_filled : Reading → List ℕ → Bool

@@ -3,7 +3,7 @@
 use Rattle.std.specs.Prelude.{ℕ, ◌/◌, ◌%◌, ◌==◌, ◌++◌, List, [], ◌∷◌, codes, decimal, Option, Some, None, if◌then◌else◌, slice_index}
 use Rattle.wire.specs.BigEndian.{be_word_at}
 use Rattle.traffic.specs.Counting.{address_at}
-use Rattle.traffic.specs.Kinds.{is_of_flow_kind, kind_of}
+use Rattle.traffic.specs.Kinds.{is_of_flow_kind, frame_kind_of}
 use Rattle.traffic.specs.declared.kind.FrameKind.{FrameKind}
 use Rattle.traffic.specs.declared.kind.FrameKind.TheVariants as kinds
 use Rattle.traffic.specs.declared.record_line.ReportForm.{ReportForm}
@@ -11,7 +11,7 @@ use Rattle.traffic.specs.declared.record_line.ReportForm.TheVariants.{Csv, Json}
 use Rattle.traffic.specs.declared.record_line.LineVerdict.{LineVerdict}
 use Rattle.traffic.specs.declared.record_line.LineVerdict.TheVariants as verdicts
 use Rattle.traffic.specs.declared.record_line.RecordLine.{RecordLine}
-use Rattle.traffic.specs.SummaryText.{address_text}
+use Rattle.traffic.specs.SummaryText.{address_number_text}
 
 -- ---- pieces
 
@@ -38,14 +38,14 @@ abbrev pub quoted : List ℕ → List ℕ
 quoted word = codes "\"" ++ (word ++ codes "\"")
 
 -- a word; none is not known
-abbrev pub word_text : ReportForm → List ℕ → List ℕ
-word_text form [] = missing form
-word_text Csv (first ∷ more) = first ∷ more
-word_text Json (first ∷ more) = quoted (first ∷ more)
+abbrev pub report_word : ReportForm → List ℕ → List ℕ
+report_word form [] = missing form
+report_word Csv (first ∷ more) = first ∷ more
+report_word Json (first ∷ more) = quoted (first ∷ more)
 
 abbrev pub target_text : ReportForm → Option ℕ → List ℕ
 target_text form None = missing form
-target_text form (Some address) = word_text form (address_text address)
+target_text form (Some address) = report_word form (address_number_text address)
 
 -- ---- words
 
@@ -104,8 +104,8 @@ front_of_pieces Json number moment worker verdict = json_front number moment wor
 
 abbrev pub front_text : ReportForm → ℕ → ℕ → Option ℕ → LineVerdict → List ℕ
 front_text form number micros worker verdict =
-    front_of_pieces form (decimal number) (word_text form (moment_text micros)) (number_text form worker)
-    (word_text form (verdict_word verdict))
+    front_of_pieces form (decimal number) (report_word form (moment_text micros)) (number_text form worker)
+    (report_word form (verdict_word verdict))
 
 -- in how many steps, by which case, and where it was sent
 abbrev pub csv_back : List ℕ → List ℕ → List ℕ → List ℕ → List ℕ
@@ -123,7 +123,7 @@ back_of_pieces Json steps case backend address = json_back steps case backend ad
 
 abbrev pub back_text : ReportForm → Option ℕ → List ℕ → Option ℕ → Option ℕ → List ℕ
 back_text form steps case backend address =
-    back_of_pieces form (number_text form steps) (word_text form case) (number_text form backend) (target_text form address)
+    back_of_pieces form (number_text form steps) (report_word form case) (number_text form backend) (target_text form address)
 
 -- ---- the flow
 
@@ -152,14 +152,14 @@ abbrev pub known_flow : ReportForm → List ℕ → List ℕ
 known_flow form frame =
     flow_of_pieces form (target_text form (Some (address_at 26 frame))) (number_text form (Some (be_word_at 34 frame)))
     (target_text form (Some (address_at 30 frame))) (number_text form (Some (be_word_at 36 frame)))
-    (word_text form (protocol_word (slice_index frame 23)))
+    (report_word form (protocol_word (slice_index frame 23)))
 
 abbrev pub no_flow : ReportForm → List ℕ
 no_flow form = flow_of_pieces form (missing form) (missing form) (missing form) (missing form) (missing form)
 
 -- the flow of a frame, and the line's end
 abbrev pub flow_text : ReportForm → List ℕ → List ℕ
-flow_text form frame = if is_of_flow_kind (kind_of frame) then known_flow form frame else no_flow form
+flow_text form frame = if is_of_flow_kind (frame_kind_of frame) then known_flow form frame else no_flow form
 
 -- ---- the whole line
 
@@ -170,6 +170,6 @@ record_line form line frame =
     ++ back_text form line.steps line.case_of.now line.backend line.address) ++ flow_text form frame
 
 -- what comes before the first line
-abbrev pub head_of : ReportForm → List ℕ
-head_of Csv = codes "number,moment,worker,verdict,steps,case,backend,address,source,source_port,destination,destination_port,protocol\n"
-head_of Json = []
+abbrev pub report_head : ReportForm → List ℕ
+report_head Csv = codes "number,moment,worker,verdict,steps,case,backend,address,source,source_port,destination,destination_port,protocol\n"
+report_head Json = []

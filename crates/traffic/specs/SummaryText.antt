@@ -11,7 +11,7 @@ use Rattle.wire.specs.declared.records.Sent.{Sent}
 use Rattle.traffic.specs.declared.kind.FrameKind.{FrameKind}
 use Rattle.traffic.specs.declared.kind.FrameKind.TheVariants.{Short, Ipv6, Arp, Vlan, OtherType, Malformed, Options, Fragment, Icmp}
 use Rattle.traffic.specs.declared.kind.FrameKind.TheVariants.{OtherProtocol, Expired, Large, Flow}
-use Rattle.traffic.specs.Counting.{how_many, how_many_to}
+use Rattle.traffic.specs.Counting.{how_many_of_kind, how_many_to}
 use Rattle.traffic.specs.Moving.{moves_in}
 
 -- what a frame of the kind is, in words
@@ -47,7 +47,7 @@ line_about count phrase = if count == 0 then [] else count_line count (frames_wo
 
 -- the line of a kind among these frames, and those of several kinds
 abbrev pub line_in : List Sent → FrameKind → List ℕ
-line_in frames kind = line_about (how_many kind frames) (phrase_of kind)
+line_in frames kind = line_about (how_many_of_kind kind frames) (phrase_of kind)
 
 abbrev pub lines_in : List Sent → List FrameKind → List ℕ
 lines_in frames list = flat_map (line_in frames) list
@@ -58,17 +58,17 @@ dotted first second third last =
     decimal first ++ (codes "." ++ (decimal second ++ (codes "." ++ (decimal third ++ (codes "." ++ decimal last)))))
 
 -- an address as four numbers
-abbrev pub address_text : ℕ → List ℕ
-address_text address = dotted (address / 16777216) (address / 65536 % 256) (address / 256 % 256) (address % 256)
+abbrev pub address_number_text : ℕ → List ℕ
+address_number_text address = dotted (address / 16777216) (address / 65536 % 256) (address / 256 % 256) (address % 256)
 
 abbrev pub target_phrase : List ℕ → List ℕ
 target_phrase address = codes "sent to " ++ address
 
-abbrev pub line_of : ℕ × ℕ → List ℕ
-line_of target = line_about target.1 (target_phrase (address_text target.0))
+abbrev pub target_line : ℕ × ℕ → List ℕ
+target_line target = line_about target.1 (target_phrase (address_number_text target.0))
 
 abbrev pub targets_text : List (ℕ × ℕ) → List ℕ
-targets_text targets = flat_map line_of targets
+targets_text targets = flat_map target_line targets
 
 -- the number that a list of addresses has for one of them
 abbrev pub count_in : List (ℕ × ℕ) → ℕ → ℕ

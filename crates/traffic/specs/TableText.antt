@@ -6,7 +6,7 @@ use Rattle.control.specs.declared.command.Command.{Command}
 use Rattle.control.specs.declared.fault.ControlFault.{ControlFault}
 use Rattle.control.specs.FaultNumber.{control_fault_number}
 use Rattle.control.specs.Controlling.{ControllerState, refusal_of, IsCarriedOut, IsLeft, first_updates, up_after, opened_controller}
-use Rattle.traffic.specs.WrittenMaps.{MapsState, IsAnswered, IsNeverRefused}
+use Rattle.traffic.specs.WrittenMaps.{MapsState, IsUpdateAnswered, IsNeverRefused}
 use Rattle.traffic.specs.Shares.{moved_below, least_moves}
 use Rattle.traffic.specs.SummaryText.{dotted}
 use Rattle.traffic.specs.declared.tables.Refused.{Refused}
@@ -39,14 +39,14 @@ abbrev pub backend_line : ℕ → ℕ → ℕ → List ℕ → List ℕ
 backend_line size number share backend =
     if share == 0 then [] else backend_text number (front_address backend) share (percent_text (hundredths share size))
 
-abbrev pub record_of : List (List ℕ) → ℕ → List ℕ
-record_of backends number = unwrap_or (slice_get backends number) []
+abbrev pub backend_record : List (List ℕ) → ℕ → List ℕ
+backend_record backends number = unwrap_or (slice_get backends number) []
 
 -- the lines of the backends below this number
 unfoldable pub lines_below : MapsState → ℕ → List ℕ
 lines_below state zero = []
 lines_below state (suc number) =
-    lines_below state number ++ backend_line state.size number (share_of (number + 1) state.words) (record_of state.backends number)
+    lines_below state number ++ backend_line state.size number (share_of (number + 1) state.words) (backend_record state.backends number)
 
 -- the line of a command, counted from 0 here and from 1 there, that was carried out
 abbrev pub done_line : ℕ → ℕ → ℕ → ℕ → List ℕ
@@ -70,10 +70,10 @@ done_lines place frame before maps =
 pub data IsShown (place : ℕ) (state : ControllerState) (maps : MapsState) (command : Command) (state' : ControllerState)
     (maps' : MapsState) (printed : List ℕ) (noted : List Refused) : Type 0 where
   carried_out : refusal_of state command.action ≡ None
-      → IsCarriedOut IsAnswered state maps (first_updates state.up command.action) (up_after state.up command.action) state' maps'
+      → IsCarriedOut IsUpdateAnswered state maps (first_updates state.up command.action) (up_after state.up command.action) state' maps'
       → printed ≡ done_lines place command.frame maps.words maps' → noted ≡ []
       → IsShown place state maps command state' maps' printed noted
-  refused : (fault : ControlFault) → IsLeft IsAnswered IsNeverRefused state maps command.action state' maps' fault
+  refused : (fault : ControlFault) → IsLeft IsUpdateAnswered IsNeverRefused state maps command.action state' maps' fault
       → printed ≡ refused_line place (control_fault_number fault) → noted ≡ record { place = place; fault = fault } ∷ []
       → IsShown place state maps command state' maps' printed noted
 

@@ -26,8 +26,8 @@ front_word bytes =
     else number_of_bytes (slice_index bytes 0 ∷ slice_index bytes 1 ∷ slice_index bytes 2 ∷ slice_index bytes 3 ∷ [])
 
 -- an item is put at a place that there is
-abbrev pub put_at : {A : Type 0} → List A → ℕ → A → List A
-put_at items place item = if nat_lt place (length items) then set items place item else items
+abbrev pub with_item_at : {A : Type 0} → List A → ℕ → A → List A
+with_item_at items place item = if nat_lt place (length items) then set items place item else items
 
 abbrev pub is_key_of : List (List ℕ) → List ℕ → Bool
 is_key_of keys key = list_any (λ other. bytes_eq other key) keys
@@ -41,21 +41,21 @@ abbrev pub keys_with : List (List ℕ) → List ℕ → List (List ℕ)
 keys_with keys key = if is_key_of keys key then keys else (if nat_lt (length keys) 64 then (keys ++ key ∷ []) else keys)
 
 -- the map of services is the first one; every other map takes what it is asked
-abbrev pub answer_to : MapsState → UpdateBytes → ℤ
-answer_to state update = answer_if (not (update.map == map_place Vips) || is_key_taken state.keys update.key)
+abbrev pub written_answer : MapsState → UpdateBytes → ℤ
+written_answer state update = answer_if (not (update.map == map_place Vips) || is_key_taken state.keys update.key)
 
 -- the lookup table is the third map, and the backends are the fourth
 abbrev pub after_update : MapsState → UpdateBytes → MapsState
 after_update state update = record {
   size = state.size;
-  words = if update.map == map_place Ring then put_at state.words (front_word update.key) (front_word update.value) else state.words;
-  backends = if update.map == map_place Backends then put_at state.backends (front_word update.key) update.value else state.backends;
+  words = if update.map == map_place Ring then with_item_at state.words (front_word update.key) (front_word update.value) else state.words;
+  backends = if update.map == map_place Backends then with_item_at state.backends (front_word update.key) update.value else state.backends;
   keys = if update.map == map_place Vips then keys_with state.keys update.key else state.keys;
 }
 
 -- the update is answered, and made
-pub record IsAnswered (before : MapsState) (update : UpdateBytes) (answer : ℤ) (after : MapsState) : Type 0 where
-  pub answer_is : answer ≡ answer_to before update
+pub record IsUpdateAnswered (before : MapsState) (update : UpdateBytes) (answer : ℤ) (after : MapsState) : Type 0 where
+  pub answer_is : answer ≡ written_answer before update
   pub state_is : after ≡ after_update before update
 
 -- no update meets a full journal, since there is none

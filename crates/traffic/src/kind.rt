@@ -3,8 +3,8 @@
 ghost use Rattle.std.specs.Prelude.{◌≡◌, ◌+◌, ◌<◌, ◌≤◌, ◌↔◌, length, slice_index, true};
 ghost use Rattle.wire.specs.FlowForm.{HasFlow};
 ghost use Rattle.wire.specs.PlainIpv4.{IsPlainIpv4};
-ghost use Rattle.traffic.specs.Counting.{how_many, place_of};
-ghost use Rattle.traffic.specs.Kinds.{flow_kind, ipv4_kind, is_of_flow_kind, kind_of, packet_kind};
+ghost use Rattle.traffic.specs.Counting.{how_many_of_kind, place_of};
+ghost use Rattle.traffic.specs.Kinds.{flow_kind, ipv4_kind, is_of_flow_kind, frame_kind_of, packet_kind};
 
 use ipip::MOST_TUNNELLED;
 use wire::{MIN_FRAME, Sent, word_at};
@@ -74,7 +74,7 @@ impl FrameKind {
 
     /// How many of the frames are of this kind.
     pub fn count_in(self, frames: &[Sent]) -> usize
-        ensures { result ≡ how_many self frames.now }
+        ensures { result ≡ how_many_of_kind self frames.now }
     {
         let place = self.place();
         frames
@@ -85,7 +85,7 @@ impl FrameKind {
 
     /// The kind of a frame.
     pub fn of(frame: &[u8]) -> FrameKind
-        ensures kind { result ≡ kind_of frame.now }
+        ensures kind { result ≡ frame_kind_of frame.now }
         ensures flow { is_of_flow_kind result ≡ true ↔ HasFlow frame.now }
     {
         if frame.len() < MIN_FRAME {

@@ -2,11 +2,11 @@
 
 ghost use Rattle.std.specs.Prelude.{◌≡◌, ◌++◌, ◌≤◌, IfOk, OnOk, length, slice_get, string_bytes};
 ghost use Rattle.traffic.specs.NotSent.{how_many_for, is_for, is_not_sent, is_record_not_sent, is_to, line_of_command, not_sent_below};
-ghost use Rattle.traffic.specs.NotSent.{reason_line};
-ghost use Rattle.traffic.specs.NotSent.{reason_lines, reason_phrase, service_line, service_lines, service_of, service_phrase};
+ghost use Rattle.traffic.specs.NotSent.{not_sent_line};
+ghost use Rattle.traffic.specs.NotSent.{reason_lines, reason_phrase, service_line, service_lines, service_named, service_phrase};
 ghost use Rattle.traffic.specs.NotSent.{services_text};
 ghost use Rattle.traffic.specs.NotSent.{words_of_service};
-ghost use Rattle.traffic.specs.NotSent.{by_program_text, end_line, end_lines, end_phrase, how_many_ended, is_end};
+ghost use Rattle.traffic.specs.NotSent.{by_program_text, end_line, end_lines_text, end_phrase, how_many_ended, is_end};
 
 use crate::kind::FrameKind;
 use crate::moves::one_if;
@@ -196,7 +196,7 @@ fn put_command(
     command: &Command,
     frames: &[Sent],
 ) -> Result<(), AllocError>
-    ensures { OnOk result (string_bytes text.new ≡ string_bytes text.old ++ line_of_command frames.now (service_of command.now.action)) }
+    ensures { OnOk result (string_bytes text.new ≡ string_bytes text.old ++ line_of_command frames.now (service_named command.now.action)) }
 {
     match command.action {
         Action::Vip { service, .. } => put_service(alloc, text, &service, frames),
@@ -288,7 +288,7 @@ fn put_ends(
     ends: &[LineVerdict],
     verdicts: &[LineVerdict],
 ) -> Result<(), AllocError>
-    ensures { OnOk result (string_bytes text.new ≡ string_bytes text.old ++ end_lines verdicts.now ends.now) }
+    ensures { OnOk result (string_bytes text.new ≡ string_bytes text.old ++ end_lines_text verdicts.now ends.now) }
 {
     'ends: for end in ends {
         let count = count_ended(*end, verdicts) as u64;

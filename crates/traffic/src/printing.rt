@@ -1,8 +1,8 @@
 //! The summary of a replay's traffic, for people.
 
 ghost use Rattle.std.specs.Prelude.{◌≡◌, ◌++◌, ◌<◌, ◌^◌, IfOk, OnOk, string_bytes};
-ghost use Rattle.traffic.specs.SummaryText.{address_text, count_line, dotted, frames_word, IsSummary, IsSummaryOfSent, line_about, line_in};
-ghost use Rattle.traffic.specs.SummaryText.{line_of};
+ghost use Rattle.traffic.specs.SummaryText.{address_number_text, count_line, dotted, frames_word, IsSummary, IsSummaryOfSent, line_about, line_in};
+ghost use Rattle.traffic.specs.SummaryText.{target_line};
 ghost use Rattle.traffic.specs.SummaryText.{lines_in, phrase_of, target_phrase, targets_text};
 
 use crate::kind::FrameKind;
@@ -123,7 +123,7 @@ pub(crate) fn dotted(
 
 /// The text of an address.
 pub(crate) fn address_text(alloc: Global, address: u32) -> Result<String, AllocError>
-    ensures { IfOk result (λ text. string_bytes text ≡ address_text address) }
+    ensures { IfOk result (λ text. string_bytes text ≡ address_number_text address) }
 {
     dotted(
         alloc,
@@ -143,7 +143,7 @@ fn target_phrase(alloc: Global, address: &str) -> Result<String, AllocError>
 
 /// Appends the line of an address.
 fn put_target(alloc: Global, text: &mut String, address: u32, count: u64) -> Result<(), AllocError>
-    ensures { OnOk result (string_bytes text.new ≡ string_bytes text.old ++ line_of (address, count)) }
+    ensures { OnOk result (string_bytes text.new ≡ string_bytes text.old ++ target_line (address, count)) }
 {
     let name = address_text(alloc, address)?;
     let phrase = target_phrase(alloc, name.as_str())?;

@@ -2,7 +2,7 @@
 
 ghost use Rattle.std.specs.Prelude.{◌≡◌, ◌+◌, ◌≤◌, ◌++◌, [], ◌∷◌, false, length, take, drop, replicate, IfOk, OnOk, MatchOption};
 ghost use Rattle.traffic.specs.Readings.{HasNoRecord, IsAltered, alters, filled_of, frame_len, is_padded, is_skipped, kept_len};
-ghost use Rattle.traffic.specs.Readings.{left_over_of, padded, read_record, read_rest, skipped_of, unaltered, zeros_for};
+ghost use Rattle.traffic.specs.Readings.{left_over_of, padded_record, read_record, read_rest, skipped_of, unaltered, zeros_for};
 
 use byteorder::{ByteOrder, LittleEndian};
 use std::alloc::{AllocError, Global};
@@ -134,7 +134,7 @@ fn put_zeros(kept: &mut Vec<u8>, count: usize) -> Result<(), AllocError>
 /// Appends a record as one of its whole frame.
 fn put_padded(kept: &mut Vec<u8>, one: &[u8]) -> Result<(), AllocError>
     requires { 16 ≤ length one.now }
-    ensures { OnOk result (kept.new.items ≡ kept.old.items ++ padded one.now) }
+    ensures { OnOk result (kept.new.items ≡ kept.old.items ++ padded_record one.now) }
 {
     kept.extend_from_slice(&one[..8])?;
     kept.extend_from_slice(&one[12..16])?;

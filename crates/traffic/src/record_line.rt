@@ -1,9 +1,9 @@
 //! The line of a record in a report, as CSV (RFC 4180) or as JSON (RFC 8259).
 
 ghost use Rattle.std.specs.Prelude.{◌≡◌, IfOk, decimal, string_bytes};
-ghost use Rattle.traffic.specs.RecordLines.{back_text, case_word, csv_back, csv_front, front_text, head_of, json_back, json_front};
+ghost use Rattle.traffic.specs.RecordLines.{back_text, case_word, csv_back, csv_front, front_text, report_head, json_back, json_front};
 ghost use Rattle.traffic.specs.RecordLines.{kind_word, missing, moment_text};
-ghost use Rattle.traffic.specs.RecordLines.{number_text, quoted, record_line, six_digits, target_text, verdict_word, word_text};
+ghost use Rattle.traffic.specs.RecordLines.{number_text, quoted, record_line, six_digits, target_text, verdict_word, report_word};
 
 use crate::flow_columns::flow_text;
 use crate::kind::FrameKind;
@@ -104,7 +104,7 @@ fn quoted(alloc: Global, word: &str) -> Result<String, AllocError>
 
 /// A word, if it is known.
 pub(crate) fn word_text(alloc: Global, form: ReportForm, word: &str) -> Result<String, AllocError>
-    ensures { IfOk result (λ text. string_bytes text ≡ word_text form word.now) }
+    ensures { IfOk result (λ text. string_bytes text ≡ report_word form word.now) }
 {
     if word.is_empty() {
         return String::from_str(alloc, missing(form));
@@ -242,7 +242,7 @@ fn json_back(
 impl ReportForm {
     /// What comes before the first line.
     pub fn head(self) -> &'static str
-        ensures { result.now ≡ head_of self }
+        ensures { result.now ≡ report_head self }
     {
         match self {
             ReportForm::Csv => {

@@ -2,7 +2,7 @@
 
 ghost use Rattle.std.specs.Prelude.{◌≡◌, ◌≤◌, ◌<◌, ◌+◌, ◌*◌, ◌^◌, ◌==◌, length, IfOk};
 ghost use Rattle.maglev.specs.Population.{share_of};
-ghost use Rattle.traffic.specs.Shares.{AreShares, counted, entry_gain, entry_gains, least_moves, moved_below, word_at};
+ghost use Rattle.traffic.specs.Shares.{AreShares, share_counted, entry_gain, entry_gains, least_moves, moved_below, share_at};
 
 use std::alloc::{AllocError, Global};
 
@@ -18,7 +18,7 @@ pub fn share_of(word: u32, words: &[u32]) -> usize
 
 /// The word of a slot.
 fn word_at(words: &[u32], place: u32) -> u32
-    ensures { result ≡ word_at words.now place }
+    ensures { result ≡ share_at words.now place }
 {
     words.get(place as usize).copied().unwrap_or(0)
 }
@@ -38,15 +38,15 @@ pub fn moved_slots(old: &[u32], new: &[u32], size: u32) -> u32
 
 /// The entry of a word; 0 where there is none.
 pub(crate) fn entry_at(shares: &[usize], word: u32) -> usize
-    ensures { result ≡ word_at shares.now word }
+    ensures { result ≡ share_at shares.now word }
 {
     shares.get(word as usize).copied().unwrap_or(0)
 }
 
 /// Counts a slot of this word, if the word has an entry.
 fn count_slot(shares: &mut Vec<usize>, word: u32)
-    requires { word_at shares.old.items word + 1 < 2 ^ 64 }
-    ensures { shares.new.items ≡ counted shares.old.items word }
+    requires { share_at shares.old.items word + 1 < 2 ^ 64 }
+    ensures { shares.new.items ≡ share_counted shares.old.items word }
 {
     let place = word as usize;
     if place < shares.len() {

@@ -8,7 +8,7 @@ ghost use Rattle.traffic.specs.Shares.{AreShares};
 ghost use Rattle.traffic.specs.TableText.{backend_line, backend_text, byte_at, done_line, done_lines, front_address, hundredths};
 ghost use Rattle.traffic.specs.TableText.{lines_below};
 ghost use Rattle.control.specs.Controlling.{opened_controller};
-ghost use Rattle.traffic.specs.TableText.{percent_text, record_of, refused_line, AreTables, IsShown, is_some};
+ghost use Rattle.traffic.specs.TableText.{percent_text, backend_record, refused_line, AreTables, IsShown, is_some};
 
 use crate::printing::dotted;
 use crate::shares::{WORDS, entry_at, least_moves, moved_slots, shares_of};
@@ -167,7 +167,7 @@ fn put_backend(
 
 /// The record of a backend; nothing where there is none.
 fn record_of(backends: &[Value], number: u32) -> &[u8]
-    ensures { result.now ≡ record_of backends.now number }
+    ensures { result.now ≡ backend_record backends.now number }
 {
     match backends.get(number as usize) {
         Some(backend) => backend.as_slice(),

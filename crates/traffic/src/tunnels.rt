@@ -4,7 +4,7 @@ ghost use Rattle.std.specs.Prelude.{◌≡◌, ◌+◌, ◌^◌, ◌<◌, ℕ, I
 ghost use Rattle.std.specs.Ordering.{nat_cmp};
 ghost use Rattle.std.specs.List.Sorted.{IsStrictlySortedBy};
 ghost use Rattle.std.specs.Map.{keys_of};
-ghost use Rattle.traffic.specs.Counting.{count_to, HasOneMore, how_many_to, is_target, one_if, target_of};
+ghost use Rattle.traffic.specs.Counting.{count_to, HasOneMoreFor, how_many_to, is_target_address, one_if, target_of};
 
 use std::alloc::{AllocError, Global};
 use std::collections::BTreeMap;
@@ -58,7 +58,7 @@ impl Targets {
     /// Counts one frame more.
     fn add(&mut self, address: u32) -> Result<(), AllocError>
         requires room { count_to self.old address + 1 < 2 ^ 64 }
-        ensures { OnOk result (HasOneMore self.old self.new address) }
+        ensures { OnOk result (HasOneMoreFor self.old self.new address) }
     {
         let count = self.count(address) + 1;
         self.counts.insert(address, count)?;
@@ -69,7 +69,7 @@ impl Targets {
     fn note(&mut self, frame: &[u8]) -> Result<(), AllocError>
         requires room { (address : ℕ) → count_to self.old address + 1 < 2 ^ 64 }
         ensures { OnOk result
-            ((address : ℕ) → count_to self.new address ≡ count_to self.old address + one_if (is_target address (target_of frame.now))) }
+            ((address : ℕ) → count_to self.new address ≡ count_to self.old address + one_if (is_target_address address (target_of frame.now))) }
     {
         match target_of(frame) {
             Some(address) => self.add(address),

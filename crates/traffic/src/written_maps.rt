@@ -3,7 +3,7 @@
 ghost use Rattle.std.specs.Prelude.{◌≡◌, ◌==◌, ◌<◌, nat_lt, [], IfOk, List, length, ℕ, replicate, unwrap_or, slice_get};
 ghost use Rattle.conntrack.specs.SteeringMaps.{steering_maps};
 ghost use Rattle.control.specs.ListOfUpdates.{answer_if};
-ghost use Rattle.traffic.specs.WrittenMaps.{MapsState, after_update, answer_to, front_word, is_key_of, is_key_taken, keys_with, put_at};
+ghost use Rattle.traffic.specs.WrittenMaps.{MapsState, after_update, written_answer, front_word, is_key_of, is_key_taken, keys_with, with_item_at};
 
 use conntrack::{BACKENDS, MOST_SERVICES, SteeringMap};
 use control::UpdatePort;
@@ -114,7 +114,7 @@ impl WrittenMaps {
 
     /// Gives a slot its word.
     fn put_word(&mut self, place: u32, word: u32)
-        ensures { self.new ≡ record (self.old) { words = put_at self.old.words place word } }
+        ensures { self.new ≡ record (self.old) { words = with_item_at self.old.words place word } }
     {
         if (place as usize) < self.words.len() {
             self.words[place as usize] = word;
@@ -123,7 +123,7 @@ impl WrittenMaps {
 
     /// Gives a backend its record.
     fn put_backend(&mut self, number: u32, backend: &Value)
-        ensures { self.new ≡ record (self.old) { backends = put_at self.old.backends number backend.now } }
+        ensures { self.new ≡ record (self.old) { backends = with_item_at self.old.backends number backend.now } }
     {
         if (number as usize) < self.backends.len() {
             self.backends[number as usize] = *backend;
@@ -133,12 +133,12 @@ impl WrittenMaps {
 
 impl UpdatePort for WrittenMaps {
     ghost use Rattle.conntrack.specs.SteeringMaps.{steering_maps};
-    ghost use Rattle.traffic.specs.WrittenMaps.{IsAnswered, IsNeverRefused};
+    ghost use Rattle.traffic.specs.WrittenMaps.{IsUpdateAnswered, IsNeverRefused};
     ghost use Rattle.traffic.specs.MapLaws.{same_size, arrays_take};
 
     ghost serves = { λ maps. steering_maps maps.size };
 
-    ghost gives = { λ before update answer after. IsAnswered before update answer after };
+    ghost gives = { λ before update answer after. IsUpdateAnswered before update answer after };
 
     ghost refuses = { λ before update after. IsNeverRefused before update after };
 

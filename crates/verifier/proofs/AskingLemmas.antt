@@ -21,12 +21,12 @@ use Rattle.semantics.specs.Reclamation as history
 use Rattle.semantics.specs.RunTrace.{IsReplyTo}
 use Rattle.semantics.specs.ShardPlan.{plan_at}
 use Rattle.semantics.specs.History.{Meets, journal_is_full}
-use Rattle.semantics.specs.System.{Setting, program_of, SystemState, Idle, Runs, worker_state, history_of, with_worker, with_entry, is_entered, entry_for, run_over, after_run_call}
+use Rattle.semantics.specs.System.{Setting, program_of_setting, SystemState, Idle, Runs, worker_state, history_of, with_worker, with_entry, is_entered, entry_for, run_over, after_run_call}
 use Rattle.abstract_state.specs.declared.state.State.{State}
 use Rattle.abstract_state.specs.Soundness.{IsHandedOut, HoldsAfter}
 use Rattle.abstract_state.proofs.shared.Writing.{held_more}
 use Rattle.semantics.proofs.shared.PlanLemmas.{some_shards}
-use Rattle.verifier.proofs.SystemInvariant.{entered_of, held_by, IsSoundRun, IsSoundWorker, IsSetting, IsSoundSystem}
+use Rattle.verifier.proofs.SystemInvariant.{entered_of, held_in_run, IsSoundRun, IsSoundWorker, IsSetting, IsSoundSystem}
 use Rattle.verifier.proofs.HistoryLemmas.{inside_enter, inside_lookup, inside_stays, holds_still, still_held, found_held}
 use Rattle.verifier.proofs.PlanLemmas.{plan_facts, plan_within, enter_meets}
 use Rattle.verifier.proofs.SettingLemmas.{held_facts}
@@ -67,7 +67,7 @@ entered_other : (shard s : ℕ) (entered : List ℕ) → s ≢ shard → is_ente
 entered_other shard s entered apart = let e : (shard == s) ≡ false = ne_eqb shard s (λ same. apart (sym same)) in rw e refl
 
 entering_holds : (setting : Setting) (system : SystemState) (plan : ShardPlan) (worker shard : ℕ) (entered : List ℕ) → plan.number ≡ shard → is_entered shard entered ≡ false →
-    (map s cell : ℕ) → IsTrue (held_by setting system worker entered map s cell) → IsTrue (held_by setting (grown system plan worker (Enter shard)) worker (shard ∷ entered) map s cell)
+    (map s cell : ℕ) → IsTrue (held_in_run setting system worker entered map s cell) → IsTrue (held_in_run setting (grown system plan worker (Enter shard)) worker (shard ∷ entered) map s cell)
 entering_holds setting system plan worker shard entered at outside map s cell held =
     let is = held_facts setting system worker entered map s cell held
     in let apart : s ≢ shard = (λ same. let no_more : is_entered s entered ≡ false = ap (λ n. is_entered n entered) same ∙ outside in let yes : is_entered s entered ≡ true = is.was_entered in absurd cc)
@@ -112,7 +112,7 @@ enter_sound setting states system worker shard state entered (Some plan) good so
       known = run.known;
       at = run.at;
       begins = run.begins;
-      sound = held_more setting.maps (held_by setting system worker entered) (held_by setting (grown system plan worker (Enter shard)) worker (shard ∷ entered)) run.known state
+      sound = held_more setting.maps (held_in_run setting system worker entered) (held_in_run setting (grown system plan worker (Enter shard)) worker (shard ∷ entered)) run.known state
           (entering_holds setting system plan worker shard entered at outside) run.sound;
       few = run.few;
     }))
@@ -141,7 +141,7 @@ quiet_call plan system worker call stays same = record {
 
 -- what the worker held, it holds
 pub held_grows : (setting : Setting) (system : SystemState) (plan : ShardPlan) (worker : ℕ) (entered : List ℕ) (call : Call) → IsQuiet plan system worker call → plan.number < length system.histories →
-    (map s cell : ℕ) → IsTrue (held_by setting system worker entered map s cell) → IsTrue (held_by setting (grown system plan worker call) worker entered map s cell)
+    (map s cell : ℕ) → IsTrue (held_in_run setting system worker entered map s cell) → IsTrue (held_in_run setting (grown system plan worker call) worker entered map s cell)
 held_grows setting system plan worker entered call quiet within map s cell held =
     let is = held_facts setting system worker entered map s cell held
     in let still : holds worker cell (history_of (grown system plan worker call) s) ≡ true = ⊎_elim
@@ -179,7 +179,7 @@ ask_sound setting states system worker shard call state entered plan next good s
 -- a lookup hands out the cell that it found, which is of the lookup's map
 handed_cell : (setting : Setting) (states : List (Option State)) (system : SystemState) (worker shard : ℕ) (key : List ℕ) (entered : List ℕ) (plan : ShardPlan) (cell : CellRef) → IsSetting setting states →
     plan.number ≡ shard → plan.number < length system.histories → is_entered shard entered ≡ true → (entry_for plan system (Worker worker) (Lookup shard key)).reply ≡ Cell cell → cell.shard ≡ shard →
-    IsHandedOut (program_of setting) (held_by setting (grown system plan worker (Lookup shard key)) worker entered) (Lookup shard key) (Cell cell)
+    IsHandedOut (program_of_setting setting) (held_in_run setting (grown system plan worker (Lookup shard key)) worker entered) (Lookup shard key) (Cell cell)
 handed_cell setting states system worker shard key entered plan cell good at within into replied same map definition known own =
     let entry : Entry = entry_for plan system (Worker worker) (Lookup shard key)
     in let some : 0 < setting.options.shards = some_shards setting.maps setting.options good.options
@@ -196,8 +196,8 @@ handed_cell setting states system worker shard key entered plan cell good at wit
 
 handed_by : (setting : Setting) (states : List (Option State)) (system : SystemState) (worker shard : ℕ) (key : List ℕ) (entered : List ℕ) (plan : ShardPlan) (reply : Reply) → IsSetting setting states →
     plan.number ≡ shard → plan.number < length system.histories → is_entered shard entered ≡ true → (entry_for plan system (Worker worker) (Lookup shard key)).reply ≡ reply →
-    IsReplyTo (program_of setting) (Lookup shard key) reply →
-    IsHandedOut (program_of setting) (held_by setting (grown system plan worker (Lookup shard key)) worker entered) (Lookup shard key) reply
+    IsReplyTo (program_of_setting setting) (Lookup shard key) reply →
+    IsHandedOut (program_of_setting setting) (held_in_run setting (grown system plan worker (Lookup shard key)) worker entered) (Lookup shard key) reply
 handed_by setting states system worker shard key entered plan (Cell cell) good at within into replied fits =
     handed_cell setting states system worker shard key entered plan cell good at within into replied fits
 handed_by setting states system worker shard key entered plan Entered good at within into replied fits = tt
@@ -210,8 +210,8 @@ handed_by setting states system worker shard key entered plan (Freed n) good at 
 
 pub lookup_holds : (setting : Setting) (states : List (Option State)) (system : SystemState) (worker shard : ℕ) (key : List ℕ) (entered : List ℕ) (plan : ShardPlan) → IsSetting setting states →
     IsSoundSystem setting states system → plan_at setting.maps setting.options shard ≡ Some plan → is_entered shard entered ≡ true →
-    IsReplyTo (program_of setting) (Lookup shard key) (entry_for plan system (Worker worker) (Lookup shard key)).reply →
-    HoldsAfter (program_of setting) (held_by setting system worker entered) (held_by setting (grown system plan worker (Lookup shard key)) worker entered) (Lookup shard key)
+    IsReplyTo (program_of_setting setting) (Lookup shard key) (entry_for plan system (Worker worker) (Lookup shard key)).reply →
+    HoldsAfter (program_of_setting setting) (held_in_run setting system worker entered) (held_in_run setting (grown system plan worker (Lookup shard key)) worker entered) (Lookup shard key)
     (entry_for plan system (Worker worker) (Lookup shard key)).reply
 lookup_holds setting states system worker shard key entered plan good sound planned into fits = record {
   kept = held_grows setting system plan worker entered (Lookup shard key) (quiet_lookup plan system worker shard key) (within_histories setting states system shard plan good sound planned);
@@ -222,8 +222,8 @@ lookup_holds setting states system worker shard key entered plan good sound plan
 -- a call that hands out nothing
 pub still_holds : (setting : Setting) (states : List (Option State)) (system : SystemState) (worker shard : ℕ) (call : Call) (entered : List ℕ) (plan : ShardPlan) → IsSetting setting states →
     IsSoundSystem setting states system → plan_at setting.maps setting.options shard ≡ Some plan → IsQuiet plan system worker call →
-    IsHandedOut (program_of setting) (held_by setting (grown system plan worker call) worker entered) call (entry_for plan system (Worker worker) call).reply →
-    HoldsAfter (program_of setting) (held_by setting system worker entered) (held_by setting (grown system plan worker call) worker entered) call
+    IsHandedOut (program_of_setting setting) (held_in_run setting (grown system plan worker call) worker entered) call (entry_for plan system (Worker worker) call).reply →
+    HoldsAfter (program_of_setting setting) (held_in_run setting system worker entered) (held_in_run setting (grown system plan worker call) worker entered) call
     (entry_for plan system (Worker worker) call).reply
 still_holds setting states system worker shard call entered plan good sound planned quiet nothing = record {
   kept = held_grows setting system plan worker entered call quiet (within_histories setting states system shard plan good sound planned);

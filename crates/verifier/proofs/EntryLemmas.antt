@@ -14,7 +14,7 @@ use Rattle.semantics.specs.System.{Setting, SystemState, WorkerState, Idle, Runs
 use Rattle.abstract_state.specs.declared.state.State.{State}
 use Rattle.abstract_state.proofs.shared.Writing.{held_more}
 use Rattle.semantics.proofs.shared.PlanLemmas.{some_shards}
-use Rattle.verifier.proofs.SystemInvariant.{entered_of, held_by, IsSoundWorker, IsSoundShard, IsSetting, IsSoundSystem}
+use Rattle.verifier.proofs.SystemInvariant.{entered_of, held_in_run, IsSoundWorker, IsSoundShard, IsSetting, IsSoundSystem}
 use Rattle.verifier.proofs.HistoryLemmas.{inside_other, holds_other, is_another}
 use Rattle.verifier.proofs.PlanLemmas.{plan_facts, plan_within}
 use Rattle.verifier.proofs.ShardLemmas.{IsPermitted}
@@ -49,7 +49,7 @@ run_kept setting states before after worker (Runs state entered) same run = reco
   known = run.known;
   at = run.at;
   begins = run.begins;
-  sound = held_more setting.maps (held_by setting before worker entered) (held_by setting after worker entered) run.known state
+  sound = held_more setting.maps (held_in_run setting before worker entered) (held_in_run setting after worker entered) run.known state
       (λ map shard cell held. subst IsTrue (sym (ap (λ b. (shard / setting.options.shards == map) && (is_entered shard entered && b)) (same shard cell))) held) run.sound;
   few = run.few;
 }

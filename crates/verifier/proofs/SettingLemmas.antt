@@ -17,11 +17,11 @@ use Rattle.semantics.specs.ShardPlan.{plan_at}
 use Rattle.semantics.specs.SequentialShard.{shard_after, is_kept}
 use Rattle.semantics.specs.History.{Meets}
 use Rattle.semantics.specs.Safety.{IsOnKeptCell, IsServedAt, after_enter, IsServedCall}
-use Rattle.semantics.specs.System.{Setting, program_of, SystemState, history_of, is_entered, entry_for}
+use Rattle.semantics.specs.System.{Setting, program_of_setting, SystemState, history_of, is_entered, entry_for}
 use Rattle.abstract_state.specs.declared.state.State.{State}
 use Rattle.abstract_state.specs.States.{value_size_of}
 use Rattle.abstract_state.specs.Soundness.{IsServedLookup, IsServedLoad, IsServedStore, IsServedAtomic, IsServedUpdate}
-use Rattle.verifier.proofs.SystemInvariant.{held_by, IsSoundShard, IsSetting}
+use Rattle.verifier.proofs.SystemInvariant.{held_in_run, IsSoundShard, IsSetting}
 use Rattle.verifier.proofs.PlanLemmas.{plan_facts, plan_in_equal_parts, plan_has_parts, enter_meets, lookup_plan, load_meets, store_meets, atomic_meets, delete_meets, update_meets}
 use Rattle.verifier.proofs.ShardLemmas.{IsPermitted, sound_after, held_cell_is_kept}
 
@@ -33,7 +33,7 @@ pub record IsHeldCell (setting : Setting) (system : SystemState) (worker : ℕ) 
   pub holds : holds worker cell (history_of system shard) ≡ true
 
 pub held_facts : (setting : Setting) (system : SystemState) (worker : ℕ) (entered : List ℕ) (map shard cell : ℕ) →
-    IsTrue (held_by setting system worker entered map shard cell) → IsHeldCell setting system worker entered map shard cell
+    IsTrue (held_in_run setting system worker entered map shard cell) → IsHeldCell setting system worker entered map shard cell
 held_facts setting system worker entered map shard cell held =
     let parts = and_parts (shard / setting.options.shards == map) (is_entered shard entered && holds worker cell (history_of system shard)) held
     in let more = and_parts (is_entered shard entered) (holds worker cell (history_of system shard)) parts.1
@@ -71,7 +71,7 @@ enters_inside plan system worker =
 
 -- a lookup that the abstract state lets through
 pub lookup_served : (setting : Setting) (states : List (Option State)) (system : SystemState) (worker : ℕ) (entered : List ℕ) (shard : ℕ) (key : List ℕ) → IsSetting setting states →
-    worker < setting.options.workers → is_inside worker (history_of system shard) ≡ is_entered shard entered → IsServedLookup (program_of setting) shard key →
+    worker < setting.options.workers → is_inside worker (history_of system shard) ≡ is_entered shard entered → IsServedLookup (program_of_setting setting) shard key →
     IsServedCall (plan_at setting.maps setting.options shard) system worker entered (Lookup shard key)
 lookup_served setting states system worker entered shard key good few inside served =
     let is = lookup_plan setting.maps setting.options shard served.map key (some_shards setting.maps setting.options good.options) served.of_map served.own
@@ -87,7 +87,7 @@ lookup_served setting states system worker entered shard key good few inside ser
 
 -- an update or a deletion that the abstract state lets through
 pub delete_served : (setting : Setting) (states : List (Option State)) (system : SystemState) (worker : ℕ) (entered : List ℕ) (shard : ℕ) (key : List ℕ) → IsSetting setting states →
-    worker < setting.options.workers → is_inside worker (history_of system shard) ≡ is_entered shard entered → IsServedLookup (program_of setting) shard key →
+    worker < setting.options.workers → is_inside worker (history_of system shard) ≡ is_entered shard entered → IsServedLookup (program_of_setting setting) shard key →
     IsServedCall (plan_at setting.maps setting.options shard) system worker entered (Delete shard key)
 delete_served setting states system worker entered shard key good few inside served =
     let is = lookup_plan setting.maps setting.options shard served.map key (some_shards setting.maps setting.options good.options) served.of_map served.own
@@ -103,7 +103,7 @@ delete_served setting states system worker entered shard key good few inside ser
     ))
 
 pub update_served : (setting : Setting) (states : List (Option State)) (system : SystemState) (worker : ℕ) (entered : List ℕ) (shard : ℕ) (key value : List ℕ) (flags : ℕ) → IsSetting setting states →
-    worker < setting.options.workers → is_inside worker (history_of system shard) ≡ is_entered shard entered → IsServedUpdate (program_of setting) shard key value flags →
+    worker < setting.options.workers → is_inside worker (history_of system shard) ≡ is_entered shard entered → IsServedUpdate (program_of_setting setting) shard key value flags →
     IsServedCall (plan_at setting.maps setting.options shard) system worker entered (Update shard key value flags)
 update_served setting states system worker entered shard key value flags good few inside served =
     let is = lookup_plan setting.maps setting.options shard served.map key (some_shards setting.maps setting.options good.options) served.of_map.at served.own
@@ -128,7 +128,7 @@ update_served setting states system worker entered shard key value flags good fe
 cell_served : (setting : Setting) (states : List (Option State)) (system : SystemState) (worker : ℕ) (entered : List ℕ) (map : ℕ) (cell : CellRef) (call : Call) → IsSetting setting states →
     worker < setting.options.workers → is_inside worker (history_of system cell.shard) ≡ is_entered cell.shard entered →
     (plan : ShardPlan) → plan_at setting.maps setting.options cell.shard ≡ Some plan → IsSoundShard plan (history_of system cell.shard) →
-    IsTrue (held_by setting system worker entered map cell.shard cell.id) →
+    IsTrue (held_in_run setting system worker entered map cell.shard cell.id) →
     (holds worker cell.id (history_of system plan.number) ≡ true → Meets plan (history_of system plan.number) (Worker worker) call) →
     (IsTrue (is_kept plan (shard_after plan (history_of system plan.number)) cell.id) → IsOnKeptCell plan (history_of system plan.number) call) →
     IsServedCall (plan_at setting.maps setting.options cell.shard) system worker entered call
@@ -149,17 +149,17 @@ cell_served setting states system worker entered map cell call good few inside p
     (λ outside. let entered_it : is_entered plan.number entered ≡ true = subst (λ number. is_entered number entered ≡ true) (sym at) held.was_entered in absurd cc)
 
 load_meets_held : (setting : Setting) (system : SystemState) (worker : ℕ) (entered : List ℕ) (cell : CellRef) (offset size : ℕ) → worker < setting.options.workers →
-    (plan : ShardPlan) → plan_at setting.maps setting.options cell.shard ≡ Some plan → IsServedLoad (program_of setting) (held_by setting system worker entered) cell offset size →
+    (plan : ShardPlan) → plan_at setting.maps setting.options cell.shard ≡ Some plan → IsServedLoad (program_of_setting setting) (held_in_run setting system worker entered) cell offset size →
     holds worker cell.id (history_of system plan.number) ≡ true → Meets plan (history_of system plan.number) (Worker worker) (Load cell offset size)
 load_meets_held setting system worker entered cell offset size few plan planned served holds_at =
-    load_meets setting.maps setting.code setting.options (held_by setting system worker entered) cell offset size plan (history_of system plan.number) worker
+    load_meets setting.maps setting.code setting.options (held_in_run setting system worker entered) cell offset size plan (history_of system plan.number) worker
     (λ map is. ((held_facts setting system worker entered map cell.shard cell.id is).of_map, holds_at)) served planned few
 
 -- loads, stores and atomic operations that the abstract state lets through
 pub load_served : (setting : Setting) (states : List (Option State)) (system : SystemState) (worker : ℕ) (entered : List ℕ) (cell : CellRef) (offset size : ℕ) → IsSetting setting states →
     worker < setting.options.workers → is_inside worker (history_of system cell.shard) ≡ is_entered cell.shard entered →
     (plan : ShardPlan) → plan_at setting.maps setting.options cell.shard ≡ Some plan → IsSoundShard plan (history_of system cell.shard) →
-    IsServedLoad (program_of setting) (held_by setting system worker entered) cell offset size →
+    IsServedLoad (program_of_setting setting) (held_in_run setting system worker entered) cell offset size →
     IsServedCall (plan_at setting.maps setting.options cell.shard) system worker entered (Load cell offset size)
 load_served setting states system worker entered cell offset size good few inside plan planned sound served =
     cell_served setting states system worker entered served.map cell (Load cell offset size) good few inside plan planned sound served.holds
@@ -168,7 +168,7 @@ load_served setting states system worker entered cell offset size good few insid
 pub store_served : (setting : Setting) (states : List (Option State)) (system : SystemState) (worker : ℕ) (entered : List ℕ) (cell : CellRef) (offset size value : ℕ) → IsSetting setting states →
     worker < setting.options.workers → is_inside worker (history_of system cell.shard) ≡ is_entered cell.shard entered →
     (plan : ShardPlan) → plan_at setting.maps setting.options cell.shard ≡ Some plan → IsSoundShard plan (history_of system cell.shard) →
-    IsServedStore (program_of setting) (held_by setting system worker entered) cell offset size value →
+    IsServedStore (program_of_setting setting) (held_in_run setting system worker entered) cell offset size value →
     IsServedCall (plan_at setting.maps setting.options cell.shard) system worker entered (Store cell offset size value)
 store_served setting states system worker entered cell offset size value good few inside plan planned sound served =
     cell_served setting states system worker entered served.at.map cell (Store cell offset size value) good few inside plan planned sound served.at.holds
@@ -178,9 +178,9 @@ store_served setting states system worker entered cell offset size value good fe
 pub atomic_served : (setting : Setting) (states : List (Option State)) (system : SystemState) (worker : ℕ) (entered : List ℕ) (cell : CellRef) (offset size op value expected : ℕ) → IsSetting setting states →
     worker < setting.options.workers → is_inside worker (history_of system cell.shard) ≡ is_entered cell.shard entered →
     (plan : ShardPlan) → plan_at setting.maps setting.options cell.shard ≡ Some plan → IsSoundShard plan (history_of system cell.shard) →
-    IsServedAtomic (program_of setting) (held_by setting system worker entered) cell offset size op value expected →
+    IsServedAtomic (program_of_setting setting) (held_in_run setting system worker entered) cell offset size op value expected →
     IsServedCall (plan_at setting.maps setting.options cell.shard) system worker entered (Atomic cell offset size op value expected)
 atomic_served setting states system worker entered cell offset size op value expected good few inside plan planned sound served =
     cell_served setting states system worker entered served.map cell (Atomic cell offset size op value expected) good few inside plan planned sound served.holds
-    (λ holds_at. atomic_meets setting.maps setting.code setting.options (held_by setting system worker entered) cell offset size op value expected plan (history_of system plan.number) worker
+    (λ holds_at. atomic_meets setting.maps setting.code setting.options (held_in_run setting system worker entered) cell offset size op value expected plan (history_of system plan.number) worker
     (λ map is. ((held_facts setting system worker entered map cell.shard cell.id is).of_map, holds_at)) served planned few) (λ kept. kept)

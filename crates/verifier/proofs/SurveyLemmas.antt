@@ -12,7 +12,7 @@ use Rattle.abstract_state.specs.declared.state.State.{State}
 use Rattle.verifier.specs.declared.pending.KnownHere.{KnownHere}
 use Rattle.verifier.specs.declared.pending.Pending.{Pending}
 use Rattle.verifier.specs.Dataflow.{known_at, states_of}
-use Rattle.verifier.specs.Pending.{known_if, entry_of}
+use Rattle.verifier.specs.Pending.{known_if, known_entry}
 use Rattle.verifier.specs.Stops.{BreaksRule}
 use Rattle.verifier.specs.Surveys.{IsBroken}
 use Rattle.verifier.proofs.shared.EntryStates.{are_entry_states}
@@ -40,12 +40,12 @@ known_is : (reached : Bool) (state other : State) → known_if reached state ≡
 known_is true state other e = cc
 known_is false state other e = absurd cc
 
-pub entry_is : (entry : KnownHere) (state : State) → entry_of entry ≡ Some state → entry.state ≡ state
+pub entry_is : (entry : KnownHere) (state : State) → known_entry entry ≡ Some state → entry.state ≡ state
 entry_is entry state e = known_is entry.is_reached entry.state state e
 
 -- the instruction at which the sweep stops is the first that breaks a rule
 pub broken_here : (version : Version) (maps : List MapDef) (code : List Insn) (slot : ℕ) (insn : Insn) (entry : KnownHere) (pending : Pending) (why told : BrokenRule) → told ≡ why →
-    HasShape code → instruction_at code slot ≡ Some insn → slot < total_slots code → BreaksRule maps slot insn (entry_of entry) why →
+    HasShape code → instruction_at code slot ≡ Some insn → slot < total_slots code → BreaksRule maps slot insn (known_entry entry) why →
     IsHeld version maps code slot entry pending →
     IsBroken version maps code (record { slot = slot; insn = insn; state = entry.state; why = told })
 broken_here version maps code slot insn entry pending why told same shape found within broken held =

@@ -30,7 +30,7 @@ use Rattle.verifier.specs.Rejects.{reject_of_refusal}
 use Rattle.verifier.specs.declared.pending.KnownHere.{KnownHere}
 use Rattle.verifier.specs.declared.pending.Pending.{Pending}
 use Rattle.verifier.specs.Dataflow.{known_at, arriving_from, arrived, states_of, PassesChecks, Accepts, IsFirstReject, breaks_rule, wants_memory, passed_jump}
-use Rattle.verifier.specs.Pending.{entry_of, pending_at}
+use Rattle.verifier.specs.Pending.{known_entry, pending_at}
 use Rattle.verifier.specs.Stops.{BreaksRule, WantsRoom}
 use Rattle.verifier.proofs.shared.EntryStates.{quiet, are_entry_states}
 
@@ -79,16 +79,16 @@ next_within code i d slot lt at =
 
 -- what is in memory once the instructions below a slot have been looked at: what these bring to the slot and to later ones
 pub record IsHeld (version : Version) (maps : List MapDef) (code : List Insn) (slot : ℕ) (entry : KnownHere) (pending : Pending) : Type 0 where
-  pub now : entry_of entry ≡ arrived version maps code (states_of version maps code) slot slot
+  pub now : known_entry entry ≡ arrived version maps code (states_of version maps code) slot slot
   pub later : (target : ℕ) → slot < target → pending_at pending target ≡ arrived version maps code (states_of version maps code) target slot
   pub passes : (before : ℕ) → before < slot → PassesChecks maps code (states_of version maps code) before
 
 -- an instruction inside the program begins in its entry state
 pub held_here : (version : Version) (maps : List MapDef) (code : List Insn) (slot : ℕ) (entry : KnownHere) (pending : Pending) → slot < total_slots code →
-    IsHeld version maps code slot entry pending → entry_of entry ≡ known_at (states_of version maps code) slot
+    IsHeld version maps code slot entry pending → known_entry entry ≡ known_at (states_of version maps code) slot
 held_here version maps code slot entry pending within held = held.now ∙ sym (are_entry_states version maps code slot within)
 
-pub held_at_start : (version : Version) (maps : List MapDef) (code : List Insn) (entry : KnownHere) (pending : Pending) → entry_of entry ≡ Some (opening_state version) →
+pub held_at_start : (version : Version) (maps : List MapDef) (code : List Insn) (entry : KnownHere) (pending : Pending) → known_entry entry ≡ Some (opening_state version) →
     ((slot : ℕ) → pending_at pending slot ≡ None) → IsHeld version maps code 0 entry pending
 held_at_start version maps code entry pending opens none = record {
   now = opens;
@@ -134,20 +134,20 @@ slots_on code slot insn P inside below here none k h = ⊎_elim
 pub held_on : (version : Version) (maps : List MapDef) (code : List Insn) (slot : ℕ) (insn : Insn) (entry after : KnownHere) (pending more : Pending) →
     instruction_at code slot ≡ Some insn → slot < total_slots code →
     ((k : ℕ) → slot < k → k < slot + slot_count insn → instruction_at code k ≡ None) →
-    ((target : ℕ) → slot + slot_count insn < target → pending_at more target ≡ arriving_from maps slot (Some insn) (entry_of entry) target (pending_at pending target)) →
-    entry_of after ≡ arriving_from maps slot (Some insn) (entry_of entry) (slot + slot_count insn) (pending_at pending (slot + slot_count insn)) →
-    ((state : State) → entry_of entry ≡ Some state → IsOk (flow_of maps state slot insn)) →
+    ((target : ℕ) → slot + slot_count insn < target → pending_at more target ≡ arriving_from maps slot (Some insn) (known_entry entry) target (pending_at pending target)) →
+    known_entry after ≡ arriving_from maps slot (Some insn) (known_entry entry) (slot + slot_count insn) (pending_at pending (slot + slot_count insn)) →
+    ((state : State) → known_entry entry ≡ Some state → IsOk (flow_of maps state slot insn)) →
     IsHeld version maps code slot entry pending → IsHeld version maps code (slot + slot_count insn) after more
 held_on version maps code slot insn entry after pending more found within inside later next passes held =
     let some : 1 ≤ slot_count insn = some_slots insn
-    in let here : entry_of entry ≡ known_at (states_of version maps code) slot = held_here version maps code slot entry pending within held
+    in let here : known_entry entry ≡ known_at (states_of version maps code) slot = held_here version maps code slot entry pending within held
     in record {
-      now = next ∙ arrives version maps code slot insn (entry_of entry) (slot + slot_count insn) (pending_at pending (slot + slot_count insn)) found inside here
+      now = next ∙ arrives version maps code slot insn (known_entry entry) (slot + slot_count insn) (pending_at pending (slot + slot_count insn)) found inside here
           (held.later (slot + slot_count insn) (omega arith));
-      later = λ target h. later target h ∙ arrives version maps code slot insn (entry_of entry) target (pending_at pending target) found inside here
+      later = λ target h. later target h ∙ arrives version maps code slot insn (known_entry entry) target (pending_at pending target) found inside here
           (held.later target (omega arith));
       passes = slots_on code slot insn (PassesChecks maps code (states_of version maps code)) inside held.passes
-          (passes_here version maps code slot insn (entry_of entry) found here passes)
+          (passes_here version maps code slot insn (known_entry entry) found here passes)
           (λ k none other state begins at. absurd cc);
     }
 
@@ -163,7 +163,7 @@ accepted version maps code slot entry pending shape end held = record {
 }
 
 pub rejected : (version : Version) (maps : List MapDef) (code : List Insn) (slot : ℕ) (insn : Insn) (entry : KnownHere) (pending : Pending) (why : BrokenRule) (reject : Reject) →
-    HasShape code → instruction_at code slot ≡ Some insn → slot < total_slots code → BreaksRule maps slot insn (entry_of entry) why →
+    HasShape code → instruction_at code slot ≡ Some insn → slot < total_slots code → BreaksRule maps slot insn (known_entry entry) why →
     reject ≡ reject_of_refusal slot why → IsHeld version maps code slot entry pending → IsFirstReject version maps code reject
 rejected version maps code slot insn entry pending why reject shape found within broken is held =
     breaks_rule slot why (record {
@@ -179,11 +179,11 @@ rejected version maps code slot insn entry pending why reject shape found within
     }) is
 
 pub wanting : (version : Version) (maps : List MapDef) (code : List Insn) (slot : ℕ) (insn : Insn) (entry : KnownHere) (pending : Pending) →
-    HasShape code → instruction_at code slot ≡ Some insn → slot < total_slots code → WantsRoom maps slot insn (entry_of entry) →
+    HasShape code → instruction_at code slot ≡ Some insn → slot < total_slots code → WantsRoom maps slot insn (known_entry entry) →
     IsHeld version maps code slot entry pending → IsFirstReject version maps code Memory
 wanting version maps code slot insn entry pending shape found within wants held =
-    let here : entry_of entry ≡ known_at (states_of version maps code) slot = held_here version maps code slot entry pending within held
-    in let passes : PassesChecks maps code (states_of version maps code) slot = passes_here version maps code slot insn (entry_of entry) found here (λ state at. flows_ok state at)
+    let here : known_entry entry ≡ known_at (states_of version maps code) slot = held_here version maps code slot entry pending within held
+    in let passes : PassesChecks maps code (states_of version maps code) slot = passes_here version maps code slot insn (known_entry entry) found here (λ state at. flows_ok state at)
     in wants_memory shape (passed_jump slot (record {
       states = states_of version maps code;
       entry = λ k h. are_entry_states version maps code k (omega arith);
@@ -199,5 +199,5 @@ wanting version maps code slot insn entry pending shape found within wants held 
       flows = wants.flows;
       is_jump = wants.is_jump;
     })) refl where
-      flows_ok : (state : State) → entry_of entry ≡ Some state → IsOk (flow_of maps state slot insn)
-      flows_ok state at = let same : state ≡ wants.state = (let known : entry_of entry ≡ Some wants.state = wants.is in cc) in rw (same, wants.flows) refl
+      flows_ok : (state : State) → known_entry entry ≡ Some state → IsOk (flow_of maps state slot insn)
+      flows_ok state at = let same : state ≡ wants.state = (let known : known_entry entry ≡ Some wants.state = wants.is in cc) in rw (same, wants.flows) refl

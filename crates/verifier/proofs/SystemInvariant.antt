@@ -14,7 +14,7 @@ use Rattle.semantics.specs.SequentialShard.{shard_after}
 use Rattle.semantics.specs.System.{Setting, SystemState, WorkerState, Idle, Runs, Leaves, worker_state, history_of, is_entered}
 use Rattle.abstract_state.specs.declared.state.State.{State}
 use Rattle.verifier.specs.Dataflow.{Accepts}
-pub use Rattle.verifier.specs.Coverage.{held_by}
+pub use Rattle.verifier.specs.Coverage.{held_in_run}
 use Rattle.verifier.proofs.shared.PlaceLemmas.{PartsFit, IsSoundPlace}
 
 -- the shards that a worker's run has entered
@@ -25,7 +25,7 @@ entered_of (Leaves entered) = entered
 
 -- the run is at a place at which what is known is sound, for the cells that its worker holds
 abbrev pub IsSoundRun : Setting → List (Option State) → SystemState → ℕ → MachineState → List ℕ → Type 0
-IsSoundRun setting states system worker state entered = IsSoundPlace setting.maps setting.code states (held_by setting system worker entered) state
+IsSoundRun setting states system worker state entered = IsSoundPlace setting.maps setting.code states (held_in_run setting system worker entered) state
 
 abbrev pub IsSoundWorker : Setting → List (Option State) → SystemState → ℕ → WorkerState → Type 0
 IsSoundWorker setting states system worker Idle = Unit {0}

@@ -13,8 +13,8 @@ use Rattle.abstract_state.specs.Abstraction.{Held, Abstracts}
 use Rattle.verifier.specs.Dataflow.{known_at}
 
 -- the cells that a worker holds: of the shards that its run has entered, by its own entries
-abbrev pub held_by : Setting → SystemState → ℕ → List ℕ → Held
-held_by setting system worker entered map shard cell =
+abbrev pub held_in_run : Setting → SystemState → ℕ → List ℕ → Held
+held_in_run setting system worker entered map shard cell =
     (shard / setting.options.shards == map) && (is_entered shard entered && holds worker cell (history_of system shard))
 
 -- the run's slot has an entry state, which is sound for the run, for the cells that its worker holds
@@ -30,4 +30,4 @@ CoverRuns maps code states =
     (let setting : Setting = record { maps = maps; code = code; options = options } in
     CanAllHappen setting events → (worker : ℕ) (machine : MachineState) (entered : List ℕ) →
     worker_state (system_after setting events) worker ≡ Runs machine entered →
-    IsCovered maps states (held_by setting (system_after setting events) worker entered) machine)
+    IsCovered maps states (held_in_run setting (system_after setting events) worker entered) machine)

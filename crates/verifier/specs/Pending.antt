@@ -11,8 +11,8 @@ abbrev pub known_if : Bool → State → Option State
 known_if true state = Some state
 known_if false state = None
 
-abbrev pub entry_of : KnownHere → Option State
-entry_of entry = known_if entry.is_reached entry.state
+abbrev pub known_entry : KnownHere → Option State
+known_entry entry = known_if entry.is_reached entry.state
 
 abbrev pub unboxed : Option (Box State Global) → Option State
 unboxed None = None

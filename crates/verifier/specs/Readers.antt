@@ -18,9 +18,9 @@ abbrev pub is_worker_helper : Option Helper → Bool
 is_worker_helper (Some helper) = changes_map helper || helper_asks_worker helper
 is_worker_helper None = false
 
-abbrev pub is_value : Kind → Bool
-is_value (Value map id off) = true
-is_value other = false
+abbrev pub is_value_kind : Kind → Bool
+is_value_kind (Value map id off) = true
+is_value_kind other = false
 
 -- the receive queue's number
 abbrev pub is_worker_field : Option ContextField → Bool
@@ -35,9 +35,9 @@ is_queue_field other offset = false
 -- the instruction only reads, in this state
 abbrev pub only_reads : State → Insn → Bool
 only_reads state (CallHelper number) = not (is_worker_helper (helper_of number))
-only_reads state (St size dst offset immediate) = not (is_value (kind_of state dst))
-only_reads state (Stx size dst src offset) = not (is_value (kind_of state dst))
-only_reads state (AtomicUpdate width op dst src offset) = not (is_value (kind_of state dst))
+only_reads state (St size dst offset immediate) = not (is_value_kind (kind_of state dst))
+only_reads state (Stx size dst src offset) = not (is_value_kind (kind_of state dst))
+only_reads state (AtomicUpdate width op dst src offset) = not (is_value_kind (kind_of state dst))
 only_reads state (Ldx size dst src offset) = not (is_queue_field (kind_of state src) offset)
 only_reads state insn = true
 

@@ -9,7 +9,7 @@ ghost use Rattle.abstract_state.specs.InPlace.{flow_by};
 ghost use Rattle.ebpf_decode.specs.InstructionEncoding.{slot_count};
 ghost use Rattle.image_shape.specs.Layouts.{HasNoNegativeTarget};
 ghost use Rattle.verifier.specs.Dataflow.{arriving, arriving_from, is_target, joined_where, jumps};
-ghost use Rattle.verifier.specs.Pending.{entry_of, pending_at};
+ghost use Rattle.verifier.specs.Pending.{known_entry, pending_at};
 ghost use Rattle.verifier.specs.Stops.{BreaksRule, WantsRoom};
 
 use crate::pending::{KnownHere, Pending};
@@ -60,7 +60,7 @@ fn split(
         pending_at pending.new target ≡ arriving slot insn target (flow_by insn Way.Splits entry.old.state)
         (pending_at pending.old target)) }
     ensures next { IfOk result (λ _.
-        entry_of entry.new ≡ arriving slot insn (slot + slot_count insn) (flow_by insn Way.Splits entry.old.state)
+        known_entry entry.new ≡ arriving slot insn (slot + slot_count insn) (flow_by insn Way.Splits entry.old.state)
         (pending_at pending.old (slot + slot_count insn))) }
 {
     let mut taken = entry.state;
@@ -85,7 +85,7 @@ fn lead_on(
     ensures later { IfOk result (λ _. (target : ℕ) → slot + slot_count insn < target →
         pending_at pending.new target ≡ arriving slot insn target (flow_by insn way entry.old.state) (pending_at pending.old target)) }
     ensures next { IfOk result (λ _.
-        entry_of entry.new ≡ arriving slot insn (slot + slot_count insn) (flow_by insn way entry.old.state)
+        known_entry entry.new ≡ arriving slot insn (slot + slot_count insn) (flow_by insn way entry.old.state)
         (pending_at pending.old (slot + slot_count insn))) }
     ensures asked { IfErr result (λ _. IsTrue (jumps (flow_by insn way entry.old.state))) }
 {
@@ -114,14 +114,14 @@ pub(crate) fn advance(
     requires within { slot < 4096 }
     requires not_negative { HasNoNegativeTarget slot insn }
     ensures later { IfOk result (λ _. (target : ℕ) → slot + slot_count insn < target →
-        pending_at pending.new target ≡ arriving_from maps.now slot (Some insn) (entry_of entry.old) target
+        pending_at pending.new target ≡ arriving_from maps.now slot (Some insn) (known_entry entry.old) target
         (pending_at pending.old target)) }
     ensures next { IfOk result (λ _.
-        entry_of entry.new ≡ arriving_from maps.now slot (Some insn) (entry_of entry.old) (slot + slot_count insn)
+        known_entry entry.new ≡ arriving_from maps.now slot (Some insn) (known_entry entry.old) (slot + slot_count insn)
         (pending_at pending.old (slot + slot_count insn))) }
-    ensures passes { IfOk result (λ _. (state : State) → entry_of entry.old ≡ Some state → IsOk (flow_of maps.now state slot insn)) }
-    ensures broken { (why : BrokenRule) → result ≡ Err (Halt.Rule why) → BreaksRule maps.now slot insn (entry_of entry.old) why }
-    ensures asked { result ≡ Err Halt.Memory → WantsRoom maps.now slot insn (entry_of entry.old) }
+    ensures passes { IfOk result (λ _. (state : State) → known_entry entry.old ≡ Some state → IsOk (flow_of maps.now state slot insn)) }
+    ensures broken { (why : BrokenRule) → result ≡ Err (Halt.Rule why) → BreaksRule maps.now slot insn (known_entry entry.old) why }
+    ensures asked { result ≡ Err Halt.Memory → WantsRoom maps.now slot insn (known_entry entry.old) }
 {
     if !entry.is_reached {
         pending.land(slot + insn.slot_count() as usize, entry);

@@ -4,7 +4,7 @@
 ghost use Rattle.std.specs.Prelude.{◌≡◌, ◌==◌, ◌<◌, ◌≤◌, ◌+◌, ℕ, length, Some, IfOk};
 ghost use Rattle.abstract_state.specs.States.{opening_state};
 ghost use Rattle.verifier.specs.Dataflow.{join_known, joined_where};
-ghost use Rattle.verifier.specs.Pending.{entry_of, unboxed, pending_at, AreKeptAbove};
+ghost use Rattle.verifier.specs.Pending.{known_entry, unboxed, pending_at, AreKeptAbove};
 
 use abstract_state::State;
 use ebpf_decode::Version;
@@ -20,7 +20,7 @@ pub(crate) struct KnownHere {
 impl KnownHere {
     /// What is known where a run begins.
     pub(crate) fn opening(version: Version) -> KnownHere
-        ensures { entry_of result ≡ Some (opening_state version) }
+        ensures { known_entry result ≡ Some (opening_state version) }
     {
         KnownHere {
             is_reached: true,
@@ -91,7 +91,7 @@ impl Pending {
     #[inline(never)]
     pub(crate) fn fall(&mut self, slot: usize, entry: &mut KnownHere)
         ensures others { AreKeptAbove slot self.old self.new }
-        ensures fallen { entry_of entry.new ≡ join_known (pending_at self.old slot) entry.old.state }
+        ensures fallen { known_entry entry.new ≡ join_known (pending_at self.old slot) entry.old.state }
     {
         match self.take(slot) {
             Some(mut known) => {
@@ -107,7 +107,7 @@ impl Pending {
     #[inline(never)]
     pub(crate) fn land(&mut self, slot: usize, entry: &mut KnownHere)
         ensures others { AreKeptAbove slot self.old self.new }
-        ensures landed { entry_of entry.new ≡ pending_at self.old slot }
+        ensures landed { known_entry entry.new ≡ pending_at self.old slot }
     {
         match self.take(slot) {
             Some(known) => {

@@ -1,8 +1,8 @@
 //! Programs that only read.
 
 ghost use Rattle.std.specs.Prelude.{◌≡◌};
-ghost use Rattle.verifier.specs.Pending.{entry_of};
-ghost use Rattle.verifier.specs.Readers.{is_worker_helper, is_value, is_worker_field, is_queue_field, only_reads, reads_known};
+ghost use Rattle.verifier.specs.Pending.{known_entry};
+ghost use Rattle.verifier.specs.Readers.{is_worker_helper, is_value_kind, is_worker_field, is_queue_field, only_reads, reads_known};
 
 use crate::pending::KnownHere;
 use abstract_state::{Kind, State};
@@ -20,7 +20,7 @@ fn is_worker_helper(helper: Option<Helper>) -> bool
 }
 
 fn is_value(kind: Kind) -> bool
-    ensures { result ≡ is_value kind }
+    ensures { result ≡ is_value_kind kind }
 {
     matches!(kind, Kind::Value { .. })
 }
@@ -62,7 +62,7 @@ fn only_reads(state: &State, insn: Insn) -> bool
 impl KnownHere {
     /// The same in what is known at a slot.
     pub(crate) fn only_reads(&self, insn: Insn) -> bool
-        ensures { result ≡ reads_known insn (entry_of self.now) }
+        ensures { result ≡ reads_known insn (known_entry self.now) }
     {
         if self.is_reached {
             only_reads(&self.state, insn)

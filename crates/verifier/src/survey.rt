@@ -3,7 +3,7 @@
 ghost use Rattle.std.specs.Prelude.{◌≡◌, ◌≤◌, ◌++◌, ◌∷◌, [], IfOk};
 ghost use Rattle.ebpf_decode.specs.InstructionEncoding.{total_slots};
 ghost use Rattle.image_shape.specs.Structure.{HasShape};
-ghost use Rattle.verifier.specs.Pending.{entry_of};
+ghost use Rattle.verifier.specs.Pending.{known_entry};
 ghost use Rattle.verifier.specs.Surveys.{IsSurvey};
 
 use crate::advance::{Halt, advance};
@@ -33,7 +33,7 @@ pub struct Survey {
 impl KnownHere {
     /// What is known.
     fn known(&self) -> Option<State>
-        ensures { result ≡ entry_of self.now }
+        ensures { result ≡ known_entry self.now }
     {
         if self.is_reached {
             Some(self.state)
@@ -45,7 +45,7 @@ impl KnownHere {
 
 /// Puts what is known on entry to an instruction behind the others.
 fn note(known: &mut Vec<Option<State>>, entry: &KnownHere) -> Result<(), AllocError>
-    ensures { IfOk result (λ _. known.new.items ≡ known.old.items ++ entry_of entry.now ∷ []) }
+    ensures { IfOk result (λ _. known.new.items ≡ known.old.items ++ known_entry entry.now ∷ []) }
 {
     known.extend_from_slice(&[entry.known()])
 }

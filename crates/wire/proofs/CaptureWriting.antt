@@ -6,7 +6,8 @@ use Rattle.byteorder.specs.Endian.{little_bytes}
 use Rattle.byteorder.specs.Numbers.{little_number-reads_back}
 use Rattle.wire.specs.declared.records.Sent.{Sent}
 use Rattle.wire.specs.Device.{AppendsFront}
-use Rattle.wire.specs.CaptureFormat.{BeginsWithRecord, AreRecords, ReadsBack, header_bytes, head_bytes, record_bytes, records_bytes, capture_bytes}
+use Rattle.wire.specs.CaptureFormat.{BeginsWithRecord, AreRecords, CaptureReadsBack, header_bytes, record_head_bytes, record_bytes, records_bytes}
+use Rattle.wire.specs.CaptureFormat.{capture_bytes}
 use Rattle.wire.proofs.DeviceLemmas.{front_of_first, front_of_second, written_both}
 
 -- the bytes of records one after another
@@ -60,7 +61,7 @@ are_records (sent ∷ sents) small =
     )
 
 -- what is written reads back
-pub reads_back : (sents : List Sent) → ReadsBack sents
+pub reads_back : (sents : List Sent) → CaptureReadsBack sents
 reads_back sents small = record {
   header = record { long = omega arith; magic = refl; major = refl; minor = refl; link = refl };
   records = are_records sents small;
@@ -72,23 +73,23 @@ written_all old new sents i all written =
     written ∙ ap (λ some. append_known old (header_bytes ++ records_bytes some)) (take_all i sents all)
 
 -- the head of a record, as the code makes it
-pub head_is : (sent : Sent) (head : List ℕ) (len : ℕ) → head ≡ little_bytes 4 sent.seconds ++ little_bytes 4 sent.micros ++ little_bytes 4 len ++ little_bytes 4 len → len ≡ sent.bytes.len → head ≡ head_bytes sent
+pub head_is : (sent : Sent) (head : List ℕ) (len : ℕ) → head ≡ little_bytes 4 sent.seconds ++ little_bytes 4 sent.micros ++ little_bytes 4 len ++ little_bytes 4 len → len ≡ sent.bytes.len → head ≡ record_head_bytes sent
 head_is sent head len put is_len =
     put ∙ ap (λ n. little_bytes 4 sent.seconds ++ little_bytes 4 sent.micros ++ little_bytes 4 n ++ little_bytes 4 n) (is_len ∙ sent.bytes.ok.0)
 
 -- the head was cut short
-pub front_of_head : (old new : Option (List ℕ)) (sent : Sent) (head : List ℕ) → head ≡ head_bytes sent → AppendsFront old new head → AppendsFront old new (record_bytes sent)
+pub front_of_head : (old new : Option (List ℕ)) (sent : Sent) (head : List ℕ) → head ≡ record_head_bytes sent → AppendsFront old new head → AppendsFront old new (record_bytes sent)
 front_of_head old new sent head is cut =
     let P : List ℕ → Type 0 = λ bytes. AppendsFront old new bytes in
-    front_of_first old new (head_bytes sent) sent.bytes.items (subst P is cut)
+    front_of_first old new (record_head_bytes sent) sent.bytes.items (subst P is cut)
 
 -- head and frame were written
-pub written_frame : (old now new : Option (List ℕ)) (sent : Sent) (head frame : List ℕ) → head ≡ head_bytes sent → frame ≡ sent.bytes.items → now ≡ append_known old head → new ≡ append_known now frame → new ≡ append_known old (record_bytes sent)
+pub written_frame : (old now new : Option (List ℕ)) (sent : Sent) (head frame : List ℕ) → head ≡ record_head_bytes sent → frame ≡ sent.bytes.items → now ≡ append_known old head → new ≡ append_known now frame → new ≡ append_known old (record_bytes sent)
 written_frame old now new sent head frame is is_frame at_head at_frame =
-    written_both old now new (head_bytes sent) sent.bytes.items (at_head ∙ ap (append_known old) is) (at_frame ∙ ap (append_known now) is_frame)
+    written_both old now new (record_head_bytes sent) sent.bytes.items (at_head ∙ ap (append_known old) is) (at_frame ∙ ap (append_known now) is_frame)
 
 -- the frame was cut short
-pub front_of_frame : (old now new : Option (List ℕ)) (sent : Sent) (head frame : List ℕ) → head ≡ head_bytes sent → frame ≡ sent.bytes.items → now ≡ append_known old head → AppendsFront now new frame → AppendsFront old new (record_bytes sent)
+pub front_of_frame : (old now new : Option (List ℕ)) (sent : Sent) (head frame : List ℕ) → head ≡ record_head_bytes sent → frame ≡ sent.bytes.items → now ≡ append_known old head → AppendsFront now new frame → AppendsFront old new (record_bytes sent)
 front_of_frame old now new sent head frame is is_frame at_head cut =
     let P : List ℕ → Type 0 = λ bytes. AppendsFront now new bytes in
-    front_of_second old now new (head_bytes sent) sent.bytes.items (at_head ∙ ap (append_known old) is) (subst P is_frame cut)
+    front_of_second old now new (record_head_bytes sent) sent.bytes.items (at_head ∙ ap (append_known old) is) (subst P is_frame cut)

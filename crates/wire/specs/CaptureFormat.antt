@@ -76,18 +76,18 @@ pub record HasRecordFault (bytes : List ℕ) (fault : CaptureFault) : Type 0 whe
   pub cause : IsRecordFault rest (length sents + 1) fault
 
 -- the first fault of bytes that are no capture file
-abbrev pub IsFirstFault : List ℕ → CaptureFault → Type 0
-IsFirstFault bytes fault = IsHeaderFault bytes fault ⊎ HasRecordFault bytes fault
+abbrev pub IsFirstCaptureFault : List ℕ → CaptureFault → Type 0
+IsFirstCaptureFault bytes fault = IsHeaderFault bytes fault ⊎ HasRecordFault bytes fault
 
 -- the bytes are no capture file
 abbrev pub IsNoCaptureFile : List ℕ → Type 0
 IsNoCaptureFile bytes = (sents : List Sent) → ¬ IsCaptureFile bytes sents
 
 -- why bytes were refused: by the device, by memory, or as no capture file
-abbrev pub Refuses : List ℕ → CaptureFault → Type 0
-Refuses bytes Device = ⊥
-Refuses bytes Memory = ⊤
-Refuses bytes fault = IsFirstFault bytes fault × IsNoCaptureFile bytes
+abbrev pub RefusesCapture : List ℕ → CaptureFault → Type 0
+RefusesCapture bytes Device = ⊥
+RefusesCapture bytes Memory = ⊤
+RefusesCapture bytes fault = IsFirstCaptureFault bytes fault × IsNoCaptureFile bytes
 
 -- the header as it is written: zone 0, accuracy 0, snap length 65535
 abbrev pub header_bytes : List ℕ
@@ -96,13 +96,13 @@ header_bytes =
     little_bytes 4 1
 
 -- the head of a record: its moment, and both lengths
-abbrev pub head_bytes : Sent → List ℕ
-head_bytes sent =
+abbrev pub record_head_bytes : Sent → List ℕ
+record_head_bytes sent =
     little_bytes 4 sent.seconds ++ little_bytes 4 sent.micros ++ little_bytes 4 (length sent.bytes.items) ++
     little_bytes 4 (length sent.bytes.items)
 
 abbrev pub record_bytes : Sent → List ℕ
-record_bytes sent = head_bytes sent ++ sent.bytes.items
+record_bytes sent = record_head_bytes sent ++ sent.bytes.items
 
 abbrev pub records_bytes : List Sent → List ℕ
 records_bytes [] = []
@@ -113,6 +113,6 @@ abbrev pub capture_bytes : List Sent → List ℕ
 capture_bytes sents = header_bytes ++ records_bytes sents
 
 -- what is written reads back, where no frame has more than 2048 bytes
-abbrev pub ReadsBack : List Sent → Type 0
-ReadsBack sents =
+abbrev pub CaptureReadsBack : List Sent → Type 0
+CaptureReadsBack sents =
     All (λ sent. length sent.bytes.items ≤ 2048) sents → IsCaptureFile (capture_bytes sents) sents

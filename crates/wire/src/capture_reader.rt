@@ -2,7 +2,7 @@
 
 ghost use Rattle.std.specs.Prelude.{◌≡◌, ℕ, ◌+◌, ◌-◌, ◌^◌, ◌<◌, ◌≤◌, ◌↔◌, ◌⊎◌, length, IfOk, IfErr, OnOk, IsErrOf};
 ghost use Rattle.wire.specs.CaptureFormat.{le16_at, le32_at, BeginsWithHeader, BeginsWithRecord, IsCaptureFile, IsHeaderFault};
-ghost use Rattle.wire.specs.CaptureFormat.{RefusesRecord, Refuses};
+ghost use Rattle.wire.specs.CaptureFormat.{RefusesRecord, RefusesCapture};
 ghost use Rattle.wire.specs.Device.{IfKnown};
 
 use crate::capture_fault::CaptureFault;
@@ -88,7 +88,7 @@ pub fn record_of(alloc: Global, rest: &[u8], number: u64) -> Result<Sent, Captur
 /// Reads a whole file.
 fn capture_of(alloc: Global, bytes: &[u8]) -> Result<Capture, CaptureFault>
     ensures file { IfOk result (λ capture. IsCaptureFile bytes.now capture.records.items) }
-    ensures fault { IfErr result (Refuses bytes.now) }
+    ensures fault { IfErr result (RefusesCapture bytes.now) }
 {
     check_capture_header(bytes)?;
     let mut records = Vec::new(alloc);
@@ -115,7 +115,7 @@ fn capture_of(alloc: Global, bytes: &[u8]) -> Result<Capture, CaptureFault>
 pub fn read_capture<S: Source>(alloc: Global, source: &mut S) -> Result<Capture, CaptureFault>
     requires { S.failure_count source.old < 2 ^ 64 - 1 }
     ensures file { IfOk result (λ capture. IfKnown (S.left source.old) (λ bytes. IsCaptureFile bytes capture.records.items)) }
-    ensures fault { IfErr result (λ fault. fault ≡ CaptureFault.Device ⊎ IfKnown (S.left source.old) (λ bytes. Refuses bytes fault)) }
+    ensures fault { IfErr result (λ fault. fault ≡ CaptureFault.Device ⊎ IfKnown (S.left source.old) (λ bytes. RefusesCapture bytes fault)) }
     ensures device { IsErrOf result CaptureFault.Device ↔ (S.failure_count source.new ≡ S.failure_count source.old + 1) }
     ensures steady { IsErrOf result CaptureFault.Device ⊎ (S.failure_count source.new ≡ S.failure_count source.old) }
 {

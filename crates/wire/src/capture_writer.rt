@@ -3,7 +3,7 @@
 ghost use Rattle.std.specs.Prelude.{◌≡◌, ◌+◌, ◌-◌, ◌^◌, ◌<◌, ◌≤◌, ◌++◌, length, drop, IfErr, OnOk, OnErr, All};
 ghost use Rattle.std.specs.Io.KnownBytes.{append_known};
 ghost use Rattle.byteorder.specs.Endian.{little_bytes};
-ghost use Rattle.wire.specs.CaptureFormat.{header_bytes, record_bytes, capture_bytes, ReadsBack};
+ghost use Rattle.wire.specs.CaptureFormat.{header_bytes, record_bytes, capture_bytes, CaptureReadsBack};
 ghost use Rattle.wire.specs.Device.{AppendsFront};
 
 use crate::capture_fault::CaptureFault;
@@ -59,7 +59,7 @@ pub fn write_capture<K: Sink>(sink: &mut K, records: &[Sent]) -> Result<(), Capt
     ensures front { OnErr result (AppendsFront (K.held sink.old) (K.held sink.new) (capture_bytes records.now)) }
     ensures device { IfErr result (λ fault. fault ≡ CaptureFault.Device) }
     ensures counted { OnErr result (K.failure_count sink.new ≡ K.failure_count sink.old + 1) }
-    ensures reads_back { ReadsBack records.now }
+    ensures reads_back { CaptureReadsBack records.now }
 {
     match write_all(sink, &HEADER) {
         Ok(()) => {}

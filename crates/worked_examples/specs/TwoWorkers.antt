@@ -44,7 +44,7 @@ leaves = record { who = Worker 0; call = Leave 0; reply = Left }
 -- ---- what the passes know
 
 -- the first has entered, found and loaded: these are its own entries, and what it has seen ends with the Load
-pub record HasLoaded (view : CallerView) (word : ℕ) : Type 0 where
+pub record HasFoundAndLoaded (view : CallerView) (word : ℕ) : Type 0 where
   pub own : view.own ≡ loads word ∷ finds ∷ enters 0 ∷ []
   pub earlier : List Entry
   pub seen : view.seen ≡ loads word ∷ earlier
@@ -66,9 +66,9 @@ pub record HasLeft (before after : CallerView) (word : ℕ) : Type 0 where
   pub legal : IsLegalHistory its_plan after.seen
 
 -- the second entered when the first had loaded, and then the first left
-pub record AreDone (first second : CallerView) (word : ℕ) : Type 0 where
+pub record AreBothDone (first second : CallerView) (word : ℕ) : Type 0 where
   pub before : CallerView
-  pub loaded : HasLoaded before word
+  pub loaded : HasFoundAndLoaded before word
   pub left : HasLeft before first word
   pub entered : HasEntered second
 

@@ -11,13 +11,13 @@ use Rattle.folders.specs.declared.folder.FolderFault.{FolderFault}
 use Rattle.wire.specs.declared.records.Sent.{Sent}
 use Rattle.control.specs.declared.command.Command.{Command}
 use Rattle.journals.specs.JournalsView.{JournalsView, entries_at}
-use Rattle.journals.specs.JournalReading.{IsJournalsFile, Refuses as RefusesJournals}
+use Rattle.journals.specs.JournalReading.{IsJournalsFile, RefusesJournals}
 use Rattle.journals.specs.JournalText.{journals_text}
 use Rattle.journals.specs.FileJournals.{ReadBackWhereLegal}
 use Rattle.journals.specs.LegalJournals.{AreLegal}
 use Rattle.journals.specs.declared.fault.FileFault.{FileFault}
 use Rattle.journals.specs.declared.fault.FileFault.TheVariants.{Device, Memory, BadJournalFile}
-use Rattle.audit.specs.Audited.{Explains as ExplainsJournals}
+use Rattle.audit.specs.Audited.{ExplainsJournals}
 use Rattle.audit.specs.declared.fault.AuditFault.{AuditFault}
 use Rattle.audit.specs.declared.fault.AuditFault.TheVariants as audits
 use Rattle.actors.specs.Accounted.{IsAccounted}

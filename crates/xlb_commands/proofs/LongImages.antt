@@ -13,7 +13,7 @@ use Rattle.ebpf_decode.specs.declared.map.MapDef.{MapDef}
 use Rattle.ebpf_decode.specs.declared.version.Version.{Version}
 use Rattle.ebpf_decode.specs.Versions.{version_of}
 use Rattle.ebpf_decode.specs.InstructionReading.{◌>>=◌}
-use Rattle.ebpf_decode.specs.MapForm.{map_at}
+use Rattle.ebpf_decode.specs.MapForm.{map_in_bytes}
 use Rattle.ebpf_decode.specs.ImageContents.{Contents}
 use Rattle.ebpf_decode.specs.ImageFormat.{has_head, map_count, version_at, maps_at, code_at, image_at, has_code_size, may_ask_memory, fault_of, first_decode_fault, IsImageEncoding}
 use Rattle.ebpf_decode.proofs.shared.SlotLaws.{both}
@@ -72,11 +72,11 @@ after_first rest (Err fault) longer others same = refl
 
 maps_front : (version : Version) (place n : ℕ) (front rest : List ℕ) → 16 * n ≤ length front
     → maps_at version place n (front ++ rest) ≡ with_rest rest (maps_at version place n front)
-unfolding maps_at map_at
+unfolding maps_at map_in_bytes
 maps_front version place zero front rest long = refl
 maps_front version place (suc n) (b0 ∷ b1 ∷ b2 ∷ b3 ∷ b4 ∷ b5 ∷ b6 ∷ b7 ∷ b8 ∷ b9 ∷ b10 ∷ b11 ∷ b12 ∷ b13 ∷ b14 ∷ b15 ∷ front) rest long =
     after_first rest
-    (ok_or (map_at version (b0 ∷ b1 ∷ b2 ∷ b3 ∷ b4 ∷ b5 ∷ b6 ∷ b7 ∷ b8 ∷ b9 ∷ b10 ∷ b11 ∷ b12 ∷ b13 ∷ b14 ∷ b15 ∷ front)) (BadMap place))
+    (ok_or (map_in_bytes version (b0 ∷ b1 ∷ b2 ∷ b3 ∷ b4 ∷ b5 ∷ b6 ∷ b7 ∷ b8 ∷ b9 ∷ b10 ∷ b11 ∷ b12 ∷ b13 ∷ b14 ∷ b15 ∷ front)) (BadMap place))
     (maps_at version (place + 1) n (front ++ rest)) (maps_at version (place + 1) n front)
     (maps_front version (place + 1) n front rest (omega arith))
 maps_front version place (suc n) front rest long = absurd (omega arith)
@@ -96,7 +96,7 @@ unfolding maps_at
 maps_left version place zero bytes size long = omega arith
 maps_left version place (suc n) (b0 ∷ b1 ∷ b2 ∷ b3 ∷ b4 ∷ b5 ∷ b6 ∷ b7 ∷ b8 ∷ b9 ∷ b10 ∷ b11 ∷ b12 ∷ b13 ∷ b14 ∷ b15 ∷ bytes) size long =
     left_after size
-    (ok_or (map_at version (b0 ∷ b1 ∷ b2 ∷ b3 ∷ b4 ∷ b5 ∷ b6 ∷ b7 ∷ b8 ∷ b9 ∷ b10 ∷ b11 ∷ b12 ∷ b13 ∷ b14 ∷ b15 ∷ bytes)) (BadMap place))
+    (ok_or (map_in_bytes version (b0 ∷ b1 ∷ b2 ∷ b3 ∷ b4 ∷ b5 ∷ b6 ∷ b7 ∷ b8 ∷ b9 ∷ b10 ∷ b11 ∷ b12 ∷ b13 ∷ b14 ∷ b15 ∷ bytes)) (BadMap place))
     (maps_at version (place + 1) n bytes)
     (maps_left version (place + 1) n bytes size (omega arith))
 maps_left version place (suc n) bytes size long = absurd (omega arith)

@@ -7,7 +7,7 @@ use Rattle.wire.specs.CaptureFormat.{header_bytes}
 use Rattle.control.specs.declared.command.Command.{Command}
 use Rattle.journals.specs.JournalText.{journals_text}
 use Rattle.traffic.specs.Counting.{target_of}
-use Rattle.traffic.specs.RecordLines.{back_text, flow_text, front_text, head_of}
+use Rattle.traffic.specs.RecordLines.{back_text, flow_text, front_text, report_head}
 use Rattle.traffic.specs.declared.record_line.ReportForm.{ReportForm}
 use Rattle.actors.specs.Accounts.{SentFrame, sent_frame, sent_frames}
 use Rattle.actors.specs.declared.account.Counts.{Counts}
@@ -16,8 +16,8 @@ use Rattle.actors.specs.declared.outcome.Outcome.{Outcome}
 use Rattle.actors.specs.declared.outcome.RecordEnd.{RecordEnd}
 use Rattle.replay.specs.SameReplays.{AreSameFrames, ExactReplaysAgree, ReturnTheSame}
 use Rattle.replay.specs.OtherJournals.{JournalsChangeNothing, SendTheSame}
-use Rattle.xlb_commands.specs.RecordReports.{address_in, backend_at, backends_in, case_in, end_of, is_sent, line_of, line_text, lines_until, report_text, sent_before}
-use Rattle.xlb_commands.specs.RecordReports.{steps_in, target_in, verdict_in, worker_in}
+use Rattle.xlb_commands.specs.RecordReports.{sent_address, backend_at, backends_in, case_in, end_of, is_sent, line_of_record, line_text, lines_until, report_text, sent_before}
+use Rattle.xlb_commands.specs.RecordReports.{steps_of_end, target_in, verdict_in, worker_in}
 use Rattle.xlb_commands.specs.Replays.{counts_text, frame_records, refusals_text}
 use Rattle.xlb_commands.specs.SameFiles.{ExactReplaysWriteTheSame, JournalsChangeNoBytes, SendTheSameBytes, WriteTheSame}
 use Rattle.xlb_commands.proofs.ReaderFiles.{records_are}
@@ -49,14 +49,14 @@ same_target None (Some other) alike = absurd alike
 same_target (Some one) None alike = absurd alike
 same_target (Some one) (Some other) alike = ap (λ (frame : SentFrame). target_of frame.bytes) alike
 
-same_address : (end : RecordEnd) (one other : Option Sent) → AreAlike one other → address_in end one ≡ address_in end other
+same_address : (end : RecordEnd) (one other : Option Sent) → AreAlike one other → sent_address end one ≡ sent_address end other
 same_address end one other alike = ap (λ (target : Option ℕ). if is_sent end then target else None) (same_target one other alike)
 
 -- the line of a record that was captured so, and that was sent to this address, if it was
 line_to : ReportForm → Bool → List (ℕ × ℕ) → ℕ → SentFrame → RecordEnd → Option ℕ → List ℕ
 line_to form is_steering backends number captured end address =
     (front_text form (number + 1) (captured.seconds * 1000000 + captured.micros) (worker_in end) (verdict_in end)
-    ++ back_text form (steps_in end) (case_in is_steering captured.bytes end) (backend_at backends address) address)
+    ++ back_text form (steps_of_end end) (case_in is_steering captured.bytes end) (backend_at backends address) address)
     ++ flow_text form captured.bytes
 
 same_text : (form : ReportForm) (is_steering : Bool) (backends : List (ℕ × ℕ)) (number : ℕ) (captured other : Sent) (end : RecordEnd)
@@ -64,12 +64,12 @@ same_text : (form : ReportForm) (is_steering : Bool) (backends : List (ℕ × �
     → line_text form is_steering backends number captured end sent ≡ line_text form is_steering backends number other end others
 unfolding line_to
 same_text form is_steering backends number captured other end sent others same alike =
-    ap (λ (frame : SentFrame). line_to form is_steering backends number frame end (address_in end sent)) same
+    ap (λ (frame : SentFrame). line_to form is_steering backends number frame end (sent_address end sent)) same
     ∙ ap (λ (address : Option ℕ). line_to form is_steering backends number (sent_frame other) end address) (same_address end sent others alike)
 
 same_line : (form : ReportForm) (is_steering : Bool) (backends : List (ℕ × ℕ)) (ends : List RecordEnd) (sent others : List Sent) (number : ℕ)
     (captured other : Option Sent) → AreAlike captured other → AreSameFrames sent others
-    → line_of form is_steering backends ends sent number captured ≡ line_of form is_steering backends ends others number other
+    → line_of_record form is_steering backends ends sent number captured ≡ line_of_record form is_steering backends ends others number other
 same_line form is_steering backends ends sent others number None None alike same = refl
 same_line form is_steering backends ends sent others number None (Some other) alike same = absurd alike
 same_line form is_steering backends ends sent others number (Some captured) None alike same = absurd alike
@@ -81,7 +81,7 @@ same_lines : (form : ReportForm) (is_steering : Bool) (backends : List (ℕ × �
     → lines_until form is_steering backends records ends sent number ≡ lines_until form is_steering backends its ends others number
 same_lines form is_steering backends records its ends sent others captured same zero = refl
 same_lines form is_steering backends records its ends sent others captured same (suc number) =
-    ap (λ (text : List ℕ). text ++ line_of form is_steering backends ends sent number (slice_get records number))
+    ap (λ (text : List ℕ). text ++ line_of_record form is_steering backends ends sent number (slice_get records number))
     (same_lines form is_steering backends records its ends sent others captured same number)
     ∙ ap (λ (text : List ℕ). lines_until form is_steering backends its ends others number ++ text)
     (same_line form is_steering backends ends sent others number _ _ (alike_at records its captured number) same)
@@ -93,7 +93,7 @@ same_report : (form : ReportForm) (is_steering : Bool) (script : List Command) (
     (sent others : List Sent) → AreSameFrames records its → AreSameFrames sent others
     → report_text form is_steering script records ends sent ≡ report_text form is_steering script its ends others
 same_report form is_steering script records its ends sent others captured same =
-    ap (λ (text : List ℕ). head_of form ++ text)
+    ap (λ (text : List ℕ). report_head form ++ text)
     (same_lines form is_steering (backends_in script) records its ends sent others captured same (length records)
     ∙ ap (λ (count : ℕ). lines_until form is_steering (backends_in script) its ends others count) (same_count records its captured))
 

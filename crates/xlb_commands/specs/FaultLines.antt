@@ -1,6 +1,6 @@
 -- The line of each fault, without its line feed: that of its number and its fields.
 use Rattle.std.specs.Prelude.{ℕ, ◌+◌, ◌++◌, List, codes, decimal}
-use Rattle.faults.specs.FaultTable.{line_of}
+use Rattle.faults.specs.FaultTable.{line_of_fault}
 use Rattle.faults.specs.declared.fields.Fields.{Fields}
 use Rattle.faults.specs.declared.fields.Fields.TheVariants as fields
 use Rattle.folders.specs.FaultNumber.{folder_fault_number}
@@ -27,23 +27,23 @@ abbrev pub mistake_text : ℕ → Misfit → List ℕ
 mistake_text place misfit = codes "error: update " ++ (decimal (place + 1) ++ (codes ": " ++ (misfit_text misfit ++ codes "\n")))
 
 -- the number of a command's fault: that of the crate that found it
-abbrev pub number_of : Fault → ℕ
-number_of (Folder fault) = folder_fault_number fault
-number_of (Decode fault) = fault_number fault
-number_of (Text fault) = text_fault_number fault
-number_of (Source fault) = source_fault_number fault
-number_of (Program fault) = reject_number fault
-number_of (Frame fault) = frame_fault_number fault
-number_of (Options fault) = open_fault_number fault
-number_of (Run fault) = stop_number fault
-number_of (Journals fault) = file_fault_number fault
-number_of (Audit fault) = audit_fault_number fault
-number_of (Steering fault) = steer_fault_number fault
-number_of (Script fault) = control_fault_number fault
-number_of (Capture fault) = capture_fault_number fault
-number_of (Replay fault) = replay_fault_number fault
-number_of Output = 7
-number_of Memory = 8
+abbrev pub number_of_fault : Fault → ℕ
+number_of_fault (Folder fault) = folder_fault_number fault
+number_of_fault (Decode fault) = fault_number fault
+number_of_fault (Text fault) = text_fault_number fault
+number_of_fault (Source fault) = source_fault_number fault
+number_of_fault (Program fault) = reject_number fault
+number_of_fault (Frame fault) = frame_fault_number fault
+number_of_fault (Options fault) = open_fault_number fault
+number_of_fault (Run fault) = stop_number fault
+number_of_fault (Journals fault) = file_fault_number fault
+number_of_fault (Audit fault) = audit_fault_number fault
+number_of_fault (Steering fault) = steer_fault_number fault
+number_of_fault (Script fault) = control_fault_number fault
+number_of_fault (Capture fault) = capture_fault_number fault
+number_of_fault (Replay fault) = replay_fault_number fault
+number_of_fault Output = 7
+number_of_fault Memory = 8
 
 -- the numbers of its fields
 abbrev pub fields_of : Fault → Fields
@@ -60,4 +60,4 @@ fields_of (Replay fault) = replay_fault_fields fault
 fields_of other = fields.Empty
 
 abbrev pub fault_line : Fault → List ℕ
-fault_line fault = line_of (number_of fault) (fields_of fault)
+fault_line fault = line_of_fault (number_of_fault fault) (fields_of fault)

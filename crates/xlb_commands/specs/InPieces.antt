@@ -30,8 +30,8 @@ use Rattle.xlb_commands.specs.Replays.{AreAccepted, FollowsRule, IsCaptureOf, Is
 use Rattle.xlb_commands.specs.Replays.{counts_text, program_of_replay, refusals_text}
 
 -- no reader counts too far: each record takes 16 bytes at least
-abbrev pub HasRoom : ℕ → ReaderView → Type 0
-HasRoom most reader = 16 * reader.count + length reader.unread + most ≤ 2 ^ 40
+abbrev pub ReaderHasRoom : ℕ → ReaderView → Type 0
+ReaderHasRoom most reader = 16 * reader.count + length reader.unread + most ≤ 2 ^ 40
 
 -- the replay took the turns of these records: these frames were sent, and each record ended so
 abbrev pub AreRun : Program → List Command → Options → PieceReplay → PieceReplay → List Sent → List Sent → List RecordEnd → Type 0
@@ -94,7 +94,7 @@ pub record HasGoneThrough (files : FileBytes) (name : List ℕ) (part : Option P
 
 -- the file is a capture, in the part of which the commands of the script for the whole capture are those of this script; besides, the replay
 -- of the part came to its end, and the report and the bytes of the journals are its
-pub record IsLeft (before made made' : FileBytes) (files : ReplayFiles) (part : Option Part) (whole : List Command) (program : Contents)
+pub record IsReplayLeft (before made made' : FileBytes) (files : ReplayFiles) (part : Option Part) (whole : List Command) (program : Contents)
     (states : List (Option State)) (script : List Command) (options : Options) (recording : Recording) (ring : ℕ) (updates : List MapUpdate)
     (report : Report) (journals : List ℕ) : Type 0 where
   pub captured : List Sent

@@ -15,8 +15,8 @@ use Rattle.actors.specs.declared.outcome.RecordEnd.{RecordEnd}
 use Rattle.actors.specs.declared.outcome.RecordEnd.TheVariants.{Short, Stopped, Exited}
 use Rattle.traffic.specs.Counting.{address_at, one_if, target_of}
 use Rattle.traffic.specs.Holders.{holder_among, holder_in, only_number}
-use Rattle.traffic.specs.Kinds.{kind_of}
-use Rattle.traffic.specs.RecordLines.{back_text, case_word, flow_text, front_text, head_of}
+use Rattle.traffic.specs.Kinds.{frame_kind_of}
+use Rattle.traffic.specs.RecordLines.{back_text, case_word, flow_text, front_text, report_head}
 use Rattle.traffic.specs.declared.backends.Backends.{Backends}
 use Rattle.traffic.specs.declared.record_line.LineVerdict.{LineVerdict}
 use Rattle.traffic.specs.declared.record_line.LineVerdict.TheVariants as words
@@ -55,10 +55,10 @@ verdict_in (Stopped worker) = words.Stopped
 verdict_in (Exited worker verdict steps) = word_of_verdict verdict
 
 -- in how many steps its run ended
-abbrev pub steps_in : RecordEnd → Option ℕ
-steps_in Short = None
-steps_in (Stopped worker) = None
-steps_in (Exited worker verdict steps) = Some steps
+abbrev pub steps_of_end : RecordEnd → Option ℕ
+steps_of_end Short = None
+steps_of_end (Stopped worker) = None
+steps_of_end (Exited worker verdict steps) = Some steps
 
 -- whether its frame was sent
 abbrev pub is_tx : LineVerdict → Bool
@@ -74,7 +74,7 @@ runs_shipped files = is_none files.image
 
 -- by which case of the steering rule, if the program is the shipped one
 abbrev pub case_in : Bool → List ℕ → RecordEnd → List ℕ
-case_in true frame end = case_word (kind_of frame) (verdict_in end)
+case_in true frame end = case_word (frame_kind_of frame) (verdict_in end)
 case_in false frame end = []
 
 -- ---- where it was sent
@@ -85,8 +85,8 @@ target_in None = None
 target_in (Some sent) = target_of sent.bytes.items
 
 -- the same for a record that was sent as this frame
-abbrev pub address_in : RecordEnd → Option Sent → Option ℕ
-address_in end sent = if is_sent end then target_in sent else None
+abbrev pub sent_address : RecordEnd → Option Sent → Option ℕ
+sent_address end sent = if is_sent end then target_in sent else None
 
 -- backends as (number, address), the newest first, with what a command names
 abbrev pub named_by : List (ℕ × ℕ) → Action → List (ℕ × ℕ)
@@ -116,8 +116,8 @@ backend_at backends (Some address) = only_number (holder_among address backends)
 abbrev pub line_text : ReportForm → Bool → List (ℕ × ℕ) → ℕ → Sent → RecordEnd → Option Sent → List ℕ
 line_text form is_shipped backends number captured end sent =
     (front_text form (number + 1) (captured.seconds * 1000000 + captured.micros) (worker_in end) (verdict_in end)
-    ++ back_text form (steps_in end) (case_in is_shipped captured.bytes.items end) (backend_at backends (address_in end sent))
-    (address_in end sent)) ++ flow_text form captured.bytes.items
+    ++ back_text form (steps_of_end end) (case_in is_shipped captured.bytes.items end) (backend_at backends (sent_address end sent))
+    (sent_address end sent)) ++ flow_text form captured.bytes.items
 
 -- what became of the record of this number
 abbrev pub end_of : List RecordEnd → ℕ → RecordEnd
@@ -129,9 +129,9 @@ sent_before ends zero = 0
 sent_before ends (suc number) = sent_before ends number + one_if (is_sent (end_of ends number))
 
 -- the line of the record of this number, if there is one
-abbrev pub line_of : ReportForm → Bool → List (ℕ × ℕ) → List RecordEnd → List Sent → ℕ → Option Sent → List ℕ
-line_of form is_shipped backends ends sent number None = []
-line_of form is_shipped backends ends sent number (Some captured) =
+abbrev pub line_of_record : ReportForm → Bool → List (ℕ × ℕ) → List RecordEnd → List Sent → ℕ → Option Sent → List ℕ
+line_of_record form is_shipped backends ends sent number None = []
+line_of_record form is_shipped backends ends sent number (Some captured) =
     line_text form is_shipped backends number captured (end_of ends number) (slice_get sent (sent_before ends number))
 
 -- the lines of the first N records
@@ -139,12 +139,12 @@ abbrev pub lines_until : ReportForm → Bool → List (ℕ × ℕ) → List Sent
 lines_until form is_shipped backends records ends sent zero = []
 lines_until form is_shipped backends records ends sent (suc number) =
     lines_until form is_shipped backends records ends sent number
-    ++ line_of form is_shipped backends ends sent number (slice_get records number)
+    ++ line_of_record form is_shipped backends ends sent number (slice_get records number)
 
 -- the head, and the lines of all records
 abbrev pub report_text : ReportForm → Bool → List Command → List Sent → List RecordEnd → List Sent → List ℕ
 report_text form is_shipped script records ends sent =
-    head_of form ++ lines_until form is_shipped (backends_in script) records ends sent (length records)
+    report_head form ++ lines_until form is_shipped (backends_in script) records ends sent (length records)
 
 -- where a file is named for it, it has the report
 abbrev pub IsReportFile : FileBytes → Option (List ℕ) → Bool → List Command → List Sent → Outcome → Type 0

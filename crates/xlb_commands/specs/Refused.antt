@@ -16,15 +16,15 @@ use Rattle.verifier.specs.Dataflow.{IsFirstReject}
 use Rattle.wire.specs.declared.frame_buffer.FrameFault.TheVariants as frames
 use Rattle.disasm.specs.declared.fault.AsmFault.{AsmFault}
 use Rattle.disasm.specs.declared.fault.AsmFault.TheVariants as texts
-use Rattle.disasm.specs.TextReading.{Explains as ExplainsText}
+use Rattle.disasm.specs.TextReading.{ExplainsText}
 use Rattle.source_form.specs.declared.fault.SourceFault.{SourceFault}
-use Rattle.source_form.specs.SourceImage.{Explains as ExplainsSource}
+use Rattle.source_form.specs.SourceImage.{ExplainsSource}
 use Rattle.journals.specs.JournalsView.{JournalsView}
 use Rattle.journals.specs.declared.fault.FileFault.{FileFault}
 use Rattle.journals.specs.declared.fault.FileFault.TheVariants as journal_faults
-use Rattle.journals.specs.JournalReading.{IsJournalsFile, Refuses as RefusesJournals}
+use Rattle.journals.specs.JournalReading.{IsJournalsFile, RefusesJournals}
 use Rattle.audit.specs.declared.fault.AuditFault.{AuditFault}
-use Rattle.audit.specs.Audited.{Explains as ExplainsJournals}
+use Rattle.audit.specs.Audited.{ExplainsJournals}
 use Rattle.journals.specs.LegalJournals.{AreLegal}
 use Rattle.disasm.specs.AssemblyText.{IsAssemblyText}
 use Rattle.source_form.specs.SourceImage.{IsSource}
@@ -34,7 +34,7 @@ use Rattle.ebpf_decode.specs.declared.map.MapDef.{MapDef}
 use Rattle.wire.specs.FrameView.{FrameView}
 use Rattle.wire.specs.declared.records.Sent.{Sent}
 use Rattle.wire.specs.declared.capture_fault.CaptureFault.{CaptureFault}
-use Rattle.wire.specs.CaptureFormat.{Refuses as RefusesCapture, capture_bytes}
+use Rattle.wire.specs.CaptureFormat.{RefusesCapture, capture_bytes}
 use Rattle.semantics.specs.declared.options.Options.{Options}
 use Rattle.semantics.specs.declared.verdict.Verdict.{Verdict}
 use Rattle.semantics.specs.declared.options.Recording.{Recording}
@@ -53,7 +53,7 @@ use Rattle.steer.specs.ShippedProgram.{shipped_image}
 use Rattle.control.specs.declared.command.Command.{Command}
 use Rattle.control.specs.declared.fault.ControlFault.{ControlFault}
 use Rattle.control.specs.declared.fault.ControlFault.TheVariants as scripts
-use Rattle.control.specs.ScriptReading.{Explains as ExplainsScript}
+use Rattle.control.specs.ScriptReading.{ExplainsScript}
 use Rattle.actors.specs.declared.fault.ReplayFault.{ReplayFault}
 use Rattle.actors.specs.declared.fault.ReplayFault.TheVariants as replays
 use Rattle.actors.specs.UpdateFaults.{OfUpdate, IsWhyByPass}
@@ -67,7 +67,7 @@ use Rattle.command_line.specs.Reading.{text_of}
 use Rattle.command_line.specs.declared.commands.Settings.{Settings}
 use Rattle.command_line.specs.declared.commands.Settings.TheVariants.{Check, Run, Disasm, Audit, Explain, Asm, Shipped, Replay, Table}
 use Rattle.command_line.specs.declared.commands.Settings.TheVariants.{Script, Compare, Flows}
-use Rattle.timed_scripts.specs.MeantScript.{Explains as MeansNone}
+use Rattle.timed_scripts.specs.MeantScript.{ExplainsTimedScript as MeansNone}
 use Rattle.traffic.specs.Readings.{alters, unaltered}
 use Rattle.traffic.specs.declared.readings.Reading.{Reading}
 use Rattle.fleet.specs.declared.part.Part.{Part}
@@ -78,7 +78,7 @@ use Rattle.xlb_commands.specs.Parts.{records_in, script_in}
 use Rattle.xlb_commands.specs.Clashes.{IsOver, clash_text, IsWrittenAnew, present_text}
 use Rattle.xlb_commands.specs.FaultLines.{fault_line, mistake_text}
 use Rattle.xlb_commands.specs.Replays.{AreWritten, IsProgramOf, IsScriptFile, IsScriptOf, IsCaptureOf, AreCaptureBytes, program_of_replay}
-use Rattle.xlb_commands.specs.Replays.{reading_in, recording_in, IsMade}
+use Rattle.xlb_commands.specs.Replays.{capture_reading, recording_in, IsMade}
 use Rattle.xlb_commands.specs.Results.{IsDone, IsDoneInPart, IsReported, IsMistake, Stream, run_options, program_of_run, start_of_run}
 use Rattle.xlb_commands.specs.Results.{IsUnlikeSaid}
 
@@ -470,7 +470,7 @@ pub data IsReplayRefusal (files after : FileBytes) (failed : Type 0) (names : Re
 -- the same of what is asked
 abbrev pub IsReplayRefused : FileBytes → FileBytes → Type 0 → ReplaySettings → Fault → Type 0
 IsReplayRefused before after failed asked fault =
-    IsReplayRefusal before after failed asked.files asked.options (recording_in asked) asked.ring asked.exact (reading_in asked) asked.part
+    IsReplayRefusal before after failed asked.files asked.options (recording_in asked) asked.ring asked.exact (capture_reading asked) asked.part
     asked.updates.items fault
 
 -- ---- commands

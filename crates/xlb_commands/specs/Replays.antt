@@ -39,7 +39,7 @@ use Rattle.guarantees.specs.ReaderReplays.{all_sent_at_opening}
 use Rattle.replay.specs.TurnOrder.{IsInTurnOrder}
 use Rattle.steered_replays.specs.SteeredRuns.{IsSteeredReplay}
 use Rattle.steered_replays.specs.StickyReplays.{FlowsStay}
-use Rattle.steered_replays.specs.TablesAtEnd.{AreTables, MetNoFullJournal, carried_out, maps_at_end}
+use Rattle.steered_replays.specs.TablesAtEnd.{AreTablesAtEnd, MetNoFullJournal, carried_out, maps_at_end}
 use Rattle.steered_replays.specs.Totals.{AreTotals}
 use Rattle.traffic.specs.Readings.{IsAltered, alters}
 use Rattle.traffic.specs.declared.readings.AlteredCapture.{AlteredCapture}
@@ -136,13 +136,13 @@ abbrev pub refusal_line : ℕ → ℕ → List ℕ
 refusal_line command fault = codes "command " ++ (decimal command ++ (codes " refused " ++ (decimal fault ++ codes "\n")))
 
 -- the line of a command, counted from 0, if it was refused
-abbrev pub refusal_of : ℕ → Option ControlFault → List ℕ
-refusal_of command None = []
-refusal_of command (Some fault) = refusal_line (command + 1) (control_fault_number fault)
+abbrev pub refusal_text_of : ℕ → Option ControlFault → List ℕ
+refusal_text_of command None = []
+refusal_text_of command (Some fault) = refusal_line (command + 1) (control_fault_number fault)
 
 -- the lines of those that were refused
 abbrev pub refusals_text : List Applied → List ℕ
-refusals_text refused = flat_map (λ (one : Applied). refusal_of one.command one.fault) refused
+refusals_text refused = flat_map (λ (one : Applied). refusal_text_of one.command one.fault) refused
 
 -- ---- a replay
 
@@ -156,8 +156,8 @@ abbrev pub recording_in : ReplaySettings → Recording
 recording_in asked = recording_of asked.no_journals (text_of asked.files.journals)
 
 -- how the bytes of its capture are read
-abbrev pub reading_in : ReplaySettings → Reading
-reading_in asked = record {
+abbrev pub capture_reading : ReplaySettings → Reading
+capture_reading asked = record {
   skip_long = asked.reading.skip_long;
   pad_cut = asked.reading.pad_cut;
   allow_cut = asked.reading.allow_cut;
@@ -179,7 +179,7 @@ pub record IsByRule (ring : ℕ) (program : Program) (script : List Command) (op
   pub stay : FlowsStay ring program script options records outcome accounted runs
   pub totals : outcome.counts.stopped ≡ 0 → AreTotals outcome
   pub tables : MetNoFullJournal outcome.refused.items →
-      AreTables ring (carried_out outcome.refused.items 0 script) (maps_at_end outcome.journals)
+      AreTablesAtEnd ring (carried_out outcome.refused.items 0 script) (maps_at_end outcome.journals)
 
 -- this holds of the shipped program, which runs where no image is named; of another image nothing is said
 abbrev pub FollowsRule : Option (List ℕ) → ℕ → (program : Program) (script : List Command) (options : Options) (records : List Sent)
@@ -292,7 +292,7 @@ pub record IsReplayed (before after : FileBytes) (asked : ReplaySettings) (print
   pub script : List Command
   pub script_is : IsScriptOf before (text_of asked.files.script) script
   pub captured : List Sent
-  pub capture : IsCaptureOf before (reading_in asked) asked.files.capture.now captured
+  pub capture : IsCaptureOf before (capture_reading asked) asked.files.capture.now captured
   pub replayed : IsReplayedWith after asked.files program states (script_in asked.part captured script) asked.options (recording_in asked)
       asked.ring asked.exact asked.updates.items (records_in asked.part captured) printed refused
 

@@ -2,7 +2,7 @@
 
 ghost use Rattle.std.specs.Prelude.{◌≡◌, true, IfOk, string_bytes};
 ghost use Rattle.faults.specs.Explanations.{is_fault};
-ghost use Rattle.xlb_commands.specs.FaultLines.{fault_line, fields_of, number_of};
+ghost use Rattle.xlb_commands.specs.FaultLines.{fault_line, fields_of, number_of_fault};
 
 use crate::fault::Fault;
 use faults::Fields;
@@ -10,7 +10,7 @@ use std::alloc::{AllocError, Global};
 
 /// The number of a fault that a command is refused with.
 fn number_of(fault: Fault) -> u8
-    ensures number { result ≡ number_of fault }
+    ensures number { result ≡ number_of_fault fault }
     ensures known { is_fault result ≡ true }
 {
     match fault {

@@ -23,14 +23,14 @@ ghost use Rattle.guarantees.specs.HeadlineOf.{HeadlineOf};
 ghost use Rattle.actors.specs.Captured.{IsCaptured};
 ghost use Rattle.map_updates.specs.Misfits.{AreFitting};
 ghost use Rattle.actors.specs.Parts.{AreBadOptions};
-ghost use Rattle.replay.specs.Pieces.{GoesOn, IsUnderway, IsReplayedInPieces};
+ghost use Rattle.replay.specs.Pieces.{ReplayGoesOn, IsUnderway, IsReplayedInPieces};
 ghost use Rattle.actors.specs.declared.outcome.Outcome.{Outcome as Made};
 ghost use Rattle.actors.specs.declared.outcome.RecordEnd.{RecordEnd as End};
 ghost use Rattle.journals.specs.JournalsView.{JournalsView};
 ghost use Rattle.command_line.specs.Reading.{text_of};
 ghost use Rattle.xlb_commands.specs.Files.{AreAllButKept, AreKept, AreOthersKept};
 ghost use Rattle.xlb_commands.specs.AskedReplays.{IsAnswered, IsAnsweredBy, IsDenied, IsDeniedBy, IsMadeInTurn, LeavesOthers};
-ghost use Rattle.xlb_commands.specs.InPieces.{HasGoneThrough, HasNumbers, HasRoom, HaveRun, IsGoing, IsLeft, IsMadeOf};
+ghost use Rattle.xlb_commands.specs.InPieces.{HasGoneThrough, HasNumbers, ReaderHasRoom, HaveRun, IsGoing, IsReplayLeft, IsMadeOf};
 ghost use Rattle.xlb_commands.specs.Parts.{command_frames, records_in, records_next};
 ghost use Rattle.xlb_commands.specs.Shares.{GoesPast, HasPassed, IsAbreast, script_at};
 ghost use Rattle.xlb_commands.specs.Refused.{AreUnfiled, HasFailed, IsBrokenOff, IsGivenUp, IsUnserved, LacksRoom};
@@ -124,7 +124,7 @@ fn open_reader<D: Folder>(
 ) -> Result<Option<CaptureReader>, Refusal>
     requires { D.failure_count folder.old < 2 ^ 64 - 1 }
     ensures opened { IfOk result (λ found. IfSome found (IsReadTo (D.holds folder.old name.now) (D.is_left folder.new) [])) }
-    ensures room { IfOk result (λ found. IfSome found (HasRoom (D.most_left folder.new))) }
+    ensures room { IfOk result (λ found. IfSome found (ReaderHasRoom (D.most_left folder.new))) }
     ensures kept { AreKept (D.holds folder.old) (D.holds folder.new) }
     ensures made { AreKept (D.is_begun folder.old) (D.is_begun folder.new) }
     ensures steady { OnOk result (D.failure_count folder.new ≡ D.failure_count folder.old) }
@@ -148,7 +148,7 @@ fn next_piece<D: Folder>(
     reader: &mut CaptureReader,
 ) -> Result<Option<Capture>, Refusal>
     requires failures { D.failure_count folder.old < 2 ^ 64 - 1 }
-    requires room { HasRoom (D.most_left folder.old) reader.old }
+    requires room { ReaderHasRoom (D.most_left folder.old) reader.old }
     ensures read { IfOk result (λ found. IfSome found (λ piece.
         ReadsOn D.holds (D.is_left folder.old) (D.is_left folder.new) reader.old reader.new piece.records.items)) }
     ensures whole { IfOk result (λ found. IfSome found (λ piece. length piece.records.items < 1024 →
@@ -156,7 +156,7 @@ fn next_piece<D: Folder>(
     ensures count { IfOk result (λ found. IfSome found (λ piece. reader.new.count ≡ reader.old.count + length piece.records.items)) }
     ensures fewer { IfOk result (λ found. IfSome found (λ piece. length reader.new.unread + D.most_left folder.new
         + 16 * length piece.records.items ≤ length reader.old.unread + D.most_left folder.old)) }
-    ensures room { IfOk result (λ found. IfSome found (λ _. HasRoom (D.most_left folder.new) reader.new)) }
+    ensures room { IfOk result (λ found. IfSome found (λ _. ReaderHasRoom (D.most_left folder.new) reader.new)) }
     ensures kept { AreKept (D.holds folder.old) (D.holds folder.new) }
     ensures made { AreKept (D.is_begun folder.old) (D.is_begun folder.new) }
     ensures steady { OnOk result (D.failure_count folder.new ≡ D.failure_count folder.old) }
@@ -309,7 +309,7 @@ impl Going {
 /// The replay before its first record.
 fn opened(alloc: Global, asked: Asked<'_>) -> Result<Going, Refusal>
     requires fit { AreFitting asked.verified.now.maps asked.updates.now }
-    ensures goes_on { IfOk result (λ going. GoesOn asked.entry.script.now going.replay) }
+    ensures goes_on { IfOk result (λ going. ReplayGoesOn asked.entry.script.now going.replay) }
     ensures maps { IfOk result (λ going. going.replay.turns.all.maps ≡ asked.entry.verified.now.maps) }
     ensures underway { IfOk result (λ going. IsUnderway (program_of asked.entry.verified.now asked.entry.options.shards)
         asked.entry.script.now
@@ -346,12 +346,12 @@ fn run_piece<D: Folder, G: Gate>(
     gate: &G,
 ) -> Result<bool, Refusal>
     requires failures { D.failure_count folder.old < 2 ^ 64 - 1 }
-    requires goes_on { GoesOn asked.script.now going.old.replay }
+    requires goes_on { ReplayGoesOn asked.script.now going.old.replay }
     requires maps { going.old.replay.turns.all.maps ≡ asked.verified.now.maps }
     ensures run { IfOk result (λ went. went ≡ true → HaveRun (program_of asked.entry.verified.now asked.entry.options.shards)
         asked.entry.script.now (recorded asked.entry.recording asked.entry.options) going.old.replay going.new.replay
         (D.is_begun folder.old) (D.is_begun folder.new) piece.now.records.items) }
-    ensures goes_on { IfOk result (λ went. went ≡ true → GoesOn asked.entry.script.now going.new.replay) }
+    ensures goes_on { IfOk result (λ went. went ≡ true → ReplayGoesOn asked.entry.script.now going.new.replay) }
     ensures maps { IfOk result (λ went. went ≡ true → going.new.replay.turns.all.maps ≡ asked.entry.verified.now.maps) }
     ensures kept { AreKept (D.holds folder.old) (D.holds folder.new) }
     ensures left { (rest : List ℕ) → (D.is_left folder.old rest ↔ D.is_left folder.new rest) }
@@ -389,9 +389,9 @@ fn take_piece<D: Folder, G: Gate>(
     gate: &G,
 ) -> Result<PieceStep, Refusal>
     requires failures { D.failure_count folder.old < 2 ^ 64 - 1 }
-    requires room { HasRoom (D.most_left folder.old) reader.old }
+    requires room { ReaderHasRoom (D.most_left folder.old) reader.old }
     requires abreast { IsAbreast asked.part share.old reader.old }
-    requires goes_on { GoesOn asked.script.now going.old.replay }
+    requires goes_on { ReplayGoesOn asked.script.now going.old.replay }
     requires maps { going.old.replay.turns.all.maps ≡ asked.verified.now.maps }
     ensures more { IfOk result (λ step. step ≡ PieceStep.More → (records : List Record)
         × ReadsOn D.holds (D.is_left folder.old) (D.is_left folder.new) reader.old reader.new records
@@ -405,10 +405,10 @@ fn take_piece<D: Folder, G: Gate>(
         × HaveRun (program_of asked.entry.verified.now asked.entry.options.shards) asked.entry.script.now
         (recorded asked.entry.recording asked.entry.options) going.old.replay going.new.replay
         (D.is_begun folder.old) (D.is_begun folder.new) (records_next asked.entry.part reader.old.count records)) }
-    ensures room { IfOk result (λ step. step ≢ PieceStep.Changed → HasRoom (D.most_left folder.new) reader.new) }
+    ensures room { IfOk result (λ step. step ≢ PieceStep.Changed → ReaderHasRoom (D.most_left folder.new) reader.new) }
     ensures fewer { IfOk result (λ step. step ≡ PieceStep.More →
         length reader.new.unread + D.most_left folder.new < length reader.old.unread + D.most_left folder.old) }
-    ensures goes_on { IfOk result (λ step. step ≢ PieceStep.Changed → GoesOn asked.entry.script.now going.new.replay) }
+    ensures goes_on { IfOk result (λ step. step ≢ PieceStep.Changed → ReplayGoesOn asked.entry.script.now going.new.replay) }
     ensures maps { IfOk result (λ step. step ≢ PieceStep.Changed → going.new.replay.turns.all.maps ≡ asked.entry.verified.now.maps) }
     ensures kept { AreKept (D.holds folder.old) (D.holds folder.new) }
     ensures steady { OnOk result (D.failure_count folder.new ≡ D.failure_count folder.old) }
@@ -440,14 +440,14 @@ fn go_through<D: Folder, G: Gate>(
     gate: &G,
 ) -> Result<bool, Refusal>
     requires failures { D.failure_count folder.old < 2 ^ 64 - 1 }
-    requires goes_on { GoesOn asked.script.now going.old.replay }
+    requires goes_on { ReplayGoesOn asked.script.now going.old.replay }
     requires maps { going.old.replay.turns.all.maps ≡ asked.verified.now.maps }
     ensures gone { IfOk result (λ gone. gone ≡ true → HasGoneThrough (D.holds folder.old) asked.entry.files.now.capture.now
         asked.entry.part whole.entry.script.now whole.entry.numbers.now
         (program_of asked.entry.verified.now asked.entry.options.shards) asked.entry.script.now
         (recorded asked.entry.recording asked.entry.options) going.old.replay going.new.replay
         (D.is_begun folder.old) (D.is_begun folder.new)) }
-    ensures goes_on { IfOk result (λ gone. gone ≡ true → GoesOn asked.entry.script.now going.new.replay) }
+    ensures goes_on { IfOk result (λ gone. gone ≡ true → ReplayGoesOn asked.entry.script.now going.new.replay) }
     ensures kept { AreKept (D.holds folder.old) (D.holds folder.new) }
     ensures steady { OnOk result (D.failure_count folder.new ≡ D.failure_count folder.old) }
     ensures refused { IfErr result
@@ -470,7 +470,7 @@ fn go_through<D: Folder, G: Gate>(
 
 /// The outcome of a replay behind its last record; it has no sent frames and no ends.
 fn ended(alloc: Global, asked: Asked<'_>, replay: PieceReplay) -> Result<Outcome, Refusal>
-    requires { GoesOn asked.script.now replay }
+    requires { ReplayGoesOn asked.script.now replay }
     ensures replayed { IfOk result (λ rest. (program : Program) (options : Settings) (records sent : List Record) (ends : List End) →
         IsUnderway program asked.entry.script.now options asked.entry.updates.now records sent ends replay →
         IsReplayedInPieces program asked.entry.script.now options records sent ends rest) }
@@ -495,7 +495,7 @@ fn left_in_pieces(
     altered: Altered,
     going: Going,
 ) -> Result<LeftInPieces, Refusal>
-    requires goes_on { GoesOn asked.script.now going.replay }
+    requires goes_on { ReplayGoesOn asked.script.now going.replay }
     requires underway { IsGoing (program_of asked.verified.now asked.options.shards) asked.script.now
         (recorded asked.recording asked.options) asked.updates.now going.replay }
     requires rows { (file : List ℕ) → text_of asked.files.now.journals ≡ Some file → asked.recording ≡ Rows }
@@ -552,7 +552,7 @@ fn left_by_pieces<D: Folder, G: Gate>(
 ) -> Result<Option<LeftInPieces>, Refusal>
     requires failures { D.failure_count folder.old < 2 ^ 64 - 1 }
     requires script { asked.script.now ≡ script_at asked.part whole.numbers.now whole.script.now }
-    requires goes_on { GoesOn asked.script.now going.replay }
+    requires goes_on { ReplayGoesOn asked.script.now going.replay }
     requires maps { going.replay.turns.all.maps ≡ asked.verified.now.maps }
     requires underway { IsUnderway (program_of asked.verified.now asked.options.shards) asked.script.now
         (recorded asked.recording asked.options) asked.updates.now [] [] [] going.replay }
@@ -560,7 +560,7 @@ fn left_by_pieces<D: Folder, G: Gate>(
     requires served { KeepsRows asked.options.journal }
     requires size { text_of asked.files.now.image ≡ None → IsRingSize asked.ring }
     requires shipped { text_of asked.files.now.image ≡ None → image_of asked.verified.now ≡ shipped_image asked.ring }
-    ensures left { IfOk result (λ found. IfSome found (λ left. IsLeft (D.holds folder.old) (D.is_begun folder.old) (D.is_begun folder.new)
+    ensures left { IfOk result (λ found. IfSome found (λ left. IsReplayLeft (D.holds folder.old) (D.is_begun folder.old) (D.is_begun folder.new)
         asked.entry.files.now asked.entry.part whole.entry.script.now (image_of asked.entry.verified.now)
         asked.entry.verified.now.states asked.entry.script.now asked.entry.options asked.entry.recording asked.entry.ring
         asked.entry.updates.now

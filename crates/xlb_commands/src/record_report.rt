@@ -5,8 +5,8 @@ ghost use Rattle.std.specs.Char.{to_ascii_lowercase};
 ghost use Rattle.command_line.specs.Reading.{text_of};
 ghost use Rattle.traffic.specs.Counting.{address_at};
 ghost use Rattle.text_lines.specs.Lines.{finishes};
-ghost use Rattle.xlb_commands.specs.RecordReports.{address_in, backend_at, backends_in, case_in, form_by, form_of, is_tx, line_text};
-ghost use Rattle.xlb_commands.specs.RecordReports.{lines_until, named_in, report_text, steps_in, verdict_in, word_of_verdict, worker_in};
+ghost use Rattle.xlb_commands.specs.RecordReports.{sent_address, backend_at, backends_in, case_in, form_by, form_of, is_tx, line_text};
+ghost use Rattle.xlb_commands.specs.RecordReports.{lines_until, named_in, report_text, steps_of_end, verdict_in, word_of_verdict, worker_in};
 ghost use Rattle.xlb_commands.specs.RecordReports.{HasNamed};
 ghost use Rattle.xlb_commands.specs.declared.fault.Fault.TheVariants.{Memory};
 
@@ -74,7 +74,7 @@ pub(crate) fn verdict_in(end: RecordEnd) -> LineVerdict
 
 /// In how many steps the run of a record ended.
 fn steps_in(end: RecordEnd) -> Option<u64>
-    ensures { result ≡ steps_in end }
+    ensures { result ≡ steps_of_end end }
 {
     match end {
         RecordEnd::Exited { steps, .. } => Some(steps),
@@ -105,7 +105,7 @@ fn case_in(is_shipped: bool, frame: &[u8], end: RecordEnd) -> &'static str
 
 /// The address to which the frame of a record was sent, which is at this place among the sent ones.
 fn address_in(end: RecordEnd, sent: &[Sent], place: usize) -> Option<u32>
-    ensures { result ≡ address_in end (slice_get sent.now place) }
+    ensures { result ≡ sent_address end (slice_get sent.now place) }
 {
     if is_tx(verdict_in(end)) && place < sent.len() {
         target_of(&sent[place].bytes)

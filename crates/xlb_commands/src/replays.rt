@@ -20,7 +20,7 @@ ghost use Rattle.maglev.specs.RingSize.{IsRingSize};
 ghost use Rattle.steer.specs.ShippedProgram.{shipped_image};
 ghost use Rattle.wire.specs.CaptureFormat.{IsCaptureFile, capture_bytes};
 ghost use Rattle.control.specs.ScriptText.{IsScriptText};
-ghost use Rattle.control.specs.ScriptReading.{Explains};
+ghost use Rattle.control.specs.ScriptReading.{ExplainsScript};
 ghost use Rattle.control.specs.declared.command.Command.{Command};
 ghost use Rattle.control.specs.declared.fault.ControlFault.{ControlFault};
 ghost use Rattle.control.specs.declared.fault.ControlFault.TheVariants as scripts;
@@ -30,7 +30,7 @@ ghost use Rattle.map_updates.specs.Misfits.{AreFitting};
 ghost use Rattle.xlb_commands.specs.Results.{IsReplayAnswer};
 ghost use Rattle.steered_replays.specs.SteeredRuns.{IsSteeredReplay};
 ghost use Rattle.steered_replays.specs.StickyReplays.{FlowsStayInReplays};
-ghost use Rattle.steered_replays.specs.TablesAtEnd.{AreTables, MetNoFullJournal, carried_out, maps_at_end};
+ghost use Rattle.steered_replays.specs.TablesAtEnd.{AreTablesAtEnd, MetNoFullJournal, carried_out, maps_at_end};
 ghost use Rattle.steered_replays.specs.Totals.{AreTotals};
 ghost use Rattle.journals.specs.JournalText.{journals_text};
 ghost use Rattle.journals.specs.FileJournals.{ReadBackWhereLegal};
@@ -106,7 +106,7 @@ fn program_of<D: Folder>(
 /// The script of a text.
 fn parsed(alloc: Global, bytes: &[u8]) -> Result<Script, Refusal>
     ensures script { IfOk result (λ script. IsScriptText bytes.now script) }
-    ensures refused { IfErr result (λ refusal. (why : ControlFault) × Explains bytes.now why × (refusal.fault ≡ Fault.Script why)) }
+    ensures refused { IfErr result (λ refusal. (why : ControlFault) × ExplainsScript bytes.now why × (refusal.fault ≡ Fault.Script why)) }
     ensures accepts { (script : List Command) → IsScriptText bytes.now script →
         IfErr result (λ refusal. refusal.fault ≡ Fault.Script scripts.Memory) }
 {
@@ -348,7 +348,7 @@ pub(crate) fn steered_where_shipped(asked: Asked<'_>)
         (outcome : Made) → AreOptions asked.entry.verified.now.maps options → AllByRecursion IsCaptured records →
         IsAccounted (program_with asked.entry.verified.now options.shards) script options records outcome →
         outcome.updates.items ≡ [] → MetNoFullJournal outcome.refused.items →
-        AreTables asked.entry.ring (carried_out outcome.refused.items 0 script) (maps_at_end outcome.journals) }
+        AreTablesAtEnd asked.entry.ring (carried_out outcome.refused.items 0 script) (maps_at_end outcome.journals) }
     ensures stay { FlowsStayInReplays }
 {
     flows_stay_in_replays();

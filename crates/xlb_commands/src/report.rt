@@ -4,7 +4,7 @@ ghost use Rattle.std.specs.Prelude.{◌≡◌, ◌↔◌, ◌⊎◌, ◌≤◌, 
 ghost use Rattle.ebpf_decode.specs.InstructionEncoding.{total_slots};
 ghost use Rattle.verifier.specs.Readers.{IsReader};
 ghost use Rattle.actors.specs.Accounts.{frames_in};
-ghost use Rattle.xlb_commands.specs.Replays.{counts_text, frames_lines, refusal_line, refusal_of, refusals_text, verdicts_lines};
+ghost use Rattle.xlb_commands.specs.Replays.{counts_text, frames_lines, refusal_line, refusal_text_of, refusals_text, verdicts_lines};
 ghost use Rattle.xlb_commands.specs.Results.{accepted_line, accepted_text, yes_or_no, verdict_name, run_lines, run_text};
 
 use ebpf_decode::Insn;
@@ -180,7 +180,7 @@ fn refusal_line(alloc: Global, command: u128, fault: u8) -> Result<String, Alloc
 
 /// Appends the line of a command, if it was refused.
 fn put_refusal(alloc: Global, text: &mut String, one: &Applied) -> Result<(), AllocError>
-    ensures { OnOk result (string_bytes text.new ≡ string_bytes text.old ++ refusal_of one.now.command one.now.fault) }
+    ensures { OnOk result (string_bytes text.new ≡ string_bytes text.old ++ refusal_text_of one.now.command one.now.fault) }
 {
     match one.fault {
         Some(fault) => {

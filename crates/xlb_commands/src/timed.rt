@@ -2,7 +2,7 @@
 
 ghost use Rattle.std.specs.Prelude.{◌≡◌, ◌-◌, ◌<◌, ◌^◌, IfErr, IfOk, false, string_bytes};
 ghost use Rattle.control.specs.declared.fault.ControlFault.{ControlFault as Why};
-ghost use Rattle.timed_scripts.specs.MeantScript.{Explains, IsMeantScript};
+ghost use Rattle.timed_scripts.specs.MeantScript.{ExplainsTimedScript, IsMeantScript};
 ghost use Rattle.xlb_commands.specs.Files.{AreKept};
 ghost use Rattle.xlb_commands.specs.Refused.{HasFailed, IsTimedRefusal};
 ghost use Rattle.xlb_commands.specs.Timed.{IsScriptShown};
@@ -66,7 +66,7 @@ fn about_late(alloc: Global, late: &[usize]) -> Result<String, AllocError> {
 /// The script that a text means for these records.
 fn meant(alloc: Global, bytes: &[u8], records: &[Sent]) -> Result<TimedScript, Refusal>
     ensures meant { IfOk result (λ made. IsMeantScript records.now bytes.now (string_bytes made.text) made.late.items) }
-    ensures refused { IfErr result (λ refusal. (why : Why) × Explains records.now bytes.now why × (refusal.fault ≡ Fault.Script why)) }
+    ensures refused { IfErr result (λ refusal. (why : Why) × ExplainsTimedScript records.now bytes.now why × (refusal.fault ≡ Fault.Script why)) }
 {
     match timed_script(alloc, bytes, records) {
         Ok(made) => Ok(made),

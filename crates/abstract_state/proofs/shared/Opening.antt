@@ -13,13 +13,13 @@ use Rattle.abstract_state.specs.declared.kind.Kind.TheVariants.{Unset}
 use Rattle.abstract_state.specs.declared.kind.StackWord.TheVariants.{Spilled, Bytes}
 use Rattle.abstract_state.specs.States.{no_bytes, opening_state, kind_of}
 use Rattle.abstract_state.specs.Soundness.{OpeningIsSound}
-use Rattle.abstract_state.specs.Abstraction.{Ids, Held, KindCovers, AreWritten, places_of, kind_scope_of}
+use Rattle.abstract_state.specs.Abstraction.{Ids, Held, KindCovers, AreSetBytesWritten, places_of, kind_scope_of}
 
 abbrev no_ids : Ids
 no_ids = record { base = λ id. 0; found = λ id. None }
 
 -- no byte is set
-pub nothing_set : (places : List StackByte) → AreWritten no_bytes places
+pub nothing_set : (places : List StackByte) → AreSetBytesWritten no_bytes places
 nothing_set places k h = ⊎_elim
     (λ inside. absurd (false≢true (sym (get_or-replicate 8 k false false inside) ∙ h)))
     (λ past. absurd (false≢true (sym (get_or_past no_bytes k false (let l : length no_bytes ≡ 8 = length-replicate 8 false in omega arith)) ∙ h)))

@@ -42,9 +42,9 @@ use Rattle.abstract_state.specs.Words.{storable, narrow_storable, with_set, word
 use Rattle.abstract_state.specs.Facts.{told_kind, told_word, told}
 use Rattle.abstract_state.specs.Arithmetic.{source_kind, blamed, alu_kind, after_alu_of}
 use Rattle.abstract_state.specs.Refinement.{allowed_test, number_cut, fact_of, refined, refine_state}
-use Rattle.abstract_state.specs.Access.{loaded_kind, load_of, signed_loaded, signed_load_of, stack_stored, stored, store_of, with_fetched_kind, expects, atomic_on, atomic_of}
-use Rattle.abstract_state.specs.Calls.{helper_at, key_arguments, update_arguments, head_arguments, any_number, returned, call_of}
-use Rattle.abstract_state.specs.Flow.{value_address, address_flow, writable, fetch_writable, reads, reads_both, reads_operands, reads_atomic, reads_arguments, alu_flow, operand_of, unary_flow, load_flow, store_flow, store_register_flow, atomic_flow, number_flow, known_map, map_flow, call_flow, test_flow, exit_kind, falls, flow_of}
+use Rattle.abstract_state.specs.Access.{loaded_kind, load_of, signed_loaded, signed_load_of, stack_stored, stored, store_of, with_fetched_kind, expects, checked_atomic, atomic_of}
+use Rattle.abstract_state.specs.Calls.{helper_at, key_arguments, update_arguments, head_arguments, any_number, after_return, checked_call}
+use Rattle.abstract_state.specs.Flow.{checked_value_address, address_flow, writable, fetch_writable, reads, reads_both, reads_operands, reads_atomic, reads_arguments, alu_flow, operand_of, unary_flow, load_flow, store_flow, store_register_flow, atomic_flow, number_flow, known_map, map_flow, call_flow, test_flow, exit_kind, falls, flow_of}
 use Rattle.abstract_state.specs.Soundness.{IsShaped, FlowIsShaped, StatesAreShaped}
 use Rattle.abstract_state.proofs.shared.Inverting.{err_not_ok, ok_value, ok_then, ok_if}
 use Rattle.abstract_state.proofs.shared.JoinStates.{at_place, length-zip_with}
@@ -147,7 +147,7 @@ told_shaped fact state s = record {
       in rw (get_or-map (told_word fact) state.stack word (Spilled Unset) (Spilled Unset) (omega arith)) (told_eight fact (word_of state word) (s.eight word h));
 }
 
-returned_shaped : (answer : Kind) (state : State) → IsShaped state → IsShaped (returned answer state)
+returned_shaped : (answer : Kind) (state : State) → IsShaped state → IsShaped (after_return answer state)
 returned_shaped answer state s = record {
   eleven = let l : length (drop 6 state.registers) ≡ length state.registers - 6 = length-drop 6 state.registers
       in let m : length state.registers ≡ 11 = s.eleven in omega arith;
@@ -245,7 +245,7 @@ fetched_shaped state None width s = s
 fetched_shaped state (Some register) width s = kind_shaped state register (Scalar (full_of (width_bits width))) s
 
 atomic_kept : (maps : List MapDef) (state : State) (width : Width) (op : AtomicOp) (target : Kind) (offset : ℤ) (dst src : Register) → IsShaped state →
-    Keeps (atomic_on maps state width op target offset dst src)
+    Keeps (checked_atomic maps state width op target offset dst src)
 atomic_kept maps state width op Unset offset dst src s = keeps_err (WrongKind dst)
 atomic_kept maps state width op (Scalar i) offset dst src s = keeps_err (WrongKind dst)
 atomic_kept maps state width op Ctx offset dst src s = keeps_err (WrongKind dst)
@@ -263,17 +263,17 @@ atomic_kept maps state width op (Value map id off) offset dst src s =
 
 -- ---- calls
 
-call_kept : (maps : List MapDef) (state : State) (slot : ℕ) (helper : Helper) → IsShaped state → Keeps (call_of maps state slot helper)
-call_kept maps state slot MapLookupElem s = keeps_then (key_arguments maps state) (λ map. Ok (returned (ValueOrNull map slot) state))
-    (λ map e. keeps_ok (returned (ValueOrNull map slot) state) (returned_shaped (ValueOrNull map slot) state s))
-call_kept maps state slot MapUpdateElem s = keeps_then (update_arguments maps state) (λ _. Ok (returned any_number state))
-    (λ _ e. keeps_ok (returned any_number state) (returned_shaped any_number state s))
-call_kept maps state slot MapDeleteElem s = keeps_then (key_arguments maps state) (λ _. Ok (returned any_number state))
-    (λ _ e. keeps_ok (returned any_number state) (returned_shaped any_number state s))
-call_kept maps state slot KtimeGetNs s = keeps_ok (returned any_number state) (returned_shaped any_number state s)
-call_kept maps state slot GetSmpProcessorId s = keeps_ok (returned (Scalar (interval_of 0 7)) state) (returned_shaped (Scalar (interval_of 0 7)) state s)
-call_kept maps state slot XdpAdjustHead s = keeps_then (head_arguments state) (λ _. Ok (returned any_number (told HeadMoved state)))
-    (λ _ e. keeps_ok (returned any_number (told HeadMoved state)) (returned_shaped any_number (told HeadMoved state) (told_shaped HeadMoved state s)))
+call_kept : (maps : List MapDef) (state : State) (slot : ℕ) (helper : Helper) → IsShaped state → Keeps (checked_call maps state slot helper)
+call_kept maps state slot MapLookupElem s = keeps_then (key_arguments maps state) (λ map. Ok (after_return (ValueOrNull map slot) state))
+    (λ map e. keeps_ok (after_return (ValueOrNull map slot) state) (returned_shaped (ValueOrNull map slot) state s))
+call_kept maps state slot MapUpdateElem s = keeps_then (update_arguments maps state) (λ _. Ok (after_return any_number state))
+    (λ _ e. keeps_ok (after_return any_number state) (returned_shaped any_number state s))
+call_kept maps state slot MapDeleteElem s = keeps_then (key_arguments maps state) (λ _. Ok (after_return any_number state))
+    (λ _ e. keeps_ok (after_return any_number state) (returned_shaped any_number state s))
+call_kept maps state slot KtimeGetNs s = keeps_ok (after_return any_number state) (returned_shaped any_number state s)
+call_kept maps state slot GetSmpProcessorId s = keeps_ok (after_return (Scalar (interval_of 0 7)) state) (returned_shaped (Scalar (interval_of 0 7)) state s)
+call_kept maps state slot XdpAdjustHead s = keeps_then (head_arguments state) (λ _. Ok (after_return any_number (told HeadMoved state)))
+    (λ _ e. keeps_ok (after_return any_number (told HeadMoved state)) (returned_shaped any_number (told HeadMoved state) (told_shaped HeadMoved state s)))
 
 -- ---- what flows out
 
@@ -355,11 +355,11 @@ flow_shaped maps state slot (Lddw dst value) flow s e = falls_shaped (number_flo
 flow_shaped maps state slot (Ldmap dst map) flow s e = falls_shaped (map_flow maps state dst map) flow
     (keeps_then (writable dst) (λ _. known_map maps map >>= (λ kind. Ok (with_kind state dst kind))) (λ _ f. kind_kept state dst (known_map maps map) s)) e
 flow_shaped maps state slot (Ldval dst map offset) flow s e = falls_shaped (address_flow maps state slot dst map offset) flow
-    (keeps_then (writable dst) (λ _. value_address maps slot map offset >>= (λ kind. Ok (with_kind state dst kind)))
-    (λ _ f. kind_kept state dst (value_address maps slot map offset) s)) e
+    (keeps_then (writable dst) (λ _. checked_value_address maps slot map offset >>= (λ kind. Ok (with_kind state dst kind)))
+    (λ _ f. kind_kept state dst (checked_value_address maps slot map offset) s)) e
 flow_shaped maps state slot (CallHelper number) flow s e = falls_shaped (call_flow maps state slot number) flow
-    (keeps_then (helper_at number) (λ helper. reads_arguments state helper >>= (λ _. call_of maps state slot helper))
-    (λ helper f. keeps_then (reads_arguments state helper) (λ _. call_of maps state slot helper) (λ _ g. call_kept maps state slot helper s))) e
+    (keeps_then (helper_at number) (λ helper. reads_arguments state helper >>= (λ _. checked_call maps state slot helper))
+    (λ helper f. keeps_then (reads_arguments state helper) (λ _. checked_call maps state slot helper) (λ _ g. call_kept maps state slot helper s))) e
 flow_shaped maps state slot Exit flow s e =
     let read = ok_then (reads state R0) (λ _. exit_kind (kind_of state R0)) flow e in end_shaped (kind_of state R0) flow read.next
 

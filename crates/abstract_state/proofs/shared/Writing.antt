@@ -20,7 +20,7 @@ use Rattle.abstract_state.specs.declared.kind.StackWord.TheVariants.{Spilled, By
 use Rattle.abstract_state.specs.declared.state.State.{State}
 use Rattle.abstract_state.specs.States.{kind_of, with_kind, word_of}
 use Rattle.abstract_state.specs.Soundness.{HoldingMoreIsSound}
-use Rattle.abstract_state.specs.Abstraction.{Ids, Held, KindScope, KindCovers, IsNoCell, IsLiveCell, IsPacketPlace, WordCovers, places_of, kind_scope_of, Abstracts}
+use Rattle.abstract_state.specs.Abstraction.{Ids, Held, KindScope, KindCovers, IsNoCellFound, IsLiveCell, IsPacketPlace, WordCovers, places_of, kind_scope_of, Abstracts}
 
 pub number_below : (register : Register) → register_number register < 11
 number_below R0 = omega arith
@@ -58,7 +58,7 @@ live_later s t e map id off v c = record {
   earlier = let p : id < s.slot = c.earlier in let q : s.slot ≤ t.slot = e.slot in omega arith;
 }
 
-no_cell_later : (s t : KindScope) → Extends s t → (id : ℕ) (v : RegisterValue) → IsNoCell s id v → IsNoCell t id v
+no_cell_later : (s t : KindScope) → Extends s t → (id : ℕ) (v : RegisterValue) → IsNoCellFound s id v → IsNoCellFound t id v
 no_cell_later s t e id v c = record {
   found = e.found id c.earlier ∙ c.found;
   is = c.is;

@@ -15,8 +15,8 @@ use Rattle.control.specs.declared.command.Command.{Command}
 use Rattle.control.specs.MapUpdates.{UpdateBytes}
 use Rattle.control.specs.Controlling.{ControllerState, opened_controller}
 use Rattle.actors.specs.declared.outcome.Applied.{Applied}
-use Rattle.actors.specs.SharedUpdates.{UpdatesView, shard_of, update_call}
-use Rattle.actors.specs.Commands.{CommandDone, IsDone, AreDone, IsNotedOf, AreNotedOf, all_set, made_in, with_updates, made_deeds, command_deeds, commands_deeds, IsFullFor, IsMoved, HasEffect, HasSet, IsScriptAccount, IsCommander, ServesScript}
+use Rattle.actors.specs.SharedUpdates.{UpdatesView, shard_of, controller_update}
+use Rattle.actors.specs.Commands.{CommandDone, IsCommandDone, AreDone, IsNotedOf, AreNotedOf, all_set, made_in, with_updates, made_deeds, command_deeds, commands_deeds, IsShardFullForUpdate, IsMoved, HasEffect, HasSet, IsScriptAccount, IsCommander, ServesScript}
 use Rattle.actors.proofs.shared.Moving.{with_updates_more}
 use Rattle.actors.proofs.shared.FullStays.{full_stays}
 
@@ -27,9 +27,9 @@ noted_more script [] (first ∷ done) one last are is = absurd are
 noted_more script (first ∷ noted) [] one last are is = absurd are
 noted_more script (first ∷ noted) (other ∷ done) one last (known, are) is = (known, noted_more script noted done one last are is)
 
-done_more : (done : List CommandDone) (one : CommandDone) (first state state' : ControllerState) → AreDone first done state → IsDone state one state' →
+done_more : (done : List CommandDone) (one : CommandDone) (first state state' : ControllerState) → AreDone first done state → IsCommandDone state one state' →
     AreDone first (done ++ one ∷ []) state'
-done_more [] one first state state' are is = (state', subst (λ start. IsDone start one state') (sym are) is, refl)
+done_more [] one first state state' are is = (state', subst (λ start. IsCommandDone start one state') (sym are) is, refl)
 done_more (other ∷ done) one first state state' (middle, did, are) is = (middle, did, done_more done one middle state state' are is)
 
 made_more : (done : List CommandDone) (one : CommandDone) → made_in (done ++ one ∷ []) ≡ made_in done ++ one.made
@@ -37,34 +37,34 @@ made_more [] one = append-nil one.made
 made_more (first ∷ done) one = ap (λ rest. first.made ++ rest) (made_more done one) ∙ sym (append_assoc first.made (made_in done) one.made)
 
 full_later : (plan : ℕ → ShardPlan) (before after : UpdatesView) (one : CommandDone) → IsMoved before after one.made → (stopped : Option UpdateBytes) →
-    IfSome stopped (IsFullFor plan before.maps before.options before.pass) → IfSome stopped (IsFullFor plan after.maps after.options after.pass)
+    IfSome stopped (IsShardFullForUpdate plan before.maps before.options before.pass) → IfSome stopped (IsShardFullForUpdate plan after.maps after.options after.pass)
 full_later plan before after one moved None full = tt
 full_later plan before after one moved (Some update) full =
     let number : ℕ = shard_of before.maps before.options update in
     let grown = moved.grows number in
-    let now : IsFullFor plan before.maps before.options after.pass update = record {
+    let now : IsShardFullForUpdate plan before.maps before.options after.pass update = record {
       of_map = full.of_map;
-      full = subst (λ seen. IsJournalFull (plan number) seen (update_call number update)) (sym grown.1)
-          (full_stays (plan number) grown.0 (seen_at before.pass number) (update_call number update) full.full);
+      full = subst (λ seen. IsJournalFull (plan number) seen (controller_update number update)) (sym grown.1)
+          (full_stays (plan number) grown.0 (seen_at before.pass number) (controller_update number update) full.full);
     } in
-    subst (λ options. IsFullFor plan after.maps options after.pass update) (sym moved.options)
-    (subst (λ maps. IsFullFor plan maps before.options after.pass update) (sym moved.maps) now)
+    subst (λ options. IsShardFullForUpdate plan after.maps options after.pass update) (sym moved.options)
+    (subst (λ maps. IsShardFullForUpdate plan maps before.options after.pass update) (sym moved.maps) now)
 
 all_full_later : (plan : ℕ → ShardPlan) (before after : UpdatesView) (one : CommandDone) (done : List CommandDone) → IsMoved before after one.made →
-    AllByRecursion (λ (other : CommandDone). IfSome other.stopped (IsFullFor plan before.maps before.options before.pass)) done →
-    IfSome one.stopped (IsFullFor plan after.maps after.options after.pass) →
-    AllByRecursion (λ (other : CommandDone). IfSome other.stopped (IsFullFor plan after.maps after.options after.pass)) (done ++ one ∷ [])
+    AllByRecursion (λ (other : CommandDone). IfSome other.stopped (IsShardFullForUpdate plan before.maps before.options before.pass)) done →
+    IfSome one.stopped (IsShardFullForUpdate plan after.maps after.options after.pass) →
+    AllByRecursion (λ (other : CommandDone). IfSome other.stopped (IsShardFullForUpdate plan after.maps after.options after.pass)) (done ++ one ∷ [])
 all_full_later plan before after one [] moved full last = (last, tt)
 all_full_later plan before after one (other ∷ done) moved (here, full) last =
     (full_later plan before after one moved other.stopped here, all_full_later plan before after one done moved full last)
 
 -- the fullness of the last command, in the port's own words
 last_full : (plan : ℕ → ShardPlan) (before after : UpdatesView) (one : CommandDone) → IsMoved before after one.made → (stopped : Option UpdateBytes) →
-    IfSome stopped (IsFullFor plan before.maps before.options after.pass) → IfSome stopped (IsFullFor plan after.maps after.options after.pass)
+    IfSome stopped (IsShardFullForUpdate plan before.maps before.options after.pass) → IfSome stopped (IsShardFullForUpdate plan after.maps after.options after.pass)
 last_full plan before after one moved None full = tt
 last_full plan before after one moved (Some update) full =
-    subst (λ options. IsFullFor plan after.maps options after.pass update) (sym moved.options)
-    (subst (λ maps. IsFullFor plan maps before.options after.pass update) (sym moved.maps) full)
+    subst (λ options. IsShardFullForUpdate plan after.maps options after.pass update) (sym moved.options)
+    (subst (λ maps. IsShardFullForUpdate plan maps before.options after.pass update) (sym moved.maps) full)
 
 own_more : (maps : List MapDef) (options : Options) (before after : UpdatesView) (updates : List MapUpdate) (done : List CommandDone) (one : CommandDone) →
     before.maps ≡ maps → before.options ≡ options → IsMoved before after one.made →

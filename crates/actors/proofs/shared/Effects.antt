@@ -9,7 +9,8 @@ use Rattle.control.specs.declared.fault.ControlFault.{ControlFault}
 use Rattle.control.specs.declared.fault.ControlFault.TheVariants.{BadSize, BadLine, UnknownBackend, BackendTwice, Refused, JournalFull, Memory}
 use Rattle.control.specs.declared.update.Update.{Update as Change}
 use Rattle.control.specs.MapUpdates.{UpdateBytes, map_update}
-use Rattle.control.specs.Controlling.{ControllerState, IsCarriedOut as IsWhole, IsStopped, IsAnswered, IsLeft, refusal_of, first_updates, up_after, updates_of}
+use Rattle.control.specs.Controlling.{ControllerState, IsCarriedOut as IsWhole, IsStopped, IsServiceAnswered, IsLeft, refusal_of, first_updates, up_after}
+use Rattle.control.specs.Controlling.{updates_of}
 use Rattle.shard_port.specs.ScheduleHook.{IsReplyCounted, IsRefusalUncounted}
 use Rattle.actors.specs.SharedUpdates.{UpdatesView, IsUpdated, IsTurnedAway}
 use Rattle.actors.specs.Commands.{AnsweredUpdate, CommandDone, IsNothing, IsDoneBy, IsMoved, HasEffect, all_done, made_deeds}
@@ -68,7 +69,7 @@ nothing_done plan state action fault state' before after who first state_is port
 answered : {P : Type 0} (plan : ℕ → ShardPlan) (within : P → UpdatesView) (gives : P → UpdateBytes → ℤ → P → Type 0)
     (refuses : P → UpdateBytes → P → Type 0) → HasWithin plan within gives refuses → (state : ControllerState) (action : Action) (answer : ℤ)
     (state' : ControllerState) (before after : P) → (within before).pass.who ≡ Controller → ComesFirst state action (Refused answer) →
-    IsAnswered gives state before (first_updates state.up action) answer state' after →
+    IsServiceAnswered gives state before (first_updates state.up action) answer state' after →
     HasEffect plan state action (Some (Refused answer)) state' (within before) (within after)
 answered plan within gives refuses has state action answer state' before after who first told =
     let made : AnsweredUpdate = record { update = map_update told.update; answer = answer } in

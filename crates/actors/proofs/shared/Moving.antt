@@ -16,8 +16,9 @@ use Rattle.shards.specs.declared.deeds.Deed.TheVariants.{MetFull}
 use Rattle.shards.specs.Passes.{PassView, view_at, own_at, seen_at}
 use Rattle.control.specs.declared.update.Update.{Update as Change}
 use Rattle.control.specs.MapUpdates.{UpdateBytes, map_update, AreMade, AreCutShort}
-use Rattle.actors.specs.SharedUpdates.{UpdatesView, shard_of, shard_for, update_call, IsUpdated, IsTurnedAway}
-use Rattle.actors.specs.Commands.{AnsweredUpdate, done_update, all_done, update_entry, with_update, with_updates, made_deeds, stop_deeds, IsMoved, IsFullFor}
+use Rattle.actors.specs.SharedUpdates.{UpdatesView, shard_of, shard_for, controller_update, IsUpdated, IsTurnedAway}
+use Rattle.actors.specs.Commands.{AnsweredUpdate, done_update, all_done, controller_entry, with_update, with_updates, made_deeds, stop_deeds, IsMoved}
+use Rattle.actors.specs.Commands.{IsShardFullForUpdate}
 
 same_number : (a b : ℕ) → (a == b) ≡ true → a ≡ b
 same_number a b test = grind (arith, nat_tests)
@@ -86,15 +87,15 @@ own_after plan before after update answer who updated number = by_test (shard_fo
     made = record { update = update; answer = answer }
 
     entry_of : Caller → Entry
-    entry_of who = record { who = who; call = update_call (shard_for before update) update; reply = Answer answer }
+    entry_of who = record { who = who; call = controller_update (shard_for before update) update; reply = Answer answer }
 
-    at_shard : own_at after.pass (shard_for before update) ≡ update_entry (shard_for before update) made ∷ own_at before.pass (shard_for before update)
+    at_shard : own_at after.pass (shard_for before update) ≡ controller_entry (shard_for before update) made ∷ own_at before.pass (shard_for before update)
     at_shard = updated.answered.own ∙ ap (λ who. entry_of who ∷ own_at before.pass (shard_for before update)) who
 
     by_test : (test : Bool) → (shard_for before update == number) ≡ test →
-        own_at after.pass number ≡ (if test then update_entry number made ∷ own_at before.pass number else own_at before.pass number)
+        own_at after.pass number ≡ (if test then controller_entry number made ∷ own_at before.pass number else own_at before.pass number)
     by_test true is =
-        subst (λ n. own_at after.pass n ≡ update_entry n made ∷ own_at before.pass n) (same_number (shard_for before update) number is) at_shard
+        subst (λ n. own_at after.pass n ≡ controller_entry n made ∷ own_at before.pass n) (same_number (shard_for before update) number is) at_shard
     by_test false is =
         ap (λ (view : CallerView). view.own) (updated.elsewhere.others number (other_number (shard_for before update) number is))
 
@@ -181,18 +182,18 @@ did_meet : (plan : ℕ → ShardPlan) (maps : List MapDef) (options : Options) (
     after.pass.deeds ≡ reverse (stop_deeds maps options (Some update)) ++ before.pass.deeds
 did_meet plan maps options before after update same_maps same_options refused =
     refused.did
-    ∙ ap (λ m. MetFull Controller (update_call (shard_of m before.options update) update) ∷ before.pass.deeds) same_maps
-    ∙ ap (λ o. MetFull Controller (update_call (shard_of maps o update) update) ∷ before.pass.deeds) same_options
+    ∙ ap (λ m. MetFull Controller (controller_update (shard_of m before.options update) update) ∷ before.pass.deeds) same_maps
+    ∙ ap (λ o. MetFull Controller (controller_update (shard_of maps o update) update) ∷ before.pass.deeds) same_options
 
 pub record IsMovedAndFull (plan : ℕ → ShardPlan) (before after : UpdatesView) (begun : List Change) (next : Change) : Type 0 where
   pub moved : IsMoved before after (all_done begun)
-  pub full : IsFullFor plan before.maps before.options after.pass (map_update next)
+  pub full : IsShardFullForUpdate plan before.maps before.options after.pass (map_update next)
   pub did :
       after.pass.deeds ≡ reverse (made_deeds before.maps before.options (all_done begun)
       ++ stop_deeds before.maps before.options (Some (map_update next))) ++ before.pass.deeds
 
 full_for : (plan : ℕ → ShardPlan) (before after : UpdatesView) (update : UpdateBytes) → IsTurnedAway plan before update after →
-    IsFullFor plan before.maps before.options after.pass update
+    IsShardFullForUpdate plan before.maps before.options after.pass update
 full_for plan before after update refused = record {
   of_map = ap (λ (found : Option MapDef). is_some found) refused.of_map;
   full = refused.refused.full;
@@ -211,8 +212,8 @@ moved_until_full plan within gives refuses has changes before after who cut =
     record {
       moved = subst (λ made. IsMoved (within before) (within after) made) (append-nil (all_done cut.made))
           (moved_on (within before) (within cut.middle) (within after) (all_done cut.made) [] first second);
-      full = subst (λ maps. IsFullFor plan maps (within before).options (within after).pass (map_update cut.next)) first.maps
-          (subst (λ options. IsFullFor plan (within cut.middle).maps options (within after).pass (map_update cut.next)) first.options
+      full = subst (λ maps. IsShardFullForUpdate plan maps (within before).options (within after).pass (map_update cut.next)) first.maps
+          (subst (λ options. IsShardFullForUpdate plan (within cut.middle).maps options (within after).pass (map_update cut.next)) first.options
           (full_for plan (within cut.middle) (within after) (map_update cut.next) refused));
       did = did_more (within before).pass.deeds (within cut.middle).pass.deeds (within after).pass.deeds
           (made_deeds (within before).maps (within before).options (all_done cut.made))

@@ -20,7 +20,7 @@ use Rattle.shards.specs.Deeds.{deed_by}
 use Rattle.shards.specs.Passes.{PassView, view_at, own_at, seen_at, IsElsewhereSame}
 use Rattle.shards.specs.Asked.{PassIsServed, PassIsRefused}
 use Rattle.actors.specs.Actors.{IsUnused}
-use Rattle.actors.specs.Rounds.{IsReclaim, IsReclaimed, IsReclaimedBy, IsReclaimedAt, AreReclaimed, IsAsked}
+use Rattle.actors.specs.Rounds.{IsReclaim, IsReclaimed, IsReclaimedBy, IsReclaimedAt, AreReclaimed, IsReclaimAsked}
 use Rattle.semantics.specs.Replay.{is_keyed}
 use Rattle.actors.specs.Rounds.{keyed_below, IsReclaimDeed, AreReclaimDeeds, IsRoundDone, AreRoundsDone, HasAsked, HasTurned}
 use Rattle.actors.proofs.shared.Moving.{did_more}
@@ -68,14 +68,14 @@ passed_over plan number rounds before after refused was =
       fewer_if_full = λ fewer. refused.full;
     }
 
-asked_once : (plan : ShardPlan) (number rounds : ℕ) (before after : PassView) → before.who ≡ Reclaimer → IsAsked plan number before after →
+asked_once : (plan : ShardPlan) (number rounds : ℕ) (before after : PassView) → before.who ≡ Reclaimer → IsReclaimAsked plan number before after →
     IsReclaimed plan number rounds (own_at before number) (seen_at before number) →
     IsReclaimed plan number (rounds + 1) (own_at after number) (seen_at after number)
 asked_once plan number rounds before after who (inl (freed, answered)) was = served plan number rounds before after freed who answered was
 asked_once plan number rounds before after who (inr refused) was = passed_over plan number rounds before after refused was
 
 pub keyed_turn : (kind : MapKind) (plan : ShardPlan) (number rounds : ℕ) (before after : PassView) → is_keyed kind ≡ true → before.who ≡ Reclaimer →
-    IsAsked plan number before after → IsReclaimedBy kind plan number rounds (own_at before number) (seen_at before number) →
+    IsReclaimAsked plan number before after → IsReclaimedBy kind plan number rounds (own_at before number) (seen_at before number) →
     IsReclaimedBy kind plan number (rounds + 1) (own_at after number) (seen_at after number)
 keyed_turn Array plan number rounds before after keyed who asked was = absurd cc
 keyed_turn Hash plan number rounds before after keyed who asked was = asked_once plan number rounds before after who asked was

@@ -2,7 +2,7 @@
 
 ghost use Rattle.std.specs.Prelude.{◌≡◌, ◌<◌, true, IfOk, IfSome, OnOk};
 ghost use Rattle.shards.specs.Passes.{own_at};
-ghost use Rattle.bench_parts.specs.Measured.{measured_plan, IsReady, IsAtWork, HoldsThere};
+ghost use Rattle.bench_parts.specs.Measured.{measured_plan, IsPassReady, IsPassAtWork, PassHoldsThere};
 
 use ebpf_decode::{MapDef, MapKind};
 use journal::CellRange;
@@ -63,7 +63,7 @@ pub fn task_of<B: Naming>(
     shard: u32,
 ) -> Result<CallTask<B>, PassFault>
     requires { number < 4 }
-    ensures { IfOk result (λ task. IsReady B.count B.plan task.pass task.shard) }
+    ensures { IfOk result (λ task. IsPassReady B.count B.plan task.pass task.shard) }
 {
     if !is_measured(shards, shard) {
         return Err(PassFault::BadOptions);
@@ -79,8 +79,8 @@ fn enter<B: Naming>(
     pass: &mut Pass<B>,
     shard: u32,
 ) -> Result<(), JournalFull>
-    requires { IsReady B.count B.plan pass.old shard }
-    ensures { OnOk result (IsAtWork B.count B.plan pass.new shard) }
+    requires { IsPassReady B.count B.plan pass.old shard }
+    ensures { OnOk result (IsPassAtWork B.count B.plan pass.new shard) }
 {
     shards.enter(rt, pass, shard)
 }
@@ -93,9 +93,9 @@ fn look<B: Naming>(
     shard: u32,
     key: u32,
 ) -> Result<Option<u64>, JournalFull>
-    requires { IsAtWork B.count B.plan pass.old shard }
-    ensures work { IsAtWork B.count B.plan pass.new shard }
-    ensures held { IfOk result (λ found. IfSome found (λ cell. HoldsThere pass.new shard cell)) }
+    requires { IsPassAtWork B.count B.plan pass.old shard }
+    ensures work { IsPassAtWork B.count B.plan pass.new shard }
+    ensures held { IfOk result (λ found. IfSome found (λ cell. PassHoldsThere pass.new shard cell)) }
 {
     shards.lookup(rt, pass, shard, &key.to_le_bytes())
 }
@@ -108,9 +108,9 @@ fn load<B: Naming>(
     shard: u32,
     cell: u64,
 ) -> Result<u64, JournalFull>
-    requires work { IsAtWork B.count B.plan pass.old shard }
-    requires held { HoldsThere pass.old shard cell }
-    ensures { IsAtWork B.count B.plan pass.new shard }
+    requires work { IsPassAtWork B.count B.plan pass.old shard }
+    requires held { PassHoldsThere pass.old shard cell }
+    ensures { IsPassAtWork B.count B.plan pass.new shard }
 {
     let range = CellRange {
         cell,
@@ -128,8 +128,8 @@ fn look_and_load<B: Naming>(
     shard: u32,
     key: u32,
 ) -> Result<u64, JournalFull>
-    requires { IsAtWork B.count B.plan pass.old shard }
-    ensures { IsAtWork B.count B.plan pass.new shard }
+    requires { IsPassAtWork B.count B.plan pass.old shard }
+    ensures { IsPassAtWork B.count B.plan pass.new shard }
 {
     match look(rt, shards, pass, shard, key)? {
         Some(cell) => load(rt, shards, pass, shard, cell),
@@ -139,7 +139,7 @@ fn look_and_load<B: Naming>(
 
 /// All lookups of a thread, up to a full journal, and the sum of what was loaded.
 pub fn work<B: Naming>(rt: &impl Wait, shards: &Shards<B>, task: CallTask<B>) -> u64
-    requires { IsReady B.count B.plan task.pass task.shard }
+    requires { IsPassReady B.count B.plan task.pass task.shard }
 {
     let CallTask { mut pass, shard } = task;
     if enter(rt, shards, &mut pass, shard).is_err() {

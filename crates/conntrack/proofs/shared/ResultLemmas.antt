@@ -23,9 +23,9 @@ use Rattle.conntrack.specs.declared.records.TunnelRecord.{TunnelRecord}
 use Rattle.conntrack.specs.declared.choosing.Assigned.{Assigned}
 use Rattle.conntrack.specs.declared.choosing.Records.{Records}
 use Rattle.conntrack.specs.declared.choosing.Choice.{Choice}
-use Rattle.conntrack.specs.Layouts.{vip_of, flow_of, backend_of, tunnel_of, owner_of}
+use Rattle.conntrack.specs.Layouts.{vip_of, flow_record_of, backend_of, tunnel_of, owner_of}
 use Rattle.conntrack.specs.SteeringRule.{IsSteered, tracked_choice, fits_tunnel, flow_update, frame_after, verdict_of_choice}
-use Rattle.conntrack.specs.Steering.{SteeringSizes, shard_of, look, read, found_or, counted, has_flow, service_bytes_of, steering, finish}
+use Rattle.conntrack.specs.Steering.{SteeringSizes, steering_shard, look, read, found_or, counted_end, has_flow, service_bytes_of, steering, finish}
 use Rattle.conntrack.specs.Steering.{noting, choice_in, no_records, read_service, read_tunnel, read_note, read_slot, read_owner}
 use Rattle.conntrack.specs.Steering.{read_backend, unless_tracked}
 use Rattle.conntrack.specs.Results.{change_of, changes_in, note_call, IsRaised, IsNotFound, flow_lookups, lookups_of_flows}
@@ -83,7 +83,7 @@ module _ (sizes : SteeringSizes) (frame : FrameView) where
   }
 
   counted_ends : (looked : ℕ) (records : Records) (choice : Choice) → IsSteered frame.bytes records choice → looked ≡ due_of records →
-      AtEnds (Shown looked records choice []) (counted sizes (verdict_of_choice choice) (frame_after records.tunnel choice frame))
+      AtEnds (Shown looked records choice []) (counted_end sizes (verdict_of_choice choice) (frame_after records.tunnel choice frame))
   counted_ends looked records choice steered is (Cell cell) = λ old. count_shown looked records choice steered is _ refl (inl (record { cell = cell; old = old; calls = refl }))
   counted_ends looked records choice steered is Entered = count_shown looked records choice steered is _ refl (inr (record { absent = Entered; no_cell = tt; calls = refl }))
   counted_ends looked records choice steered is Left = count_shown looked records choice steered is _ refl (inr (record { absent = Left; no_cell = tt; calls = refl }))
@@ -109,13 +109,13 @@ module _ (sizes : SteeringSizes) (frame : FrameView) where
   }
 
   noted_ends : (looked : ℕ) (records : Records) (choice : Choice) → IsSteered frame.bytes records choice → looked ≡ due_of records → (note : Option (List ℕ × List ℕ)) →
-      AtEnds (Shown looked records choice (note_call sizes note)) (noting sizes note (counted sizes (verdict_of_choice choice) (frame_after records.tunnel choice frame)))
+      AtEnds (Shown looked records choice (note_call sizes note)) (noting sizes note (counted_end sizes (verdict_of_choice choice) (frame_after records.tunnel choice frame)))
   noted_ends looked records choice steered is None = counted_ends looked records choice steered is
   noted_ends looked records choice steered is (Some note) = λ answer.
-      weaker (Shown looked records choice []) (λ later v f. Shown looked records choice (note_call sizes (Some note)) ((record { call = Update (shard_of sizes Flows note.0) note.0 note.1 0; reply = answer }) ∷ later) v f)
-      (λ later v f at. one_before looked looked records choice [] (record { call = Update (shard_of sizes Flows note.0) note.0 note.1 0; reply = answer }) later v f
+      weaker (Shown looked records choice []) (λ later v f. Shown looked records choice (note_call sizes (Some note)) ((record { call = Update (steering_shard sizes Flows note.0) note.0 note.1 0; reply = answer }) ∷ later) v f)
+      (λ later v f at. one_before looked looked records choice [] (record { call = Update (steering_shard sizes Flows note.0) note.0 note.1 0; reply = answer }) later v f
       (let same : looked ≡ looked + 0 = omega arith in same) at)
-      (counted sizes (verdict_of_choice choice) (frame_after records.tunnel choice frame)) (counted_ends looked records choice steered is)
+      (counted_end sizes (verdict_of_choice choice) (frame_after records.tunnel choice frame)) (counted_ends looked records choice steered is)
 
   -- a call that changes nothing comes before
   quiet_before : (looked next : ℕ) (call : Call) → change_of call ≡ [] → next ≡ looked + flow_lookups call → (reply : Reply) (plan : Plan) → AtEnds (Result next) plan →
@@ -129,10 +129,10 @@ module _ (sizes : SteeringSizes) (frame : FrameView) where
             (one_before looked next at.records at.choice (note_call sizes (flow_update frame.bytes at.choice)) (record { call = call; reply = reply }) later v f is at.shown);
       }) plan
 
-  looked_up : (looked next : ℕ) (map : SteeringMap) (key : List ℕ) (found : CellRef → Plan) (absent : Plan) → next ≡ looked + flow_lookups (Lookup (shard_of sizes map key) key) →
+  looked_up : (looked next : ℕ) (map : SteeringMap) (key : List ℕ) (found : CellRef → Plan) (absent : Plan) → next ≡ looked + flow_lookups (Lookup (steering_shard sizes map key) key) →
       ((cell : CellRef) → AtEnds (Result next) (found cell)) → AtEnds (Result next) absent → AtEnds (Result looked) (look sizes map key found absent)
   looked_up looked next map key found absent is on_found on_absent reply =
-      quiet_before looked next (Lookup (shard_of sizes map key) key) refl is reply (found_or found absent reply) (by reply)
+      quiet_before looked next (Lookup (steering_shard sizes map key) key) refl is reply (found_or found absent reply) (by reply)
     where
       by : (reply : Reply) → AtEnds (Result next) (found_or found absent reply)
       by (Cell cell) = on_found cell
@@ -180,7 +180,7 @@ module _ (sizes : SteeringSizes) (frame : FrameView) where
       unless_tracked sizes frame (record records { tracked = Some assigned }) (tracked_choice vip (record records { tracked = Some assigned }))
 
   abbrev after_note : VipRecord → Records → ℕ → Plan
-  after_note vip records word = read_backend sizes (flow_of (bytes_of_number 8 word)).backend (noted_backend vip records)
+  after_note vip records word = read_backend sizes (flow_record_of (bytes_of_number 8 word)).backend (noted_backend vip records)
 
   -- past the guards: the flows are looked up unless the service says not to
   note_read : (vip : VipRecord) (records : Records) → ((notrack : Bool) → vip.is_notrack ≡ notrack → (if notrack then 0 else 1) ≡ due_of records) →
@@ -190,7 +190,7 @@ module _ (sizes : SteeringSizes) (frame : FrameView) where
       (look sizes Flows (flow_bytes_of frame.bytes) (λ cell. read cell 0 8 (after_note vip records)) (read_slot sizes frame records))
       (λ notrack. slot_read 0 records (is true notrack))
       (λ tracks. looked_up 0 1 Flows (flow_bytes_of frame.bytes) (λ cell. read cell 0 8 (after_note vip records)) (read_slot sizes frame records) refl
-      (λ cell. loaded 1 cell 0 8 (after_note vip records) (λ word. backend_read 1 (flow_of (bytes_of_number 8 word)).backend (noted_backend vip records)
+      (λ cell. loaded 1 cell 0 8 (after_note vip records) (λ word. backend_read 1 (flow_record_of (bytes_of_number 8 word)).backend (noted_backend vip records)
       (λ assigned. unless_read 1 (record records { tracked = Some assigned }) (is false tracks) (tracked_choice vip (record records { tracked = Some assigned })))))
       (slot_read 1 records (is false tracks)))
 

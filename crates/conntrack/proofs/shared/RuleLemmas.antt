@@ -7,7 +7,7 @@ use Rattle.wire.specs.PlainIpv4.{total_length}
 use Rattle.conntrack.specs.declared.choosing.Choice.TheVariants as C
 use Rattle.conntrack.specs.SteeringRule.{choice_for_service, fits_tunnel}
 use Rattle.conntrack.specs.Steering.{has_flow}
-use Rattle.conntrack.specs.SteeringLaws.{FollowsRule}
+use Rattle.conntrack.specs.SteeringLaws.{PlanFollowsRule}
 
 both : (x y : Bool) → (x && y) ≡ true → (x ≡ true) × (y ≡ true)
 both true y is = (refl, is)
@@ -69,7 +69,7 @@ none_of : (t : Bool) → (t ≡ true → ⊥) → t ≡ false
 none_of true not_so = absurd (not_so refl)
 none_of false not_so = refl
 
-pub follows_rule : FollowsRule
+pub follows_rule : PlanFollowsRule
 follows_rule frame records = record {
   without_flow = λ none. ap (λ t. if t then choice_for_service (fits_tunnel frame) records records.vip else C.Pass) (none_of (has_flow frame) (λ is. none (tested frame is)));
   with_flow = λ flow. ap (λ t. if t then choice_for_service (fits_tunnel frame) records records.vip else C.Pass) (passes_test frame flow);

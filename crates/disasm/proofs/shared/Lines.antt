@@ -14,7 +14,7 @@ use Rattle.disasm.specs.declared.operand.Operands.TheVariants.{Zero, One, Two, T
 use Rattle.disasm.specs.Names.{head_name}
 use Rattle.disasm.specs.AssemblyText.{operand_text, list_text, operands_text, head_of, operands_of, line_of}
 use Rattle.text_lines.specs.Lines.{Lacks}
-use Rattle.disasm.specs.LineReading.{OperandFits, OperandsFit, AreRead, short_in, count_in, insn_made}
+use Rattle.disasm.specs.LineReading.{OperandFits, OperandsFit, AreOperandsRead, short_in, count_or_zero, insn_made}
 use Rattle.disasm.proofs.Heads.{head_word}
 use Rattle.text_lines.proofs.shared.ByteLemmas.{all_bytes, all_append, lacks_from, weaken}
 use Rattle.disasm.proofs.shared.Bytes.{word_byte, wider_fits, widest_fits}
@@ -44,8 +44,8 @@ fits_again (Ldval dst map offset) fits = (tt, widest_fits map fits.0, count_fits
 fits_again (CallHelper helper) fits = widest_fits helper fits
 fits_again Exit fits = tt
 
-pub insn_again : (i : Insn) → FieldsFit i → (x y z : Operand) → AreRead (operands_of i) x y z → insn_made (head_of i) x y z ≡ i
-unfolding FieldsFit AreRead operands_of head_of insn_made
+pub insn_again : (i : Insn) → FieldsFit i → (x y z : Operand) → AreOperandsRead (operands_of i) x y z → insn_made (head_of i) x y z ≡ i
+unfolding FieldsFit AreOperandsRead operands_of head_of insn_made
 insn_again (Alu width op dst (Imm value)) fits x y z read = rw (read.0, read.1) (ap (λ (n : ℤ). Alu width op dst (Imm n)) (word_again value fits))
 insn_again (Alu width op dst (Reg src)) fits x y z read = rw (read.0, read.1) refl
 insn_again (Neg width dst) fits x y z read = rw read refl
@@ -63,7 +63,7 @@ insn_again (Stx size dst src offset) fits x y z read = rw (read.0, read.1) refl
 insn_again (AtomicUpdate width op dst src offset) fits x y z read = rw (read.0, read.1) refl
 insn_again (Lddw dst value) fits x y z read = rw (read.0, read.1) refl
 insn_again (Ldmap dst map) fits x y z read = rw (read.0, read.1) (ap (λ (n : ℤ). Ldmap dst n) (word_again map fits))
-insn_again (Ldval dst map offset) fits x y z read = rw (read.0, read.1, read.2) (ap (λ (n : ℤ). Ldval dst n (count_in (pos offset))) (word_again map fits.0) ∙ ap (λ (n : ℕ). Ldval dst map n) (count_again offset fits.1))
+insn_again (Ldval dst map offset) fits x y z read = rw (read.0, read.1, read.2) (ap (λ (n : ℤ). Ldval dst n (count_or_zero (pos offset))) (word_again map fits.0) ∙ ap (λ (n : ℕ). Ldval dst map n) (count_again offset fits.1))
 insn_again (CallHelper helper) fits x y z read = rw read (ap CallHelper (word_again helper fits))
 insn_again Exit fits x y z read = refl
 

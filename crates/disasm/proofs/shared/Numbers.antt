@@ -15,7 +15,7 @@ use Rattle.std.proofs.lemmas.Str.Parse.{without_leading_plus_none, IsNumeralMode
 use Rattle.std.proofs.lemmas.Bool.{lt-ltb}
 use Rattle.std.proofs.lemmas.Int.{to_z-of_z}
 use mir.Val.{to_z, of_z}
-use Rattle.disasm.specs.LineReading.{short_in, word_in, count_in}
+use Rattle.disasm.specs.LineReading.{short_in, word_or_zero, count_or_zero}
 use Rattle.text_lines.specs.Digits.{hex_digit}
 use Rattle.disasm.specs.AssemblyText.{with_sign, hex_digits}
 
@@ -99,11 +99,11 @@ pub short_again : (z : ℤ) → FitsSigned w16 z → short_in z ≡ z
 short_again (pos n) fits = rw (lt-ltb n 32768 (omega arith)) refl
 short_again (negsuc n) fits = rw (lt-ltb n 32768 (omega arith)) refl
 
-pub word_again : (z : ℤ) → FitsSigned w32 z → word_in z ≡ z
+pub word_again : (z : ℤ) → FitsSigned w32 z → word_or_zero z ≡ z
 word_again (pos n) fits = rw (lt-ltb n 0x8000_0000 (omega arith)) refl
 word_again (negsuc n) fits = rw (lt-ltb n 0x8000_0000 (omega arith)) refl
 
-pub count_again : (n : ℕ) → n < 2 ^ 32 → count_in (pos n) ≡ n
+pub count_again : (n : ℕ) → n < 2 ^ 32 → count_or_zero (pos n) ≡ n
 count_again n fits = rw (lt-ltb n 0x1_0000_0000 (omega arith)) refl
 
 -- an unsigned number of 32 bits fits 64

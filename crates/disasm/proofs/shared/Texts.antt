@@ -26,7 +26,7 @@ use Rattle.disasm.specs.Names.{head_name}
 use Rattle.text_lines.specs.Lines.{Lacks, ended}
 use Rattle.text_lines.proofs.shared.LineLemmas.{lacks_mid, more_lines, no_empty_line, one_line, same_front}
 use Rattle.disasm.specs.AssemblyText.{kind_name, after_space, list_text, operands_text, head_of, operands_of, line_of, map_line_of, MapFits, version_text, maps_text, code_text, parts_text, IsAssemblyText}
-use Rattle.disasm.specs.TextReading.{BeginsWithNoInstruction, BeginsWithNoMap, IsKnownInstruction, IsKnownMap, IsFirstInstruction, IsFirstMap, IsCodeRead, AreMapsRead, IsFirstBadLine, IsFaultyText}
+use Rattle.disasm.specs.TextReading.{BeginsWithNoInstruction, BeginsWithNoMap, IsKnownInstruction, IsMapOfText, IsFirstInstruction, IsFirstMap, IsCodeRead, AreMapsRead, IsFirstBadLine, IsFaultyText}
 use Rattle.disasm.proofs.Heads.{by_name, named_again}
 use Rattle.text_lines.proofs.shared.ByteLemmas.{all_bytes, all_append, lacks_from, weaken}
 use Rattle.disasm.proofs.shared.Bytes.{word_byte, widen, decimal_word}
@@ -95,7 +95,7 @@ code_unique (i ∷ code) (o ∷ others) rest known fits stops e =
     let tail = code_unique code others rest known.1 fits.1 stops parts.1 in
     (rw (same, tail.0) refl, tail.1)
 
-pub maps_unique : (maps others : List MapDef) (code : List Insn) (rest : List ℕ) → AllByRecursion IsKnownMap maps → AllByRecursion MapFits others → AllByRecursion FieldsFit code → BeginsWithNoMap rest
+pub maps_unique : (maps others : List MapDef) (code : List Insn) (rest : List ℕ) → AllByRecursion IsMapOfText maps → AllByRecursion MapFits others → AllByRecursion FieldsFit code → BeginsWithNoMap rest
     → maps_text maps ++ rest ≡ maps_text others ++ code_text code → (maps ≡ others) × (rest ≡ code_text code)
 maps_unique [] [] code rest known fits code_fits stops e = (refl, e)
 maps_unique [] (o ∷ others) code rest known fits code_fits stops e = absurd (stops o (map_line_of o) (maps_text others ++ code_text code) (record { fits = fits.0; spelled = refl }) (e ∙ more_lines (map_line_of o) (maps_text others) (code_text code)))
@@ -161,7 +161,7 @@ same_parts version text body program rest maps code begins read_maps read_code i
     let second = code_unique code image.code rest read_code.known is.encodable.fields_fit read_code.stops (sym read_code.text_is ∙ first.1) in
     (same.0, first.0, second.0, second.1)
 
-maps_fit : (maps : List MapDef) → AllByRecursion IsKnownMap maps → AllByRecursion MapFits maps
+maps_fit : (maps : List MapDef) → AllByRecursion IsMapOfText maps → AllByRecursion MapFits maps
 maps_fit [] known = tt
 maps_fit (m ∷ maps) known = (known.0.0.fits, maps_fit maps known.1)
 
@@ -219,10 +219,10 @@ code_more text rest after code insn is known first =
       known_more [] insn known one = (one, tt)
       known_more (i ∷ code) insn known one = (known.0, known_more code insn known.1 one)
 
-pub maps_more : (text rest after : List ℕ) (maps : List MapDef) (m : MapDef) → text ≡ maps_text maps ++ rest → AllByRecursion IsKnownMap maps → IsFirstMap rest m after
-    → (text ≡ maps_text (maps ++ m ∷ []) ++ after) × AllByRecursion IsKnownMap (maps ++ m ∷ [])
+pub maps_more : (text rest after : List ℕ) (maps : List MapDef) (m : MapDef) → text ≡ maps_text maps ++ rest → AllByRecursion IsMapOfText maps → IsFirstMap rest m after
+    → (text ≡ maps_text (maps ++ m ∷ []) ++ after) × AllByRecursion IsMapOfText (maps ++ m ∷ [])
 maps_more text rest after maps m is known first =
     (is ∙ ap (λ (xs : List ℕ). maps_text maps ++ xs) first.text_is ∙ rw (flat_map-append (λ (d : MapDef). ended (map_line_of d)) maps (m ∷ [])) (simp (append_assoc, append-nil) refl), known_more maps m known first.known) where
-      known_more : (maps : List MapDef) (m : MapDef) → AllByRecursion IsKnownMap maps → IsKnownMap m → AllByRecursion IsKnownMap (maps ++ m ∷ [])
+      known_more : (maps : List MapDef) (m : MapDef) → AllByRecursion IsMapOfText maps → IsMapOfText m → AllByRecursion IsMapOfText (maps ++ m ∷ [])
       known_more [] m known one = (one, tt)
       known_more (d ∷ maps) m known one = (known.0, known_more maps m known.1 one)

@@ -13,7 +13,7 @@ use Rattle.semantics.specs.declared.call.Reply.{Reply}
 use Rattle.semantics.specs.LeastRecentlyUsed.{is_found, is_done, call_uses, uses, last_use, least_recently_used, is_least_recently_used}
 use Rattle.semantics.specs.SequentialShard.{cell_of_present}
 use Rattle.semantics.specs.UseLaws.{ArePairwise}
-use Rattle.lru_maps.specs.LruTable.{last_of, all_but_last}
+use Rattle.lru_maps.specs.LruTable.{last_of, all_but_last_entry}
 use Rattle.lru_maps.specs.ByUse.{IsUsedLater, HaveOtherKeys, HaveOtherCells, IsByUse}
 use Rattle.semantics.proofs.shared.HoldingLemmas.{each_weaker}
 use Rattle.semantics.proofs.shared.UseLemmas.{pairs_filter, used_within}
@@ -342,7 +342,7 @@ module _ (history : List Entry) (key : List ℕ) (id : ℕ) where
       by_test true same lt = (let k : last_use key history ≡ last_use e.0 history = ap (λ (q : List ℕ). last_use q history) (same_key key e.0 same) in absurd (omega (arith, lt, k)))
       by_test false differ lt = differ
 
-  last_left : (entries : List (List ℕ × ℕ)) → ArePairwise (IsUsedLater history) entries → last_of entries ≡ Some (key, id) → remove_entry (bytes_eq key) entries ≡ all_but_last entries
+  last_left : (entries : List (List ℕ × ℕ)) → ArePairwise (IsUsedLater history) entries → last_of entries ≡ Some (key, id) → remove_entry (bytes_eq key) entries ≡ all_but_last_entry entries
   last_left [] falling last = absurd (cc last)
   last_left (e ∷ []) falling last = (let same : e ≡ (key, id) = cc last in rw (same, key_same key) refl)
   last_left (e ∷ f ∷ entries) falling last = rw (apart_last e (f ∷ entries) falling.0 last) (ap (λ (rest : List (List ℕ × ℕ)). e ∷ rest) (last_left (f ∷ entries) falling.1 last))
@@ -460,7 +460,7 @@ module _ (history : List Entry) (present : List PresentKey) (entries : List (Lis
       all = each_weaker (λ (one : PresentKey). cell_of_present present one.key ≡ Some one.cell) (λ (one : PresentKey). (one ≡ record { key = key; cell = id }) ⊎ (last_use key history < last_use one.key history)) or_later present (present_found present before.keys_apart)
 
   -- its eviction
-  pub by_use_evicted : IsByUse history (filter (λ (one : PresentKey). not (one.cell == id)) present) (all_but_last entries)
+  pub by_use_evicted : IsByUse history (filter (λ (one : PresentKey). not (one.cell == id)) present) (all_but_last_entry entries)
   by_use_evicted = rw (← last_left history key id entries before.falling last) (by_use_removed history present entries before key (record { key = key; cell = id }) victim_found)
 
 -- ---- which entries are uses

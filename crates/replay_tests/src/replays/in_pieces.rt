@@ -1,7 +1,7 @@
 //! Exact replays whose capture comes in pieces: wherever it is cut, what comes of them is what comes of the whole capture.
 
 ghost use Rattle.std.specs.Prelude.{◌≡◌, ◌<◌, OnOk};
-ghost use Rattle.replay.specs.Pieces.{GoesOn};
+ghost use Rattle.replay.specs.Pieces.{ReplayGoesOn};
 
 use super::exact::{ChangeFrames, LONG_REFUSED, Rounds, are_refused, long_frames, long_script};
 use super::record_ends::{byte_13s, ends_of_byte_13s};
@@ -104,9 +104,9 @@ fn take_piece<R: Abort, G: Gate>(
     given: &mut HandedOut,
     gate: &G,
 ) -> Result<(), AllocError>
-    requires goes_on { GoesOn setting.script.now replay.old }
+    requires goes_on { ReplayGoesOn setting.script.now replay.old }
     requires maps { replay.old.turns.all.maps ≡ setting.verified.now.maps }
-    ensures goes_on { OnOk result (GoesOn setting.entry.script.now replay.new) }
+    ensures goes_on { OnOk result (ReplayGoesOn setting.entry.script.now replay.new) }
     ensures maps { OnOk result (replay.new.turns.all.maps ≡ setting.entry.verified.now.maps) }
 {
     let piece = capture(rt, alloc, records);
@@ -130,9 +130,9 @@ fn take_pieces<R: Abort, G: Gate>(
     gate: &G,
 ) -> Result<(), AllocError>
     requires size { 0 < size }
-    requires goes_on { GoesOn setting.script.now replay.old }
+    requires goes_on { ReplayGoesOn setting.script.now replay.old }
     requires maps { replay.old.turns.all.maps ≡ setting.verified.now.maps }
-    ensures goes_on { OnOk result (GoesOn setting.entry.script.now replay.new) }
+    ensures goes_on { OnOk result (ReplayGoesOn setting.entry.script.now replay.new) }
 {
     'pieces: for piece in records.chunks(size) {
         take_piece(rt, alloc, setting, piece, replay, given, gate)?;
@@ -418,7 +418,7 @@ fn compare_taken<R: Abort>(
     replay: &mut PieceReplay,
     given: &mut HandedOut,
 ) -> Result<(), AllocError>
-    requires goes_on { GoesOn setting.script.now replay.old }
+    requires goes_on { ReplayGoesOn setting.script.now replay.old }
     requires maps { replay.old.turns.all.maps ≡ setting.verified.now.maps }
 {
     'pieces: for (count, taken) in TAKEN {

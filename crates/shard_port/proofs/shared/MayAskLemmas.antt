@@ -20,7 +20,7 @@ use Rattle.semantics.specs.History.{are_flags, is_own_key, is_load_size, is_in_c
 use Rattle.semantics.proofs.shared.ConditionLemmas.{first_true, second_true, bytes_test}
 use Rattle.semantics.specs.Program.{Program, value_size_of}
 use Rattle.shard_core.specs.JournaledShard.{JournaledShard}
-use Rattle.map_port.specs.Served.{Maps, shard_of, IsReadable, IsStorable, IsAtomic, lookup_call, update_call, delete_call, atomic_call}
+use Rattle.map_port.specs.Served.{Maps, served_shard, IsReadable, IsStorable, IsAtomic, lookup_call, update_call, delete_call, atomic_call}
 use Rattle.semantics.proofs.shared.PlanLemmas.{some_shards, below_count}
 use Rattle.shard_port.specs.Asking.{is_in, enter_by, entered, may_ask_at}
 use Rattle.shard_port.specs.PortView.{holds_at, is_handed_out, IsShardOf, IsPortReady}
@@ -42,7 +42,7 @@ abbrev pub served_by : List MapDef → Options → Maps
 served_by maps options = record { maps = maps; shards = options.shards }
 
 pub shard_of_known : (served : Maps) (map : ℕ) (key : List ℕ) (definition : MapDef) → slice_get served.maps map ≡ Some definition →
-    shard_of served map key ≡ map * served.shards + part_of_key definition.kind served.shards key
+    served_shard served map key ≡ map * served.shards + part_of_key definition.kind served.shards key
 shard_of_known served map key definition known = rw known refl
 
 found_at : (shards : List JournaledShard) (number : ℕ) → number < length shards →
@@ -60,9 +60,9 @@ same_test a b same = grind (arith, nat_tests)
 pub record IsAtKey (maps : List MapDef) (options : Options) (worker : ℕ) (shards : List JournaledShard) (map : ℕ) (key : List ℕ) : Type 0
   where
     pub shard : JournaledShard
-    pub known : slice_get shards (shard_of (served_by maps options) map key) ≡ Some shard
+    pub known : slice_get shards (served_shard (served_by maps options) map key) ≡ Some shard
     pub is_worker : nat_lt worker shard.plan.workers ≡ true
-    pub numbered : (shard_of (served_by maps options) map key == shard.plan.number) ≡ true
+    pub numbered : (served_shard (served_by maps options) map key == shard.plan.number) ≡ true
     pub inside : is_inside worker (reverse (entered worker shard).journal) ≡ true
     pub own_key : is_own_key shard.plan key ≡ true
     pub definition : slice_get maps map ≡ Some shard.plan.definition
@@ -75,7 +75,7 @@ at_key maps options worker shards map key ready of_map =
     let part : ℕ = part_of_key definition.kind parts key in
     let some : 0 < parts = some_shards maps options ready.are_options in
     let below : part < parts = mod-lt (shard_number_of_key definition.kind key) some in
-    let number : ℕ = shard_of (served_by maps options) map key in
+    let number : ℕ = served_shard (served_by maps options) map key in
     let at : number ≡ map * parts + part = shard_of_known (served_by maps options) map key definition of_map.known in
     let counted : length shards ≡ length maps * parts = ready.are_shards.count in
     let here : map * parts + part < length maps * parts =
@@ -104,21 +104,21 @@ at_key maps options worker shards map key ready of_map =
 
 pub may_lookup : (maps : List MapDef) (options : Options) (worker : ℕ) (shards : List JournaledShard) (map : ℕ) (key : List ℕ) →
     IsPortReady maps options worker shards → IsKeyOf maps map key →
-    IsTrue (may_ask_at worker (slice_get shards (shard_of (served_by maps options) map key)) (lookup_call (served_by maps options) map key))
+    IsTrue (may_ask_at worker (slice_get shards (served_shard (served_by maps options) map key)) (lookup_call (served_by maps options) map key))
 may_lookup maps options worker shards map key ready of_map =
     let at = at_key maps options worker shards map key ready of_map in
     rw at.known (both_true _ _ at.is_worker (both_true _ _ at.numbered (both_true _ _ (both_true _ _ at.is_worker at.inside) at.own_key)))
 
 pub may_delete : (maps : List MapDef) (options : Options) (worker : ℕ) (shards : List JournaledShard) (map : ℕ) (key : List ℕ) →
     IsPortReady maps options worker shards → IsKeyOf maps map key →
-    IsTrue (may_ask_at worker (slice_get shards (shard_of (served_by maps options) map key)) (delete_call (served_by maps options) map key))
+    IsTrue (may_ask_at worker (slice_get shards (served_shard (served_by maps options) map key)) (delete_call (served_by maps options) map key))
 may_delete maps options worker shards map key ready of_map =
     let at = at_key maps options worker shards map key ready of_map in
     rw at.known (both_true _ _ at.is_worker (both_true _ _ at.numbered (both_true _ _ (both_true _ _ at.is_worker at.inside) at.own_key)))
 
 pub may_update : (maps : List MapDef) (options : Options) (worker : ℕ) (shards : List JournaledShard) (map : ℕ) (key value : List ℕ)
     (flags : ℕ) → IsPortReady maps options worker shards → flags < 2 ^ 64 → IsPairOf maps map key value →
-    IsTrue (may_ask_at worker (slice_get shards (shard_of (served_by maps options) map key))
+    IsTrue (may_ask_at worker (slice_get shards (served_shard (served_by maps options) map key))
     (update_call (served_by maps options) map key value flags))
 may_update maps options worker shards map key value flags ready few pair =
     let at = at_key maps options worker shards map key ready pair.at in

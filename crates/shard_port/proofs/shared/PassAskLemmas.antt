@@ -27,7 +27,7 @@ use Rattle.shards.specs.SharedMaps.{ArePlans}
 use Rattle.shards.specs.Asked.{AreServed, IsServedThenRefused, PassIsServed, PassIsRefused, PassEntersAndIsServed, PassIsStopped}
 use Rattle.shard_port.specs.Asking.{enter_by, leave_by, asked_entry}
 use Rattle.shard_port.specs.PortLaws.{both_true}
-use Rattle.shard_port.specs.PassPorts.{is_worker_below, worker_number, entering, entered_deeds, left_deeds, inside_own, IsAskedAt, CannotCallAt, IsAskedBy, IsTurnedAwayBy, ViewHasLeft}
+use Rattle.shard_port.specs.PassPorts.{is_worker_below, worker_number, entering_by_own, entered_deeds, left_deeds, inside_own, IsAskedAt, CannotCallAt, IsAskedBy, IsTurnedAwayBy, ViewHasLeft}
 use Rattle.shard_port.proofs.shared.ReadyLemmas.{plan_number}
 
 -- ---- who calls
@@ -45,11 +45,11 @@ inside_same most Reclaimer own below = cc
 
 -- ---- entering
 
-none_entering : (worker number : ℕ) (own : List Entry) → is_inside worker own ≡ true → entering worker number own ≡ []
+none_entering : (worker number : ℕ) (own : List Entry) → is_inside worker own ≡ true → entering_by_own worker number own ≡ []
 none_entering worker number own inside = ap (λ (test : Bool). if test then [] else enter_by worker number ∷ []) inside
 
 one_entering : (worker number : ℕ) (own : List Entry) → is_inside worker own ≡ false →
-    entering worker number own ≡ enter_by worker number ∷ []
+    entering_by_own worker number own ≡ enter_by worker number ∷ []
 one_entering worker number own outside = ap (λ (test : Bool). if test then [] else enter_by worker number ∷ []) outside
 
 -- ---- served
@@ -59,7 +59,7 @@ asked_inside : (most : ℕ) (plan : ShardPlan) (number : ℕ) (who : Caller) (be
     ViewIsServed plan before after (record { who = who; call = call; reply = reply }) →
     IsAskedAt plan number (worker_number who) before after call reply
 asked_inside most plan number (Worker worker) before after call reply below inside served =
-    let none : entering worker number before.own ≡ [] = none_entering worker number before.own inside in
+    let none : entering_by_own worker number before.own ≡ [] = none_entering worker number before.own inside in
     record {
       earlier = served.earlier;
       begins = served.begins;
@@ -75,7 +75,7 @@ asked_outside : (most : ℕ) (plan : ShardPlan) (number : ℕ) (who : Caller) (b
     AreServed plan before after (entries.enter_entry number who) (record { who = who; call = call; reply = reply }) →
     IsAskedAt plan number (worker_number who) before after call reply
 asked_outside most plan number (Worker worker) before after call reply below outside served =
-    let one : entering worker number before.own ≡ enter_by worker number ∷ [] = one_entering worker number before.own outside in
+    let one : entering_by_own worker number before.own ≡ enter_by worker number ∷ [] = one_entering worker number before.own outside in
     record {
       earlier = served.earlier;
       begins = served.begins;
@@ -138,7 +138,7 @@ refused_inside : (most : ℕ) (plan : ShardPlan) (number : ℕ) (who : Caller) (
     IsTrue (is_worker_below most who) → is_inside_of who before.own ≡ true → ViewIsRefused plan before after call →
     CannotCallAt plan number (worker_number who) before after call
 refused_inside most plan number (Worker worker) before after call below inside refused =
-    let none : entering worker number before.own ≡ [] = none_entering worker number before.own inside in
+    let none : entering_by_own worker number before.own ≡ [] = none_entering worker number before.own inside in
     record {
       earlier = after.seen;
       begins = refused.begins;
@@ -155,7 +155,7 @@ refused_at_call : (most : ℕ) (plan : ShardPlan) (number : ℕ) (who : Caller) 
     IsServedThenRefused plan before after (entries.enter_entry number who) call →
     CannotCallAt plan number (worker_number who) before after call
 refused_at_call most plan number (Worker worker) before after call below outside stopped =
-    let one : entering worker number before.own ≡ enter_by worker number ∷ [] = one_entering worker number before.own outside in
+    let one : entering_by_own worker number before.own ≡ enter_by worker number ∷ [] = one_entering worker number before.own outside in
     record {
       earlier = stopped.earlier;
       begins = stopped.begins;

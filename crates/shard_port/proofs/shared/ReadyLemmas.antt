@@ -14,7 +14,7 @@ use Rattle.semantics.specs.declared.call.Entry.{Entry}
 use Rattle.semantics.specs.ShardPlan.{plan_for_map}
 use Rattle.semantics.specs.SequentialShard.{shard_after}
 use Rattle.semantics.specs.History.{shard_of_call, IsLegalJournal}
-use Rattle.shard_core.specs.JournaledShard.{JournaledShard, with_entry}
+use Rattle.shard_core.specs.JournaledShard.{JournaledShard, shard_with_entry}
 use Rattle.semantics.specs.declared.full.JournalFull.{JournalFull}
 use Rattle.shard_port.specs.Asking.{is_in, enter_by, leave_by, entered, left, asked_entry, all_left, IsWorkerOf, EntersAndCalls, CannotEnter, CannotCall, CannotEnterOrCall, IsAnsweredAmong, IsTurnedAwayAmong}
 use Rattle.shard_port.specs.PortView.{HasByteCells, SetsBytes, IsShardOf, AreShardsOf, IsPortReady}
@@ -47,7 +47,7 @@ plan_number options number (Some definition) plan is =
 -- ---- one shard
 
 pub bytes_with_entry : (shard : JournaledShard) (entry : Entry) → SetsBytes entry.call → HasByteCells shard →
-    HasByteCells (with_entry shard entry)
+    HasByteCells (shard_with_entry shard entry)
 bytes_with_entry shard entry sets held =
     rw (newest_first shard entry) (cells_after_call shard.plan (reverse shard.journal) (shard_after shard.plan (reverse shard.journal))
     entry.call sets held)

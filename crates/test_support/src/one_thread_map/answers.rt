@@ -3,7 +3,7 @@
 ghost use Rattle.std.specs.Prelude.{◌≡◌, ◌<◌, ◌≤◌, ◌+◌, ◌*◌, ◌^◌, ℤ, IsTrue, Option, length, reverse};
 ghost use Rattle.semantics.specs.Linux.{errno_code, success, update_flags_of};
 ghost use Rattle.semantics.specs.PlanLimits.{IsWithinLimits, IsIndexSize};
-ghost use Rattle.test_support.specs.OneThread.{state_of, IsSized};
+ghost use Rattle.test_support.specs.OneThread.{state_of_lists, IsSized};
 ghost use Rattle.semantics.specs.History.{is_atomic_size};
 ghost use Rattle.semantics.specs.SequentialShard.{cell_of_key, number_in_cell, changed_by, has_free_cell, is_full_of_keys};
 ghost use Rattle.semantics.specs.SequentialShard.{present_key_answer, array_update_answer, new_key_answer, absent_key_answer};
@@ -21,7 +21,7 @@ use semantics::{Call, Entry, Errno, Key, Reply, ShardPlan, UpdateFlags};
 pub fn cell_of_key(plan: &ShardPlan, state: &ShardState, key: &Key) -> Option<u64>
     requires limits { IsWithinLimits plan.now }
     requires size { length key.now ≡ plan.now.definition.key_size }
-    ensures { result ≡ cell_of_key plan.now (state_of state.now) key.now }
+    ensures { result ≡ cell_of_key plan.now (state_of_lists state.now) key.now }
 {
     match plan.definition.kind {
         MapKind::Array => cell_of_index(plan, number_of_bytes(key.as_slice())),
@@ -33,7 +33,7 @@ pub fn cell_of_key(plan: &ShardPlan, state: &ShardState, key: &Key) -> Option<u6
 /// The number that some bytes of a cell make.
 pub fn number_in_cell(state: &ShardState, cell: u64, offset: u64, size: u64) -> u64
     requires { size ≤ 8 }
-    ensures number { result ≡ number_in_cell (state_of state.now) cell offset size }
+    ensures number { result ≡ number_in_cell (state_of_lists state.now) cell offset size }
     ensures below { result < 256 ^ size }
 {
     let bytes = cell_bytes(&state.cells, cell);
@@ -73,7 +73,7 @@ pub fn counts_of(state: &ShardState) -> Occupancy
 pub fn update_answer(plan: &ShardPlan, state: &ShardState, key: &Key, flags: u64) -> i32
     requires limits { IsWithinLimits plan.now }
     requires size { length key.now ≡ plan.now.definition.key_size }
-    ensures { result ≡ update_answer plan.now (state_of state.now) key.now flags }
+    ensures { result ≡ update_answer plan.now (state_of_lists state.now) key.now flags }
 {
     match UpdateFlags::of(flags) {
         None => Errno::Invalid.code(),
@@ -90,7 +90,7 @@ pub fn update_answer(plan: &ShardPlan, state: &ShardState, key: &Key, flags: u64
 pub fn delete_answer(plan: &ShardPlan, state: &ShardState, key: &Key) -> i32
     requires limits { IsWithinLimits plan.now }
     requires size { length key.now ≡ plan.now.definition.key_size }
-    ensures { result ≡ delete_answer plan.now (state_of state.now) key.now }
+    ensures { result ≡ delete_answer plan.now (state_of_lists state.now) key.now }
 {
     delete_answer_of_kind(plan.definition.kind, cell_of_key(plan, state, key))
 }
@@ -99,7 +99,7 @@ pub fn delete_answer(plan: &ShardPlan, state: &ShardState, key: &Key) -> i32
 pub fn reply_of(plan: &ShardPlan, journal: &[Entry], state: &ShardState, call: &Call) -> Reply
     requires limits { IsWithinLimits plan.now }
     requires sized { IsSized plan.now call.now }
-    ensures { result ≡ reply_of plan.now (reverse journal.now) (state_of state.now) call.now }
+    ensures { result ≡ reply_of plan.now (reverse journal.now) (state_of_lists state.now) call.now }
 {
     match call {
         Call::Enter { .. } => Reply::Entered,

@@ -4,7 +4,7 @@ ghost use Rattle.std.specs.Prelude.{◌≡◌, ◌<◌, ◌≤◌, ◌+◌, ◌^
 ghost use Rattle.std.specs.Prelude.{vec_capacity};
 ghost use Rattle.semantics.specs.PlanLimits.{IsWithinLimits, IsIndexSize};
 ghost use Rattle.semantics.specs.declared.call.Call.TheVariants.{Update, Delete};
-ghost use Rattle.test_support.specs.OneThread.{state_of, IsSized};
+ghost use Rattle.test_support.specs.OneThread.{state_of_lists, IsSized};
 ghost use Rattle.semantics.specs.History.{is_atomic_size};
 ghost use Rattle.semantics.specs.SequentialShard.{with_cell, with_number_in_cell, number_in_cell, changed_by, without_key, without_found};
 ghost use Rattle.semantics.specs.SequentialShard.{after_eviction, with_new_key, cell_of_key, with_value, updated_where, update_answer};
@@ -27,7 +27,7 @@ use std::alloc::AllocError;
 fn write_number(state: &mut ShardState, cell: u64, offset: u64, size: u64, value: u64)
     requires size { size ≤ 8 }
     requires inside { offset + size ≤ 256 }
-    ensures { state_of state.new ≡ with_number_in_cell (state_of state.old) cell offset size value }
+    ensures { state_of_lists state.new ≡ with_number_in_cell (state_of_lists state.old) cell offset size value }
 {
     let number = bytes_of_number(size, value);
     let bytes = cell_bytes(&state.cells, cell).overwritten(offset as usize, number.as_slice());
@@ -37,7 +37,7 @@ fn write_number(state: &mut ShardState, cell: u64, offset: u64, size: u64, value
 /// Takes a present key out, and retires its cell at this place. There is room for one more retired cell.
 fn retire(state: &mut ShardState, gone: PresentKey, place: u64)
     requires { vec_len state.old.retired < vec_capacity state.old.retired }
-    ensures state { state_of state.new ≡ without_key (state_of state.old) place gone }
+    ensures state { state_of_lists state.new ≡ without_key (state_of_lists state.old) place gone }
     ensures cells { state.new.cells ≡ state.old.cells }
     ensures present_len { vec_len state.new.present ≤ vec_len state.old.present }
     ensures present_room { vec_capacity state.new.present ≡ vec_capacity state.old.present }
@@ -56,7 +56,7 @@ fn retire(state: &mut ShardState, gone: PresentKey, place: u64)
 fn evict(plan: &ShardPlan, journal: &[Entry], state: &mut ShardState)
     requires limits { IsWithinLimits plan.now }
     requires room { vec_len state.old.retired < vec_capacity state.old.retired }
-    ensures state { state_of state.new ≡ after_eviction plan.now (reverse journal.now) (state_of state.old) }
+    ensures state { state_of_lists state.new ≡ after_eviction plan.now (reverse journal.now) (state_of_lists state.old) }
     ensures cells { state.new.cells ≡ state.old.cells }
     ensures present_len { vec_len state.new.present ≤ vec_len state.old.present }
     ensures present_room { vec_capacity state.new.present ≡ vec_capacity state.old.present }
@@ -72,7 +72,7 @@ fn evict(plan: &ShardPlan, journal: &[Entry], state: &mut ShardState)
 fn put_new(state: &mut ShardState, key: Key, value: Value)
     requires present { vec_len state.old.present < vec_capacity state.old.present }
     requires cells { vec_len state.old.cells < vec_capacity state.old.cells }
-    ensures { state_of state.new ≡ with_new_key (state_of state.old) key value }
+    ensures { state_of_lists state.new ≡ with_new_key (state_of_lists state.old) key value }
 {
     let cell = state.cells.len() as u64;
     put_cell(&mut state.cells, value);
@@ -81,7 +81,7 @@ fn put_new(state: &mut ShardState, key: Key, value: Value)
 
 /// Takes the memory that a new key needs.
 fn make_room(state: &mut ShardState) -> Result<(), AllocError>
-    ensures same { state_of state.new ≡ state_of state.old }
+    ensures same { state_of_lists state.new ≡ state_of_lists state.old }
     ensures present { OnOk result (vec_len state.new.present < vec_capacity state.new.present) }
     ensures cells { OnOk result (vec_len state.new.cells < vec_capacity state.new.cells) }
     ensures retired { OnOk result (vec_len state.new.retired < vec_capacity state.new.retired) }
@@ -102,9 +102,9 @@ fn put_value(
 ) -> Result<(), AllocError>
     requires limits { IsWithinLimits plan.now }
     requires size { length key.now ≡ plan.now.definition.key_size }
-    ensures ok { OnOk result (state_of state.new ≡ with_value plan.now (reverse journal.now) (state_of state.old) key.now value.now
-        (cell_of_key plan.now (state_of state.old) key.now)) }
-    ensures err { OnErr result (state_of state.new ≡ state_of state.old) }
+    ensures ok { OnOk result (state_of_lists state.new ≡ with_value plan.now (reverse journal.now) (state_of_lists state.old) key.now value.now
+        (cell_of_key plan.now (state_of_lists state.old) key.now)) }
+    ensures err { OnErr result (state_of_lists state.new ≡ state_of_lists state.old) }
 {
     match cell_of_key(plan, state, key) {
         Some(cell) => {
@@ -131,9 +131,9 @@ fn update(
 ) -> Result<(), AllocError>
     requires limits { IsWithinLimits plan.now }
     requires size { length key.now ≡ plan.now.definition.key_size }
-    ensures ok { OnOk result (state_of state.new ≡ shard_after_call plan.now (reverse journal.now) (state_of state.old)
+    ensures ok { OnOk result (state_of_lists state.new ≡ shard_after_call plan.now (reverse journal.now) (state_of_lists state.old)
         (Update plan.now.number key.now value.now flags)) }
-    ensures err { OnErr result (state_of state.new ≡ state_of state.old) }
+    ensures err { OnErr result (state_of_lists state.new ≡ state_of_lists state.old) }
 {
     if update_answer(plan, state, key, flags) == 0 {
         put_value(plan, journal, state, key, value)
@@ -144,9 +144,9 @@ fn update(
 
 /// Takes a key out, if it is there.
 fn remove(journal: &[Entry], state: &mut ShardState, key: &Key) -> Result<(), AllocError>
-    ensures ok { OnOk result (state_of state.new ≡ without_found (state_of state.old) (length (reverse journal.now))
-        (present_key (state_of state.old) key.now)) }
-    ensures err { OnErr result (state_of state.new ≡ state_of state.old) }
+    ensures ok { OnOk result (state_of_lists state.new ≡ without_found (state_of_lists state.old) (length (reverse journal.now))
+        (present_key (state_of_lists state.old) key.now)) }
+    ensures err { OnErr result (state_of_lists state.new ≡ state_of_lists state.old) }
 {
     match present_key(&state.present, key) {
         Some(gone) => {
@@ -167,9 +167,9 @@ fn delete(
 ) -> Result<(), AllocError>
     requires limits { IsWithinLimits plan.now }
     requires size { length key.now ≡ plan.now.definition.key_size }
-    ensures ok { OnOk result (state_of state.new ≡ shard_after_call plan.now (reverse journal.now) (state_of state.old)
+    ensures ok { OnOk result (state_of_lists state.new ≡ shard_after_call plan.now (reverse journal.now) (state_of_lists state.old)
         (Delete plan.now.number key.now)) }
-    ensures err { OnErr result (state_of state.new ≡ state_of state.old) }
+    ensures err { OnErr result (state_of_lists state.new ≡ state_of_lists state.old) }
 {
     if delete_answer(plan, state, key) == 0 {
         remove(journal, state, key)
@@ -187,8 +187,8 @@ pub fn apply(
 ) -> Result<(), AllocError>
     requires limits { IsWithinLimits plan.now }
     requires sized { IsSized plan.now call.now }
-    ensures ok { OnOk result (state_of state.new ≡ shard_after_call plan.now (reverse journal.now) (state_of state.old) call.now) }
-    ensures err { OnErr result (state_of state.new ≡ state_of state.old) }
+    ensures ok { OnOk result (state_of_lists state.new ≡ shard_after_call plan.now (reverse journal.now) (state_of_lists state.old) call.now) }
+    ensures err { OnErr result (state_of_lists state.new ≡ state_of_lists state.old) }
 {
     match call {
         Call::Enter { .. } => Ok(()),

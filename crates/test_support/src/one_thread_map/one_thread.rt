@@ -4,7 +4,7 @@ ghost use Rattle.std.specs.Prelude.{◌≡◌, ◌<◌, [], ◌∷◌, List, IsF
 ghost use Rattle.semantics.specs.PlanLimits.{IsWithinLimits, IsPlan};
 ghost use Rattle.semantics.specs.SequentialShard.{reply_of, shard_after};
 ghost use Rattle.semantics.specs.History.{meets, Meets, journal_is_full, IsLegalHistory, IsLegalStep};
-ghost use Rattle.test_support.specs.OneThread.{with_entry};
+ghost use Rattle.test_support.specs.OneThread.{one_thread_with_entry};
 
 use super::answers::reply_of;
 use super::changes::apply;
@@ -27,13 +27,13 @@ pub struct OneThreadShard {
 
 impl Model for OneThreadShard {
     ghost use Rattle.std.specs.Prelude.{reverse};
-    ghost use Rattle.test_support.specs.OneThread.{OneThread, IsOneThread, state_of};
+    ghost use Rattle.test_support.specs.OneThread.{OneThread, IsOneThread, state_of_lists};
 
     ghost Value = { OneThread };
 
     ghost view = { λ shard. record { plan = shard.plan; history = reverse shard.entries.items } };
 
-    ghost invariant = { λ shard. IsOneThread shard.plan shard.entries.items (state_of shard.state) };
+    ghost invariant = { λ shard. IsOneThread shard.plan shard.entries.items (state_of_lists shard.state) };
 }
 
 impl OneThreadShard {
@@ -100,7 +100,7 @@ impl OneThreadShard {
         requires room { IsFalse (journal_is_full self.old.plan self.old.history call.now) }
         ensures replied { IfOk result
             (λ reply. reply ≡ reply_of self.old.plan self.old.history (shard_after self.old.plan self.old.history) call.now) }
-        ensures entered { IfOk result (λ reply. self.new ≡ with_entry self.old (record { who = who; call = call.now; reply = reply })) }
+        ensures entered { IfOk result (λ reply. self.new ≡ one_thread_with_entry self.old (record { who = who; call = call.now; reply = reply })) }
         ensures legal { IfOk result
             (λ reply. IsLegalStep self.old.plan self.old.history (record { who = who; call = call.now; reply = reply })) }
         ensures unchanged { OnErr result (self.new ≡ self.old) }

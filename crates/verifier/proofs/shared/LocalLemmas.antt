@@ -8,14 +8,14 @@ use Rattle.semantics.specs.MachineState.{MachineState, initial_state}
 use Rattle.semantics.specs.Step.{Continues, CallsMap}
 use Rattle.semantics.specs.Semantics.{next_step}
 use Rattle.semantics.specs.RunTrace.{IsReplyTo}
-use Rattle.semantics.specs.System.{Setting, program_of, SystemState, Runs, worker_state, IsInputFrame, input_frame}
+use Rattle.semantics.specs.System.{Setting, program_of_setting, SystemState, Runs, worker_state, IsInputFrame, input_frame}
 use Rattle.abstract_state.specs.declared.state.State.{State}
 use Rattle.abstract_state.specs.States.{opening_state}
 use Rattle.abstract_state.specs.Abstraction.{Held}
 use Rattle.abstract_state.specs.Soundness.{HoldsAfter}
 use Rattle.abstract_state.proofs.shared.Opening.{opening_sound}
 use Rattle.image_shape.specs.Edges.{is_begin}
-use Rattle.verifier.proofs.SystemInvariant.{held_by, IsSoundRun, IsSoundWorker, IsSetting, IsSoundSystem}
+use Rattle.verifier.proofs.SystemInvariant.{held_in_run, IsSoundRun, IsSoundWorker, IsSetting, IsSoundSystem}
 use Rattle.verifier.proofs.shared.PlaceLemmas.{IsSoundPlace, continues_there, answered_there}
 
 -- ---- the run
@@ -26,19 +26,19 @@ run_of setting states system worker state entered sound runs = subst (IsSoundWor
 
 -- over an instruction that calls nothing
 pub continues_soundly : (setting : Setting) (states : List (Option State)) (system : SystemState) (worker : ℕ) (state : MachineState) (entered : List ℕ) (next : MachineState) →
-    IsSetting setting states → IsSoundSystem setting states system → worker_state system worker ≡ Runs state entered → next_step (program_of setting) state ≡ Continues next →
+    IsSetting setting states → IsSoundSystem setting states system → worker_state system worker ≡ Runs state entered → next_step (program_of_setting setting) state ≡ Continues next →
     IsSoundRun setting states system worker next entered
 continues_soundly setting states system worker state entered next good sound runs steps =
-    (continues_there good.version (program_of setting) states (held_by setting system worker entered) state next good.accepted good.fits
+    (continues_there good.version (program_of_setting setting) states (held_in_run setting system worker entered) state next good.accepted good.fits
     (run_of setting states system worker state entered sound runs) steps).place
 
 -- over a call, for each reply to it
 pub called_soundly : (setting : Setting) (states : List (Option State)) (system : SystemState) (worker : ℕ) (state : MachineState) (entered : List ℕ) (call : Call) (go : Reply → MachineState) →
-    IsSetting setting states → IsSoundSystem setting states system → worker_state system worker ≡ Runs state entered → next_step (program_of setting) state ≡ CallsMap call go →
-    (reply : Reply) → IsReplyTo (program_of setting) call reply → (held' : Held) → HoldsAfter (program_of setting) (held_by setting system worker entered) held' call reply →
+    IsSetting setting states → IsSoundSystem setting states system → worker_state system worker ≡ Runs state entered → next_step (program_of_setting setting) state ≡ CallsMap call go →
+    (reply : Reply) → IsReplyTo (program_of_setting setting) call reply → (held' : Held) → HoldsAfter (program_of_setting setting) (held_in_run setting system worker entered) held' call reply →
     IsSoundPlace setting.maps setting.code states held' (go reply)
 called_soundly setting states system worker state entered call go good sound runs steps reply is held' after =
-    (answered_there good.version (program_of setting) states (held_by setting system worker entered) state call go good.accepted good.fits
+    (answered_there good.version (program_of_setting setting) states (held_in_run setting system worker entered) state call go good.accepted good.fits
     (run_of setting states system worker state entered sound runs) steps reply is held' after).place
 
 -- from its start
@@ -52,6 +52,6 @@ begins_soundly setting states system worker frame now told good is few early = r
   known = opening_state good.version;
   at = good.accepted.entry 0 good.some_code;
   begins = begins_at_start setting.code good.some_code;
-  sound = opening_sound good.version setting.maps (held_by setting system worker []) frame told now is few early;
+  sound = opening_sound good.version setting.maps (held_in_run setting system worker []) frame told now is few early;
   few = omega arith;
 }

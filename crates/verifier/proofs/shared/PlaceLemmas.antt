@@ -26,7 +26,7 @@ use Rattle.abstract_state.specs.declared.state.State.{State}
 use Rattle.abstract_state.specs.States.{Checked}
 use Rattle.abstract_state.specs.Flow.{falls, flow_of}
 use Rattle.abstract_state.specs.Abstraction.{Held, Abstracts}
-use Rattle.abstract_state.specs.Soundness.{IsShaped, HoldsAfter, GoesOn, Lands, JumpsForward, Follows}
+use Rattle.abstract_state.specs.Soundness.{IsShaped, HoldsAfter, GoesOnAt, Lands, JumpsForward, Follows}
 use Rattle.abstract_state.proofs.shared.FlowLaw.{flow_sound}
 use Rattle.image_shape.specs.Edges.{IsEdge, is_begin}
 use Rattle.image_shape.specs.Runs.{GoesTo}
@@ -150,7 +150,7 @@ splits_in_one maps state slot (Ldval dst map offset) taken fallen e = absurd (no
 splits_in_one maps state slot insn taken fallen e = refl
 
 falls_arrive : (maps : List MapDef) (held : Held) (state : MachineState) (insn : Insn) (there : State) (next : MachineState) →
-    GoesOn maps held there state next (state.slot + slot_count insn) → Arrives maps held state insn (Falls there) next
+    GoesOnAt maps held there state next (state.slot + slot_count insn) → Arrives maps held state insn (Falls there) next
 falls_arrive maps held state insn there next on =
     record { there = there; taken = by_fall (falls_there state.slot insn next.slot on.at); sound = on.sound; counted = on.counted }
 
@@ -174,7 +174,7 @@ taken_arrives maps held state insn taken fallen next goes lands =
     record { there = taken; taken = by_test fallen (target_there maps held state insn taken next goes lands); sound = lands.goes_on.sound; counted = lands.goes_on.counted }
 
 fallen_arrives : (maps : List MapDef) (held : Held) (state : MachineState) (insn : Insn) (taken fallen : State) (next : MachineState) → slot_count insn ≡ 1 →
-    GoesOn maps held fallen state next (state.slot + 1) → Arrives maps held state insn (Splits taken fallen) next
+    GoesOnAt maps held fallen state next (state.slot + 1) → Arrives maps held state insn (Splits taken fallen) next
 fallen_arrives maps held state insn taken fallen next one on =
     record { there = fallen; taken = by_no_test taken (falls_there state.slot insn next.slot (let at : next.slot ≡ state.slot + 1 = on.at in omega (arith, one))); sound = on.sound; counted = on.counted }
 

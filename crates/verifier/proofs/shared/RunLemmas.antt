@@ -12,14 +12,14 @@ use Rattle.semantics.specs.Semantics.{next_step}
 use Rattle.semantics.specs.Reclamation.{is_inside}
 use Rattle.semantics.specs.ShardPlan.{plan_at}
 use Rattle.semantics.specs.History.{shard_of_call}
-use Rattle.semantics.specs.System.{Setting, program_of, SystemState, WorkerState, Idle, Runs, Leaves, worker_state, history_of, is_entered}
+use Rattle.semantics.specs.System.{Setting, program_of_setting, SystemState, WorkerState, Idle, Runs, Leaves, worker_state, history_of, is_entered}
 use Rattle.semantics.specs.Safety.{IsServedCall, DoesNotTrap, IsSafeRun, IsSafeWorker}
 use Rattle.abstract_state.specs.declared.flow.Flow.{Flow}
 use Rattle.abstract_state.specs.declared.flow.Flow.TheVariants.{Ends, Falls, Jumps, Splits}
 use Rattle.abstract_state.specs.declared.state.State.{State}
 use Rattle.abstract_state.specs.Soundness.{IsServed, Follows}
 use Rattle.semantics.proofs.shared.PlanLemmas.{some_shards}
-use Rattle.verifier.proofs.SystemInvariant.{entered_of, held_by, IsSoundRun, IsSoundWorker, IsSoundShard, IsSetting, IsSoundSystem}
+use Rattle.verifier.proofs.SystemInvariant.{entered_of, held_in_run, IsSoundRun, IsSoundWorker, IsSoundShard, IsSetting, IsSoundSystem}
 use Rattle.verifier.proofs.PlanLemmas.{plan_exists}
 pub use Rattle.verifier.proofs.InstructionLemmas.{begins_within}
 use Rattle.verifier.proofs.shared.PlaceLemmas.{Here, here_of}
@@ -41,7 +41,7 @@ record CellShard (setting : Setting) (system : SystemState) (worker : ℕ) (ente
   inside : is_inside worker (history_of system cell.shard) ≡ is_entered cell.shard entered
 
 cell_shard : (setting : Setting) (states : List (Option State)) (system : SystemState) (worker : ℕ) (state : MachineState) (entered : List ℕ) (map : ℕ) (cell : CellRef) → IsSetting setting states →
-    IsSoundSystem setting states system → worker_state system worker ≡ Runs state entered → IsTrue (held_by setting system worker entered map cell.shard cell.id) →
+    IsSoundSystem setting states system → worker_state system worker ≡ Runs state entered → IsTrue (held_in_run setting system worker entered map cell.shard cell.id) →
     CellShard setting system worker entered cell
 cell_shard setting states system worker state entered map cell good sound runs is_held =
     let was : is_entered cell.shard entered ≡ true = (held_facts setting system worker entered map cell.shard cell.id is_held).was_entered
@@ -55,7 +55,7 @@ cell_shard setting states system worker state entered map cell good sound runs i
     }
 
 pub call_served : (setting : Setting) (states : List (Option State)) (system : SystemState) (worker : ℕ) (state : MachineState) (entered : List ℕ) → IsSetting setting states →
-    IsSoundSystem setting states system → worker_state system worker ≡ Runs state entered → (call : Call) → IsServed (program_of setting) (held_by setting system worker entered) call →
+    IsSoundSystem setting states system → worker_state system worker ≡ Runs state entered → (call : Call) → IsServed (program_of_setting setting) (held_in_run setting system worker entered) call →
     IsServedCall (plan_at setting.maps setting.options (shard_of_call call)) system worker entered call
 call_served setting states system worker state entered good sound runs (Lookup shard key) served =
     lookup_served setting states system worker entered shard key good (is_worker setting states system worker state entered sound runs)
@@ -83,9 +83,9 @@ call_served setting states system worker state entered good sound runs (Reclaim 
 -- ---- and it does not trap
 
 no_trap : (setting : Setting) (system : SystemState) (worker : ℕ) (state : MachineState) (entered : List ℕ) (insn : Insn) (flow : Flow) (step : Step) →
-    ((call : Call) → IsServed (program_of setting) (held_by setting system worker entered) call →
+    ((call : Call) → IsServed (program_of_setting setting) (held_in_run setting system worker entered) call →
     IsServedCall (plan_at setting.maps setting.options (shard_of_call call)) system worker entered call) →
-    Follows (program_of setting) (held_by setting system worker entered) flow state insn step → DoesNotTrap setting system worker entered step
+    Follows (program_of_setting setting) (held_in_run setting system worker entered) flow state insn step → DoesNotTrap setting system worker entered step
 no_trap setting system worker state entered insn flow (Continues next) served follows = tt
 no_trap setting system worker state entered insn flow (Exits verdict last) served follows = tt
 no_trap setting system worker state entered insn Ends (CallsMap call next) served follows = absurd follows
@@ -102,10 +102,10 @@ pub safe_run : (setting : Setting) (states : List (Option State)) (system : Syst
     IsSoundSystem setting states system → worker_state system worker ≡ Runs state entered → IsSafeRun setting system worker entered state
 safe_run setting states system worker state entered good sound runs =
     let run : IsSoundRun setting states system worker state entered = subst (IsSoundWorker setting states system worker) runs (sound.workers worker)
-    in let next : Here (program_of setting) (held_by setting system worker entered) state run.known =
-    here_of good.version (program_of setting) states (held_by setting system worker entered) state good.accepted good.fits run
+    in let next : Here (program_of_setting setting) (held_in_run setting system worker entered) state run.known =
+    here_of good.version (program_of_setting setting) states (held_in_run setting system worker entered) state good.accepted good.fits run
     in record {
-      goes_on = no_trap setting system worker state entered next.insn next.flow (next_step (program_of setting) state)
+      goes_on = no_trap setting system worker state entered next.insn next.flow (next_step (program_of_setting setting) state)
           (call_served setting states system worker state entered good sound runs) next.follows;
       bounded = omega (arith, run.few, next.within);
     }

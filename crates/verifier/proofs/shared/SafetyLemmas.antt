@@ -25,7 +25,7 @@ use Rattle.semantics.specs.RunTrace.{IsReplyTo}
 use Rattle.semantics.specs.SequentialShard.{shard_after}
 use Rattle.semantics.specs.History.{shard_of_call, Meets}
 use Rattle.semantics.specs.Safety.{IsServedAt, after_enter, IsServedCall, IsSafeImage}
-use Rattle.semantics.specs.System.{Setting, program_of, SystemState, SystemEvent, BeginsRun, DoesInstruction, CallsShard, LeavesShard, Controls, Reclaims, WorkerState, Idle, Runs, Leaves, worker_state, history_of, with_worker, is_entered, entry_for, input_frame, opening_system, is_local, DoesNext, MayLeave, CanHappen, CanAllHappen, after_local, after_instruction, after_run_call, after_asking, after_shard_call, after_leaving, after_event, system_after}
+use Rattle.semantics.specs.System.{Setting, program_of_setting, SystemState, SystemEvent, BeginsRun, DoesInstruction, CallsShard, LeavesShard, Controls, Reclaims, WorkerState, Idle, Runs, Leaves, worker_state, history_of, with_worker, is_entered, entry_for, input_frame, opening_system, is_local, DoesNext, MayLeave, CanHappen, CanAllHappen, after_local, after_instruction, after_run_call, after_asking, after_shard_call, after_leaving, after_event, system_after}
 use Rattle.abstract_state.specs.declared.flow.Flow.{Flow}
 use Rattle.abstract_state.specs.declared.flow.Flow.TheVariants.{Ends, Falls, Jumps, Splits}
 use Rattle.abstract_state.specs.declared.state.State.{State}
@@ -33,7 +33,7 @@ use Rattle.abstract_state.specs.Abstraction.{Held}
 use Rattle.abstract_state.specs.Soundness.{IsServed, IsHandedOut, Follows}
 use Rattle.verifier.specs.Dataflow.{Accepts}
 use Rattle.verifier.specs.Coverage.{CoverRuns}
-use Rattle.verifier.proofs.SystemInvariant.{entered_of, held_by, IsSoundRun, IsSoundWorker, IsSoundShard, IsSetting, IsSoundSystem}
+use Rattle.verifier.proofs.SystemInvariant.{entered_of, held_in_run, IsSoundRun, IsSoundWorker, IsSoundShard, IsSetting, IsSoundSystem}
 use Rattle.semantics.proofs.shared.AnswerLemmas.{update_fits, delete_fits}
 use Rattle.verifier.proofs.ReplyLemmas.{lookup_answer, word_fits}
 use Rattle.verifier.proofs.PlanLemmas.{plan_facts}
@@ -49,21 +49,21 @@ use Rattle.verifier.proofs.shared.LocalLemmas.{continues_soundly, called_soundly
 -- ---- a run's call
 
 served_call : (setting : Setting) (held : Held) (state : MachineState) (insn : Insn) (flow : Flow) (call : Call) (go : Reply → MachineState) →
-    Follows (program_of setting) held flow state insn (CallsMap call go) → IsServed (program_of setting) held call
+    Follows (program_of_setting setting) held flow state insn (CallsMap call go) → IsServed (program_of_setting setting) held call
 served_call setting held state insn Ends call go follows = absurd follows
 served_call setting held state insn (Falls known) call go follows = follows.0
 served_call setting held state insn (Jumps known) call go follows = absurd follows
 served_call setting held state insn (Splits taken fallen) call go follows = absurd follows
 
 asked : (setting : Setting) (states : List (Option State)) (system : SystemState) (worker : ℕ) (state : MachineState) (entered : List ℕ) (call : Call) (go : Reply → MachineState) → IsSetting setting states →
-    IsSoundSystem setting states system → worker_state system worker ≡ Runs state entered → next_step (program_of setting) state ≡ CallsMap call go →
-    IsServed (program_of setting) (held_by setting system worker entered) call
+    IsSoundSystem setting states system → worker_state system worker ≡ Runs state entered → next_step (program_of_setting setting) state ≡ CallsMap call go →
+    IsServed (program_of_setting setting) (held_in_run setting system worker entered) call
 asked setting states system worker state entered call go good sound is steps =
     let run : IsSoundRun setting states system worker state entered = subst (IsSoundWorker setting states system worker) is (sound.workers worker)
-    in let here : Here (program_of setting) (held_by setting system worker entered) state run.known =
-    here_of good.version (program_of setting) states (held_by setting system worker entered) state good.accepted good.fits run
-    in served_call setting (held_by setting system worker entered) state here.insn here.flow call go
-    (subst (Follows (program_of setting) (held_by setting system worker entered) here.flow state here.insn) steps here.follows)
+    in let here : Here (program_of_setting setting) (held_in_run setting system worker entered) state run.known =
+    here_of good.version (program_of_setting setting) states (held_in_run setting system worker entered) state good.accepted good.fits run
+    in served_call setting (held_in_run setting system worker entered) state here.insn here.flow call go
+    (subst (Follows (program_of_setting setting) (held_in_run setting system worker entered) here.flow state here.insn) steps here.follows)
 
 -- the shard of a call is sound
 shard_sound : (setting : Setting) (states : List (Option State)) (system : SystemState) (shard : ℕ) (plan : ShardPlan) → IsSoundSystem setting states system →
@@ -81,10 +81,10 @@ entered_may plan system worker entered call false is e served = absurd cc
 
 -- a call that hands out nothing and lets go of nothing
 asks_still : (setting : Setting) (states : List (Option State)) (system : SystemState) (worker : ℕ) (state : MachineState) (entered : List ℕ) (call : Call) (go : Reply → MachineState) → IsSetting setting states →
-    IsSoundSystem setting states system → worker_state system worker ≡ Runs state entered → next_step (program_of setting) state ≡ CallsMap call go →
+    IsSoundSystem setting states system → worker_state system worker ≡ Runs state entered → next_step (program_of_setting setting) state ≡ CallsMap call go →
     (plan : ShardPlan) → plan_at setting.maps setting.options (shard_of_call call) ≡ Some plan → Meets plan (history_of system plan.number) (Worker worker) call → IsQuiet plan system worker call →
-    IsReplyTo (program_of setting) call (entry_for plan system (Worker worker) call).reply →
-    IsHandedOut (program_of setting) (held_by setting (grown system plan worker call) worker entered) call (entry_for plan system (Worker worker) call).reply →
+    IsReplyTo (program_of_setting setting) call (entry_for plan system (Worker worker) call).reply →
+    IsHandedOut (program_of_setting setting) (held_in_run setting (grown system plan worker call) worker entered) call (entry_for plan system (Worker worker) call).reply →
     IsSoundSystem setting states (after_run_call (Some plan) system worker call entered (λ reply. Runs (go reply) entered))
 asks_still setting states system worker state entered call go good sound is steps plan planned met quiet fits nothing =
     ask_sound setting states system worker (shard_of_call call) call state entered plan go good sound is planned met quiet
@@ -92,15 +92,15 @@ asks_still setting states system worker state entered call go good sound is step
     (still_holds setting states system worker (shard_of_call call) call entered plan good sound planned quiet nothing))
 
 asks : (setting : Setting) (states : List (Option State)) (system : SystemState) (worker : ℕ) (state : MachineState) (entered : List ℕ) (call : Call) (go : Reply → MachineState) → IsSetting setting states →
-    IsSoundSystem setting states system → worker_state system worker ≡ Runs state entered → next_step (program_of setting) state ≡ CallsMap call go →
-    IsServed (program_of setting) (held_by setting system worker entered) call → is_entered (shard_of_call call) entered ≡ true →
+    IsSoundSystem setting states system → worker_state system worker ≡ Runs state entered → next_step (program_of_setting setting) state ≡ CallsMap call go →
+    IsServed (program_of_setting setting) (held_in_run setting system worker entered) call → is_entered (shard_of_call call) entered ≡ true →
     (found : Option ShardPlan) → plan_at setting.maps setting.options (shard_of_call call) ≡ found →
     ((plan : ShardPlan) → found ≡ Some plan → Meets plan (history_of system plan.number) (Worker worker) call) →
     IsSoundSystem setting states (after_run_call found system worker call entered (λ reply. Runs (go reply) entered))
 asks setting states system worker state entered call go good sound is steps served into None planned may = sound
 asks setting states system worker state entered (Lookup shard key) go good sound is steps served into (Some plan) planned may =
     let facts = plan_facts setting.maps setting.options shard plan planned
-    in let fits = lookup_answer (program_of setting) plan (history_of system plan.number) shard key facts.number (some_shards setting.maps setting.options good.options) facts.definition
+    in let fits = lookup_answer (program_of_setting setting) plan (history_of system plan.number) shard key facts.number (some_shards setting.maps setting.options good.options) facts.definition
     (each_at HasImageSizes setting.maps (shard / setting.options.shards) plan.definition good.fits.1 facts.definition).some_entries
     in ask_sound setting states system worker shard (Lookup shard key) state entered plan go good sound is planned (may plan refl) (quiet_lookup plan system worker shard key)
     (called_soundly setting states system worker state entered (Lookup shard key) go good sound is steps (entry_for plan system (Worker worker) (Lookup shard key)).reply fits _
@@ -129,7 +129,7 @@ asks setting states system worker state entered (Leave shard) go good sound is s
 asks setting states system worker state entered (Reclaim shard) go good sound is steps served into (Some plan) planned may = absurd served
 
 by_entered : (setting : Setting) (states : List (Option State)) (system : SystemState) (worker : ℕ) (state : MachineState) (entered : List ℕ) (call : Call) (go : Reply → MachineState) → IsSetting setting states →
-    IsSoundSystem setting states system → worker_state system worker ≡ Runs state entered → next_step (program_of setting) state ≡ CallsMap call go →
+    IsSoundSystem setting states system → worker_state system worker ≡ Runs state entered → next_step (program_of_setting setting) state ≡ CallsMap call go →
     (into : Bool) → is_entered (shard_of_call call) entered ≡ into →
     IsSoundSystem setting states (if into
     then after_run_call (plan_at setting.maps setting.options (shard_of_call call)) system worker call entered (λ reply. Runs (go reply) entered)
@@ -147,7 +147,7 @@ by_entered setting states system worker state entered call go good sound is step
 -- ---- what a worker does
 
 does : (setting : Setting) (states : List (Option State)) (system : SystemState) (worker : ℕ) (state : MachineState) (entered : List ℕ) (step : Step) → IsSetting setting states →
-    IsSoundSystem setting states system → worker_state system worker ≡ Runs state entered → next_step (program_of setting) state ≡ step → IsTrue (is_local step) →
+    IsSoundSystem setting states system → worker_state system worker ≡ Runs state entered → next_step (program_of_setting setting) state ≡ step → IsTrue (is_local step) →
     IsSoundSystem setting states (with_worker system worker (after_local step entered (Runs state entered)))
 does setting states system worker state entered (Continues next) good sound is steps local =
     local_change setting states system worker (Runs next entered) good sound
@@ -158,7 +158,7 @@ does setting states system worker state entered (CallsMap call go) good sound is
 does setting states system worker state entered (Traps cause) good sound is steps local = absurd cc
 
 calls : (setting : Setting) (states : List (Option State)) (system : SystemState) (worker : ℕ) (state : MachineState) (entered : List ℕ) (step : Step) → IsSetting setting states →
-    IsSoundSystem setting states system → worker_state system worker ≡ Runs state entered → next_step (program_of setting) state ≡ step →
+    IsSoundSystem setting states system → worker_state system worker ≡ Runs state entered → next_step (program_of_setting setting) state ≡ step →
     IsSoundSystem setting states (after_asking setting system worker state entered step)
 calls setting states system worker state entered (CallsMap call go) good sound is steps =
     by_entered setting states system worker state entered call go good sound is steps (is_entered (shard_of_call call) entered) refl
@@ -171,14 +171,14 @@ instruction_sound : (setting : Setting) (states : List (Option State)) (system :
 instruction_sound setting states system worker Idle good sound is can = absurd can
 instruction_sound setting states system worker (Leaves entered) good sound is can = absurd can
 instruction_sound setting states system worker (Runs state entered) good sound is can =
-    does setting states system worker state entered (next_step (program_of setting) state) good sound is refl can
+    does setting states system worker state entered (next_step (program_of_setting setting) state) good sound is refl can
 
 shard_call_sound : (setting : Setting) (states : List (Option State)) (system : SystemState) (worker : ℕ) (now : WorkerState) → IsSetting setting states →
     IsSoundSystem setting states system → worker_state system worker ≡ now → IsSoundSystem setting states (after_shard_call setting system worker now)
 shard_call_sound setting states system worker Idle good sound is = sound
 shard_call_sound setting states system worker (Leaves entered) good sound is = sound
 shard_call_sound setting states system worker (Runs state entered) good sound is =
-    calls setting states system worker state entered (next_step (program_of setting) state) good sound is refl
+    calls setting states system worker state entered (next_step (program_of_setting setting) state) good sound is refl
 
 leaving_sound : (setting : Setting) (states : List (Option State)) (system : SystemState) (worker shard : ℕ) (now : WorkerState) → IsSetting setting states →
     IsSoundSystem setting states system → worker_state system worker ≡ now → MayLeave now shard → IsSoundSystem setting states (after_leaving setting system worker shard now)

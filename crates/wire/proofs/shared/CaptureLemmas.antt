@@ -5,7 +5,8 @@ use Rattle.std.proofs.lemmas.Slice.{between_to_end}
 use Rattle.wire.specs.declared.records.Sent.{Sent}
 use Rattle.wire.specs.declared.capture_fault.CaptureFault.{CaptureFault}
 use Rattle.wire.specs.declared.capture_fault.CaptureFault.TheVariants.{BadMagic, BadVersion, BadLink, CutHead, CutFrame, FrameTooLong, Device, Memory}
-use Rattle.wire.specs.CaptureFormat.{BeginsWithHeader, BeginsWithRecord, AreRecords, IsRecordFault, RefusesRecord, IsFirstFault, IsNoCaptureFile, Refuses}
+use Rattle.wire.specs.CaptureFormat.{BeginsWithHeader, BeginsWithRecord, AreRecords, IsRecordFault, RefusesRecord, IsFirstCaptureFault, IsNoCaptureFile}
+use Rattle.wire.specs.CaptureFormat.{RefusesCapture}
 
 -- one more record
 pub AreRecords-more : (bytes : List ℕ) (sents : List Sent) (rest : List ℕ) (sent : Sent) → AreRecords bytes sents rest → BeginsWithRecord rest sent → AreRecords bytes (sents ++ sent ∷ []) (drop (16 + length sent.bytes.items) rest)
@@ -52,7 +53,7 @@ no_records bytes (sent ∷ sents) rest (other ∷ others) some blocked are are' 
     no_records (drop (16 + length sent.bytes.items) bytes) sents rest others some blocked are.1 (subst P same_kept are'.1)
 
 -- a record's fault is the file's first
-first_fault : (bytes : List ℕ) (sents : List Sent) (rest : List ℕ) (fault : CaptureFault) → BeginsWithHeader bytes → AreRecords (drop 24 bytes) sents rest → IsRecordFault rest (length sents + 1) fault → IsFirstFault bytes fault × IsNoCaptureFile bytes
+first_fault : (bytes : List ℕ) (sents : List Sent) (rest : List ℕ) (fault : CaptureFault) → BeginsWithHeader bytes → AreRecords (drop 24 bytes) sents rest → IsRecordFault rest (length sents + 1) fault → IsFirstCaptureFault bytes fault × IsNoCaptureFile bytes
 first_fault bytes sents rest fault header are cause =
     let blocks = fault_blocks rest (length sents + 1) fault cause in (
       inr (record { header = header; sents = sents; rest = rest; records = are; cause = cause }),
@@ -60,7 +61,7 @@ first_fault bytes sents rest fault header are cause =
     )
 
 -- a refused record refuses the file
-pub refused_record : (bytes : List ℕ) (sents : List Sent) (rest : List ℕ) (fault : CaptureFault) → BeginsWithHeader bytes → AreRecords (drop 24 bytes) sents rest → RefusesRecord rest (length sents + 1) fault → Refuses bytes fault
+pub refused_record : (bytes : List ℕ) (sents : List Sent) (rest : List ℕ) (fault : CaptureFault) → BeginsWithHeader bytes → AreRecords (drop 24 bytes) sents rest → RefusesRecord rest (length sents + 1) fault → RefusesCapture bytes fault
 refused_record bytes sents rest BadMagic header are cause = absurd cause
 refused_record bytes sents rest BadVersion header are cause = absurd cause
 refused_record bytes sents rest BadLink header are cause = absurd cause

@@ -6,7 +6,7 @@ ghost use Rattle.journals.specs.JournalsView.{entries_at};
 ghost use Rattle.shards.specs.CallerView.{nothing_seen};
 ghost use Rattle.shards.specs.NewShards.{IsNamed};
 ghost use Rattle.shards.specs.Passes.{own_at, view_at};
-ghost use Rattle.worked_examples.specs.TwoWorkers.{one_element, for_two, its_plan, HasLoaded, AreDone, AreTheFour};
+ghost use Rattle.worked_examples.specs.TwoWorkers.{one_element, for_two, its_plan, HasFoundAndLoaded, AreBothDone, AreTheFour};
 
 use crate::asserting::{holds, same};
 use crate::maps::in_turn::entries_of;
@@ -44,7 +44,7 @@ fn enter_find_load<B: Naming>(
     requires who { pass.old.who ≡ Worker 0 }
     requires nothing { view_at pass.old 0 ≡ nothing_seen }
     ensures who { pass.new.who ≡ Worker 0 }
-    ensures loaded { IfOk result (λ word. HasLoaded (view_at pass.new 0) word) }
+    ensures loaded { IfOk result (λ word. HasFoundAndLoaded (view_at pass.new 0) word) }
 {
     planned(shards);
     shards.enter(rt, pass, 0)?;
@@ -72,7 +72,7 @@ fn two_workers<B: Naming>(
     requires first { (first.old.who ≡ Worker 0) × (view_at first.old 0 ≡ nothing_seen) }
     requires second { (second.old.who ≡ Worker 1) × (view_at second.old 0 ≡ nothing_seen) }
     ensures who { (first.new.who ≡ Worker 0) × (second.new.who ≡ Worker 1) }
-    ensures row { IfOk result (λ word. AreDone (view_at first.new 0) (view_at second.new 0) word) }
+    ensures row { IfOk result (λ word. AreBothDone (view_at first.new 0) (view_at second.new 0) word) }
 {
     let word = enter_find_load(rt, shards, first)?;
     planned(shards);

@@ -1,7 +1,7 @@
 //! The queue of a worker.
 
 ghost use Rattle.std.specs.Prelude.{◌≡◌, ◌≤◌, IfOk};
-ghost use Rattle.rx_queues.specs.Passes.{workers_of, records_of, IsPutPassOf, IsTakePassOf};
+ghost use Rattle.rx_queues.specs.Passes.{workers_of, record_count_of, IsPutPassOf, IsTakePassOf};
 
 use crate::asserting::same;
 use rx_queues::{Caller, Job, OpenFault, PutPass, Queues, TakePass};
@@ -12,7 +12,7 @@ const WORKER: Caller = Caller::Worker { number: 0 };
 
 /// The queues of one worker for 100 frames, and the rights to put and to take from the worker's.
 fn opened(alloc: Global) -> Result<(Queues, PutPass, TakePass), OpenFault>
-    ensures jobs { IfOk result (λ opened. (workers_of opened.0 ≡ 1) × (records_of opened.0 ≡ 100)) }
+    ensures jobs { IfOk result (λ opened. (workers_of opened.0 ≡ 1) × (record_count_of opened.0 ≡ 100)) }
     ensures put { IfOk result (λ opened. IsPutPassOf opened.0 opened.1) }
     ensures take { IfOk result (λ opened. IsTakePassOf opened.0 opened.2) }
 {
@@ -24,7 +24,7 @@ fn opened(alloc: Global) -> Result<(Queues, PutPass, TakePass), OpenFault>
 /// Puts the frames of these numbers, up to the first that comes back. Says how many were put.
 fn put_frames<R: Wait>(rt: &R, queues: &Queues, pass: &mut PutPass, count: usize) -> usize
     requires queue { workers_of queues.now ≡ 1 }
-    requires count { count ≤ records_of queues.now }
+    requires count { count ≤ record_count_of queues.now }
     requires pass { IsPutPassOf queues.now pass.old }
     ensures { IsPutPassOf queues.now pass.new }
 {

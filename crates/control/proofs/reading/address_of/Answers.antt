@@ -1,6 +1,6 @@
 use Rattle.std.proofs.Common.{◌≡◌, ◌<◌, ◌++◌, ◌∷◌, ◌^◌, ℕ, List, get_or, arith}
 use Rattle.std.specs.Fmt.{decimal}
-use Rattle.control.specs.ScriptText.{AreBytes, address_text}
+use Rattle.control.specs.ScriptText.{AreBytesOfLength, address_text}
 use Rattle.control.proofs.Words.{decimal_lacks, four_same}
 use Rattle.control.proofs.reading.address_of.Goals as goal
 

@@ -1,5 +1,5 @@
 use Rattle.std.proofs.Common.{◌≡◌, ◌<◌, ◌∙◌, ℕ, List, get_or, ap, arith}
-use Rattle.control.specs.ScriptText.{AreBytes, hex_pair, mac_text}
+use Rattle.control.specs.ScriptText.{AreBytesOfLength, hex_pair, mac_text}
 use Rattle.control.proofs.Words.{six_same}
 use Rattle.control.proofs.reading.mac_of.Goals as goal
 

@@ -1,6 +1,6 @@
 use Rattle.std.proofs.Common.{rules}
 use Rattle.std.proofs.lemmas.Result.{IfOk-weaker, IfErr-weaker}
-use Rattle.guarantees.specs.Runs.{start_of, IsPortOver}
+use Rattle.guarantees.specs.Runs.{run_start, IsPortOver}
 use Rattle.guarantees.proofs.RunLemmas.{ran_so, stopped_so}
 use Rattle.guarantees.proofs.running.worker_run.Goals as goal
 
@@ -16,7 +16,7 @@ returns-clause-exit c =
           c.over-port.ensures.worker;
     } in
     IfOk-weaker c.run_at-ended.result _ _
-    (λ exit ends. ran_so c.runs_are_their_meaning.ensures verified c.args.options (start_of c.args.moment.now c.args.frame.now)
+    (λ exit ends. ran_so c.runs_are_their_meaning.ensures verified c.args.options (run_start c.args.moment.now c.args.frame.now)
     c.args.shards.now _ c.over-port.result c.run_at-ended.new.port exit.verdict exit.steps c.run_at-ended.new.frame
     c.requires.outside over ends (record { left = search rules; serve = search rules }))
     c.run_at-ended.ensures.exit
@@ -33,7 +33,7 @@ returns-clause-stop c =
           c.over-port.ensures.worker;
     } in
     IfErr-weaker c.run_at-ended.result _ _
-    (λ stop stops. stopped_so c.stopped_runs_are_beginnings.ensures verified c.args.options (start_of c.args.moment.now c.args.frame.now)
+    (λ stop stops. stopped_so c.stopped_runs_are_beginnings.ensures verified c.args.options (run_start c.args.moment.now c.args.frame.now)
     c.args.shards.now _ c.over-port.result c.run_at-ended.new.port stop c.run_at-ended.new.frame
     c.requires.outside over stops (record { left = search rules; serve = search rules }))
     c.run_at-ended.ensures.stop

@@ -1,13 +1,13 @@
 use Rattle.std.proofs.Common.{◌++◌, ◌∷◌, ◌<◌, ◌^◌, arith}
 use Rattle.std.specs.Fmt.{decimal}
 use Rattle.semantics.specs.History.{shard_of_call}
-use Rattle.journals.specs.JournalText.{who_text, verb_text, verb_of_call, told_text, reply_text, line_of}
+use Rattle.journals.specs.JournalText.{who_text, verb_text, verb_of_call, told_text, reply_text, line_of_entry}
 use Rattle.journals.proofs.Bytes.{shard_small}
 use Rattle.journals.proofs.Words.{number_lacks, who_lacks, verb_lacks, reads_entry}
 use Rattle.journals.proofs.reading.entry_read.Goals as goal
 
 pub returns-clause-found : goal.returns-clause-found
-unfolding line_of
+unfolding line_of_entry
 returns-clause-found c = λ entry fits is.
     let small : shard_of_call entry.call < 2 ^ 32 = shard_small entry.call fits.call in
     let verb = verb_of_call entry.call in

@@ -4,7 +4,7 @@ use Rattle.atomic_table.specs.declared.badge.Badge.{Badge}
 use Rattle.shards.specs.declared.rule.Known.{Known}
 use Rattle.shards.specs.LockRule.{pass_of}
 use Rattle.shards.specs.HeldCells.{HeldIds, no_ids, held_at, most_held, room_of}
-use Rattle.shards.specs.NewShards.{row_at, IsPartOfSeat}
+use Rattle.shards.specs.NewShards.{badges_at, IsPartOfSeat}
 use Rattle.shards.specs.Passes.{badge_at}
 use Rattle.shards.specs.ShardPasses.{ShardPassView}
 use Rattle.semantics.proofs.shared.EachLemmas.{each_first, each_rest, each_start, at_or, set_count}
@@ -35,7 +35,7 @@ into_seat-seat-requires c =
     let old = c.args.rows.now.items in
     let there : number < length old = (let e = i.end_is in let t = c.rows-test.true in omega (arith, e, t)) in
     let below : number < length c.rows.rows.items = (let n = i.same_count in omega (arith, n, there)) in
-    let badge_is : c.take.result ≡ badge_at (row_at old number) c.args.place =
+    let badge_is : c.take.result ≡ badge_at (badges_at old number) c.args.place =
     c.take.ensures.badge ∙ ap (λ (r : List (Badge Known)). badge_at r c.args.place) (row_there c.rows.rows.items number c.index_mut.result.now below c.index_mut.ensures.value ∙ i.left number (omega arith)) in
     let new = c.requires.new number there in
     (pass_of new.key new.who [] [], ap (λ (b : Badge Known). b.views) badge_is ∙ new.fresh)
@@ -47,10 +47,10 @@ new-requires-clause-seat c =
     let old = c.args.rows.now.items in
     let there : number < length old = (let e = i.end_is in let t = c.rows-test.true in omega (arith, e, t)) in
     let below : number < length c.rows.rows.items = (let n = i.same_count in omega (arith, n, there)) in
-    let badge_is : c.take.result ≡ badge_at (row_at old number) c.args.place =
+    let badge_is : c.take.result ≡ badge_at (badges_at old number) c.args.place =
     c.take.ensures.badge ∙ ap (λ (r : List (Badge Known)). badge_at r c.args.place) (row_there c.rows.rows.items number c.index_mut.result.now below c.index_mut.ensures.value ∙ i.left number (omega arith)) in
     let seat = c.into_seat-seat.ensures in
-    seat_of_new (badge_at (row_at old number) c.args.place) (held_at c.args.held.items number) (c.requires.new number there) c.into_seat-seat.result.me (ap (λ (b : Badge Known). b.views) (sym badge_is) ∙ seat.2) seat.3
+    seat_of_new (badge_at (badges_at old number) c.args.place) (held_at c.args.held.items number) (c.requires.new number there) c.into_seat-seat.result.me (ap (λ (b : Badge Known). b.views) (sym badge_is) ∙ seat.2) seat.3
 
 pub new-requires-clause-none : goal.new-requires-clause-none
 new-requires-clause-none c =
@@ -68,12 +68,12 @@ new-requires-clause-room c =
     let there : number < length old = (let e = i.end_is in let t = c.rows-test.true in omega (arith, e, t)) in
     let below : number < length c.rows.rows.items = (let n = i.same_count in omega (arith, n, there)) in
     let some_left : 0 < length c.rows.held.items = (let t = i.together in omega (arith, t, there)) in
-    let badge_is : c.take.result ≡ badge_at (row_at old number) c.args.place =
+    let badge_is : c.take.result ≡ badge_at (badges_at old number) c.args.place =
     c.take.ensures.badge ∙ ap (λ (r : List (Badge Known)). badge_at r c.args.place) (row_there c.rows.rows.items number c.index_mut.result.now below c.index_mut.ensures.value ∙ i.left number (omega arith)) in
     let seat = c.into_seat-seat.ensures in
     let me = c.into_seat-seat.result.me in
     subst (λ (h : HeldIds). room_of me.0.who (most_held me.0.key.plan) ≤ h.room) (sym (each_first (Waits c.args.held.items) number c.rows.held.items c.remove.result i.waiting some_left c.remove.ensures.value))
-    (room_of_new (badge_at (row_at old number) c.args.place) (held_at c.args.held.items number) (c.requires.new number there) me (ap (λ (b : Badge Known). b.views) (sym badge_is) ∙ seat.2) seat.3)
+    (room_of_new (badge_at (badges_at old number) c.args.place) (held_at c.args.held.items number) (c.requires.new number there) me (ap (λ (b : Badge Known). b.views) (sym badge_is) ∙ seat.2) seat.3)
 
 pub rows-preserved : goal.rows-preserved
 rows-preserved c =
@@ -87,7 +87,7 @@ rows-preserved c =
     let there : number < length old = (let e = i.end_is in let t = c.rows-test.true in omega (arith, e, t)) in
     let below : number < length now = (let n = i.same_count in omega (arith, n, there)) in
     let is = c.index_mut.ensures.value in
-    let badge_is : c.take.result ≡ badge_at (row_at old number) place =
+    let badge_is : c.take.result ≡ badge_at (badges_at old number) place =
     c.take.ensures.badge ∙ ap (λ (r : List (Badge Known)). badge_at r place) (row_there now number row below is ∙ i.left number (omega arith)) in
     let seat = c.into_seat-seat.ensures in
     let items = c.push_reserved.ensures.items in
@@ -99,8 +99,8 @@ rows-preserved c =
       together = (let t = i.together in let shorter = c.remove.ensures.len in let a = c.rows.held.ok.0 in let b = c.remove.new.self.ok.0 in omega (arith, t, shorter, a, b, there));
       waiting = subst (λ (hs : List HeldIds). Each (Waits c.args.held.items) (number + 1) hs) (sym c.remove.ensures.items) (each_rest (Waits c.args.held.items) number c.rows.held.items i.waiting);
       left = rows_left old now number place row after below is c.take.ensures.others c.take.ensures.count i.left;
-      made = parts_more (λ (k : ℕ) (part : ShardPassView). IsPartOfSeat (badge_at (row_at old k) place) part) c.rows.parts.items c.push_reserved.new.self.items number c.new.result i.counted items
-          (part_of_seat (badge_at (row_at old number) place) c.into_seat-seat.result c.new.result (seat.0 ∙ ap (λ (b : Badge Known). b.table_id) badge_is) (ap (λ (b : Badge Known). b.views) (sym badge_is) ∙ seat.2) seat.3 c.new.ensures) i.made;
+      made = parts_more (λ (k : ℕ) (part : ShardPassView). IsPartOfSeat (badge_at (badges_at old k) place) part) c.rows.parts.items c.push_reserved.new.self.items number c.new.result i.counted items
+          (part_of_seat (badge_at (badges_at old number) place) c.into_seat-seat.result c.new.result (seat.0 ∙ ap (λ (b : Badge Known). b.table_id) badge_is) (ap (λ (b : Badge Known). b.views) (sym badge_is) ∙ seat.2) seat.3 c.new.ensures) i.made;
       others = others_left old now number place row after below is c.take.ensures.others c.take.ensures.count i.others;
       lengths = lengths_left old now number place row after below is c.take.ensures.others c.take.ensures.count i.lengths;
     }

@@ -2,7 +2,7 @@ use Rattle.std.proofs.Common.{◌≡◌, ◌≢◌, ◌≤◌, ◌<◌, ◌+◌,
 use Rattle.std.specs.Prelude.{vec_capacity}
 use Rattle.semantics.specs.Each.{Each}
 use Rattle.shards.specs.HeldCells.{HeldIds, held_at}
-use Rattle.shards.specs.NewShards.{row_at, IsPartOfSeat}
+use Rattle.shards.specs.NewShards.{badges_at, IsPartOfSeat}
 use Rattle.shards.specs.Passes.{badge_at, shard_pass_at}
 use Rattle.shards.proofs.dealer.column.Given as goal
 
@@ -13,10 +13,10 @@ pub record Taken (l : goal.Live-rows) : Type 0 where
   pub room : length l.fn.rows.items ≤ vec_capacity l.parts
   pub together : l.number + length l.held.items ≡ length l.fn.rows.items
   pub waiting : Each (λ (k : ℕ) (held : HeldIds). held ≡ held_at l.fn.held.items k) l.number l.held.items
-  pub left : (k : ℕ) → l.number ≤ k → row_at l.rows.items k ≡ row_at l.fn.rows.items k
-  pub made : (k : ℕ) → k < l.number → IsPartOfSeat (badge_at (row_at l.fn.rows.items k) l.place) (shard_pass_at l.parts.items k)
-  pub others : (k other : ℕ) → other ≢ l.place → badge_at (row_at l.rows.items k) other ≡ badge_at (row_at l.fn.rows.items k) other
-  pub lengths : (k : ℕ) → length (row_at l.rows.items k) ≡ length (row_at l.fn.rows.items k)
+  pub left : (k : ℕ) → l.number ≤ k → badges_at l.rows.items k ≡ badges_at l.fn.rows.items k
+  pub made : (k : ℕ) → k < l.number → IsPartOfSeat (badge_at (badges_at l.fn.rows.items k) l.place) (shard_pass_at l.parts.items k)
+  pub others : (k other : ℕ) → other ≢ l.place → badge_at (badges_at l.rows.items k) other ≡ badge_at (badges_at l.fn.rows.items k) other
+  pub lengths : (k : ℕ) → length (badges_at l.rows.items k) ≡ length (badges_at l.fn.rows.items k)
 
 abbrev pub invariant-rows : goal.invariant-rows
 invariant-rows l = Taken l

@@ -1,11 +1,11 @@
 use Rattle.std.proofs.Common.{◌≡◌, ◌∙◌, ℕ, Bool, true, false, List, [], ◌∷◌, length, refl, sym, arith}
 use Rattle.std.specs.Prelude.{codes}
-use Rattle.source_form.specs.SourceText.{begins}
+use Rattle.source_form.specs.SourceText.{begins_with}
 use Rattle.source_form.specs.SourceBeginning.{is_word_byte, goes_into, begins_behind}
 use Rattle.source_form.proofs.beginning.begins_as_source.Goals as goal
 
 at_word : (rest more : List ℕ) (b : ℕ) (in_comment : Bool) → rest ≡ b ∷ more → is_word_byte in_comment b ≡ true
-    → begins_behind rest in_comment ≡ begins rest (codes "version")
+    → begins_behind rest in_comment ≡ begins_with rest (codes "version")
 unfolding begins_behind
 at_word rest more b in_comment is yes' = rw (is, yes') refl
 

@@ -1,7 +1,7 @@
 use Rattle.std.proofs.Common.{◌≡◌, ℕ, List, subst, sym}
 use Rattle.std.proofs.lemmas.Result.{err_from_is_err_and}
 use Rattle.xlb_commands.specs.Refused.{no_audited_image, no_journal_bytes, no_journals, no_verdict, not_legal}
-use Rattle.journals.specs.JournalReading.{IsJournalsFile, Refuses}
+use Rattle.journals.specs.JournalReading.{IsJournalsFile, RefusesJournals}
 use Rattle.journals.specs.JournalsView.{JournalsView}
 use Rattle.xlb_commands.proofs.Refusals.{unserved_since, failed_since}
 use Rattle.xlb_commands.proofs.commands.audit_file.Goals as goal
@@ -21,7 +21,7 @@ returns-in_err-image-clause-refused g c =
 pub returns-in-Err-clause-refused : goal.returns-in-Err-clause-refused
 returns-in-Err-clause-refused g c =
     let read = (c.in_ok-image.ensures.kept c.args.journals.now c.in_ok-bytes.bytes.items).1 c.in_ok-bytes.ensures.bytes in
-    let why = subst (λ (text : List ℕ). Refuses c.in_ok-image.image.maps text c.in-Err.fault) c.deref.ensures.value c.in-Err.ensures.refused in
+    let why = subst (λ (text : List ℕ). RefusesJournals c.in_ok-image.image.maps text c.in-Err.fault) c.deref.ensures.value c.in-Err.ensures.refused in
     no_journals c.in_ok-image.image c.in_ok-bytes.bytes.items c.in-Err.fault c.in_ok-image.ensures.file read why c.refused_journals.ensures
 
 pub returns-in_err-from_str-in-Ok-audit-clause-refused : goal.returns-in_err-from_str-in-Ok-audit-clause-refused

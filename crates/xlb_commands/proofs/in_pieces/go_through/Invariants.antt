@@ -1,11 +1,11 @@
 use Rattle.std.proofs.Common.{◌≡◌, ◌+◌, List, length}
 use Rattle.folders.specs.PieceReading.{IsReadTo}
 use Rattle.machine.specs.Running.{program_of}
-use Rattle.replay.specs.Pieces.{GoesOn}
+use Rattle.replay.specs.Pieces.{ReplayGoesOn}
 use Rattle.semantics.specs.ShardPlan.{recorded}
 use Rattle.wire.specs.declared.records.Sent.{Sent}
 use Rattle.xlb_commands.specs.Files.{AreKept}
-use Rattle.xlb_commands.specs.InPieces.{HasRoom, HaveRun}
+use Rattle.xlb_commands.specs.InPieces.{ReaderHasRoom, HaveRun}
 use Rattle.xlb_commands.specs.Parts.{command_frames, records_in}
 use Rattle.xlb_commands.specs.Shares.{HasPassed}
 use Rattle.xlb_commands.proofs.in_pieces.go_through.Given as goal
@@ -18,8 +18,8 @@ pub record Gone (g : goal.Over) (l : goal.Live-pieces g) : Type 0 where
   pub have_run : HaveRun (program_of l.asked.verified.now l.asked.options.shards) l.asked.script.now
       (recorded l.asked.recording l.asked.options) l.fn.going.replay l.going.replay
       (g.D.Folder.is_begun l.fn.folder) (g.D.Folder.is_begun l.folder) (records_in l.asked.part records)
-  pub room : HasRoom (g.D.Folder.most_left l.folder) l.reader
-  pub goes_on : GoesOn l.asked.script.now l.going.replay
+  pub room : ReaderHasRoom (g.D.Folder.most_left l.folder) l.reader
+  pub goes_on : ReplayGoesOn l.asked.script.now l.going.replay
   pub maps : l.going.replay.turns.all.maps ≡ l.asked.verified.now.maps
   pub kept : AreKept (g.D.Folder.holds l.fn.folder) (g.D.Folder.holds l.folder)
   pub steady : g.D.Folder.failure_count l.folder ≡ g.D.Folder.failure_count l.fn.folder

@@ -20,7 +20,8 @@ use Rattle.map_updates.specs.declared.update.MapUpdate.{MapUpdate}
 use Rattle.command_line.specs.Reading.{text_of}
 use Rattle.steer.specs.ShippedProgram.{shipped_image}
 use Rattle.xlb_commands.specs.Files.{FileBytes}
-use Rattle.xlb_commands.specs.Replays.{IsProgramOf, IsReplayReport, IsReplayedWith, IsScriptOf, counts_text, image_of, reading_in, recording_in, recording_of}
+use Rattle.xlb_commands.specs.Replays.{IsProgramOf, IsReplayReport, IsReplayedWith, IsScriptOf, counts_text, image_of, capture_reading, recording_in}
+use Rattle.xlb_commands.specs.Replays.{recording_of}
 use Rattle.xlb_commands.specs.Replays.{refusals_text}
 use Rattle.xlb_commands.specs.declared.fault.Fault.{Fault}
 use Rattle.xlb_commands.specs.Refused.{HasFailed, IsUnreplayed, no_replay_program, no_replay_script, not_replayed}
@@ -57,26 +58,26 @@ some_of refused strict is_refused none (inr is) = inr is
 -- the report of a replay with what is asked for, by the same recording and the same updates
 as_asked : (before after : FileBytes) (asked : ReplaySettings) (program : Contents) (states : List (Option State)) (script : List Command)
     (recording : Recording) (updates : List MapUpdate) (report : Report) → recording ≡ recording_in asked → updates ≡ asked.updates.items
-    → IsReplayReport before after asked.files program states script asked.options recording asked.ring asked.exact (reading_in asked) asked.part
+    → IsReplayReport before after asked.files program states script asked.options recording asked.ring asked.exact (capture_reading asked) asked.part
     updates report
     → IsReplayReport before after asked.files program states script asked.options (recording_in asked) asked.ring asked.exact
-    (reading_in asked) asked.part asked.updates.items report
+    (capture_reading asked) asked.part asked.updates.items report
 as_asked before after asked program states script recording updates report recorded same is =
     subst (λ (it : List MapUpdate). IsReplayReport before after asked.files program states script asked.options (recording_in asked) asked.ring
-    asked.exact (reading_in asked) asked.part it report) same
+    asked.exact (capture_reading asked) asked.part it report) same
     (subst (λ (it : Recording). IsReplayReport before after asked.files program states script asked.options it asked.ring asked.exact
-    (reading_in asked) asked.part updates report) recorded is)
+    (capture_reading asked) asked.part updates report) recorded is)
 
 -- why a replay with what is asked for was not made
 unmade_as_asked : (before after : FileBytes) (failed : Type 0) (asked : ReplaySettings) (program : Contents) (script : List Command)
     (recording : Recording) (updates : List MapUpdate) (fault : Fault) → recording ≡ recording_in asked → updates ≡ asked.updates.items
-    → IsUnreplayed before after failed asked.files program script asked.options recording asked.exact (reading_in asked) asked.part updates fault
-    → IsUnreplayed before after failed asked.files program script asked.options (recording_in asked) asked.exact (reading_in asked) asked.part
+    → IsUnreplayed before after failed asked.files program script asked.options recording asked.exact (capture_reading asked) asked.part updates fault
+    → IsUnreplayed before after failed asked.files program script asked.options (recording_in asked) asked.exact (capture_reading asked) asked.part
     asked.updates.items fault
 unmade_as_asked before after failed asked program script recording updates fault recorded same is =
     subst (λ (it : List MapUpdate). IsUnreplayed before after failed asked.files program script asked.options (recording_in asked) asked.exact
-    (reading_in asked) asked.part it fault) same
-    (subst (λ (it : Recording). IsUnreplayed before after failed asked.files program script asked.options it asked.exact (reading_in asked)
+    (capture_reading asked) asked.part it fault) same
+    (subst (λ (it : Recording). IsUnreplayed before after failed asked.files program script asked.options it asked.exact (capture_reading asked)
     asked.part updates fault) recorded is)
 
 -- the same replay, whose text and refused commands are said otherwise
@@ -106,7 +107,7 @@ answer_is : (before after : FileBytes) (asked : ReplaySettings) (program : Conte
     → Accepts program.version program.maps program.code states → IsSafeImage program.maps program.code
     → IsScriptOf before (text_of asked.files.script) script
     → IsReplayReport before after asked.files program states script asked.options (recording_in asked) asked.ring asked.exact
-    (reading_in asked) asked.part asked.updates.items made
+    (capture_reading asked) asked.part asked.updates.items made
     → string_bytes report.text ≡ string_bytes made.text
     → (report.is_refused ≡ false → (made.is_refused ≡ false) × (asked.strict ≡ true → made.leaves_out ≡ false))
     → (report.is_refused ≡ true → (made.is_refused ≡ true) ⊎ (asked.strict ≡ true))

@@ -1,6 +1,6 @@
 use Rattle.std.proofs.Common.{map, inl, ap, ◌∙◌, rules}
 use Rattle.maglev.specs.declared.backend.Backend.{Backend}
-use Rattle.maglev.specs.Population.{numbers_of}
+use Rattle.maglev.specs.Population.{preference_numbers}
 use Rattle.maglev.specs.RingSize.{IsRingSize}
 use Rattle.maglev.specs.Refusals.{HaveRepeat}
 use Rattle.maglev.proofs.Rings.{hashed_fit, numbers_of-hashed, owned_by, balanced_by, all_permutations}
@@ -16,14 +16,14 @@ returns-clause-only_one c = rw c.in_ok-preferences.ensures at c.in_ok-owners.ens
 
 pub returns-clause-owned : goal.returns-clause-owned
 returns-clause-owned c =
-    owned_by (numbers_of c.in_ok-preferences.preferences.items) (map (λ (backend : Backend). backend.number) c.args.backends.now) c.in_ok-owners.owners.items
-    (ap numbers_of c.in_ok-preferences.ensures ∙ numbers_of-hashed c.args.size c.args.backends.now) c.in_ok-owners.ensures.owned
+    owned_by (preference_numbers c.in_ok-preferences.preferences.items) (map (λ (backend : Backend). backend.number) c.args.backends.now) c.in_ok-owners.owners.items
+    (ap preference_numbers c.in_ok-preferences.ensures ∙ numbers_of-hashed c.args.size c.args.backends.now) c.in_ok-owners.ensures.owned
 
 pub returns-clause-balanced : goal.returns-clause-balanced
 returns-clause-balanced c =
     let none : ¬ HaveRepeat c.args.backends.now = search rules in
-    balanced_by (numbers_of c.in_ok-preferences.preferences.items) (map (λ (backend : Backend). backend.number) c.args.backends.now) c.in_ok-owners.owners.items
-    (ap numbers_of c.in_ok-preferences.ensures ∙ numbers_of-hashed c.args.size c.args.backends.now)
+    balanced_by (preference_numbers c.in_ok-preferences.preferences.items) (map (λ (backend : Backend). backend.number) c.args.backends.now) c.in_ok-owners.owners.items
+    (ap preference_numbers c.in_ok-preferences.ensures ∙ numbers_of-hashed c.args.size c.args.backends.now)
     (λ repeat. none (inl repeat)) c.in_ok-owners.ensures.balanced
 
 pub returns-clause-permutations : goal.returns-clause-permutations

@@ -1,5 +1,5 @@
 use Rattle.std.proofs.Common.{length, sym, arith}
-use Rattle.plain_maps.specs.Keyed.{entry_of, key_map}
+use Rattle.plain_maps.specs.Keyed.{entry_number_of, key_map}
 use Rattle.plain_maps.specs.Hashing.{home_of}
 use Rattle.plain_maps.specs.Buckets.{bucket_at}
 use Rattle.plain_maps.proofs.Homes.{there_below}
@@ -86,7 +86,7 @@ returns-then-bucket-eq0-clause-lookups c =
     let none = sym (rw (bucket, c.deref-3.ensures.value, c.in_default.is) at c.found_in.ensures) in
     let idle = rw bucket at c.if-bucket-eq0.true in
     let absent = lookup_none inside.size inside.keys.items inside.is_there.items c.args.key.now (nowhere inside.size inside.capacity inside.keys.items inside.is_there.items inside.order.numbers _ inside.buckets.items c.self.invariant c.args.key.now within none idle) in
-    rw (← c.self.view_is) (absent_lookups c.args.key.now (entry_of (key_map inside.size inside.capacity inside.keys.items inside.is_there.items)) absent)
+    rw (← c.self.view_is) (absent_lookups c.args.key.now (entry_number_of (key_map inside.size inside.capacity inside.keys.items inside.is_there.items)) absent)
 
 pub invariant_of-self-in-Ok : goal.invariant_of-self-in-Ok
 invariant_of-self-in-Ok c =
@@ -152,7 +152,7 @@ returns-in-Err-clause-lookups c =
     let none = sym (rw (bucket, c.deref-3.ensures.value, c.in_default.is) at c.found_in.ensures) in
     let gap = rw c.deref-4.ensures.value at c.in-Err.ensures.absent in
     let absent = lookup_none inside.size inside.keys.items inside.is_there.items c.args.key.now (not_in_gap inside.size inside.capacity inside.keys.items inside.is_there.items inside.order.numbers _ inside.buckets.items c.self.invariant c.args.key.now within none _ gap) in
-    rw (← c.self.view_is) (absent_lookups c.args.key.now (entry_of (key_map inside.size inside.capacity inside.keys.items inside.is_there.items)) absent)
+    rw (← c.self.view_is) (absent_lookups c.args.key.now (entry_number_of (key_map inside.size inside.capacity inside.keys.items inside.is_there.items)) absent)
 
 pub returns-in-Some-clause-within : goal.returns-in-Some-clause-within
 returns-in-Some-clause-within c =

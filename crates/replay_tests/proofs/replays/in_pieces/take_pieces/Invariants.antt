@@ -1,7 +1,7 @@
 use Rattle.std.proofs.Common.{◌≡◌}
-use Rattle.replay.specs.Pieces.{GoesOn}
+use Rattle.replay.specs.Pieces.{ReplayGoesOn}
 use Rattle.replay_tests.proofs.replays.in_pieces.take_pieces.Given as goal
 
 -- the replay can go on
 abbrev pub invariant-pieces : goal.invariant-pieces
-invariant-pieces g l = GoesOn l.setting.script.now l.replay × (l.replay.turns.all.maps ≡ l.setting.verified.now.maps)
+invariant-pieces g l = ReplayGoesOn l.setting.script.now l.replay × (l.replay.turns.all.maps ≡ l.setting.verified.now.maps)

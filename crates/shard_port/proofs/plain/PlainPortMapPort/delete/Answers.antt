@@ -4,7 +4,7 @@ use Rattle.std.proofs.lemmas.Int.{to_z-of_z}
 use Rattle.std.specs.Coded.{Coded-set, coded_bool, le_prop}
 use Rattle.std.proofs.Math.Logic.{∥∥₁_elim}
 use Rattle.semantics.specs.declared.call.Reply.TheVariants.{Answer}
-use Rattle.map_port.specs.Served.{delete_call, shard_of}
+use Rattle.map_port.specs.Served.{delete_call, served_shard}
 use Rattle.semantics.proofs.shared.PlanLemmas.{some_shards}
 use Rattle.shard_port.specs.Asking.{IsAnsweredAmong}
 use Rattle.shard_port.specs.PortView.{IsPortReady}
@@ -39,6 +39,6 @@ returns-in-Ok-clause-gives c =
           (∥∥₁_elim c.args.self.now.ready le_prop (λ (ready : IsPortReady c.args.self.now.image.now.maps c.args.self.now.options
           c.args.self.now.worker c.args.self.now.shards.now). some_shards _ c.args.self.now.options ready.are_options)) tt tt
           (subst (FitsSigned w32) (sym same) fits)
-          (delete_told c.args.self.now.worker c.args.self.now.shards.now (shard_of (maps_of c.args.self.now) c.args.map c.args.key.now)
+          (delete_told c.args.self.now.worker c.args.self.now.shards.now (served_shard (maps_of c.args.self.now) c.args.map c.args.key.now)
           c.args.key.now c.in-Ok.reply c.ask.new.self.shards.now among ∙ ap Answer (sym c.answer.ensures ∙ sym same)) among;
     }

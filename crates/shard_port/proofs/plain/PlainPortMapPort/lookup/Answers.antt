@@ -2,7 +2,7 @@ use Rattle.std.proofs.Common.{◌≡◌, ap, subst}
 use Rattle.std.specs.Prelude.{IsTrue}
 use Rattle.std.specs.Coded.{Coded-set, coded_bool, le_prop}
 use Rattle.std.proofs.Math.Logic.{∥∥₁_elim}
-use Rattle.map_port.specs.Served.{lookup_call, reply_of_handle, shard_of, program_over}
+use Rattle.map_port.specs.Served.{lookup_call, reply_of_handle, served_shard, program_over}
 use Rattle.semantics.specs.RunTrace.{IsReplyTo}
 use Rattle.semantics.proofs.shared.PlanLemmas.{some_shards}
 use Rattle.shard_port.specs.Asking.{IsAnsweredAmong}
@@ -26,7 +26,7 @@ handle_of-requires c =
     ∥∥₁_elim c.args.self.now.ready (Coded-set coded_bool _ _)
     (λ (ready : IsPortReady c.args.self.now.image.now.maps c.args.self.now.options c.args.self.now.worker c.args.self.now.shards.now).
     small_lookup c.args.self.now.image.now.maps c.args.self.now.options c.args.self.now.worker c.args.self.now.shards.now
-    (shard_of (maps_of c.args.self.now) c.args.map c.args.key.now) c.args.key.now c.in-Ok.reply c.ask.new.self.shards.now ready among)
+    (served_shard (maps_of c.args.self.now) c.args.map c.args.key.now) c.args.key.now c.in-Ok.reply c.ask.new.self.shards.now ready among)
 
 pub returns-in-Ok-clause-gives : goal.returns-in-Ok-clause-gives
 returns-in-Ok-clause-gives c =
@@ -37,10 +37,10 @@ returns-in-Ok-clause-gives c =
     ∥∥₁_elim c.args.self.now.ready (Coded-set coded_bool _ _)
     (λ (ready : IsPortReady c.args.self.now.image.now.maps c.args.self.now.options c.args.self.now.worker c.args.self.now.shards.now).
     small_lookup c.args.self.now.image.now.maps c.args.self.now.options c.args.self.now.worker c.args.self.now.shards.now
-    (shard_of (maps_of c.args.self.now) c.args.map c.args.key.now) c.args.key.now c.in-Ok.reply c.ask.new.self.shards.now ready
+    (served_shard (maps_of c.args.self.now) c.args.map c.args.key.now) c.args.key.now c.in-Ok.reply c.ask.new.self.shards.now ready
     among) in
     let told : c.in-Ok.reply ≡ reply_of_handle cell_of_handle (handle_of c.in-Ok.reply) =
-    found_told c.args.self.now.worker c.args.self.now.shards.now (shard_of (maps_of c.args.self.now) c.args.map c.args.key.now)
+    found_told c.args.self.now.worker c.args.self.now.shards.now (served_shard (maps_of c.args.self.now) c.args.map c.args.key.now)
     c.args.key.now c.in-Ok.reply c.ask.new.self.shards.now small among in
     rw c.handle_of.ensures.handle (record {
       same_port = record {
@@ -57,7 +57,7 @@ returns-in-Ok-clause-gives c =
           c.args.self.now.worker c.args.self.now.shards.now). some_shards _ c.args.self.now.options ready.are_options)) tt tt
           (subst (IsReplyTo (program_over (maps_of c.args.self.now)) (lookup_call (maps_of c.args.self.now) c.args.map c.args.key.now))
           told (lookup_formed c.args.self.now.image.now.maps c.args.self.now.options c.args.self.now.worker c.args.self.now.shards.now
-          (shard_of (maps_of c.args.self.now) c.args.map c.args.key.now) c.args.key.now c.in-Ok.reply c.ask.new.self.shards.now
+          (served_shard (maps_of c.args.self.now) c.args.map c.args.key.now) c.args.key.now c.in-Ok.reply c.ask.new.self.shards.now
           c.args.self.now.ready among))
           (told) among;
     })

@@ -6,7 +6,7 @@ use Rattle.std.specs.Coded.{Coded-set, coded_bool, le_prop}
 use Rattle.std.proofs.lemmas.List.Elements.{recursion_from_All}
 use Rattle.std.proofs.Math.Logic.{∥∥₁_elim}
 use Rattle.semantics.specs.declared.call.Reply.TheVariants.{Answer}
-use Rattle.map_port.specs.Served.{update_call, shard_of}
+use Rattle.map_port.specs.Served.{update_call, served_shard}
 use Rattle.semantics.proofs.shared.PlanLemmas.{some_shards}
 use Rattle.shard_port.specs.Asking.{IsAnsweredAmong}
 use Rattle.shard_port.specs.PortView.{IsPortReady}
@@ -45,7 +45,7 @@ returns-in-Ok-clause-gives c =
           (∥∥₁_elim c.args.self.now.ready le_prop (λ (ready : IsPortReady c.args.self.now.image.now.maps c.args.self.now.options
           c.args.self.now.worker c.args.self.now.shards.now). some_shards _ c.args.self.now.options ready.are_options)) tt
           (recursion_from_All (λ byte. byte < 256) c.args.value.now c.requires.value_bytes) (subst (FitsSigned w32) (sym same) fits)
-          (update_told c.args.self.now.worker c.args.self.now.shards.now (shard_of (maps_of c.args.self.now) c.args.map c.args.key.now)
+          (update_told c.args.self.now.worker c.args.self.now.shards.now (served_shard (maps_of c.args.self.now) c.args.map c.args.key.now)
           c.args.key.now c.args.value.now c.args.flags c.in-Ok.reply c.ask.new.self.shards.now among ∙
           ap Answer (sym c.answer.ensures ∙ sym same)) among;
     }

@@ -4,7 +4,7 @@ use Rattle.wire.specs.declared.records.Sent.{Sent}
 use Rattle.traffic.specs.Counting.{one_if}
 use Rattle.traffic.specs.declared.record_line.ReportForm.{ReportForm}
 use Rattle.actors.specs.declared.outcome.RecordEnd.{RecordEnd}
-use Rattle.xlb_commands.specs.RecordReports.{backends_in, end_of, is_sent, is_tx, line_of, line_text, lines_until, sent_before, verdict_in}
+use Rattle.xlb_commands.specs.RecordReports.{backends_in, end_of, is_sent, is_tx, line_of_record, line_text, lines_until, sent_before, verdict_in}
 use Rattle.xlb_commands.proofs.record_report.Lines.put_all.Goals.{then-is_tx, else-is_tx}
 use Rattle.xlb_commands.proofs.record_report.Lines.put_all.Goals as goal
 
@@ -26,11 +26,11 @@ module _ (form : ReportForm) (is_shipped : Bool) (backends : List (ℕ × ℕ)) 
       → line ≡ line_text form is_shipped backends number captured end (slice_get sent place) → after ≡ before ++ line
       → after ≡ old ++ lines_until form is_shipped backends records ends sent (number + 1)
   one_line number place captured end old before line after found end_is place_is were is_line put =
-      let same : line ≡ line_of form is_shipped backends ends sent number (slice_get records number) =
+      let same : line ≡ line_of_record form is_shipped backends ends sent number (slice_get records number) =
       is_line
       ∙ (ap (λ (it : RecordEnd). line_text form is_shipped backends number captured it (slice_get sent place)) end_is
       ∙ (ap (λ (it : ℕ). line_text form is_shipped backends number captured (end_of ends number) (slice_get sent it)) place_is
-      ∙ ap (λ (it : _). line_of form is_shipped backends ends sent number it) (sym found))) in
+      ∙ ap (λ (it : _). line_of_record form is_shipped backends ends sent number it) (sym found))) in
       put ∙ (ap₂ (◌++◌) were same
       ∙ (append_assoc old (lines_until form is_shipped backends records ends sent number) _
       ∙ ap (λ (n : ℕ). old ++ lines_until form is_shipped backends records ends sent n) (sym (add-one number))))
