@@ -1,5 +1,5 @@
 -- What a replay accounts for: each record, and each entry of the journals.
-use Rattle.std.specs.Prelude.{◌≡◌, ◌<◌, ℕ, List, length, reverse}
+use Rattle.std.specs.Prelude.{◌≡◌, ◌<◌, ℕ, List, length, reverse, take}
 use Rattle.wire.specs.declared.records.Sent.{Sent}
 use Rattle.semantics.specs.declared.call.Caller.TheVariants.{Worker}
 use Rattle.semantics.specs.declared.options.Options.{Options}
@@ -10,7 +10,7 @@ use Rattle.semantics.specs.Program.{Program}
 use Rattle.journals.specs.JournalsView.{JournalsView, entries_at}
 use Rattle.shards.specs.declared.deeds.Deed.{Deed}
 use Rattle.shards.specs.declared.deeds.OrderPart.TheVariants.{ByCaller}
-use Rattle.shards.specs.Deeds.{deeds_of, made_on, AreMet, AreDeedsWithin}
+use Rattle.shards.specs.Deeds.{deeds_of, made_on, AreMet, AreDeedsWithin, AreFirst}
 use Rattle.shards.specs.Passes.{PassView, own_at}
 use Rattle.shards.specs.SharedMaps.{ArePlans}
 use Rattle.actors.specs.declared.runner.Ran.{Ran}
@@ -19,7 +19,7 @@ use Rattle.actors.specs.RunsInOrder.{IsRunAt, HasHandled}
 use Rattle.actors.specs.Shares.{frames_of, share}
 use Rattle.control.specs.declared.command.Command.{Command}
 use Rattle.actors.specs.declared.outcome.Outcome.{Outcome}
-use Rattle.actors.specs.Parts.{IsScriptAccounted, AreRoundsAccounted, round_count}
+use Rattle.actors.specs.Parts.{IsScriptAccounted, AreRoundsAccounted, round_count, first_commands, first_deeds}
 use Rattle.actors.specs.RunsOverShards.{IsNewPass, IsRunIn}
 
 -- a worker ran its records, in order, from a pass that had seen nothing; in each journal its entries are those of its runs, one after the
@@ -65,5 +65,8 @@ pub record IsAccounted (program : Program) (script : List Command) (options : Op
   pub ends : outcome.ends.items ≡ ends_of (frames_of records) options.workers runs (length records)
   -- the updates before the first record, the commands of the script, and those that were refused
   pub commands : IsScriptAccounted plan program.maps options count outcome.updates.items script outcome.journals order outcome.refused.items
+  -- the order begins with the updates and the commands that come before the first record
+  pub begins :
+      AreFirst (first_deeds program.maps options outcome.updates.items (take (first_commands script) commands.done)) order
   -- the reclaimer's rounds
   pub rounds : AreRoundsAccounted plan count (round_count (length records)) outcome.journals order

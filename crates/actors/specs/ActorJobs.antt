@@ -9,7 +9,7 @@ use Rattle.semantics.specs.declared.plan.ShardPlan.{ShardPlan}
 use Rattle.shards.specs.Passes.{PassView}
 use Rattle.control.specs.Controlling.{ControllerState}
 use Rattle.actors.specs.declared.outcome.Applied.{Applied}
-use Rattle.actors.specs.Commands.{CommanderView, IsScriptAccount}
+use Rattle.actors.specs.Commands.{CommanderView, IsScriptAccountBehind, OfEachAccount}
 use Rattle.actors.specs.Rounds.{AreReclaimed}
 
 -- the queue at the place is the controller's, of queues for as many commands as the script has
@@ -26,10 +26,11 @@ pub record AreCommandsTaken (before after : List Applied) (jobs : List Job) : Ty
   pub noted : after ≡ before ++ later
   pub each_once : jobs ≡ command_jobs later ++ End ∷ []
 
--- what was noted since the controller began, with its own entries, is an account of its script
+-- what was noted since the controller began, with its own entries, is an account of its script, which goes on from each that it had then
 pub record IsActorAccounted (plan : ℕ → ShardPlan) (start : CommanderView) (noted : List Applied) (pass : PassView) : Type 0 where
   pub state : ControllerState
-  pub account : IsScriptAccount plan start.port.maps start.port.options start.updates start.script start.controller.size noted state pass
+  pub account : OfEachAccount plan start (IsScriptAccountBehind plan start.port.maps start.port.options start.updates start.script
+      start.controller.size noted state pass)
 
 -- a note, or the end
 abbrev pub round_job : Bool → Job

@@ -1,5 +1,6 @@
 -- What the controller and the reclaimer are handed beside the workers.
 use Rattle.std.specs.Prelude.{◌≡◌, ◌⊎◌, ◌<◌, ◌≤◌, ◌/◌, ℕ, zero, suc, ◌+◌, List, [], ◌∷◌, ◌++◌, map, length, replicate, slice_index}
+use Rattle.std.specs.Prelude.{nat_lt, if◌then◌else◌}
 use Rattle.rx_queues.specs.declared.job.Job.{Job}
 use Rattle.rx_queues.specs.declared.job.Job.TheVariants.{Command, Note, End}
 use Rattle.shards.specs.CallerView.{nothing_seen}
@@ -54,6 +55,11 @@ pub record AreHandedOver (place from end : ℕ) (before after : List (List Job))
   pub count : ℕ
   pub together : from + count ≡ end
   pub put : ArePutAt place (commands_from from count) before after
+
+-- how many commands are due once N records were dispatched: those at the script's beginning that come after no more
+abbrev pub due_to : List ℕ → ℕ → ℕ
+due_to [] number = 0
+due_to (start ∷ later) number = if nat_lt number start then 0 else suc (due_to later number)
 
 -- how many commands are due: all from this one on that come after no more records than were dispatched, up to the first for which it is
 -- too early

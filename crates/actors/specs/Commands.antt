@@ -217,6 +217,14 @@ pub record IsScriptAccount (plan : ℕ → ShardPlan) (maps : List MapDef) (opti
   pub full : AllByRecursion (λ (one : CommandDone). IfSome one.stopped (IsShardFullForUpdate plan maps options pass)) done
   pub did : pass.deeds ≡ reverse (made_deeds maps options (all_set updates) ++ commands_deeds maps options done)
 
+-- the same, of commands of which the first did this
+pub record IsScriptAccountBehind (plan : ℕ → ShardPlan) (maps : List MapDef) (options : Options) (updates : List MapUpdate)
+    (script : List Command) (size : ℕ) (noted : List Applied) (state : ControllerState) (pass : PassView) (first : List CommandDone) : Type 0
+  where
+    pub account : IsScriptAccount plan maps options updates script size noted state pass
+    pub later : List CommandDone
+    pub goes_on : account.done ≡ first ++ later
+
 -- ---- the actor
 
 pub record CommanderView : Type 0 where
@@ -239,6 +247,16 @@ abbrev pub HasAccount : (ℕ → ShardPlan) → CommanderView → Type 0
 HasAccount plan view =
     IsScriptAccount plan view.port.maps view.port.options view.updates view.script view.controller.size view.noted
     view.controller view.port.pass
+
+-- of which the first commands did this
+abbrev pub HasAccountBehind : (ℕ → ShardPlan) → CommanderView → List CommandDone → Type 0
+HasAccountBehind plan view first =
+    IsScriptAccountBehind plan view.port.maps view.port.options view.updates view.script view.controller.size view.noted
+    view.controller view.port.pass first
+
+-- what is so of every account of the script so far
+abbrev pub OfEachAccount : (ℕ → ShardPlan) → CommanderView → (List CommandDone → Type 0) → Type 0
+OfEachAccount plan view holds = (account : HasAccount plan view) → holds account.done
 
 -- the maps are those of steering for the controller's table, or there is no command
 abbrev pub ServesScript : List MapDef → ℕ → List Command → Type 0

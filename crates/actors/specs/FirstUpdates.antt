@@ -22,29 +22,32 @@ pub record IsNextUpdate {P : Type 0} (gives : P → UpdateBytes → ℤ → P �
   pub set : AreSet gives before (take place updates) middle
 
 -- the map's answer to it is no 0
-pub record IsRefusedOnPort {P : Type 0} (gives : P → UpdateBytes → ℤ → P → Type 0) (before : P) (updates : List MapUpdate) (place : ℕ)
-    (answer : ℤ) : Type 0 where
+pub record IsRefusedOnPort {P : Type 0} (gives : P → UpdateBytes → ℤ → P → Type 0) (before : P) (updates : List MapUpdate) (after : P)
+    (place : ℕ) (answer : ℤ) : Type 0 where
   pub update : MapUpdate
   pub middle : P
   pub next : IsNextUpdate gives before updates place update middle
-  pub after : P
   pub answered : gives middle (update_bytes update) answer after
   pub no_success : answer ≢ success
 
 -- the journal has no room for it
 pub record IsFullOnPort {P : Type 0} (gives : P → UpdateBytes → ℤ → P → Type 0) (refuses : P → UpdateBytes → P → Type 0) (before : P)
-    (updates : List MapUpdate) (place : ℕ) : Type 0 where
+    (updates : List MapUpdate) (after : P) (place : ℕ) : Type 0 where
   pub update : MapUpdate
   pub middle : P
   pub next : IsNextUpdate gives before updates place update middle
-  pub after : P
   pub full : refuses middle (update_bytes update) after
 
--- why not all of them were made: the fault is that of the first that was refused or met a full journal
+-- why not all of them were made, and the port as it was left then: the fault is that of the first that was refused or met a full journal
+abbrev pub IsWhyLeft : {P : Type 0} → (P → UpdateBytes → ℤ → P → Type 0) → (P → UpdateBytes → P → Type 0) → P → List MapUpdate → P →
+    ReplayFault → Type 0
+IsWhyLeft gives refuses before updates after (Refused place answer) = IsRefusedOnPort gives before updates after place answer
+IsWhyLeft gives refuses before updates after (Full place) = IsFullOnPort gives refuses before updates after place
+IsWhyLeft gives refuses before updates after BadOptions = ⊥
+IsWhyLeft gives refuses before updates after Memory = ⊥
+IsWhyLeft gives refuses before updates after NoThread = ⊥
+
+-- however it was left
 abbrev pub IsWhyNotSet : {P : Type 0} → (P → UpdateBytes → ℤ → P → Type 0) → (P → UpdateBytes → P → Type 0) → P → List MapUpdate →
     ReplayFault → Type 0
-IsWhyNotSet gives refuses before updates (Refused place answer) = IsRefusedOnPort gives before updates place answer
-IsWhyNotSet gives refuses before updates (Full place) = IsFullOnPort gives refuses before updates place
-IsWhyNotSet gives refuses before updates BadOptions = ⊥
-IsWhyNotSet gives refuses before updates Memory = ⊥
-IsWhyNotSet gives refuses before updates NoThread = ⊥
+IsWhyNotSet {P} gives refuses before updates fault = (after : P) × IsWhyLeft gives refuses before updates after fault

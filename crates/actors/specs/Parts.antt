@@ -22,11 +22,11 @@ use Rattle.control.specs.Controlling.{ControllerState, opened_controller}
 use Rattle.control.specs.MapUpdates.{UpdateBytes}
 use Rattle.actors.specs.declared.outcome.Applied.{Applied}
 use Rattle.actors.specs.SharedUpdates.{shard_of, controller_update}
-use Rattle.actors.specs.Commands.{CommanderView, CommandDone, AreNotedOf, AreDone, IsScriptAccount, ServesScript}
+use Rattle.actors.specs.Commands.{CommanderView, CommandDone, AreNotedOf, AreDone, IsScriptAccountBehind, HasAccount, ServesScript}
 use Rattle.actors.specs.Commands.{all_set, made_in, with_updates, made_deeds, commands_deeds}
 use Rattle.actors.specs.ActorJobs.{AreCommandsTaken, AreRoundsMade, IsActorAccounted as IsControllersAccount}
 use Rattle.actors.specs.Rounds.{IsReclaimedBy, AreRoundsDone}
-use Rattle.actors.specs.Actors.{numbers_from}
+use Rattle.actors.specs.Actors.{numbers_from, due_to}
 
 -- ---- what the threads hand back for their jobs
 
@@ -68,13 +68,36 @@ pub record IsStarted (maps : List MapDef) (options : Options) (updates : List Ma
   pub applied : numbers_of start.noted ≡ numbers_from 0 first
   pub within : first ≤ length script
 
--- each command of the script was applied once, in its order, and the pass has the first updates and behind them theirs
+-- how many commands come before the first record: those at the script's beginning that are at frame 0
+abbrev pub first_commands : List Command → ℕ
+first_commands script = due_to (map (λ (line : Command). line.frame) script) 0
+
+-- what the controller did before the first record, the newest deed first: the updates, and then these commands
+abbrev pub first_deeds : List MapDef → Options → List MapUpdate → List CommandDone → List Deed
+first_deeds maps options updates done = reverse (made_deeds maps options (all_set updates) ++ commands_deeds maps options done)
+
+-- the controller has done these deeds: the updates, and the commands before the first record
+pub record HasBegunWith (plan : ℕ → ShardPlan) (maps : List MapDef) (options : Options) (updates : List MapUpdate) (script : List Command)
+    (start : CommanderView) (deeds : List Deed) : Type 0 where
+  pub account : HasAccount plan start
+  pub counted : length account.done ≡ first_commands script
+  pub deeds_are : deeds ≡ first_deeds maps options updates account.done
+
+-- each command of the script was applied once, in its order, the first of them so; and the pass has the first updates and behind them theirs
 pub record IsScriptRun (plan : ℕ → ShardPlan) (maps : List MapDef) (options : Options) (updates : List MapUpdate) (script : List Command)
-    (size : ℕ) (noted : List Applied) (pass : PassView) : Type 0 where
+    (size : ℕ) (first : List CommandDone) (noted : List Applied) (pass : PassView) : Type 0 where
   pub each_once : numbers_of noted ≡ numbers_from 0 (length script)
   pub state : ControllerState
-  pub account : IsScriptAccount plan maps options updates script size noted state pass
+  pub account : IsScriptAccountBehind plan maps options updates script size noted state pass first
   pub who : pass.who ≡ Controller
+
+-- and these deeds are those of the updates and of the commands before the first record
+pub record IsScriptRunBehind (plan : ℕ → ShardPlan) (maps : List MapDef) (options : Options) (updates : List MapUpdate)
+    (script : List Command) (size : ℕ) (noted : List Applied) (pass : PassView) (deeds : List Deed) : Type 0 where
+  pub first : List CommandDone
+  pub run : IsScriptRun plan maps options updates script size first noted pass
+  pub counted : length first ≡ first_commands script
+  pub deeds_are : deeds ≡ first_deeds maps options updates first
 
 -- ---- compared with the journals
 

@@ -4,26 +4,25 @@ ghost use Rattle.std.specs.Prelude.{◌≡◌, ◌<◌, ◌∷◌, ◌++◌, [],
 ghost use Rattle.rx_queues.specs.Passes.{IsTakePassOf, jobs_taken, place_taken_from, workers_of, command_count_of};
 ghost use Rattle.rx_queues.specs.declared.job.Job.TheVariants.{Command as CommandJob, End};
 ghost use Rattle.actors.specs.ActorJobs.{AreCommandsTaken, IsActorAccounted, IsForCommands};
-ghost use Rattle.actors.specs.Actors.{HasEndLast, IsUnused};
+ghost use Rattle.actors.specs.Actors.{HasEndLast};
 ghost use Rattle.maglev.specs.RingSize.{IsRingSize};
-ghost use Rattle.map_updates.specs.Misfits.{AreFitting};
-ghost use Rattle.actors.specs.UpdateFaults.{IsWhyByPass};
 ghost use Rattle.semantics.specs.declared.call.Caller.TheVariants.{Controller as TheController};
 ghost use Rattle.control.specs.declared.fault.ControlFault.{ControlFault as Fault};
 ghost use Rattle.conntrack.specs.SteeringMaps.{steering_maps};
 ghost use Rattle.control.specs.Controlling.{opened_controller};
-ghost use Rattle.actors.specs.Commands.{CommanderView, HasEffect, IsScriptAccount, HasAccount, StaysOf, ServesScript};
+ghost use Rattle.actors.specs.Commands.{CommanderView, HasEffect, HasSet, IsScriptAccount, HasAccount, HasAccountBehind, OfEachAccount};
+ghost use Rattle.actors.specs.Commands.{StaysOf, ServesScript};
+ghost use Rattle.std.specs.Prelude.{◌+◌, true, slice_set, replicate};
 
 use crate::actor::{Actor, ActorEnded};
-use crate::fault::ReplayFault;
-use crate::first_updates::updated_port;
 use crate::outcome::Applied;
 use crate::updates::{GatedUpdates, SharedUpdates};
 use control::{Command, ControlFault, Controller};
 use map_updates::MapUpdate;
 use rx_queues::{Job, Queues, TakePass};
-use shard_port::Gate;
-use shards::{Naming, Pass, Shards};
+use semantics::Caller;
+use shard_port::{Gate, Tally};
+use shards::{Dealer, First, Naming, Pass, Shards};
 use std::alloc::{AllocError, Global};
 use std::marker::Model;
 use std::sync::Wait;
@@ -52,11 +51,8 @@ impl<'a, B: Naming, W: Wait, G: Gate> Model for Commander<'a, B, W, G> {
 }
 
 impl<'a, B: Naming, W: Wait, G: Gate> Commander<'a, B, W, G> {
-    /// The controller of a script that has applied nothing, with a pass that had seen nothing and has made these updates, one after the
-    /// other: for a lookup table of `size` slots, which the shards' maps have, or for an empty script. Each answer goes through the gate.
-    ///
-    /// Refused with 93 for the first update that a map refused, and with 94 for the first for which a journal was full. Those before it are
-    /// made.
+    /// The controller of a script that has applied nothing, with a pass that has made these updates and nothing else: for a lookup table of
+    /// `size` slots, which the shards' maps have, or for an empty script. Each answer goes through the gate.
     pub fn over(
         alloc: Global,
         rt: &'a W,
@@ -66,32 +62,42 @@ impl<'a, B: Naming, W: Wait, G: Gate> Commander<'a, B, W, G> {
         updates: &'a [MapUpdate],
         script: &'a [Command],
         size: u32,
-    ) -> Result<Commander<'a, B, W, G>, ReplayFault>
+    ) -> Commander<'a, B, W, G>
         requires who { pass.who ≡ TheController }
-        requires unused { IsUnused pass }
+        requires set { HasSet shards.now.maps shards.now.options updates.now pass }
         requires size { IsRingSize size }
         requires serves { ServesScript shards.now.maps size script.now }
-        requires fit { AreFitting shards.now.maps updates.now }
-        ensures updates { IfOk result (λ commander. commander.updates ≡ updates.now) }
-        ensures script { IfOk result (λ commander. commander.script ≡ script.now) }
-        ensures noted { IfOk result (λ commander. commander.noted ≡ []) }
-        ensures controller { IfOk result (λ commander. commander.controller ≡ opened_controller size) }
-        ensures maps { IfOk result (λ commander. commander.port.maps ≡ shards.now.maps) }
-        ensures options { IfOk result (λ commander. commander.port.options ≡ shards.now.options) }
-        ensures refused { IfErr result (IsWhyByPass shards.now.maps shards.now.options updates.now) }
+        ensures updates { result.updates ≡ updates.now }
+        ensures script { result.script ≡ script.now }
+        ensures noted { result.noted ≡ [] }
+        ensures controller { result.controller ≡ opened_controller size }
+        ensures maps { result.port.maps ≡ shards.now.maps }
+        ensures options { result.port.options ≡ shards.now.options }
     {
         let controller = match Controller::open(alloc, size) {
             Ok(controller) => controller,
             Err(_) => unreachable!(),
         };
-        let port = updated_port(rt, shards, pass, gate, updates)?;
-        Ok(Commander {
+        Commander {
             updates,
             script,
             controller,
-            port,
+            port: GatedUpdates {
+                port: SharedUpdates::over(rt, shards, pass),
+                tally: Tally::new(gate, Caller::Controller, updates.len() as u64),
+            },
             noted: Vec::new(alloc),
-        })
+        }
+    }
+
+    /// What it did so far, as the beginning of what all callers will have done: nobody else has a pass yet. Changes nothing.
+    pub fn first(&mut self, dealer: &mut Dealer<B>) -> First<B>
+        requires alone { dealer.old ≡ slice_set (replicate (self.old.port.options.workers + 2) false) 0 true }
+        ensures first { result ≡ self.old.port.pass.deeds }
+        ensures same { self.new ≡ self.old }
+        ensures unchanged { dealer.new ≡ dealer.old }
+    {
+        self.port.port.first(dealer)
     }
 
     /// The account of the commands applied so far. The function does nothing: it brings this fact into a proof.
@@ -117,6 +123,7 @@ impl<'a, B: Naming, W: Wait, G: Gate> Commander<'a, B, W, G> {
           fault =
               fault;
         }) ∷ [])) }
+        ensures more { OnOk result (OfEachAccount B.plan self.old (HasAccountBehind B.plan self.new)) }
         ensures same { StaysOf self.old self.new }
         ensures unchanged { OnErr result (self.new ≡ self.old) }
     {

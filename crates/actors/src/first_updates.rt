@@ -5,7 +5,7 @@ ghost use Rattle.semantics.specs.declared.call.Caller.TheVariants.{Controller as
 ghost use Rattle.map_updates.specs.Misfits.{AreFitting};
 ghost use Rattle.actors.specs.Actors.{IsUnused};
 ghost use Rattle.actors.specs.Commands.{HasSet};
-ghost use Rattle.actors.specs.FirstUpdates.{AreSet, IsWhyNotSet};
+ghost use Rattle.actors.specs.FirstUpdates.{AreSet, IsWhyLeft};
 ghost use Rattle.actors.specs.UpdateFaults.{IsWhyByPass};
 ghost use Rattle.actors.specs.declared.fault.ReplayFault.TheVariants.{BadOptions, NoThread};
 
@@ -27,7 +27,7 @@ pub fn set_all<U: UpdatePort>(port: &mut U, updates: &[MapUpdate]) -> Result<(),
     requires fit { AreFitting (U.serves port.old) updates.now }
     ensures set { OnOk result (AreSet U.gives port.old updates.now port.new) }
     ensures serves { OnOk result (U.serves port.new ≡ U.serves port.old) }
-    ensures refused { IfErr result (IsWhyNotSet U.gives U.refuses port.old updates.now) }
+    ensures refused { IfErr result (IsWhyLeft U.gives U.refuses port.old updates.now port.new) }
     ensures served { ¬ IsErrOf result BadOptions }
     ensures no_thread { ¬ IsErrOf result NoThread }
 {
@@ -45,31 +45,42 @@ pub fn set_all<U: UpdatePort>(port: &mut U, updates: &[MapUpdate]) -> Result<(),
     Ok(())
 }
 
-/// The controller's port to shards that it shares, by which these updates were made. Each answer goes through the gate.
-pub(crate) fn updated_port<'a, B: Naming, W: Wait, G: Gate>(
-    rt: &'a W,
-    shards: &'a Shards<B>,
+/// Why the controller's updates were not all made, and its pass, which has made those before.
+#[derive(Drop)]
+pub struct Unset<B: Naming> {
+    pub fault: ReplayFault,
+    pub pass: Pass<B>,
+}
+
+/// Makes these updates on shards that the controller shares with others, one after the other, as `set_all` does. Each answer goes through the
+/// gate.
+pub fn set_first<B: Naming, W: Wait, G: Gate>(
+    rt: &W,
+    shards: &Shards<B>,
     pass: Pass<B>,
-    gate: &'a G,
+    gate: &G,
     updates: &[MapUpdate],
-) -> Result<GatedUpdates<'a, SharedUpdates<'a, B, W>, G>, ReplayFault>
+) -> Result<Pass<B>, Unset<B>>
     requires who { pass.who ≡ TheController }
     requires unused { IsUnused pass }
     requires fit { AreFitting shards.now.maps updates.now }
-    ensures set { IfOk result (λ gated. HasSet gated.port.maps gated.port.options updates.now gated.port.pass) }
-    ensures maps { IfOk result (λ gated. gated.port.maps ≡ shards.now.maps) }
-    ensures options { IfOk result (λ gated. gated.port.options ≡ shards.now.options) }
-    ensures who { IfOk result (λ gated. gated.port.pass.who ≡ TheController) }
-    ensures refused { IfErr result (IsWhyByPass shards.now.maps shards.now.options updates.now) }
+    ensures set { IfOk result (HasSet shards.now.maps shards.now.options updates.now) }
+    ensures who { IfOk result (λ after. after.who ≡ TheController) }
+    ensures refused { IfErr result
+        (λ unset. IsWhyByPass B.plan shards.now.maps shards.now.options pass unset.pass updates.now unset.fault) }
+    ensures still { IfErr result (λ unset. unset.pass.who ≡ TheController) }
+    ensures served { IfErr result (λ unset. ¬ (unset.fault ≡ BadOptions)) }
 {
-    shards.planned();
     let mut gated = GatedUpdates {
         port: SharedUpdates::over(rt, shards, pass),
         tally: Tally::new(gate, Caller::Controller, 0),
     };
-    match set_all(&mut gated, updates) {
-        Ok(()) => Ok(gated),
-        Err(fault) => Err(fault),
+    let done = set_all(&mut gated, updates);
+    let GatedUpdates { port, .. } = gated;
+    let pass = port.finish();
+    match done {
+        Ok(()) => Ok(pass),
+        Err(fault) => Err(Unset { fault, pass }),
     }
 }
 

@@ -1,6 +1,6 @@
 //! The maps that a controller updates, as shards that other callers share; and a port whose replies go through a gate.
 
-ghost use Rattle.std.specs.Prelude.{◌≡◌, ◌<◌};
+ghost use Rattle.std.specs.Prelude.{◌≡◌, ◌<◌, ◌+◌, true, false, slice_set, replicate};
 ghost use Rattle.semantics.specs.declared.call.Caller.TheVariants.{Controller};
 ghost use Rattle.actors.specs.SharedUpdates.{HasUpdateOf, shard_of_map_key};
 
@@ -9,7 +9,7 @@ use map_rules::conditions::shard_of_map;
 use semantics::facts::bytes_have_8_bits;
 use semantics::{JournalFull, Key, UpdateFlags, Value};
 use shard_port::{Gate, Tally};
-use shards::{Naming, Pass, Shards};
+use shards::{Dealer, First, Naming, Pass, Shards};
 use std::marker::Model;
 use std::sync::Wait;
 
@@ -40,6 +40,16 @@ impl<'a, B: Naming, W: Wait> SharedUpdates<'a, B, W> {
     {
         shards.planned();
         SharedUpdates { rt, shards, pass }
+    }
+
+    /// What the controller did so far, as the beginning of what all callers will have done: nobody else has a pass yet. Changes nothing.
+    pub(crate) fn first(&mut self, dealer: &mut Dealer<B>) -> First<B>
+        requires alone { dealer.old ≡ slice_set (replicate (self.old.options.workers + 2) false) 0 true }
+        ensures first { result ≡ self.old.pass.deeds }
+        ensures same { self.new ≡ self.old }
+        ensures unchanged { dealer.new ≡ dealer.old }
+    {
+        dealer.first(self.shards, &mut self.pass)
     }
 
     /// Gives the pass back.

@@ -2,6 +2,9 @@
 use Rattle.std.specs.Prelude.{◌≡◌, ℕ, ◌+◌, ◌<◌, ◌⊎◌, not, ◌==◌, Bool, List, String, length}
 use Rattle.comparison.specs.declared.fault.Unlike.{Unlike}
 use Rattle.comparison.specs.declared.fault.Unlike.TheVariants as unlikes
+use Rattle.comparison.specs.declared.fault.NoRows.{NoRows}
+use Rattle.comparison.specs.declared.fault.NoRows.TheVariants.{JsonLines, Memory, NoReport}
+use Rattle.comparison.specs.declared.fault.Which.{Which}
 use Rattle.comparison.specs.declared.fault.Which.TheVariants.{First, Second}
 use Rattle.std.specs.declared.alloc.Global.{Global}
 use Rattle.comparison.specs.Rows.{IsReport, IsUnread}
@@ -40,10 +43,20 @@ pub record AreCompared (first second text : List ℕ) (differs : Bool) : Type 0 
   pub second_report : IsReport second second_rows
   pub alike : AreAlike first_rows second_rows text differs
 
+-- why two files are not compared, where this one of them is not read
+abbrev pub unlike_of : Which → NoRows → Unlike
+unlike_of which JsonLines = unlikes.JsonLines which
+unlike_of which (NoReport line) = unlikes.NoReport which line
+unlike_of which Memory = unlikes.Memory
+
+-- why two files are not compared, whose this one has these bytes: it was not read
+abbrev pub IsFileUnread : Which → List ℕ → Unlike → Type 0
+IsFileUnread which bytes unlike = (none : NoRows) × IsUnread bytes none × (unlike ≡ unlike_of which none)
+
 -- why two files are not compared: the first was not read; the first is a report, and the second was not read; or their rows are not of the
 -- same records, or memory was refused
 pub data IsUnlike (first second : List ℕ) (unlike : Unlike) : Type 0 where
-  first_unread : IsUnread First first unlike → IsUnlike first second unlike
-  second_unread : (first_rows : List (List ℕ)) → IsReport first first_rows → IsUnread Second second unlike → IsUnlike first second unlike
+  first_unread : IsFileUnread First first unlike → IsUnlike first second unlike
+  second_unread : (first_rows : List (List ℕ)) → IsReport first first_rows → IsFileUnread Second second unlike → IsUnlike first second unlike
   not_alike : (first_rows second_rows : List (List ℕ)) → IsReport first first_rows → IsReport second second_rows
       → AreOthers first_rows second_rows unlike → IsUnlike first second unlike

@@ -1,5 +1,7 @@
 -- What is printed where two files are not compared.
 use Rattle.std.specs.Prelude.{ℕ, ◌++◌, List, codes, decimal}
+use Rattle.comparison.specs.declared.fault.NoRows.{NoRows}
+use Rattle.comparison.specs.declared.fault.NoRows.TheVariants as unread
 use Rattle.comparison.specs.declared.fault.Unlike.{Unlike}
 use Rattle.comparison.specs.declared.fault.Unlike.TheVariants.{JsonLines, Memory, NoReport, OtherRecords}
 use Rattle.comparison.specs.declared.fault.Which.{Which}
@@ -15,6 +17,11 @@ json_text name = codes "error: " ++ (name ++ codes " has JSON lines, and a repor
 
 abbrev pub no_report_text : List ℕ → ℕ → List ℕ
 no_report_text name line = codes "error: " ++ (name ++ (codes " is no report of CSV: line " ++ (decimal line ++ codes "\n")))
+
+abbrev pub no_rows_text : NoRows → List ℕ → List ℕ
+no_rows_text unread.JsonLines name = json_text name
+no_rows_text (unread.NoReport line) name = no_report_text name line
+no_rows_text unread.Memory name = codes "fault 8 Memory\n"
 
 abbrev pub others_text : List ℕ → List ℕ → ℕ → List ℕ
 others_text first second record_number =

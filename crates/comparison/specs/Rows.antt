@@ -3,9 +3,8 @@ use Rattle.std.specs.Prelude.{◌≡◌, ◌≢◌, ℕ, zero, suc, ◌+◌, ◌
 use Rattle.std.specs.Prelude.{length, slice_index_or, take}
 use Rattle.std.specs.List.{after_first, before_first, slice_split}
 use Rattle.text_lines.specs.NoText.{IsNoText}
-use Rattle.comparison.specs.declared.fault.Unlike.{Unlike}
-use Rattle.comparison.specs.declared.fault.Unlike.TheVariants as unlikes
-use Rattle.comparison.specs.declared.fault.Which.{Which}
+use Rattle.comparison.specs.declared.fault.NoRows.{NoRows}
+use Rattle.comparison.specs.declared.fault.NoRows.TheVariants.{JsonLines, Memory, NoReport}
 
 -- ---- lines
 
@@ -86,7 +85,7 @@ abbrev pub BeginsAsJson : List ℕ → Type 0
 BeginsAsJson bytes = (rest : List ℕ) × (bytes ≡ 123 ∷ rest)
 
 -- why the rows of a file were not read: it has JSON lines; it is no report; or memory was refused
-pub data IsUnread (which : Which) (bytes : List ℕ) (unlike : Unlike) : Type 0 where
-  is_json : BeginsAsJson bytes → unlike ≡ unlikes.JsonLines which → IsUnread which bytes unlike
-  is_no_report : (line : ℕ) → ¬ BeginsAsJson bytes → IsNoReport bytes line → unlike ≡ unlikes.NoReport which line → IsUnread which bytes unlike
-  no_memory : unlike ≡ unlikes.Memory → IsUnread which bytes unlike
+pub data IsUnread (bytes : List ℕ) (none : NoRows) : Type 0 where
+  is_json : BeginsAsJson bytes → none ≡ JsonLines → IsUnread bytes none
+  is_no_report : (line : ℕ) → ¬ BeginsAsJson bytes → IsNoReport bytes line → none ≡ NoReport line → IsUnread bytes none
+  no_memory : none ≡ Memory → IsUnread bytes none

@@ -1,7 +1,8 @@
 //! Two reports compared.
 
 ghost use Rattle.std.specs.Prelude.{◌≡◌, ◌<◌, ◌≤◌, ◌⊎◌, IfErr, IfOk, false, length, map, string_bytes, true};
-ghost use Rattle.comparison.specs.Comparing.{AreAlike, AreCompared, AreOthers, AreRowsCompared, IsUnlike};
+ghost use Rattle.comparison.specs.Comparing.{AreAlike, AreCompared, AreOthers, AreRowsCompared, IsFileUnread, IsUnlike};
+ghost use Rattle.comparison.specs.Rows.{IsReport};
 
 use crate::changes::{changed_places, shared_count};
 use crate::fault::{Unlike, Which};
@@ -58,6 +59,17 @@ fn alike(alloc: Global, first: &[&str], second: &[&str]) -> Result<Comparison, U
     Ok(comparison)
 }
 
+/// The rows of one of two files.
+fn rows_of_file(alloc: Global, bytes: &[u8], which: Which) -> Result<Vec<&str>, Unlike>
+    ensures rows { IfOk result (λ rows. IsReport bytes.now (map (λ row. row.now) rows.items)) }
+    ensures refused { IfErr result (λ unlike. IsFileUnread which bytes.now unlike) }
+{
+    match rows_in(alloc, bytes) {
+        Ok(rows) => Ok(rows),
+        Err(none) => Err(none.of(which)),
+    }
+}
+
 /// Compares two reports of CSV, record by record: their verdicts, cases, backends and addresses. The text says how many records both have
 /// and how many are treated differently; from which treatment to which, the most frequent first, twenty at most; and the first ten records.
 ///
@@ -68,7 +80,7 @@ pub fn compare(alloc: Global, first: &[u8], second: &[u8]) -> Result<Comparison,
         (λ comparison. AreCompared first.now second.now (string_bytes comparison.text) comparison.differs) }
     ensures refused { IfErr result (λ unlike. IsUnlike first.now second.now unlike) }
 {
-    let first_rows = rows_in(alloc, first, Which::First)?;
-    let second_rows = rows_in(alloc, second, Which::Second)?;
+    let first_rows = rows_of_file(alloc, first, Which::First)?;
+    let second_rows = rows_of_file(alloc, second, Which::Second)?;
     alike(alloc, &first_rows, &second_rows)
 }

@@ -1,6 +1,28 @@
-//! Why two files cannot be compared.
+//! Why a file is not read, and why two files cannot be compared.
 
 use std::alloc::AllocError;
+
+/// Why the rows of a file are not read.
+#[derive(Clone, Copy, Debug, PartialEq, Eq)]
+pub enum NoRows {
+    /// The file has JSON lines, or anything else that begins with a brace.
+    JsonLines,
+    /// The file is no report of CSV; the first line that shows it, counted from 1.
+    NoReport { line: usize },
+    /// Memory was refused.
+    Memory,
+}
+
+impl From<AllocError> for NoRows {
+    ghost use Rattle.std.specs.Prelude.{◌≡◌};
+    ghost use Rattle.comparison.specs.declared.fault.NoRows.TheVariants.{Memory};
+
+    ghost from_gives = { λ _ none. none ≡ Memory };
+
+    fn from(_error: AllocError) -> NoRows {
+        NoRows::Memory
+    }
+}
 
 /// One of the two files.
 #[derive(Clone, Copy, Debug, PartialEq, Eq)]
@@ -30,5 +52,21 @@ impl From<AllocError> for Unlike {
 
     fn from(_error: AllocError) -> Unlike {
         Unlike::Memory
+    }
+}
+
+impl NoRows {
+    ghost use Rattle.std.specs.Prelude.{◌≡◌};
+    ghost use Rattle.comparison.specs.Comparing.{unlike_of};
+
+    /// Why two files are not compared, where this one of them is not read.
+    pub(crate) fn of(self, which: Which) -> Unlike
+        ensures { result ≡ unlike_of which self }
+    {
+        match self {
+            NoRows::JsonLines => Unlike::JsonLines { which },
+            NoRows::NoReport { line } => Unlike::NoReport { which, line },
+            NoRows::Memory => Unlike::Memory,
+        }
     }
 }

@@ -10,7 +10,7 @@ mod printing;
 mod rows;
 
 pub use comparing::{Comparison, compare};
-pub use fault::{Unlike, Which};
+pub use fault::{NoRows, Unlike, Which};
 pub use mistakes::{json_text, no_report_text};
 pub use printing::{flow_phrase, flow_pieces};
 pub use rows::{field, fields_from, parts_at, row_at, rows_in};

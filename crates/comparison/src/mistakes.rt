@@ -1,9 +1,9 @@
 //! What is printed where two files are not compared.
 
 ghost use Rattle.std.specs.Prelude.{◌≡◌, IfOk, string_bytes};
-ghost use Rattle.comparison.specs.Mistakes.{json_text, name_of, no_report_text, others_text, unlike_text};
+ghost use Rattle.comparison.specs.Mistakes.{json_text, name_of, no_report_text, no_rows_text, others_text, unlike_text};
 
-use crate::fault::{Unlike, Which};
+use crate::fault::{NoRows, Unlike, Which};
 use std::alloc::{AllocError, Global};
 
 /// The name of one of the two files.
@@ -41,6 +41,19 @@ fn others_text(
     format!(in alloc;
         "error: {first} and {second} are not of the same records: record {number} differs\n"
     )
+}
+
+impl NoRows {
+    /// The line that says why the rows of the file of this name are not read. It fails only for lack of memory.
+    pub fn text(self, alloc: Global, name: &str) -> Result<String, AllocError>
+        ensures { IfOk result (λ text. string_bytes text ≡ no_rows_text self name.now) }
+    {
+        match self {
+            NoRows::JsonLines => json_text(alloc, name),
+            NoRows::NoReport { line } => no_report_text(alloc, name, line),
+            NoRows::Memory => String::from_str(alloc, "fault 8 Memory\n"),
+        }
+    }
 }
 
 impl Unlike {

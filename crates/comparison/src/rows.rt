@@ -4,7 +4,7 @@ ghost use Rattle.std.specs.Prelude.{◌≡◌, ◌≢◌, ◌<◌, ◌++◌, ℕ
 ghost use Rattle.comparison.specs.Rows.{BeginsAsJson, IsReport, IsRowCount, IsUnread, field, fields_from, first_field, head_line, is_row};
 ghost use Rattle.comparison.specs.Rows.{ended_lines, last_line, later_fields, parts_between, row_at};
 
-use crate::fault::{Unlike, Which};
+use crate::fault::NoRows;
 use std::alloc::{AllocError, Global};
 use text_lines::text_or_line;
 
@@ -101,9 +101,9 @@ fn drop_last(lines: &mut Vec<&str>)
 }
 
 /// The rows of a report, from what comes after its head.
-fn rows_of(alloc: Global, rest: &str, which: Which) -> Result<Vec<&str>, Unlike>
+fn rows_of(alloc: Global, rest: &str) -> Result<Vec<&str>, NoRows>
     ensures rows { IfOk result (λ rows. IsReport (head_line ++ rest.now) (map (λ row. row.now) rows.items)) }
-    ensures refused { IfErr result (λ unlike. IsUnread which (head_line ++ rest.now) unlike) }
+    ensures refused { IfErr result (λ none. IsUnread (head_line ++ rest.now) none) }
 {
     let mut lines = parts_at(alloc, rest, '\n')?;
     let behind = last_line(&lines).len();
@@ -112,10 +112,7 @@ fn rows_of(alloc: Global, rest: &str, which: Which) -> Result<Vec<&str>, Unlike>
     if behind == 0 && count == lines.len() {
         Ok(lines)
     } else {
-        Err(Unlike::NoReport {
-            which,
-            line: 2 + count,
-        })
+        Err(NoRows::NoReport { line: 2 + count })
     }
 }
 
@@ -136,18 +133,18 @@ fn begins_as_json(bytes: &[u8]) -> bool
 }
 
 /// The rows of a report. Refused where the bytes are none, with the first line that shows it, and where memory is refused.
-pub fn rows_in(alloc: Global, bytes: &[u8], which: Which) -> Result<Vec<&str>, Unlike>
+pub fn rows_in(alloc: Global, bytes: &[u8]) -> Result<Vec<&str>, NoRows>
     ensures rows { IfOk result (λ rows. IsReport bytes.now (map (λ row. row.now) rows.items)) }
-    ensures refused { IfErr result (λ unlike. IsUnread which bytes.now unlike) }
+    ensures refused { IfErr result (λ none. IsUnread bytes.now none) }
 {
     if begins_as_json(bytes) {
-        return Err(Unlike::JsonLines { which });
+        return Err(NoRows::JsonLines);
     }
     match text_or_line(bytes) {
-        Err(line) => Err(Unlike::NoReport { which, line }),
+        Err(line) => Err(NoRows::NoReport { line }),
         Ok(text) => match after_head(text) {
-            Some(rest) => rows_of(alloc, rest, which),
-            None => Err(Unlike::NoReport { which, line: 1 }),
+            Some(rest) => rows_of(alloc, rest),
+            None => Err(NoRows::NoReport { line: 1 }),
         },
     }
 }

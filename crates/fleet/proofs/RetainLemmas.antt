@@ -65,6 +65,7 @@ module _ {X : Type 0} where
       next : (n : ℕ) → suc n ≡ n + 1
       next n = omega arith
 
-pub one_fewer : (lost : Option Loss) (place : ℕ) → records_left lost place - 1 ≡ records_left lost (suc place)
-one_fewer None place = refl
-one_fewer (Some loss) place = omega arith
+-- and behind so many others
+pub one_fewer : (lost : Option Loss) (place past : ℕ) → records_left lost (place + past) - 1 ≡ records_left lost (suc place + past)
+one_fewer None place past = refl
+one_fewer (Some loss) place past = omega arith

@@ -112,12 +112,12 @@ impl Part {
         count
     }
 
-    /// The part of a capture: its records that are in the part, in order.
-    pub fn taken_from(self, capture: Capture) -> Capture
-        ensures { result.records.items ≡ records_of_part self.of self.lost self.number capture.records.items }
+    /// Those of the next records of the capture, behind the first `past`, that are in the part, in order.
+    pub fn taken_behind(self, past: usize, piece: Capture) -> Capture
+        ensures { result.records.items ≡ records_behind self.of self.lost self.number past piece.records.items }
     {
-        let mut records = capture.records;
-        let mut left = self.left_behind(0);
+        let mut records = piece.records;
+        let mut left = self.left_behind(past);
         records.retain(
             move |sent: &Sent| -> bool
                 ensures has { (place : ℕ) → left.entry ≡ records_left self.lost place →
@@ -130,5 +130,12 @@ impl Part {
             },
         );
         Capture { records }
+    }
+
+    /// The part of a capture: its records that are in the part, in order.
+    pub fn taken_from(self, capture: Capture) -> Capture
+        ensures { result.records.items ≡ records_of_part self.of self.lost self.number capture.records.items }
+    {
+        self.taken_behind(0, capture)
     }
 }

@@ -4,7 +4,8 @@ use Rattle.std.proofs.lemmas.Bool.Decides.{nat_tests}
 use Rattle.std.proofs.Math.Dec.{eqb}
 use Rattle.std.proofs.lemmas.List.Folds.{position_or_len-set, position_or_len_push}
 use Rattle.std.proofs.lemmas.List.Sums.{prefix_len-le-length}
-use Rattle.std.specs.Prelude.{nat_lt}
+use Rattle.std.proofs.lemmas.Option.{slice_get-map}
+use Rattle.std.specs.Prelude.{nat_lt, slice_get}
 use Rattle.std.specs.List.{AllByRecursion, position, position_or_len}
 use Rattle.std.specs.Map.{update}
 use Rattle.std.specs.Str.{bytes_eq}
@@ -17,7 +18,8 @@ use Rattle.flows.specs.FlowRecords.{HasRoomForFrame, story_of}
 use Rattle.flows.specs.Settings.{before, is_untracked}
 use Rattle.flows.specs.Stories.{Story, after, after_sent, after_unsent, story_begun, flow_of_row, row_has_flow, is_sent_row, move_by, one_if_some}
 use Rattle.flows.specs.Stories.{service_of_row}
-use Rattle.flows.specs.Telling.{is_story_of, listed, move_in, move_of, reasons_until, stories_with, stories_until, stories_after}
+use Rattle.flows.specs.Telling.{Moved, address_in, address_of_story, is_story_of, move_in, move_of, moved_at, moves_at_row, moves_until}
+use Rattle.flows.specs.Telling.{stories_with, stories_until, stories_after}
 
 -- ---- places
 
@@ -332,6 +334,19 @@ module _ (row : List ℕ) (commands : List Command) (stories : List Story) (plac
       places_kept flow stories place next old
       (ap (λ (it : Story). it.flow) is ∙ (same_flow row commands old ∙ ap (λ (it : Story). it.flow) read))
 
+-- ---- the address before
+
+-- the address of the flow at a place is that of its story
+pub address_found : (flows : List Flow) (place : ℕ) (flow : Flow) → slice_get flows place ≡ Some flow
+    → flow.address.now ≡ address_of_story (slice_get (map story_of flows) place)
+address_found flows place flow found =
+    sym (ap address_of_story (slice_get-map story_of flows place ∙ ap (option_map story_of) found))
+
+pub address_missing : (flows : List Flow) (place : ℕ) → slice_get flows place ≡ None
+    → [] ≡ address_of_story (slice_get (map story_of flows) place)
+address_missing flows place missing =
+    sym (ap address_of_story (slice_get-map story_of flows place ∙ ap (option_map story_of) missing))
+
 -- ---- a row more
 
 module _ (rows : List (List ℕ)) (commands applied : List Command) (place : ℕ) (row : List ℕ) (stories : List Story)
@@ -344,11 +359,14 @@ module _ (rows : List (List ℕ)) (commands applied : List Command) (place : ℕ
         ∙ (ap (λ (it : List Story). stories_after (row_at rows place) (before place commands) it) stories_are
         ∙ sym (ap (λ (n : ℕ). stories_until rows commands n) (add-one place))))
 
-    pub moves_next : (moves : List Reason) → moves ≡ reasons_until rows commands place
-        → moves ++ listed (move_of row applied stories) ≡ reasons_until rows commands (place + 1)
-    moves_next moves moves_are =
-        ap (λ (it : List Reason). it ++ listed (move_of row applied stories)) moves_are
-        ∙ (ap (λ (it : List ℕ). reasons_until rows commands place ++ listed (move_of it applied stories)) row_is
-        ∙ (ap (λ (it : List Command). reasons_until rows commands place ++ listed (move_of (row_at rows place) it stories)) applied_is
-        ∙ (ap (λ (it : List Story). reasons_until rows commands place ++ listed (move_of (row_at rows place) (before place commands) it)) stories_are
-        ∙ sym (ap (λ (n : ℕ). reasons_until rows commands n) (add-one place)))))
+    pub moves_next : (from : List ℕ) (move : Option Reason) (old : List Moved) → from ≡ address_in (flow_of_row row) stories
+        → move ≡ move_of row applied stories → old ≡ moves_until rows commands place
+        → old ++ moved_at place from move ≡ moves_until rows commands (place + 1)
+    moves_next from move old from_is move_is moves_are =
+        ap (λ (it : List Moved). it ++ moved_at place from move) moves_are
+        ∙ (ap (λ (it : List ℕ). moves_until rows commands place ++ moved_at place it move) from_is
+        ∙ (ap (λ (it : Option Reason). moves_until rows commands place ++ moved_at place (address_in (flow_of_row row) stories) it) move_is
+        ∙ (ap (λ (it : List ℕ). moves_until rows commands place ++ moves_at_row place it applied stories) row_is
+        ∙ (ap (λ (it : List Command). moves_until rows commands place ++ moves_at_row place (row_at rows place) it stories) applied_is
+        ∙ (ap (λ (it : List Story). moves_until rows commands place ++ moves_at_row place (row_at rows place) (before place commands) it) stories_are
+        ∙ sym (ap (λ (n : ℕ). moves_until rows commands n) (add-one place)))))))

@@ -7,7 +7,8 @@ use Rattle.std.specs.Ordering.{nat_cmp}
 use Rattle.flows.specs.declared.flow.Flow.{Flow}
 use Rattle.flows.specs.declared.flow_list.FlowList.{FlowList}
 use Rattle.flows.specs.Stories.{Story}
-use Rattle.flows.specs.Telling.{is_story_of}
+use Rattle.flows.specs.declared.moves.Move.{Move}
+use Rattle.flows.specs.Telling.{Moved, is_story_of}
 
 -- what is told of a flow
 abbrev pub story_of : Flow → Story
@@ -23,6 +24,10 @@ story_of flow = record {
   untracked = flow.untracked;
   path = string_bytes flow.path;
 }
+
+-- a move
+abbrev pub moved_of : Move → Moved
+moved_of move = record { place = move.place; from = move.from.now; reason = move.reason }
 
 -- one frame more can be counted
 pub record HasRoomForFrame (story : Story) : Type 0 where

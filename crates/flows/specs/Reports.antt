@@ -2,6 +2,8 @@
 use Rattle.std.specs.Prelude.{◌≡◌, ℕ, ◌+◌, ◌<◌, ◌≤◌, ◌⊎◌, Bool, true, false, List, decimal, length}
 use Rattle.std.specs.Str.{bytes_eq}
 use Rattle.comparison.specs.Rows.{BeginsAsJson, IsNoReport, IsReport, field, row_at}
+use Rattle.comparison.specs.declared.fault.NoRows.{NoRows}
+use Rattle.comparison.specs.declared.fault.NoRows.TheVariants as unread
 use Rattle.flows.specs.declared.fault.NoFlows.{NoFlows}
 use Rattle.flows.specs.declared.fault.NoFlows.TheVariants.{JsonLines, LeftOut, Memory, NoReport}
 
@@ -24,6 +26,12 @@ pub record IsCountInPlace (rows : List (List ℕ)) (count : ℕ) : Type 0 where
 pub record IsGapless (bytes : List ℕ) (rows : List (List ℕ)) : Type 0 where
   pub report : IsReport bytes rows
   pub in_place : AreInPlace rows (length rows)
+
+-- why the flows of a file are not told whose rows are not read
+abbrev pub refusal_of : NoRows → NoFlows
+refusal_of unread.JsonLines = JsonLines
+refusal_of (unread.NoReport line) = NoReport line
+refusal_of unread.Memory = Memory
 
 -- Why the flows of a report are not told: the bytes begin as JSON lines do; they are no report of CSV, which this line shows first, counted
 -- from 1; they are one, but the row on this line is not that of the next record; or memory was refused.

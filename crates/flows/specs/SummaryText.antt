@@ -1,11 +1,10 @@
 -- What is said of all flows, for people.
-use Rattle.std.specs.Prelude.{ℕ, ◌==◌, ◌++◌, nat_lt, not, Bool, List, [], ◌∷◌, codes, decimal, count_by, length, take, if◌then◌else◌}
+use Rattle.std.specs.Prelude.{ℕ, zero, suc, ◌==◌, ◌++◌, nat_lt, not, Bool, List, [], ◌∷◌, codes, decimal, count_by, length, take, if◌then◌else◌}
 use Rattle.std.specs.List.{flat_map, fold}
 use Rattle.comparison.specs.Rows.{field}
 use Rattle.comparison.specs.ComparisonText.{flow_pieces}
-use Rattle.flows.specs.declared.reason.Reason.{Reason}
-use Rattle.flows.specs.declared.reason.Reason.TheVariants.{Readdressed, Down, Untracked, Evicted, Unknown}
-use Rattle.flows.specs.Stories.{Story}
+use Rattle.flows.specs.Stories.{Story, reason_word}
+use Rattle.flows.specs.Telling.{Moved, moves_for, reason_at}
 
 -- ---- how many
 
@@ -18,29 +17,23 @@ was_moved story = not (story.changes == 0)
 abbrev pub flows_line : ℕ → ℕ → List ℕ
 flows_line sent moved = decimal sent ++ (codes " flows with a sent frame, " ++ (decimal moved ++ codes " of them moved\n"))
 
--- the place of a reason in their order
-abbrev pub rank : Reason → ℕ
-rank Readdressed = 0
-rank Down = 1
-rank Untracked = 2
-rank Evicted = 3
-rank Unknown = 4
+abbrev pub moved_words : ℕ → List ℕ
+moved_words moved = decimal moved ++ codes " frames moved: "
 
-abbrev pub moves_for : Reason → List Reason → ℕ
-moves_for reason moves = count_by (λ move. rank move == rank reason) moves
+abbrev pub comma_before : ℕ → List ℕ
+comma_before place = if place == 0 then [] else codes ", "
 
-abbrev pub moves_front : ℕ → ℕ → ℕ → List ℕ
-moves_front moved down evicted =
-    decimal moved ++ (codes " frames moved: " ++ (decimal down ++ (codes " down, " ++ (decimal evicted ++ codes " evicted, "))))
+abbrev pub count_in_words : List ℕ → ℕ → List ℕ → List ℕ
+count_in_words comma count word = comma ++ (decimal count ++ (codes " " ++ word))
 
-abbrev pub moves_back : ℕ → ℕ → ℕ → List ℕ
-moves_back untracked readdressed unknown =
-    decimal untracked ++ (codes " untracked, " ++ (decimal readdressed ++ (codes " readdressed, " ++ (decimal unknown ++ codes " unknown\n"))))
+-- how many frames were moved for each of the first N reasons
+abbrev pub reason_counts : List Moved → ℕ → List ℕ
+reason_counts moves zero = []
+reason_counts moves (suc place) =
+    reason_counts moves place ++ count_in_words (comma_before place) (moves_for place moves) (reason_word (reason_at place))
 
-abbrev pub moves_by_reason : List Reason → List ℕ
-moves_by_reason moves =
-    moves_front (length moves) (moves_for Down moves) (moves_for Evicted moves)
-    ++ moves_back (moves_for Untracked moves) (moves_for Readdressed moves) (moves_for Unknown moves)
+abbrev pub moves_by_reason : List Moved → List ℕ
+moves_by_reason moves = moved_words (length moves) ++ (reason_counts moves 5 ++ codes "\n")
 
 -- ---- the flows with the most changes
 
@@ -72,7 +65,7 @@ ranked_line story = ranked_pieces story.changes (flow_in_words story.flow) story
 
 -- how many flows have a sent frame and how many of them moved; how many frames were moved, for which reason; and the ten flows with the
 -- most changes
-abbrev pub summary_text : List Story → List Reason → List ℕ
+abbrev pub summary_text : List Story → List Moved → List ℕ
 summary_text stories moves =
     (flows_line (count_by was_sent stories) (count_by was_moved stories) ++ moves_by_reason moves)
     ++ flat_map ranked_line (take 10 (ranked stories))

@@ -3,7 +3,7 @@
 ghost use Rattle.std.specs.Prelude.{◌≡◌, IfOk, string_bytes};
 ghost use Rattle.flows.specs.Mistakes.{left_out_text, refusal_text};
 
-use comparison::{json_text, no_report_text};
+use comparison::{NoRows, json_text, no_report_text};
 use std::alloc::{AllocError, Global};
 
 /// Why the flows of a file are not told.
@@ -27,6 +27,21 @@ impl From<AllocError> for NoFlows {
 
     fn from(_error: AllocError) -> NoFlows {
         NoFlows::Memory
+    }
+}
+
+impl From<NoRows> for NoFlows {
+    ghost use Rattle.std.specs.Prelude.{◌≡◌};
+    ghost use Rattle.flows.specs.Reports.{refusal_of};
+
+    ghost from_gives = { λ none refusal. refusal ≡ refusal_of none };
+
+    fn from(none: NoRows) -> NoFlows {
+        match none {
+            NoRows::JsonLines => NoFlows::JsonLines,
+            NoRows::NoReport { line } => NoFlows::NoReport { line },
+            NoRows::Memory => NoFlows::Memory,
+        }
     }
 }
 

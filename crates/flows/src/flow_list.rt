@@ -4,6 +4,7 @@ ghost use Rattle.std.specs.Prelude.{◌≡◌, ◌≤◌, ◌<◌, ◌+◌, ◌^
 ghost use Rattle.std.specs.List.{AllByRecursion, position};
 ghost use Rattle.flows.specs.FlowRecords.{HasRoomForFrame, IsIndexed, place_in, stories_in, story_of};
 ghost use Rattle.flows.specs.Stories.{after, story_begun, flow_of_row, row_has_flow, move_by};
+ghost use Rattle.flows.specs.Telling.{address_in, address_of_story, story_at};
 ghost use Rattle.flows.specs.Telling.{is_story_of, move_in, move_of, stories_with, stories_after};
 ghost use Rattle.flows.specs.Walking.{KnowsSettings, applied};
 
@@ -38,6 +39,27 @@ impl<'a> FlowList<'a> {
         ensures { result ≡ place_in self.now flow.now }
     {
         self.places.get(&flow).copied()
+    }
+
+    /// The address to which the last sent frame of the flow at this place went.
+    fn address_at(&self, place: Option<usize>) -> &'a str
+        ensures { result.now ≡ address_of_story (story_at (stories_in self.now) place) }
+    {
+        match place {
+            None => "",
+            Some(place) => match self.flows.get(place) {
+                None => "",
+                Some(flow) => flow.address,
+            },
+        }
+    }
+
+    /// The address to which the last sent frame of the row's flow went.
+    pub(crate) fn address_of(&self, row: &'a str) -> &'a str
+        requires { IsIndexed self.now }
+        ensures { result.now ≡ address_in (flow_of_row row.now) (stories_in self.now) }
+    {
+        self.address_at(self.place_of(flow_of(row)))
     }
 
     /// Notes a frame of the flow at this place.

@@ -4,6 +4,7 @@
 mod fault;
 mod flow;
 mod flow_list;
+mod moves;
 mod printing;
 mod reading;
 mod reason;
@@ -14,4 +15,7 @@ mod telling;
 mod tests;
 
 pub use fault::NoFlows;
-pub use telling::{Flows, flows_in};
+pub use moves::{Move, how_many};
+pub use reason::Reason;
+pub use settings::address_text;
+pub use telling::{Flows, flows_in, moved_frames};

@@ -5,7 +5,7 @@ ghost use Rattle.comparison.specs.Rows.{IsReport};
 ghost use Rattle.flows.specs.Reports.{IsCountInPlace, AreFlowsRefused, IsGapless, is_in_place};
 
 use crate::fault::NoFlows;
-use comparison::{Unlike, Which, field, row_at, rows_in};
+use comparison::{NoRows, field, row_at, rows_in};
 use std::alloc::{AllocError, Global};
 
 /// A number in decimal.
@@ -44,19 +44,14 @@ fn report_rows(alloc: Global, bytes: &[u8]) -> Result<Vec<&str>, NoFlows>
     ensures rows { IfOk result (λ rows. IsReport bytes.now (map (λ row. row.now) rows.items)) }
     ensures refused { IfErr result (λ refusal. AreFlowsRefused bytes.now refusal) }
 {
-    match rows_in(alloc, bytes, Which::First) {
+    match rows_in(alloc, bytes) {
         Ok(rows) => Ok(rows),
-        Err(unlike) => match unlike {
-            Unlike::JsonLines { .. } => Err(NoFlows::JsonLines),
-            Unlike::NoReport { line, .. } => Err(NoFlows::NoReport { line }),
-            Unlike::Memory => Err(NoFlows::Memory),
-            Unlike::OtherRecords { .. } => unreachable!(),
-        },
+        Err(none) => Err(NoFlows::from(none)),
     }
 }
 
-/// The rows of a report, which are those of records 1, 2, 3 and so on without a gap. Refused where the bytes are none, with the first line that shows it, and where
-/// memory is refused.
+/// The rows of a report, which are those of records 1, 2, 3 and so on without a gap. Refused where the bytes are none, with the first line
+/// that shows it, and where memory is refused.
 pub(crate) fn whole_report(alloc: Global, bytes: &[u8]) -> Result<Vec<&str>, NoFlows>
     ensures rows { IfOk result (λ rows. IsGapless bytes.now (map (λ row. row.now) rows.items)) }
     ensures refused { IfErr result (λ refusal. AreFlowsRefused bytes.now refusal) }

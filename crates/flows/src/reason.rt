@@ -2,11 +2,11 @@
 
 ghost use Rattle.std.specs.Prelude.{◌≡◌};
 ghost use Rattle.flows.specs.Stories.{reason_word};
-ghost use Rattle.flows.specs.SummaryText.{rank};
+ghost use Rattle.flows.specs.Telling.{rank, reason_at};
 
 /// Why a frame is sent to another address than the sent frame of its flow before.
 #[derive(Clone, Copy, Debug, PartialEq, Eq)]
-pub(crate) enum Reason {
+pub enum Reason {
     /// To the same backend, whose address was changed.
     Readdressed,
     /// The backend before is not up.
@@ -21,7 +21,7 @@ pub(crate) enum Reason {
 
 impl Reason {
     /// The reason in a word.
-    pub(crate) fn word(self) -> &'static str
+    pub fn word(self) -> &'static str
         ensures { result.now ≡ reason_word self }
     {
         match self {
@@ -33,16 +33,29 @@ impl Reason {
         }
     }
 
-    /// Its place among the reasons.
-    pub(crate) fn rank(self) -> u8
+    /// Its place in the order in which reasons are listed, counted from 0.
+    pub(crate) fn rank(self) -> usize
         ensures { result ≡ rank self }
     {
         match self {
-            Reason::Readdressed => 0,
-            Reason::Down => 1,
+            Reason::Down => 0,
+            Reason::Evicted => 1,
             Reason::Untracked => 2,
-            Reason::Evicted => 3,
+            Reason::Readdressed => 3,
             Reason::Unknown => 4,
+        }
+    }
+
+    /// The reason at a place in the order in which reasons are listed, counted from 0; the last one behind it.
+    pub fn at(rank: usize) -> Reason
+        ensures { result ≡ reason_at rank }
+    {
+        match rank {
+            0 => Reason::Down,
+            1 => Reason::Evicted,
+            2 => Reason::Untracked,
+            3 => Reason::Readdressed,
+            _ => Reason::Unknown,
         }
     }
 }

@@ -50,9 +50,9 @@ fn decimal(alloc: Global, number: u32) -> Result<String, AllocError>
     format!(in alloc; "{number}")
 }
 
-/// An address in four decimal numbers with dots between them.
+/// An address in four decimal numbers with dots between them. It fails only for lack of memory.
 #[tactic(auto, unfolding(control::specs::ScriptText::address_text))]
-fn address_text(alloc: Global, address: Ipv4Address) -> Result<String, AllocError>
+pub fn address_text(alloc: Global, address: Ipv4Address) -> Result<String, AllocError>
     ensures { IfOk result (λ text. string_bytes text ≡ address_text address.0) }
 {
     let [a, b, c, d] = address.0;

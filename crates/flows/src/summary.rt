@@ -2,19 +2,22 @@
 
 ghost use Rattle.std.specs.Prelude.{◌≡◌, ◌<◌, ◌≤◌, ◌++◌, IfOk, IfSome, OnOk, count_by, length, map, nat_lt, string_bytes, take};
 ghost use Rattle.std.specs.List.{flat_map, insert, position};
-ghost use Rattle.flows.specs.FlowRecords.{story_of};
+ghost use Rattle.flows.specs.FlowRecords.{moved_of, story_of};
 ghost use Rattle.flows.specs.Ranking.{line_view, place_for, ranked_view};
-ghost use Rattle.flows.specs.declared.reason.Reason.TheVariants.{Down, Evicted, Readdressed, Unknown, Untracked};
-ghost use Rattle.flows.specs.SummaryText.{flow_in_words, flows_line, moves_for, moves_back, moves_front, moves_by_reason, ranked, ranked_line};
-ghost use Rattle.flows.specs.SummaryText.{ranked_pieces, summary_text, was_moved, was_sent};
+ghost use Rattle.flows.specs.SummaryText.{comma_before, count_in_words, flow_in_words, flows_line, moved_words, moves_by_reason, ranked};
+ghost use Rattle.flows.specs.SummaryText.{ranked_line, ranked_pieces, reason_counts, summary_text, was_moved, was_sent};
 
 use crate::flow::Flow;
+use crate::moves::{Move, how_many};
 use crate::reason::Reason;
 use comparison::{field, flow_pieces};
 use std::alloc::{AllocError, Global};
 
 /// So many flows are named.
 const NAMED: usize = 10;
+
+/// So many reasons there are.
+const REASONS: usize = 5;
 
 fn flows_line(alloc: Global, sent: usize, moved: usize) -> Result<String, AllocError>
     ensures { IfOk result (λ text. string_bytes text ≡ flows_line sent moved) }
@@ -36,63 +39,51 @@ fn moved_count(flows: &[Flow]) -> usize
     flows.iter().filter(|flow| flow.changes != 0).count()
 }
 
-/// How many frames were moved for this reason.
-fn how_many(moves: &[Reason], reason: Reason) -> usize
-    ensures { result ≡ moves_for reason moves.now }
+fn moved_words(alloc: Global, moved: usize) -> Result<String, AllocError>
+    ensures { IfOk result (λ text. string_bytes text ≡ moved_words moved) }
 {
-    let rank = reason.rank();
-    moves.iter().filter(|other| other.rank() == rank).count()
+    format!(in alloc; "{moved} frames moved: ")
 }
 
-fn moves_front(
+/// What comes before the count at this place.
+fn comma_before(place: usize) -> &'static str
+    ensures { result.now ≡ comma_before place }
+{
+    if place == 0 { "" } else { ", " }
+}
+
+fn count_in_words(
     alloc: Global,
-    moved: usize,
-    down: usize,
-    evicted: usize,
+    comma: &str,
+    count: usize,
+    word: &str,
 ) -> Result<String, AllocError>
-    ensures { IfOk result (λ text. string_bytes text ≡ moves_front moved down evicted) }
+    ensures { IfOk result (λ text. string_bytes text ≡ count_in_words comma.now count word.now) }
 {
-    format!(in alloc; "{moved} frames moved: {down} down, {evicted} evicted, ")
+    format!(in alloc; "{comma}{count} {word}")
 }
 
-fn moves_back(
-    alloc: Global,
-    untracked: usize,
-    readdressed: usize,
-    unknown: usize,
-) -> Result<String, AllocError>
-    ensures { IfOk result (λ text. string_bytes text ≡ moves_back untracked readdressed unknown) }
+/// How many frames were moved for each of so many reasons.
+fn reason_counts(alloc: Global, moves: &[Move], count: usize) -> Result<String, AllocError>
+    ensures { IfOk result (λ text. string_bytes text ≡ reason_counts (map moved_of moves.now) count) }
 {
-    format!(in alloc; "{untracked} untracked, {readdressed} readdressed, {unknown} unknown\n")
-}
-
-/// The front of the line that says how many frames were moved.
-fn first_reasons(alloc: Global, moves: &[Reason]) -> Result<String, AllocError>
-    ensures { IfOk result (λ text. string_bytes text ≡ moves_front (length moves.now) (moves_for Down moves.now) (moves_for Evicted moves.now)) }
-{
-    let down = how_many(moves, Reason::Down);
-    let evicted = how_many(moves, Reason::Evicted);
-    moves_front(alloc, moves.len(), down, evicted)
-}
-
-/// Its back.
-fn other_reasons(alloc: Global, moves: &[Reason]) -> Result<String, AllocError>
-    ensures { IfOk result (λ text. string_bytes text ≡
-        moves_back (moves_for Untracked moves.now) (moves_for Readdressed moves.now) (moves_for Unknown moves.now)) }
-{
-    let untracked = how_many(moves, Reason::Untracked);
-    let readdressed = how_many(moves, Reason::Readdressed);
-    let unknown = how_many(moves, Reason::Unknown);
-    moves_back(alloc, untracked, readdressed, unknown)
+    let mut text = String::new(alloc);
+    'reasons: for place in 0..count {
+        let word = Reason::at(place).word();
+        let piece = count_in_words(alloc, comma_before(place), how_many(moves, place), word)?;
+        text.push_str(piece.as_str())?;
+    }
+    Ok(text)
 }
 
 /// How many frames were moved, and why.
-fn moves_line(alloc: Global, moves: &[Reason]) -> Result<String, AllocError>
-    ensures { IfOk result (λ text. string_bytes text ≡ moves_by_reason moves.now) }
+fn moves_line(alloc: Global, moves: &[Move]) -> Result<String, AllocError>
+    ensures { IfOk result (λ text. string_bytes text ≡ moves_by_reason (map moved_of moves.now)) }
 {
-    let mut text = first_reasons(alloc, moves)?;
-    let others = other_reasons(alloc, moves)?;
-    text.push_str(others.as_str())?;
+    let mut text = moved_words(alloc, moves.len())?;
+    let counts = reason_counts(alloc, moves, REASONS)?;
+    text.push_str(counts.as_str())?;
+    text.push_str("\n")?;
     Ok(text)
 }
 
@@ -187,9 +178,9 @@ fn put_ranked_lines(text: &mut String, best: &[(usize, String)]) -> Result<(), A
 }
 
 /// How many flows have a sent frame and moved, and how many frames were moved and why.
-fn counts(alloc: Global, flows: &[Flow], moves: &[Reason]) -> Result<String, AllocError>
+fn counts(alloc: Global, flows: &[Flow], moves: &[Move]) -> Result<String, AllocError>
     ensures { IfOk result (λ text. string_bytes text ≡
-        flows_line (count_by was_sent (map story_of flows.now)) (count_by was_moved (map story_of flows.now)) ++ moves_by_reason moves.now) }
+        flows_line (count_by was_sent (map story_of flows.now)) (count_by was_moved (map story_of flows.now)) ++ moves_by_reason (map moved_of moves.now)) }
 {
     let mut text = flows_line(alloc, sent_count(flows), moved_count(flows))?;
     let moves = moves_line(alloc, moves)?;
@@ -201,9 +192,9 @@ fn counts(alloc: Global, flows: &[Flow], moves: &[Reason]) -> Result<String, All
 pub(crate) fn summary_text(
     alloc: Global,
     flows: &[Flow],
-    moves: &[Reason],
+    moves: &[Move],
 ) -> Result<String, AllocError>
-    ensures { IfOk result (λ text. string_bytes text ≡ summary_text (map story_of flows.now) moves.now) }
+    ensures { IfOk result (λ text. string_bytes text ≡ summary_text (map story_of flows.now) (map moved_of moves.now)) }
 {
     let mut text = counts(alloc, flows, moves)?;
     let best = most_moved(alloc, flows)?;

@@ -1,16 +1,16 @@
 //! The flows of a report.
 
-ghost use Rattle.std.specs.Prelude.{◌≡◌, ◌++◌, IfErr, IfOk, OnOk, length, map, string_bytes};
-ghost use Rattle.flows.specs.FlowRecords.{stories_in};
+ghost use Rattle.std.specs.Prelude.{◌≡◌, IfErr, IfOk, length, map, string_bytes};
+ghost use Rattle.flows.specs.FlowRecords.{moved_of, stories_in};
 ghost use Rattle.flows.specs.FlowTexts.{AreFlows};
 ghost use Rattle.flows.specs.Reports.{AreFlowsRefused};
-ghost use Rattle.flows.specs.Telling.{listed, reasons_until, stories_until};
+ghost use Rattle.flows.specs.Telling.{moves_until, stories_until};
 
 use crate::fault::NoFlows;
 use crate::flow_list::FlowList;
+use crate::moves::{Move, put_move};
 use crate::printing::table_text;
 use crate::reading::whole_report;
-use crate::reason::Reason;
 use crate::settings::Settings;
 use crate::summary::summary_text;
 use comparison::row_at;
@@ -26,36 +26,42 @@ pub struct Flows {
     pub summary: String,
 }
 
-/// Appends a reason, if there is one.
-fn put_move(moves: &mut Vec<Reason>, moved: Option<Reason>) -> Result<(), AllocError>
-    ensures { OnOk result (moves.new.items ≡ moves.old.items ++ listed moved) }
-{
-    if let Some(reason) = moved {
-        moves.push(reason)?;
-    }
-    Ok(())
-}
-
-/// The flows of rows, and the reasons of the frames that were moved.
+/// The flows of rows, and the frames that were moved.
 fn told<'a>(
     alloc: Global,
     rows: &[&'a str],
     commands: &[Command],
-) -> Result<(FlowList<'a>, Vec<Reason>), AllocError>
+) -> Result<(FlowList<'a>, Vec<Move<'a>>), AllocError>
     ensures stories { IfOk result (λ told. stories_in told.0 ≡
         stories_until (map (λ row. row.now) rows.now) commands.now (length (map (λ row. row.now) rows.now))) }
-    ensures moves { IfOk result (λ told. told.1.items ≡
-        reasons_until (map (λ row. row.now) rows.now) commands.now (length (map (λ row. row.now) rows.now))) }
+    ensures moves { IfOk result (λ told. map moved_of told.1.items ≡
+        moves_until (map (λ row. row.now) rows.now) commands.now (length (map (λ row. row.now) rows.now))) }
 {
     let mut settings = Settings::new(alloc, commands);
     let mut list = FlowList::new(alloc);
     let mut moves = Vec::new(alloc);
     'rows: for place in 0..rows.len() {
         settings.advance(alloc, place)?;
-        let moved = list.tell(alloc, row_at(rows, place), &settings)?;
-        put_move(&mut moves, moved)?;
+        let row = row_at(rows, place);
+        let from = list.address_of(row);
+        let moved = list.tell(alloc, row, &settings)?;
+        put_move(&mut moves, place, from, moved)?;
     }
     Ok((list, moves))
+}
+
+/// The frames among these rows that were sent to another address than the sent frame of their flow before, and why, where these are the
+/// commands of the script. It fails only for lack of memory.
+pub fn moved_frames<'a>(
+    alloc: Global,
+    rows: &[&'a str],
+    commands: &[Command],
+) -> Result<Vec<Move<'a>>, AllocError>
+    ensures { IfOk result (λ moves. map moved_of moves.items ≡
+        moves_until (map (λ row. row.now) rows.now) commands.now (length (map (λ row. row.now) rows.now))) }
+{
+    let (_list, moves) = told(alloc, rows, commands)?;
+    Ok(moves)
 }
 
 /// The flows of the report of a replay with this script: of each flow that has a sent frame its frames, and the backends that got them, each

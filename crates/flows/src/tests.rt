@@ -1,9 +1,10 @@
 //! Flows of short reports, worked out by hand.
 
-use crate::{NoFlows, flows_in};
+use crate::{Move, NoFlows, Reason, address_text, flows_in, how_many, moved_frames};
 use control::parse_script;
 use std::alloc::Global;
 use std::process::Abort;
+use wire::Ipv4Address;
 
 /// What comes before the first row of a report.
 const REPORT_HEAD: &str =
@@ -273,4 +274,57 @@ fn many_flows_are_told(rt: HostRuntime) {
     let wanted =
         "1000 flows with a sent frame, 1000 of them moved\n1000 frames moved: 1000 down, 0 evicted";
     compare_summary(&rt, alloc, report.as_str(), commands, wanted);
+}
+
+/// Frames of two flows. Backend 1 goes down before the third, and the flow of the second was not sent before the fourth.
+const FOUR_ROWS: [&str; 4] = [
+    "1,1.000000,0,TX,99,sent,1,192.0.2.2,10.0.0.1,1000,203.0.113.1,80,tcp",
+    "2,2.000000,0,DROP,90,no-backend,,,10.0.0.1,1001,203.0.113.1,80,tcp",
+    "3,3.000000,0,TX,99,sent,0,192.0.2.1,10.0.0.1,1000,203.0.113.1,80,tcp",
+    "4,4.000000,0,TX,99,sent,0,192.0.2.1,10.0.0.1,1001,203.0.113.1,80,tcp",
+];
+
+/// Whether a move is of this row, from this address, for this reason.
+fn is_move(moved: &Move, place: usize, from: &str, reason: Reason) -> bool {
+    moved.place == place && moved.from == from && moved.reason == reason
+}
+
+#[test]
+fn moved_frames_have_their_reasons(rt: HostRuntime) {
+    let alloc = rt.alloc();
+    let commands = b"0 vip 203.0.113.1 80 tcp\n0 up 0 192.0.2.1\n0 up 1 192.0.2.2\n2 down 1\n";
+    let script = parse_script(alloc, commands).expect(&rt, "the script");
+    let moves = moved_frames(alloc, &FOUR_ROWS, script.commands()).expect(&rt, "the moves");
+    assert_eq!(&rt; moves.len(), 1, "one frame was moved");
+    let is = is_move(&moves[0], 2, "192.0.2.2", Reason::Down);
+    assert!(&rt; is, "the third one, from backend 1");
+    assert_eq!(&rt; how_many(&moves, 0), 1, "one since its backend is down");
+    assert_eq!(&rt; how_many(&moves, 1), 0, "none since its note is gone");
+    let none = moved_frames(alloc, &[], script.commands()).expect(&rt, "no moves");
+    assert_eq!(&rt; none.len(), 0, "of no rows none");
+}
+
+#[test]
+fn reasons_are_listed_in_their_order(rt: HostRuntime) {
+    let words = [
+        "down",
+        "evicted",
+        "untracked",
+        "readdressed",
+        "unknown",
+        "unknown",
+    ];
+    for rank in 0..words.len() {
+        assert_eq!(&rt;
+            Reason::at(rank).word(),
+            words[rank],
+            "the word of a reason"
+        );
+    }
+}
+
+#[test]
+fn addresses_have_four_numbers(rt: HostRuntime) {
+    let text = address_text(rt.alloc(), Ipv4Address([203, 0, 113, 255])).expect(&rt, "the text");
+    assert_eq!(&rt; text.as_str(), "203.0.113.255", "an address");
 }

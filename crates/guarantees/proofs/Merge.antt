@@ -1,6 +1,6 @@
 -- One order of all callers' deeds makes one list of events: by induction on the order, in which each deed is one event of its caller, after
 -- the instructions that its worker does before it. Other workers stay where they are.
-use Rattle.std.proofs.Common.{⊎_elim, ◌≡◌, ◌≢◌, ℕ, zero, suc, ◌*◌, ◌<◌, ◌≤◌, ◌==◌, ◌&&◌, Bool, true, false, cond, List, [], ◌∷◌, ◌++◌, length, reverse, Option, Some, None, refl, sym, ◌∙◌, ap, subst, arith, append_assoc, append-nil}
+use Rattle.std.proofs.Common.{⊎_elim, ◌≡◌, ◌≢◌, ℕ, zero, suc, ◌*◌, ◌<◌, ◌≤◌, ◌==◌, ◌&&◌, Bool, true, false, true≢false, cond, List, [], ◌∷◌, ◌++◌, length, reverse, Option, Some, None, refl, sym, ◌∙◌, ap, subst, arith, append_assoc, append-nil}
 use Rattle.std.specs.Prelude.{filter, map, IsTrue, slice_index_or, if◌then◌else◌}
 use Rattle.std.specs.List.{AllByRecursion}
 use Rattle.std.proofs.lemmas.Bool.{cases_lt, cases_eq, ne_eqb}
@@ -685,6 +685,81 @@ merge_behind setting plan count journal moves deeds order later (entry ∷ set) 
       first = (there.first.0, ap (λ (list : List SystemEvent). Controls entry.call ∷ list) there.first.1);
     }
 
+-- ---- and so is what it did before all others, looks at full journals among it
+
+abbrev pub AreFirstEvents : List Deed → List SystemEvent → Type 0
+AreFirstEvents set events = (later : List SystemEvent) × (events ≡ map (λ (deed : Deed). Controls (call_of_deed deed)) set ++ later)
+
+-- each is an event of the controller
+abbrev pub AreControllers : (ℕ → ShardPlan) → List Deed → Type 0
+AreControllers plan set = AllByRecursion (λ (deed : Deed). is_heard plan Controller deed ≡ true) set
+
+record MergedFirst (setting : Setting) (plan : ℕ → ShardPlan) (count : ℕ) (deeds set later : List Deed) (system : SystemState) (rest : ℕ → List Move)
+    (ends : ℕ → List Ending) : Type 0 where
+  merged : Merged setting plan count deeds (set ++ later) system rest ends
+  first : AreFirstEvents set merged.events
+
+writer_is : (plan : ℕ → ShardPlan) (entry : Entry) (who : Caller) → entry.who ≡ who → is_heard plan Controller (Wrote entry) ≡ true → entry.who ≡ Controller
+writer_is plan entry (Worker worker) is heard = absurd (true≢false (sym heard ∙ written_by Controller (Worker worker) plan entry false is refl))
+writer_is plan entry Controller is heard = is
+writer_is plan entry Reclaimer is heard = absurd (true≢false (sym heard ∙ written_by Controller Reclaimer plan entry false is refl))
+
+merge_first : (setting : Setting) (plan : ℕ → ShardPlan) (count : ℕ) (journal : ℕ → List Entry) (moves : ℕ → List Move) (deeds : List Deed) →
+    IsOrderOfMoves setting plan count journal moves deeds → (later set : List Deed) → AreControllers plan set → (earlier : List Deed) (system : SystemState)
+    (rest : ℕ → List Move) (ends : ℕ → List Ending) → Stands setting count deeds earlier (set ++ later) system rest ends →
+    MergedFirst setting plan count deeds set later system rest ends
+unfolding go_by
+merge_first setting plan count journal moves deeds order later [] all earlier system rest ends stands =
+    let merged : Merged setting plan count deeds later system rest ends =
+    merge setting plan count journal moves deeds order later earlier system rest ends stands in
+    record { merged = merged; first = (merged.events, refl) }
+merge_first setting plan count journal moves deeds order later (Wrote entry ∷ set) all earlier system rest ends stands =
+    let more : List Deed = set ++ later in
+    let so = controls_so setting plan count journal moves deeds earlier more entry system rest ends order stands (writer_is plan entry entry.who refl all.0) in
+    let onward : MergedFirst setting plan count deeds set later (with_entry system (shard_of_call entry.call) entry) rest ends =
+    merge_first setting plan count journal moves deeds order later set all.1 (earlier ++ Wrote entry ∷ [])
+    (with_entry system (shard_of_call entry.call) entry) rest ends
+    (behind_entry setting count deeds earlier more entry system rest ends stands so.not_theirs) in
+    let there : MergedFirst setting plan count deeds set later (after_event setting system (Controls entry.call)) rest ends =
+    subst (λ (here : SystemState). MergedFirst setting plan count deeds set later here rest ends) (sym so.leads) onward in
+    record {
+      merged = go_by setting plan count deeds (Wrote entry ∷ more) more system rest ends (Controls entry.call) (entry ∷ []) so.can
+          (ap (λ (here : SystemState). here.histories) so.leads) refl so.heard there.merged;
+      first = (there.first.0, ap (λ (list : List SystemEvent). Controls entry.call ∷ list) there.first.1);
+    }
+merge_first setting plan count journal moves deeds order later (MetFull (Worker worker) call ∷ set) all earlier system rest ends stands =
+    absurd (true≢false (sym all.0))
+merge_first setting plan count journal moves deeds order later (MetFull Reclaimer call ∷ set) all earlier system rest ends stands =
+    absurd (true≢false (sym all.0))
+merge_first setting plan count journal moves deeds order later (MetFull Controller call ∷ set) all earlier system rest ends stands =
+    let more : List Deed = set ++ later in
+    let shard : ℕ = shard_of_call call in
+    let at = look_at setting plan count journal moves deeds earlier more Controller call system rest ends order stands in
+    let may : meets (plan shard) [] Controller call ≡ true = all.0 in
+    let own = heard_more plan Controller (MetFull Controller call) more may in
+    let leads = turned_away setting (plan shard) system Controller call at in
+    let onward : MergedFirst setting plan count deeds set later system rest ends =
+    merge_first setting plan count journal moves deeds order later set all.1 (earlier ++ MetFull Controller call ∷ []) system rest ends
+    (behind_look setting count deeds earlier more (MetFull Controller call) system rest ends stands (λ worker below. refl)
+    (after_look count earlier system system Controller call stands.histories refl)) in
+    let there : MergedFirst setting plan count deeds set later (after_event setting system (Controls call)) rest ends =
+    subst (λ (here : SystemState). MergedFirst setting plan count deeds set later here rest ends) (sym leads) onward in
+    record {
+      merged = go_by setting plan count deeds (MetFull Controller call ∷ more) more system rest ends (Controls call) [] (
+        controller_changes_keys (plan shard) [] call may,
+        may_look setting (plan shard) system Controller call tt at may,
+      )
+          (ap (λ (here : SystemState). here.histories) leads) refl
+          (record {
+            nobody = λ worker. refl;
+            calls = ap (map call_of_deed) (sym own);
+            answers = ap (λ (one : Option Reply). one ∷ map answer_of_deed (heard plan Controller more))
+                (no_answer setting (plan shard) system Controller call at) ∙ ap (map answer_of_deed) (sym own);
+            rounds = refl;
+          }) there.merged;
+      first = (there.first.0, ap (λ (list : List SystemEvent). Controls call ∷ list) there.first.1);
+    }
+
 -- ---- from the opening on
 
 -- one list of events, with what comes of it
@@ -764,6 +839,28 @@ one_list_behind setting plan count journal moves ends set later all order walks 
     merge_behind setting plan count journal moves deeds order later set all [] (opening_system setting) moves ends
     (opened_stands setting plan count journal moves ends deeds order walks) in
     record { whole = with_ends_of setting plan count journal moves ends deeds order behind.merged; first = behind.first }
+
+-- the same of deeds with which the order begins
+pub record IsListFirst (setting : Setting) (plan : ℕ → ShardPlan) (count : ℕ) (journal : ℕ → List Entry) (moves : ℕ → List Move)
+    (ends : ℕ → List Ending) (set deeds : List Deed) : Type 0 where
+  pub whole : IsListWithEnds setting plan count journal moves ends deeds
+  pub first : AreFirstEvents set whole.list.events
+
+first_so : (setting : Setting) (plan : ℕ → ShardPlan) (count : ℕ) (journal : ℕ → List Entry) (moves : ℕ → List Move)
+    (ends : ℕ → List Ending) (set later : List Deed) → AreControllers plan set → IsOrderOfMoves setting plan count journal moves (set ++ later) →
+    ((worker : ℕ) → Walk setting count worker Idle (moves worker) (ends worker)) → IsListFirst setting plan count journal moves ends set (set ++ later)
+first_so setting plan count journal moves ends set later all order walks =
+    let behind : MergedFirst setting plan count (set ++ later) set later (opening_system setting) moves ends =
+    merge_first setting plan count journal moves (set ++ later) order later set all [] (opening_system setting) moves ends
+    (opened_stands setting plan count journal moves ends (set ++ later) order walks) in
+    record { whole = with_ends_of setting plan count journal moves ends (set ++ later) order behind.merged; first = behind.first }
+
+pub one_list_first : (setting : Setting) (plan : ℕ → ShardPlan) (count : ℕ) (journal : ℕ → List Entry) (moves : ℕ → List Move)
+    (ends : ℕ → List Ending) (set later deeds : List Deed) → AreControllers plan set → deeds ≡ set ++ later → IsOrderOfMoves setting plan count journal moves deeds →
+    ((worker : ℕ) → Walk setting count worker Idle (moves worker) (ends worker)) → IsListFirst setting plan count journal moves ends set deeds
+one_list_first setting plan count journal moves ends set later deeds all are order walks =
+    subst (λ (list : List Deed). IsListFirst setting plan count journal moves ends set list) (sym are)
+    (first_so setting plan count journal moves ends set later all (subst (λ (list : List Deed). IsOrderOfMoves setting plan count journal moves list) are order) walks)
 
 pub one_order_is_one_list : OneOrderIsOneList
 one_order_is_one_list setting plan count journal moves deeds order =

@@ -1,9 +1,11 @@
 -- The replay that the headline is of, as one list of events: what is begun, called and gone over in it, and what comes of it.
-use Rattle.std.proofs.Common.{◌≡◌, ℕ, zero, suc, ◌<◌, ◌≤◌, ◌==◌, Bool, true, false, not, ◌&&◌, nat_lt, List, [], ◌∷◌, ◌++◌, length, reverse, Some, refl, sym, ◌∙◌, ap, subst, arith}
+use Rattle.std.proofs.Common.{◌≡◌, ℕ, zero, suc, ◌<◌, ◌≤◌, ◌==◌, Bool, true, false, not, ◌&&◌, nat_lt, List, [], ◌∷◌, ◌++◌, length, reverse, cond, take, drop, Some, refl, sym, ◌∙◌, ap, subst, append_assoc, arith}
 use Rattle.std.specs.Prelude.{map, filter, slice_get, if◌then◌else◌}
-use Rattle.std.specs.List.{AllByRecursion}
+use Rattle.std.specs.List.{AllByRecursion, flat_map}
 use Rattle.std.proofs.lemmas.Bool.Decides.{nat_tests}
-use Rattle.std.proofs.lemmas.List.{length-map, reverse-reverse}
+use Rattle.std.proofs.lemmas.List.{length-map, reverse-append, reverse-reverse}
+use Rattle.ebpf_decode.specs.declared.map.MapDef.{MapDef}
+use Rattle.semantics.specs.declared.call.Call.{Call}
 use Rattle.wire.specs.FrameView.{FrameView}
 use Rattle.wire.specs.declared.records.Sent.{Sent}
 use Rattle.semantics.specs.declared.call.Caller.TheVariants.{Controller, Reclaimer}
@@ -12,7 +14,7 @@ use Rattle.semantics.specs.declared.plan.ShardPlan.{ShardPlan}
 use Rattle.semantics.specs.ShardPlan.{AreOptions}
 use Rattle.semantics.specs.History.{shard_of_call}
 use Rattle.semantics.specs.Safety.{IsSafeImage}
-use Rattle.semantics.specs.System.{Setting, Idle}
+use Rattle.semantics.specs.System.{Setting, SystemEvent, Controls, Idle}
 use Rattle.verifier.specs.Verified.{Verified}
 use Rattle.machine.specs.declared.exit.Stop.{Stop}
 use Rattle.machine.specs.declared.exit.Stop.TheVariants.{JournalFull}
@@ -34,8 +36,8 @@ use Rattle.actors.specs.declared.runner.RunEnd.{RunEnd}
 use Rattle.actors.specs.declared.runner.RunEnd.TheVariants.{Stopped as WasStopped, Exited as HasExited}
 use Rattle.actors.specs.Accounted.{IsWorkOf, IsAccounted}
 use Rattle.actors.specs.Accounts.{runs_at, sent_frames, verdict_for}
-use Rattle.actors.specs.Commands.{AnsweredUpdate, CommandDone, all_set, made_deeds, commands_deeds}
-use Rattle.actors.specs.Parts.{round_count as rounds_for}
+use Rattle.actors.specs.Commands.{AnsweredUpdate, CommandDone, all_set, made_deeds, command_deeds, commands_deeds}
+use Rattle.actors.specs.Parts.{round_count as rounds_for, first_commands}
 use Rattle.actors.specs.Rounds.{keyed_below}
 use Rattle.actors.specs.RunJobs.{records_of}
 use Rattle.actors.specs.RunsInOrder.{IsRunAt, IsChainOfRuns}
@@ -47,7 +49,7 @@ use Rattle.guarantees.specs.Merging.{events_of}
 use Rattle.guarantees.specs.HeadlineOf.{HeadlineOf, ReplaysKeepHeadline}
 use Rattle.actors.specs.Captured.{IsCaptured}
 use Rattle.semantics.specs.Replay.{Captured, RecordEnd, IsReplay, input_of, is_run_by, runner_of, keyed_shards, rounds_over, shard_count, frames_sent}
-use Rattle.guarantees.specs.ReplayOf.{captured_of, asked_of, totals_in, result_of}
+use Rattle.guarantees.specs.ReplayOf.{captured_of, calls_made, command_calls, asked_of, totals_in, result_of}
 use Rattle.guarantees.specs.Steps.{Move}
 use Rattle.guarantees.specs.SystemLaws.{RunsAreOfTheSystem, StoppedRunsAreOfTheSystem}
 use Rattle.guarantees.specs.SystemRuns.{setting_of, HasStoppedInSystem}
@@ -55,7 +57,7 @@ use Rattle.guarantees.proofs.AnswerLemmas.{begun_among}
 use Rattle.guarantees.proofs.DeedAnswers.{heard_is, all_askable, calls_are, answers_are, made_as_many, commands_as_many, keyed_are, rounds_are}
 use Rattle.guarantees.proofs.EndLemmas.{Walk}
 use Rattle.guarantees.proofs.HeadlineRuns.{work, moves, moves_of_work, order_is, of_accounted}
-use Rattle.guarantees.proofs.Merge.{IsListWithEnds, heard, one_list_with_ends, answer_of_deed, call_of_deed}
+use Rattle.guarantees.proofs.Merge.{IsListWithEnds, IsListFirst, AreControllers, heard, is_heard, one_list_first, answer_of_deed, call_of_deed}
 use Rattle.guarantees.proofs.RecordEnds.{first_all, placed, picked, of_sent, IsEndingOf, IsRunOfRecord, AreRunsEnded, all_ends, runners_are, totals_are, told_are, sent_are, ends_are, share_is, spread_below}
 use Rattle.guarantees.proofs.RunEnds.{ending_at_stop, ending_of, endings_of, captured_in, walk_of, begun_in}
 use Rattle.guarantees.proofs.SizedUpdates.{commands_may_look}
@@ -164,6 +166,44 @@ no_share frames workers worker (suc count) some past =
     none : (test : Bool) (list : List ℕ) → (if test && false then list ++ count ∷ [] else list) ≡ list
     none true list = refl
     none false list = refl
+
+-- ---- what the order begins with
+
+all_chosen : (test : Deed → Bool) (deeds : List Deed) → AllByRecursion (λ (deed : Deed). test deed ≡ true) (filter test deeds)
+all_chosen test [] = tt
+all_chosen test (deed ∷ deeds) = by_test (test deed) refl (all_chosen test deeds) where
+  by_test : (is : Bool) → test deed ≡ is → AllByRecursion (λ (one : Deed). test one ≡ true) (filter test deeds) →
+      AllByRecursion (λ (one : Deed). test one ≡ true) (cond is (deed ∷ filter test deeds) (filter test deeds))
+  by_test true is rest = (is, rest)
+  by_test false is rest = rest
+
+all_left : (P : Deed → Type 0) (first later : List Deed) → AllByRecursion P (first ++ later) → AllByRecursion P first
+all_left P [] later all = tt
+all_left P (deed ∷ first) later all = (all.0, all_left P first later all.1)
+
+parted_commands : (maps : List MapDef) (options : Options) (done : List CommandDone) (n : ℕ) →
+    commands_deeds maps options done ≡ commands_deeds maps options (take n done) ++ commands_deeds maps options (drop n done)
+parted_commands maps options done zero = refl
+parted_commands maps options [] (suc n) = refl
+parted_commands maps options (one ∷ done) (suc n) =
+    ap (λ (list : List Deed). command_deeds maps options one ++ list) (parted_commands maps options done n)
+    ∙ sym (append_assoc (command_deeds maps options one) (commands_deeds maps options (take n done)) (commands_deeds maps options (drop n done)))
+
+parted_deeds : (maps : List MapDef) (options : Options) (made : List AnsweredUpdate) (done : List CommandDone) (n : ℕ) →
+    made_deeds maps options made ++ commands_deeds maps options done
+    ≡ (made_deeds maps options made ++ commands_deeds maps options (take n done)) ++ commands_deeds maps options (drop n done)
+parted_deeds maps options made done n =
+    ap (λ (list : List Deed). made_deeds maps options made ++ list) (parted_commands maps options done n)
+    ∙ sym (append_assoc (made_deeds maps options made) (commands_deeds maps options (take n done)) (commands_deeds maps options (drop n done)))
+
+take_map : (f : CommandDone → List Call) (n : ℕ) (done : List CommandDone) → map f (take n done) ≡ take n (map f done)
+take_map f zero done = refl
+take_map f (suc n) [] = refl
+take_map f (suc n) (one ∷ done) = ap (λ (list : List (List Call)). f one ∷ list) (take_map f n done)
+
+map_both : (deeds : List Deed) → map (λ (call : Call). Controls call) (map call_of_deed deeds) ≡ map (λ (deed : Deed). Controls (call_of_deed deed)) deeds
+map_both [] = refl
+map_both (deed ∷ deeds) = ap (λ (list : List SystemEvent). Controls (call_of_deed deed) ∷ list) (map_both deeds)
 
 -- ---- the whole replay
 
@@ -286,10 +326,6 @@ module _ (ran : RunsAreOfTheSystem) (stopped : StoppedRunsAreOfTheSystem) (verif
   sent_both [] = refl
   sent_both (one ∷ list) = ap (λ (more : List Captured). captured_of one ∷ more) (sent_both list)
 
-  abbrev with_ends : IsListWithEnds setting accounted.plan accounted.count (λ number. entries_at outcome.journals number) moved ends (reverse accounted.order)
-  with_ends = one_list_with_ends setting accounted.plan accounted.count (λ number. entries_at outcome.journals number) moved ends (reverse accounted.order)
-      (order_is ran stopped verified safe script options records outcome fit captured accounted) walks
-
   abbrev done : List CommandDone
   done = accounted.commands.done
 
@@ -306,6 +342,30 @@ module _ (ran : RunsAreOfTheSystem) (stopped : StoppedRunsAreOfTheSystem) (verif
       accounted.commands.serves accounted.commands.noted done accounted.commands.are_noted (opened_controller accounted.commands.size)
       accounted.commands.state accounted.commands.are_done refl))
 
+  -- what the order begins with
+  abbrev first_done : List CommandDone
+  first_done = take (first_commands script) done
+
+  abbrev first : List Deed
+  first = made_deeds verified.maps options made ++ commands_deeds verified.maps options first_done
+
+  order_begins : reverse accounted.order ≡ first ++ reverse accounted.begins.0
+  order_begins = ap (λ (list : List Deed). reverse list) accounted.begins.1 ∙ reverse-append accounted.begins.0 (reverse first)
+      ∙ ap (λ (list : List Deed). list ++ reverse accounted.begins.0) (reverse-reverse first)
+
+  first_heard : AreControllers accounted.plan first
+  first_heard =
+      let all : AreControllers accounted.plan controller_deeds = subst (AreControllers accounted.plan) heard_controller (all_chosen (is_heard accounted.plan Controller) (reverse accounted.order)) in
+      all_left (λ (deed : Deed). is_heard accounted.plan Controller deed ≡ true) first (commands_deeds verified.maps options (drop (first_commands script) done))
+      (subst (AreControllers accounted.plan) (parted_deeds verified.maps options made done (first_commands script)) all)
+
+  abbrev list_first : IsListFirst setting accounted.plan accounted.count (λ number. entries_at outcome.journals number) moved ends first (reverse accounted.order)
+  list_first = one_list_first setting accounted.plan accounted.count (λ number. entries_at outcome.journals number) moved ends first (reverse accounted.begins.0)
+      (reverse accounted.order) first_heard order_begins (order_is ran stopped verified safe script options records outcome fit captured accounted) walks
+
+  abbrev with_ends : IsListWithEnds setting accounted.plan accounted.count (λ number. entries_at outcome.journals number) moved ends (reverse accounted.order)
+  with_ends = list_first.whole
+
   abbrev reclaimer_deeds : List Deed
   reclaimer_deeds = reverse (deeds_of (ByCaller Reclaimer) accounted.order)
 
@@ -319,12 +379,19 @@ module _ (ran : RunsAreOfTheSystem) (stopped : StoppedRunsAreOfTheSystem) (verif
       (heard_is accounted.plan Reclaimer accounted.order reclaimer_deeds (sym (reverse-reverse (deeds_of (ByCaller Reclaimer) accounted.order))) all.may)
       ∙ all.shards_are
 
-  are_replay : IsReplay setting (asked_of verified options records outcome done) (result_of outcome done record_ends) with_ends.list.events
+  are_replay : IsReplay setting (asked_of verified script options records outcome done) (result_of outcome done record_ends) with_ends.list.events
   are_replay = record {
     can = with_ends.list.can;
     begun = λ worker. begun_among worker with_ends.list.events ∙ ap (begun_by worker) (with_ends.list.of_each worker)
         ∙ begun_is worker (nat_lt worker options.workers) refl;
     called = with_ends.called ∙ ap (map call_of_deed) heard_controller ∙ calls_are verified.maps options made done;
+    later = list_first.first.0;
+    first = list_first.first.1
+        ∙ ap (λ (list : List SystemEvent). list ++ list_first.first.0)
+        (sym (map_both first)
+        ∙ ap (λ (calls : List Call). map (λ (call : Call). Controls call) calls) (calls_are verified.maps options made first_done
+        ∙ ap (λ (calls : List (List Call)). calls_made verified.maps options made ++ flat_map (λ list. list) calls)
+        (take_map (command_calls verified.maps options) (first_commands script) done)));
     gone_over = with_ends.gone_over ∙ reclaimer_is
         ∙ ap (λ (shards : List ℕ). rounds_over shards rounds)
         (keyed_are setting accounted.plan accounted.count accounted.plans.each accounted.count (omega arith)

@@ -1,16 +1,16 @@
--- Two computed replays, and lists of events that are none.
-use Rattle.std.proofs.Common.{◌≡◌, ℕ, zero, suc, ◌<◌, ◌≤◌, ◌==◌, false, List, [], ◌∷◌, replicate, refl, ◌∙◌, ap, arith}
-use Rattle.std.specs.Prelude.{All, length, reverse}
+-- Three computed replays, and lists of events that are none.
+use Rattle.std.proofs.Common.{◌≡◌, ℕ, zero, suc, ◌<◌, ◌≤◌, ◌==◌, false, List, [], ◌∷◌, ◌++◌, replicate, refl, ◌∙◌, ap, arith}
+use Rattle.std.specs.Prelude.{All, length, map, reverse}
 use Rattle.std.proofs.lemmas.Bool.Decides.{nat_tests}
 use Rattle.ebpf_decode.specs.InstructionEncoding.{slot_count}
 use Rattle.semantics.specs.declared.call.Call.{Call}
-use Rattle.semantics.specs.System.{SystemState, Reclaims, WorkerState, Idle, worker_state, history_of, IsInputFrame, opening_system, system_after}
+use Rattle.semantics.specs.System.{SystemState, SystemEvent, BeginsRun, Controls, Reclaims, WorkerState, Idle, worker_state, history_of, IsInputFrame, opening_system, system_after}
 use Rattle.semantics.specs.SystemRows.{frame_of}
 use Rattle.semantics.proofs.shared.ConditionLemmas.{tested_bytes}
 use Rattle.semantics.proofs.shared.SystemSteps.{same_everywhere}
 use Rattle.semantics.specs.Events.{begun_by, ended_by}
-use Rattle.semantics.specs.Replay.{inputs_of, ends_by, IsReplay}
-use Rattle.guarantees.specs.ReplayRows.{replay_setting, held_asked, held_events, held_result, held_ending, full_asked, full_events, full_result, ReplayRows}
+use Rattle.semantics.specs.Replay.{inputs_of, first_calls, ends_by, IsReplay}
+use Rattle.guarantees.specs.ReplayRows.{replay_setting, held_asked, held_run, held_command, held_end, held_events, held_result, held_ending, full_asked, full_events, full_result, first_asked, first_events, first_result, ReplayRows}
 
 input_of : (bytes : List ℕ) → 14 ≤ length bytes → length bytes ≤ 2048 → All (λ byte. byte < 256) bytes → IsInputFrame bytes
 input_of bytes least greatest all = record { least = least; greatest = greatest; bytes = all }
@@ -44,6 +44,8 @@ held_is = record {
   can = (refl, (refl, (refl, (refl, (refl, (refl, ((refl, refl), ((refl, refl), (refl, (refl, (refl, (refl, (refl, (refl, ((omega arith, refl, frame_zero, omega arith, omega arith), ((refl, refl), tt))))))))))))))));
   begun = held_begun;
   called = refl;
+  later = held_run ++ held_command ++ held_end ++ Reclaims 0 ∷ [];
+  first = refl;
   gone_over = refl;
   runners = refl;
   ended = held_ended;
@@ -75,6 +77,8 @@ full_is = record {
   can = (refl, (refl, (refl, ((refl, refl), ((refl, refl), ((refl, refl), ((refl, refl), ((refl, refl), ((refl, refl), ((refl, refl), ((refl, refl), ((refl, refl), ((refl, refl), ((refl, refl), ((refl, refl), ((refl, refl), ((refl, refl), ((refl, refl), (refl, (refl, (refl, (refl, (refl, ((omega arith, refl, frame_zero, omega arith, omega arith), tt))))))))))))))))))))))));
   begun = full_begun;
   called = refl;
+  later = full_events (Reclaims 0 ∷ []);
+  first = refl;
   gone_over = refl;
   runners = refl;
   ended = full_ended;
@@ -84,6 +88,39 @@ full_is = record {
   of_calls = record { first = refl; each = refl };
   left = full_left;
   idle = λ worker. all_idle (system_after replay_setting (reverse (full_events (Reclaims 0 ∷ [])))) worker refl;
+}
+
+first_begun : (worker : ℕ) → begun_by worker (first_events) ≡ inputs_of first_asked worker
+first_begun zero = refl
+first_begun (suc worker) = rw (another worker) refl
+
+first_ended : (worker : ℕ) → ended_by replay_setting worker (opening_system replay_setting) (first_events) ≡ ends_by worker (first_result).ends
+unfolding slot_count
+first_ended zero = refl
+first_ended (suc worker) = rw (another worker) refl
+
+first_left : (shard : ℕ) → shard < 1 → reverse (history_of (system_after replay_setting (reverse (first_events))) shard) ≡ (first_result).journals shard
+unfolding slot_count
+first_left zero below = refl
+first_left (suc shard) below = absurd (omega (arith, below))
+
+first_is : IsReplay replay_setting first_asked (first_result) (first_events)
+unfolding slot_count
+first_is = record {
+  can = (refl, (refl, (refl, (refl, (refl, (refl, (refl, (refl, (refl, (refl, (refl, (refl, ((omega arith, refl, frame_zero, omega arith, omega arith), ((refl, refl), ((refl, refl), tt)))))))))))))));
+  begun = first_begun;
+  called = refl;
+  later = held_run ++ held_end ++ Reclaims 0 ∷ [];
+  first = refl;
+  gone_over = refl;
+  runners = refl;
+  ended = first_ended;
+  totals = refl;
+  sent = refl;
+  answers = refl;
+  of_calls = record { first = refl; each = refl };
+  left = first_left;
+  idle = λ worker. all_idle (system_after replay_setting (reverse (first_events))) worker refl;
 }
 
 -- ---- what is none
@@ -97,15 +134,25 @@ one_or_two x y z is = cc
 the_one : {A : Type 0} (x y : A) → x ∷ [] ≡ y ∷ [] → y ≡ x
 the_one x y is = cc
 
+begins_not_controls : (worker : ℕ) (frame : List ℕ) (now told : ℕ) (call : Call) (events later : List SystemEvent) →
+    BeginsRun worker frame now told ∷ events ≡ Controls call ∷ later → ⊥
+begins_not_controls worker frame now told call events later is = cc
+
+controls_not_begins : (later : List SystemEvent) → held_events ≡ map (λ (call : Call). Controls call) (first_calls (record held_asked { first = 1 })) ++ later → ⊥
+controls_not_begins later is = cc
+
 pub replay_rows : ReplayRows
 unfolding slot_count
 replay_rows = record {
   held = held_is;
   full = full_is;
+  first = first_is;
   no_run = λ is. none_or_one _ (is.begun 0);
   run_twice = λ is. one_or_two _ _ _ (is.begun 0);
   another_end = λ ending apart is. apart (the_one held_ending ending (is.ended 0));
   other_totals = λ totals apart events is. apart is.totals;
+  late_update = λ is. begins_not_controls _ _ _ _ _ _ _ is.first;
+  late_command = λ is. controls_not_begins is.later is.first;
   no_call = λ is. let two : 1 ≡ 3 = ap (λ (calls : List Call). length calls) is.called in omega (arith, two);
   unasked_call = λ is. let two : 16 ≡ 15 = ap (λ (calls : List Call). length calls) is.called in omega (arith, two);
   unasked_round = λ is. one_or_two _ _ _ is.gone_over;

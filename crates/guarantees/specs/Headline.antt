@@ -54,7 +54,7 @@ pub record IsOneReplay (verified : Verified) (script : List Command) (options : 
   -- the events are a replay of the records, the updates before the first and the commands, with these ends, and with the numbers, the sent
   -- frames, the answers and the journals that are handed back
   pub events : List SystemEvent
-  pub are : IsReplay (setting_of verified options) (asked_of verified options records outcome done) (result_of outcome done ends) events
+  pub are : IsReplay (setting_of verified options) (asked_of verified script options records outcome done) (result_of outcome done ends) events
 
 pub record Headline (verified : Verified) (script : List Command) (options : Options) (records : List Sent) (outcome : Outcome) : Type 0 where
   -- whatever frames arrive and however the shared steps interleave, no run traps, and each ends within as many instructions as the image

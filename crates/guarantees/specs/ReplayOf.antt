@@ -14,6 +14,8 @@ use Rattle.actors.specs.declared.outcome.Outcome.{Outcome}
 use Rattle.actors.specs.declared.outcome.RecordEnd.{RecordEnd as Told}
 use Rattle.actors.specs.declared.outcome.RecordEnd.TheVariants as told
 use Rattle.actors.specs.Commands.{AnsweredUpdate, CommandDone, all_set}
+use Rattle.control.specs.declared.command.Command.{Command}
+use Rattle.actors.specs.Parts.{first_commands}
 use Rattle.actors.specs.SharedUpdates.{shard_of, controller_update}
 use Rattle.actors.specs.Shares.{worker_of_frame}
 use Rattle.semantics.specs.Events.{Exited, Stopped}
@@ -40,12 +42,13 @@ stopped_call maps options (Some update) = call_of_shared_update maps options upd
 abbrev pub command_calls : List MapDef → Options → CommandDone → List Call
 command_calls maps options one = calls_made maps options one.made ++ stopped_call maps options one.stopped
 
-abbrev pub asked_of : Verified → Options → List Sent → Outcome → List CommandDone → Asked
-asked_of verified options records outcome done = record {
+abbrev pub asked_of : Verified → List Command → Options → List Sent → Outcome → List CommandDone → Asked
+asked_of verified script options records outcome done = record {
   records = map captured_of records;
   worker_of = λ frame. worker_of_frame frame options.workers;
   updates = calls_made verified.maps options (all_set outcome.updates.items);
   commands = map (command_calls verified.maps options) done;
+  first = first_commands script;
 }
 
 -- ---- what came of it

@@ -1,4 +1,5 @@
--- Two replays, computed: and what is none. In the first a command deletes a key whose cell a run holds; in the second a journal is full.
+-- Three replays, computed: and what is none. In the first a command deletes a key whose cell a run holds; in the second a journal is full; in
+-- the third a command comes before the first record.
 use Rattle.std.specs.Prelude.{◌≢◌, ℕ, pos, List, [], ◌∷◌, ◌++◌, replicate, Option, Some, None}
 use Rattle.ebpf_decode.specs.declared.map.MapKind.TheVariants.{Hash}
 use Rattle.semantics.specs.declared.call.Call.{Call}
@@ -39,6 +40,7 @@ held_asked = record {
   worker_of = λ frame. 0;
   updates = put 1 5 ∷ [];
   commands = (Delete 0 (key_of_byte 1) ∷ put 2 9 ∷ []) ∷ [];
+  first = 0;
 }
 
 abbrev pub held_run : List SystemEvent
@@ -78,6 +80,7 @@ full_asked = record {
   worker_of = λ frame. 0;
   updates = [];
   commands = replicate 15 (put 1 5) ∷ [];
+  first = 0;
 }
 
 abbrev pub full_events : List SystemEvent → List SystemEvent
@@ -95,11 +98,28 @@ full_result = record {
   journals = λ shard. by_worker (Enter 0) Entered ∷ replicate 14 (by_controller (put 1 5) (Answer (pos 0))) ++ by_worker (Leave 0) Left ∷ [];
 }
 
+-- ---- a command before the first record
+
+abbrev pub first_asked : Asked
+first_asked = record held_asked { commands = (put 1 9 ∷ []) ∷ []; first = 1 }
+
+abbrev pub first_events : List SystemEvent
+first_events = Controls (put 1 5) ∷ Controls (put 1 9) ∷ held_run ++ held_end ++ Reclaims 0 ∷ []
+
+abbrev pub first_result : Result
+first_result = record (held_result held_ending) {
+  answers = (answer ∷ []) ∷ [];
+  journals = λ shard. by_controller (put 1 5) (Answer (pos 0)) ∷ by_controller (put 1 9) (Answer (pos 0)) ∷ by_worker (Enter 0) Entered ∷
+      by_worker (Lookup 0 (key_of_byte 1)) (Cell (cell_at 0)) ∷ by_worker (Load (cell_at 0) 0 8) (Word 9) ∷ by_worker (Leave 0) Left ∷
+      by_reclaimer (Reclaim 0) (Freed 0) ∷ [];
+}
+
 -- ---- what is a replay, and what is none
 
 pub record ReplayRows : Type 0 where
   pub held : IsReplay replay_setting held_asked (held_result held_ending) held_events
   pub full : IsReplay replay_setting full_asked full_result (full_events (Reclaims 0 ∷ []))
+  pub first : IsReplay replay_setting first_asked first_result first_events
   -- without the run, or with the run twice
   pub no_run : IsReplay replay_setting held_asked (held_result held_ending) (Controls (put 1 5) ∷ held_command ++ Reclaims 0 ∷ []) → ⊥
   pub run_twice :
@@ -110,6 +130,12 @@ pub record ReplayRows : Type 0 where
   pub other_totals :
       (totals : Totals) → totals ≢ (held_result held_ending).totals → (events : List SystemEvent) →
       IsReplay replay_setting held_asked (record (held_result held_ending) { totals = totals }) events → ⊥
+  -- with the update behind the beginning of the run
+  pub late_update :
+      IsReplay replay_setting held_asked (held_result held_ending) (held_run ++ Controls (put 1 5) ∷ held_command ++ held_end ++ Reclaims 0 ∷ []) → ⊥
+  -- where the command is to come before the first record
+  pub late_command :
+      IsReplay replay_setting (record held_asked { first = 1 }) (held_result held_ending) held_events → ⊥
   -- without a call of the command, or with one behind a full journal that nobody asked
   pub no_call : IsReplay replay_setting held_asked (held_result held_ending) (Controls (put 1 5) ∷ held_run ++ held_end ++ Reclaims 0 ∷ []) → ⊥
   pub unasked_call :

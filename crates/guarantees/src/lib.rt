@@ -5,7 +5,13 @@
 //! The headline comes first. Its record has two fields (`specs/Headline.antt`): the image is safe, and the replay is one list of events of the
 //! system, in the words of the model alone (`Replay` and `Events` of crates/semantics/specs). The law `headline` says that every replay that
 //! accounts for its records keeps it, by this account (`specs/HeadlineOf.antt`); the calls of the crate `replay` have both as clauses.
-//! `scripts/statement` prints what these rest on, in the order of reading.
+//! `scripts/statement NAME` prints what each rests on, in the order of reading:
+//!
+//! | Definition | Files | Definitions | Lines |
+//! |---|---|---|---|
+//! | `IsReplay` | 31 | 328 | 1,303 |
+//! | `Headline` | 54 | 438 | 1,704 |
+//! | `HeadlineOf` | 80 | 614 | 2,451 |
 //!
 //! The laws of `step_laws` show that the definitions are not empty, those of `place_laws` that a worker is inside and holds a cell by places
 //! in the history alone. `one_caller` speaks of runs one after the other without locks, `readers` of programs that only read.
@@ -42,7 +48,8 @@ use verifier::laws::accepted_is_safe;
 /// image has slots. And the replay is one list of events of the system, which can all happen, one after the other, from the opening on.
 /// Worker by worker it begins a run on each record of the worker's share, in the capture's order, at the record's moment, and nothing else.
 /// Its controller makes first the updates and then the calls of the script's commands, in the script's order over all shards, and its
-/// reclaimer its rounds. Calls that met a full journal are among these, and there are no others. What is handed back comes of this list: how
+/// reclaimer its rounds; before all else come the updates and the calls of the commands of frame 0. Calls that met a full journal are among
+/// these, and there are no others. What is handed back comes of this list: how
 /// each run ends (its verdict and its number of instructions, or that a full journal stopped it), the numbers of the report, the frames that
 /// are sent, the answers to the controller's calls, by which commands are refused, and the journals.
 ///

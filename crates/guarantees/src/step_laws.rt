@@ -61,10 +61,11 @@ pub fn runs_alone_are_computed()
     stopped_runs_alone_are_of_the_system();
 }
 
-/// Two replays as lists of events, computed: in one a command takes a key away while a run holds its cell, in the other a journal is full for
-/// a run, an update and a round. And what is none: a list without the run, or with the run twice; one whose run ends with another verdict,
-/// frame or number of instructions; a report with other numbers; a list without a call of the command, or with a call or a look at a full
-/// journal that nobody asked.
+/// Three replays as lists of events, computed: in one a command takes a key away while a run holds its cell, in the second a journal is full
+/// for a run, an update and a round, in the third a command comes before the first record. And what is none: a list without the run, or with
+/// the run twice; one whose run ends with another verdict, frame or number of instructions; a report with other numbers; a list in which the
+/// update, or a command of frame 0, comes behind the beginning of a run; one without a call of the command, or with a call or a look at a
+/// full journal that nobody asked.
 pub fn replays_are_computed()
     ensures { ReplayRows }
 {}

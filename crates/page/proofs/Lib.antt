@@ -1,6 +1,5 @@
 -- Lemmas for the answers of this crate.
 pub mod CountLemmas
 pub mod KeyLemmas
-pub mod MoveLemmas
 pub mod PageLemmas
 pub mod TextLemmas

@@ -1,22 +1,15 @@
 -- The page's frame, and the commands of a script on it.
 use Rattle.std.specs.Prelude.{ℕ, zero, suc, ◌+◌, ◌-◌, ◌==◌, ◌++◌, Bool, true, false, List, [], Option, Some, None, codes, decimal, if◌then◌else◌, length, map}
-use Rattle.std.specs.Prelude.{slice_get, slice_index, slice_index_or, take}
+use Rattle.std.specs.Prelude.{slice_get, slice_index_or, take}
 use Rattle.control.specs.declared.command.Action.{Action}
 use Rattle.control.specs.declared.command.Action.TheVariants.{Vip, Up, Down, Gateway}
 use Rattle.control.specs.declared.command.Command.{Command}
-use Rattle.control.specs.ScriptText.{transport_text}
+use Rattle.control.specs.ScriptText.{address_text, transport_text}
 use Rattle.page.specs.Charts.{seconds_text}
 use Rattle.page.specs.Tables.{more_text}
 use Rattle.page.specs.Tallies.{time_slot}
 
 -- ---- commands
-
--- the four bytes of an address
-abbrev pub dotted_numbers : ℕ → ℕ → ℕ → ℕ → List ℕ
-dotted_numbers a b c d = decimal a ++ (codes "." ++ (decimal b ++ (codes "." ++ (decimal c ++ (codes "." ++ decimal d)))))
-
-abbrev pub dotted_address : List ℕ → List ℕ
-dotted_address bytes = dotted_numbers (slice_index bytes 0) (slice_index bytes 1) (slice_index bytes 2) (slice_index bytes 3)
 
 -- that the flows of a service are not noted
 abbrev pub notrack_word : Bool → List ℕ
@@ -38,10 +31,10 @@ gateway_words address = codes "gateway " ++ address
 -- what a command does, without the tunnel's Ethernet addresses
 abbrev pub command_words : Action → List ℕ
 command_words (Vip service is_notrack) =
-    vip_words (dotted_address service.address.0) service.port (transport_text service.transport) (notrack_word is_notrack)
-command_words (Up backend address) = up_text backend (dotted_address address.0)
+    vip_words (address_text service.address.0) service.port (transport_text service.transport) (notrack_word is_notrack)
+command_words (Up backend address) = up_text backend (address_text address.0)
 command_words (Down backend) = down_text backend
-command_words (Gateway source source_mac destination_mac) = gateway_words (dotted_address source.0)
+command_words (Gateway source source_mac destination_mac) = gateway_words (address_text source.0)
 
 -- a command lies at the moment of the record that it comes before, and behind the last record at the last moment
 abbrev pub command_moment : List ℕ → ℕ → ℕ → ℕ

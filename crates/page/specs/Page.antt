@@ -1,13 +1,15 @@
 -- The page of a report and a script.
-use Rattle.std.specs.Prelude.{◌≡◌, ℕ, List, length, take}
+use Rattle.std.specs.Prelude.{◌≡◌, ◌++◌, ℕ, List, length, take}
 use Rattle.comparison.specs.Rows.{IsReport}
 use Rattle.control.specs.declared.command.Command.{Command}
+use Rattle.flows.specs.Telling.{Moved, moves_until}
 use Rattle.page.specs.Charts.{backends_over_time, backends_text, fates_named, fates_over_time, seconds_text}
 use Rattle.page.specs.Html.{command_slots, commands_text, whole_text}
-use Rattle.page.specs.Moves.{moves_in_rows}
 use Rattle.page.specs.Reading.{fates_of, keys_of, moments_of}
 use Rattle.page.specs.Svg.{marks_until}
 use Rattle.page.specs.Tables.{fate_figures, figures_text, moves_text}
+use Rattle.page.specs.Reasons.{reasons_text}
+use Rattle.page.specs.Shares.{AreSharesTold}
 use Rattle.page.specs.Tallies.{AreLeast, classes_of, counts_by_cell, earliest, latest, slot_length, time_slots}
 
 -- the marks of commands by their slots
@@ -45,21 +47,35 @@ fates_in_time rows commands moments first last =
 unfoldable pub of_backends : List ℕ → List ℕ → List ℕ
 of_backends listed keys = backends_text listed (counts_by_cell (classes_of listed 33 keys) 33)
 
--- the page of rows with these moments and these listed backends
-unfoldable pub page_at : List ℕ → List (List ℕ) → List Command → List ℕ → ℕ → ℕ → List ℕ
-page_at listed rows commands moments first last =
-    whole_text (figures_in rows (length (moves_in_rows rows)) first last) (backends_in_time listed rows commands moments first last)
-    (fates_in_time rows commands moments first last) (of_backends listed (keys_of rows)) (commands_text moments last commands)
-    (moves_text rows (moves_in_rows rows))
+-- the commands, and the shares of the lookup table
+abbrev pub commands_and_shares : List ℕ → ℕ → List Command → List ℕ → List ℕ
+commands_and_shares moments last commands shares = commands_text moments last commands ++ shares
 
-abbrev pub page_of_moments : List ℕ → List (List ℕ) → List Command → List ℕ → List ℕ
-page_of_moments listed rows commands moments = page_at listed rows commands moments (earliest moments) (latest moments)
+-- the frames of rows that were moved
+abbrev pub moves_in_rows : List (List ℕ) → List Command → List Moved
+moves_in_rows rows commands = moves_until rows commands (length rows)
+
+-- how many they are by reason, and the first of them
+abbrev pub moves_and_reasons : List (List ℕ) → List Moved → List ℕ
+moves_and_reasons rows moves = reasons_text moves ++ moves_text rows moves
+
+-- the page of rows with these moments, these listed backends and this text of shares
+unfoldable pub page_at : List ℕ → List ℕ → List (List ℕ) → List Command → List ℕ → ℕ → ℕ → List ℕ
+page_at listed shares rows commands moments first last =
+    whole_text (figures_in rows (length (moves_in_rows rows commands)) first last) (backends_in_time listed rows commands moments first last)
+    (fates_in_time rows commands moments first last) (of_backends listed (keys_of rows)) (commands_and_shares moments last commands shares)
+    (moves_and_reasons rows (moves_in_rows rows commands))
+
+abbrev pub page_of_moments : List ℕ → List ℕ → List (List ℕ) → List Command → List ℕ → List ℕ
+page_of_moments listed shares rows commands moments = page_at listed shares rows commands moments (earliest moments) (latest moments)
 
 -- the text is the page of these rows and commands, where the 32 backends with the least numbers are listed
 pub record IsPageOf (rows : List (List ℕ)) (commands : List Command) (text : List ℕ) : Type 0 where
   pub listed : List ℕ
   pub are_listed : AreLeast (keys_of rows) 32 listed
-  pub text_is : text ≡ page_of_moments listed rows commands (moments_of rows)
+  pub shares : List ℕ
+  pub are_told : AreSharesTold commands shares
+  pub text_is : text ≡ page_of_moments listed shares rows commands (moments_of rows)
 
 -- the bytes are a report, and the text is the page of it and these commands
 pub record IsPage (report : List ℕ) (commands : List Command) (text : List ℕ) : Type 0 where

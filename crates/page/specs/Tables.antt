@@ -1,8 +1,11 @@
--- The tables of a page: figures, and flows that moved. What comes from the report is escaped for HTML.
+-- The tables of a page: figures, and frames of flows that moved. What comes from the report is escaped for HTML.
 use Rattle.std.specs.Prelude.{ℕ, zero, suc, ◌+◌, ◌-◌, ◌==◌, ◌++◌, List, [], codes, decimal, if◌then◌else◌, length, slice_index, take}
 use Rattle.std.specs.List.{flat_map}
 use Rattle.comparison.specs.Rows.{field, parts_between, row_at}
 use Rattle.comparison.specs.ComparisonText.{flow_phrase}
+use Rattle.flows.specs.Stories.{reason_word}
+use Rattle.flows.specs.Telling.{Moved}
+use Rattle.flows.specs.declared.reason.Reason.{Reason}
 use Rattle.page.specs.Charts.{fate_word, seconds_text}
 
 -- ---- escapes
@@ -42,18 +45,27 @@ figures_text records fates moves first last =
 
 -- ---- flows that moved
 
-unfoldable pub move_text : List ℕ → List ℕ → List ℕ → List ℕ → List ℕ → List ℕ
-move_text record_number moment flow before after =
-    codes "<tr><td>" ++ (record_number ++ (codes "</td><td>" ++ (moment ++ (codes "</td><td>" ++ (flow ++ (codes "</td><td>" ++ (before
-    ++ (codes "</td><td>" ++ (after ++ codes "</td></tr>\n")))))))))
+unfoldable pub move_front : List ℕ → List ℕ → List ℕ → List ℕ
+move_front record_number moment flow =
+    codes "<tr><td>" ++ (record_number ++ (codes "</td><td>" ++ (moment ++ (codes "</td><td>" ++ (flow ++ codes "</td><td>")))))
 
--- the row of a record, whose flow was sent elsewhere at the record before it
-unfoldable pub move_row : List ℕ → List ℕ → List ℕ
-move_row before row =
-    move_text (escaped (field 0 row)) (escaped (field 1 row)) (escaped (flow_phrase row)) (escaped (field 7 before)) (escaped (field 7 row))
+unfoldable pub move_back : List ℕ → List ℕ → List ℕ → List ℕ
+move_back before after reason = before ++ (codes "</td><td>" ++ (after ++ (codes "</td><td>" ++ (reason ++ codes "</td></tr>\n"))))
 
-abbrev pub move_rows : List (List ℕ) → List (ℕ × ℕ) → List ℕ
-move_rows rows moves = flat_map (λ move. move_row (row_at rows move.0) (row_at rows move.1)) moves
+-- a row of moves, in two pieces
+unfoldable pub move_text : List ℕ → List ℕ → List ℕ → List ℕ → List ℕ → List ℕ → List ℕ
+move_text record_number moment flow before after reason = move_front record_number moment flow ++ move_back before after reason
+
+-- the row of a record whose flow was sent to this address before, and why it moved
+unfoldable pub move_row : List ℕ → Reason → List ℕ → List ℕ
+move_row from reason row =
+    move_text (escaped (field 0 row)) (escaped (field 1 row)) (escaped (flow_phrase row)) (escaped from) (escaped (field 7 row)) (reason_word reason)
+
+abbrev pub move_line : List (List ℕ) → Moved → List ℕ
+move_line rows move = move_row move.from move.reason (row_at rows move.place)
+
+abbrev pub move_lines : List (List ℕ) → List Moved → List ℕ
+move_lines rows moves = flat_map (move_line rows) moves
 
 -- what is not in a table
 abbrev pub more_text : ℕ → List ℕ
@@ -61,9 +73,9 @@ more_text count = if count == 0 then [] else codes "<p>and " ++ (decimal count +
 
 unfoldable pub moves_table : List ℕ → List ℕ → List ℕ
 moves_table moved more =
-    codes "<h2>Flows that moved</h2>\n<div class=\"wide\"><table>\n<tr><th>record</th><th>at</th><th>flow</th><th>from</th><th>to</th></tr>\n"
+    codes "<h2>Flows that moved</h2>\n<div class=\"wide\"><table>\n<tr><th>record</th><th>at</th><th>flow</th><th>from</th><th>to</th><th>reason</th></tr>\n"
     ++ (moved ++ (codes "</table></div>\n" ++ more))
 
 -- the first hundred records at which a flow moved
-unfoldable pub moves_text : List (List ℕ) → List (ℕ × ℕ) → List ℕ
-moves_text rows moves = moves_table (move_rows rows (take 100 moves)) (more_text (length moves - 100))
+unfoldable pub moves_text : List (List ℕ) → List Moved → List ℕ
+moves_text rows moves = moves_table (move_lines rows (take 100 moves)) (more_text (length moves - 100))

@@ -1,7 +1,7 @@
 //! The page's frame, and the commands of a script on it.
 
 ghost use Rattle.std.specs.Prelude.{◌≡◌, ◌<◌, IfOk, length, slice_get, string_bytes, take};
-ghost use Rattle.page.specs.Html.{command_words, dotted_address, dotted_numbers, command_moment, command_row, command_rows, command_slots};
+ghost use Rattle.page.specs.Html.{command_moment, command_row, command_rows, command_slots, command_words};
 ghost use Rattle.page.specs.Html.{notrack_word, up_text, vip_words, whole_text};
 ghost use Rattle.page.specs.Html.{command_text, commands_table, commands_text, down_text, gateway_words, head_text};
 
@@ -9,26 +9,11 @@ use crate::charts::seconds_text;
 use crate::tables::more_text;
 use crate::tallies::slot_of;
 use control::{Action, Command, transport_text};
+use flows::address_text;
 use std::alloc::{AllocError, Global};
-use wire::Ipv4Address;
 
 /// So many commands are in the table.
 pub(crate) const COMMANDS: usize = 100;
-
-/// Four numbers with dots between them.
-fn address_text(alloc: Global, a: u8, b: u8, c: u8, d: u8) -> Result<String, AllocError>
-    ensures { IfOk result (λ text. string_bytes text ≡ dotted_numbers a b c d) }
-{
-    format!(in alloc; "{a}.{b}.{c}.{d}")
-}
-
-/// The text of an address.
-fn address_of(alloc: Global, address: Ipv4Address) -> Result<String, AllocError>
-    ensures { IfOk result (λ text. string_bytes text ≡ dotted_address address.0) }
-{
-    let [a, b, c, d] = address.0;
-    address_text(alloc, a, b, c, d)
-}
 
 /// Whether the flows of a service are noted.
 fn notrack_word(is_notrack: bool) -> &'static str
@@ -76,7 +61,7 @@ fn action_text(alloc: Global, action: Action) -> Result<String, AllocError>
             service,
             is_notrack,
         } => {
-            let address = address_of(alloc, service.address)?;
+            let address = address_text(alloc, service.address)?;
             vip_text(
                 alloc,
                 address.as_str(),
@@ -86,12 +71,12 @@ fn action_text(alloc: Global, action: Action) -> Result<String, AllocError>
             )
         }
         Action::Up { backend, address } => {
-            let address = address_of(alloc, address)?;
+            let address = address_text(alloc, address)?;
             up_text(alloc, backend, address.as_str())
         }
         Action::Down { backend } => down_text(alloc, backend),
         Action::Gateway { source, .. } => {
-            let address = address_of(alloc, source)?;
+            let address = address_text(alloc, source)?;
             gateway_text(alloc, address.as_str())
         }
     }

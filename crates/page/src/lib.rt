@@ -3,8 +3,9 @@
 
 mod charts;
 mod html;
-mod moves;
 mod reading;
+mod reasons;
+mod shares;
 mod svg;
 mod tables;
 mod tallies;

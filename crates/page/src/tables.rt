@@ -1,12 +1,15 @@
-//! The tables of a page: figures, and flows that moved.
+//! The tables of a page: figures, and frames of flows that moved.
 
 ghost use Rattle.std.specs.Prelude.{◌≡◌, ◌<◌, IfOk, length, map, string_bytes, take};
-ghost use Rattle.page.specs.Tables.{between_at, escaped, fate_figures, figure_text, figures_text, joined_until, more_text, move_row, move_rows};
-ghost use Rattle.page.specs.Tables.{move_text, moves_table, moves_text, replaced};
+ghost use Rattle.std.specs.List.{flat_map};
+ghost use Rattle.flows.specs.FlowRecords.{moved_of};
+ghost use Rattle.page.specs.Tables.{between_at, escaped, fate_figures, figure_text, figures_text, joined_until, more_text, move_back};
+ghost use Rattle.page.specs.Tables.{move_front, move_line, move_row, move_text, moves_table, moves_text, replaced};
 
 use crate::charts::fate_word;
 use crate::tallies::at;
 use comparison::{field, flow_phrase, parts_at, row_at};
+use flows::{Move, Reason};
 use std::alloc::{AllocError, Global};
 
 /// So many moves are in the table.
@@ -92,8 +95,23 @@ pub(crate) fn figures_text(
     )
 }
 
+/// The front of a row of moves.
+#[tactic(auto, unfolding(crate::specs::Tables::move_front))]
+fn move_front(alloc: Global, number: &str, moment: &str, flow: &str) -> Result<String, AllocError>
+    ensures { IfOk result (λ text. string_bytes text ≡ move_front number.now moment.now flow.now) }
+{
+    format!(in alloc; "<tr><td>{number}</td><td>{moment}</td><td>{flow}</td><td>")
+}
+
+/// The back of a row of moves.
+#[tactic(auto, unfolding(crate::specs::Tables::move_back))]
+fn move_back(alloc: Global, before: &str, after: &str, reason: &str) -> Result<String, AllocError>
+    ensures { IfOk result (λ text. string_bytes text ≡ move_back before.now after.now reason.now) }
+{
+    format!(in alloc; "{before}</td><td>{after}</td><td>{reason}</td></tr>\n")
+}
+
 /// A row of moves.
-#[tactic(auto, unfolding(crate::specs::Tables::move_text))]
 fn move_text(
     alloc: Global,
     number: &str,
@@ -101,24 +119,27 @@ fn move_text(
     flow: &str,
     before: &str,
     after: &str,
+    reason: &str,
 ) -> Result<String, AllocError>
-    ensures { IfOk result (λ text. string_bytes text ≡ move_text number.now moment.now flow.now before.now after.now) }
+    ensures { IfOk result
+        (λ text. string_bytes text ≡ move_text number.now moment.now flow.now before.now after.now reason.now) }
 {
-    format!(in alloc;
-        "<tr><td>{number}</td><td>{moment}</td><td>{flow}</td><td>{before}</td><td>{after}</td></tr>\n"
-    )
+    let mut text = move_front(alloc, number, moment, flow)?;
+    let back = move_back(alloc, before, after, reason)?;
+    text.push_str(back.as_str())?;
+    Ok(text)
 }
 
-/// The row of a record, whose flow was sent elsewhere at the record before it.
+/// The row of a record whose flow was sent to this address before, and why it moved.
 #[tactic(auto, unfolding(crate::specs::Tables::move_row))]
-fn move_row(alloc: Global, before: &str, row: &str) -> Result<String, AllocError>
-    ensures { IfOk result (λ text. string_bytes text ≡ move_row before.now row.now) }
+fn move_row(alloc: Global, from: &str, reason: Reason, row: &str) -> Result<String, AllocError>
+    ensures { IfOk result (λ text. string_bytes text ≡ move_row from.now reason row.now) }
 {
     let number = escaped(alloc, field(row, 0))?;
     let moment = escaped(alloc, field(row, 1))?;
     let phrase = flow_phrase(alloc, row)?;
     let flow = escaped(alloc, phrase.as_str())?;
-    let from = escaped(alloc, field(before, 7))?;
+    let from = escaped(alloc, from)?;
     let to = escaped(alloc, field(row, 7))?;
     move_text(
         alloc,
@@ -127,17 +148,26 @@ fn move_row(alloc: Global, before: &str, row: &str) -> Result<String, AllocError
         flow.as_str(),
         from.as_str(),
         to.as_str(),
+        reason.word(),
     )
 }
 
+/// The row of a move.
+fn move_line(alloc: Global, rows: &[&str], moved: &Move) -> Result<String, AllocError>
+    ensures { IfOk result (λ text. string_bytes text ≡ move_line (map (λ row. row.now) rows.now) (moved_of moved.now)) }
+{
+    move_row(alloc, moved.from, moved.reason, row_at(rows, moved.place))
+}
+
 /// The rows of moves.
-fn move_rows(alloc: Global, rows: &[&str], moves: &[(usize, usize)]) -> Result<String, AllocError>
-    ensures { IfOk result (λ text. string_bytes text ≡ move_rows (map (λ row. row.now) rows.now) moves.now) }
+fn move_lines(alloc: Global, rows: &[&str], moves: &[Move]) -> Result<String, AllocError>
+    ensures { IfOk result (λ text. string_bytes text ≡
+        flat_map (λ move. move_line (map (λ row. row.now) rows.now) (moved_of move)) moves.now) }
 {
     let mut text = String::new(alloc);
-    'moves: for pair in moves {
-        let row = move_row(alloc, row_at(rows, pair.0), row_at(rows, pair.1))?;
-        text.push_str(row.as_str())?;
+    'moves: for moved in moves {
+        let line = move_line(alloc, rows, moved)?;
+        text.push_str(line.as_str())?;
     }
     Ok(text)
 }
@@ -158,13 +188,13 @@ fn moves_table(alloc: Global, moved: &str, more: &str) -> Result<String, AllocEr
     ensures { IfOk result (λ text. string_bytes text ≡ moves_table moved.now more.now) }
 {
     format!(in alloc;
-        "<h2>Flows that moved</h2>\n<div class=\"wide\"><table>\n<tr><th>record</th><th>at</th><th>flow</th><th>from</th><th>to</th></tr>\n\
-         {moved}</table></div>\n{more}"
+        "<h2>Flows that moved</h2>\n<div class=\"wide\"><table>\n<tr><th>record</th><th>at</th><th>flow</th><th>from</th><th>to</th>\
+         <th>reason</th></tr>\n{moved}</table></div>\n{more}"
     )
 }
 
 /// The first of moves.
-fn first_moves(moves: &[(usize, usize)], count: usize) -> &[(usize, usize)]
+fn first_moves<'a, 'b>(moves: &'a [Move<'b>], count: usize) -> &'a [Move<'b>]
     ensures { result.now ≡ take count moves.now }
 {
     if moves.len() <= count {
@@ -175,15 +205,10 @@ fn first_moves(moves: &[(usize, usize)], count: usize) -> &[(usize, usize)]
 }
 
 /// The first hundred records at which a flow moved.
-#[tactic(auto, unfolding(crate::specs::Tables::moves_text))]
-pub(crate) fn moves_text(
-    alloc: Global,
-    rows: &[&str],
-    moves: &[(usize, usize)],
-) -> Result<String, AllocError>
-    ensures { IfOk result (λ text. string_bytes text ≡ moves_text (map (λ row. row.now) rows.now) moves.now) }
+pub(crate) fn moves_text(alloc: Global, rows: &[&str], moves: &[Move]) -> Result<String, AllocError>
+    ensures { IfOk result (λ text. string_bytes text ≡ moves_text (map (λ row. row.now) rows.now) (map moved_of moves.now)) }
 {
-    let moved = move_rows(alloc, rows, first_moves(moves, MOVES))?;
+    let moved = move_lines(alloc, rows, first_moves(moves, MOVES))?;
     let more = more_text(alloc, moves.len().saturating_sub(MOVES))?;
     moves_table(alloc, moved.as_str(), more.as_str())
 }

@@ -1,7 +1,7 @@
 //! Pages of short reports, worked out by hand, and of longer ones.
 
 use crate::page;
-use comparison::{Unlike, Which};
+use comparison::NoRows;
 use control::parse_script;
 use std::alloc::{AllocError, Global};
 use std::process::Abort;
@@ -26,7 +26,7 @@ const THREE_RECORDS: &str =
 const THREE_COMMANDS: &str = "0 vip 203.0.113.1 80 tcp\n0 up 1 192.0.2.2\n2 down 1\n";
 
 #[rattlefmt::skip]
-static ROWS: [Row; 9] = [
+static ROWS: [Row; 12] = [
     ("no record", "0 up 1 192.0.2.2\n", "", &[
         "<!DOCTYPE html>\n",
         "<tr><th>records</th><td>0</td></tr>\n<tr><th>sent</th><td>0</td></tr>\n<tr><th>passed</th><td>0</td></tr>\n<tr><th>dropped</th><td>0</td></tr>\n",
@@ -37,8 +37,46 @@ static ROWS: [Row; 9] = [
         "<g fill=\"url(#f8)\"></g>\n<path class=\"axis\" d=\"M36 20H396M36 80H396M36 140H396\"/>\n<text class=\"end\" x=\"33\" y=\"24\">1</text>",
         "<path class=\"mark\" d=\"M36 12V140\"/><text class=\"mid\" x=\"36\" y=\"9\">1</text>\n</svg>\n",
         "viewBox=\"0 0 400 4\">\n<title>Frames by backend</title>\n<desc>Bars: how many frames each backend got.</desc>\n</svg>\n",
-        "<tr><td>1</td><td>1</td><td>0.000000</td><td>up 1 192.0.2.2</td></tr>\n</table></div>\n<h2>Flows that moved</h2>\n",
-        "<th>to</th></tr>\n</table></div>\n</body>\n</html>\n",
+        "<tr><td>1</td><td>1</td><td>0.000000</td><td>up 1 192.0.2.2</td></tr>\n</table></div>\n<h2>Shares of the lookup table</h2>\n",
+        "<h2>Moved frames, by reason</h2>\n<svg role=\"img\" viewBox=\"0 0 400 74\">\n",
+        "<text class=\"end\" x=\"80\" y=\"12\">down</text>\
+         <rect class=\"key\" x=\"84\" y=\"4\" width=\"0\" height=\"10\" fill=\"url(#f0)\"/><text x=\"88\" y=\"12\">0</text>\n",
+        "<text x=\"88\" y=\"68\">0</text>\n</svg>\n<h2>Flows that moved</h2>\n",
+        "<th>to</th><th>reason</th></tr>\n</table></div>\n</body>\n</html>\n",
+    ]),
+    ("no backend has a slot of a table", "0 vip 203.0.113.1 80 tcp\n", "", &[
+        "<th>at the start</th><th>at the end</th><th></th></tr>\n</table></div>\n<h2>Moved frames, by reason</h2>\n",
+    ]),
+    ("a backend without a number that a table has, and one with an address that is up, are refused",
+        "0 up 1 192.0.2.2\n0 up 300 192.0.2.3\n1 up 2 192.0.2.2\n", "", &[
+        "<th></th></tr>\n<tr><td>1</td><td>251</td><td>251</td><td><svg style=\"width:126px\" viewBox=\"0 0 126 20\">\
+         <rect class=\"key\" x=\"2\" y=\"2\" width=\"122\" height=\"7\" fill=\"url(#f2)\"/>\
+         <rect class=\"key\" x=\"2\" y=\"11\" width=\"122\" height=\"7\" fill=\"url(#f0)\"/></svg></td></tr>\n</table></div>\n",
+    ]),
+    ("each reason, and three backends of which one goes down: 251 turns are 84, 84 and 83, and then 126 and 125",
+        "0 vip 203.0.113.1 80 tcp\n0 vip 203.0.113.2 53 udp notrack\n0 up 0 192.0.2.1\n0 up 1 192.0.2.2\n0 up 2 192.0.2.3\n1 down 1\n",
+        "1,1.000000,0,TX,99,sent,1,192.0.2.2,10.0.0.1,1000,203.0.113.1,80,tcp\n2,2.000000,0,TX,99,sent,0,192.0.2.1,10.0.0.1,1000,203.0.113.1,80,tcp\n\
+         3,3.000000,0,TX,99,sent,2,192.0.2.3,10.0.0.1,1000,203.0.113.1,80,tcp\n4,4.000000,0,TX,99,sent,2,192.0.2.9,10.0.0.1,1000,203.0.113.1,80,tcp\n\
+         5,5.000000,0,TX,99,sent,,192.0.2.7,10.0.0.1,1000,203.0.113.1,80,tcp\n6,6.000000,0,TX,99,sent,0,192.0.2.1,10.0.0.1,1000,203.0.113.1,80,tcp\n\
+         7,7.000000,0,TX,99,sent,0,192.0.2.1,10.0.0.1,1000,203.0.113.2,53,udp\n8,8.000000,0,TX,99,sent,2,192.0.2.3,10.0.0.1,1000,203.0.113.2,53,udp\n", &[
+        "<tr><th>moves of flows</th><td>6</td></tr>\n",
+        "<tr><td>0</td><td>84</td><td>126</td><td>", "width=\"41\" height=\"7\" fill=\"url(#f2)\"/>", "width=\"62\" height=\"7\" fill=\"url(#f0)\"/>",
+        "<tr><td>1</td><td>84</td><td>0</td><td>", "width=\"41\" height=\"7\" fill=\"url(#f2)\"/>", "width=\"0\" height=\"7\" fill=\"url(#f0)\"/>",
+        "<tr><td>2</td><td>83</td><td>125</td><td>", "width=\"41\" height=\"7\" fill=\"url(#f2)\"/>", "width=\"61\" height=\"7\" fill=\"url(#f0)\"/>",
+        "<text class=\"end\" x=\"80\" y=\"12\">down</text>\
+         <rect class=\"key\" x=\"84\" y=\"4\" width=\"40\" height=\"10\" fill=\"url(#f0)\"/><text x=\"128\" y=\"12\">1</text>\n\
+         <text class=\"end\" x=\"80\" y=\"26\">evicted</text>\
+         <rect class=\"key\" x=\"84\" y=\"18\" width=\"80\" height=\"10\" fill=\"url(#f1)\"/><text x=\"168\" y=\"26\">2</text>\n\
+         <text class=\"end\" x=\"80\" y=\"40\">untracked</text>\
+         <rect class=\"key\" x=\"84\" y=\"32\" width=\"40\" height=\"10\" fill=\"url(#f2)\"/><text x=\"128\" y=\"40\">1</text>\n\
+         <text class=\"end\" x=\"80\" y=\"54\">readdressed</text>\
+         <rect class=\"key\" x=\"84\" y=\"46\" width=\"40\" height=\"10\" fill=\"url(#f3)\"/><text x=\"128\" y=\"54\">1</text>\n\
+         <text class=\"end\" x=\"80\" y=\"68\">unknown</text>\
+         <rect class=\"key\" x=\"84\" y=\"60\" width=\"40\" height=\"10\" fill=\"url(#f4)\"/><text x=\"128\" y=\"68\">1</text>\n</svg>\n",
+        "<td>192.0.2.2</td><td>192.0.2.1</td><td>down</td></tr>\n", "<td>192.0.2.1</td><td>192.0.2.3</td><td>evicted</td></tr>\n",
+        "<td>192.0.2.3</td><td>192.0.2.9</td><td>readdressed</td></tr>\n", "<td>192.0.2.9</td><td>192.0.2.7</td><td>evicted</td></tr>\n",
+        "<td>192.0.2.7</td><td>192.0.2.1</td><td>unknown</td></tr>\n",
+        "<tr><td>8</td><td>8.000000</td><td>udp 10.0.0.1:1000 to 203.0.113.2:53</td><td>192.0.2.1</td><td>192.0.2.3</td><td>untracked</td></tr>\n</table>",
     ]),
     ("three records: figures", THREE_COMMANDS, THREE_RECORDS, &[
         "<tr><th>records</th><td>3</td></tr>\n<tr><th>sent</th><td>1</td></tr>\n<tr><th>passed</th><td>1</td></tr>\n<tr><th>dropped</th><td>1</td></tr>\n",
@@ -67,7 +105,8 @@ static ROWS: [Row; 9] = [
         "<tr><th>mark</th><th>before record</th><th>at</th><th>command</th></tr>\n\
          <tr><td>1</td><td>1</td><td>1.000000</td><td>vip 203.0.113.1 80 tcp</td></tr>\n\
          <tr><td>2</td><td>1</td><td>1.000000</td><td>up 1 192.0.2.2</td></tr>\n<tr><td>3</td><td>3</td><td>1.000120</td><td>down 1</td></tr>\n\
-         </table></div>\n<h2>Flows that moved</h2>\n",
+         </table></div>\n<h2>Shares of the lookup table</h2>\n",
+        "<tr><td>1</td><td>251</td><td>0</td><td>",
     ]),
     ("commands of each kind; one behind the last record is at the last moment",
         "0 gateway 192.0.2.1 02:00:00:00:00:01 02:00:00:00:00:02\n1 vip 203.0.113.2 53 udp notrack\n9 down 7\n",
@@ -81,13 +120,16 @@ static ROWS: [Row; 9] = [
          3,3.000000,0,DROP,90,no-backend,,,10.0.0.1,1000,203.0.113.1,80,tcp\n4,4.000000,0,TX,99,sent,2,192.0.2.3,10.0.0.1,1000,203.0.113.1,80,tcp\n\
          5,5.000000,0,TX,99,sent,1,192.0.2.2,10.0.0.1,1000,203.0.113.1,80,tcp\n", &[
         "<tr><th>moves of flows</th><td>2</td></tr>\n",
-        "<th>to</th></tr>\n<tr><td>4</td><td>4.000000</td><td>tcp 10.0.0.1:1000 to 203.0.113.1:80</td><td>192.0.2.2</td><td>192.0.2.3</td></tr>\n\
-         <tr><td>5</td><td>5.000000</td><td>tcp 10.0.0.1:1000 to 203.0.113.1:80</td><td>192.0.2.3</td><td>192.0.2.2</td></tr>\n</table></div>\n\
+        "<rect class=\"key\" x=\"84\" y=\"4\" width=\"240\" height=\"10\" fill=\"url(#f0)\"/><text x=\"328\" y=\"12\">2</text>\n",
+        "<th>to</th><th>reason</th></tr>\n\
+         <tr><td>4</td><td>4.000000</td><td>tcp 10.0.0.1:1000 to 203.0.113.1:80</td><td>192.0.2.2</td><td>192.0.2.3</td><td>down</td></tr>\n\
+         <tr><td>5</td><td>5.000000</td><td>tcp 10.0.0.1:1000 to 203.0.113.1:80</td><td>192.0.2.3</td><td>192.0.2.2</td><td>down</td></tr>\n</table></div>\n\
          </body>\n",
     ]),
     ("marks of HTML in a report", "",
         "1,1.000000,0,TX,99,sent,1,a,10.0.0.1,1000,203.0.113.1,80,tcp\n<2&>,2.000000,0,TX,99,sent,2,&lt;,10.0.0.1,1000,203.0.113.1,80,tcp\n", &[
-        "<th>to</th></tr>\n<tr><td>&lt;2&amp;&gt;</td><td>2.000000</td><td>tcp 10.0.0.1:1000 to 203.0.113.1:80</td><td>a</td><td>&amp;lt;</td></tr>\n",
+        "<th>reason</th></tr>\n\
+         <tr><td>&lt;2&amp;&gt;</td><td>2.000000</td><td>tcp 10.0.0.1:1000 to 203.0.113.1:80</td><td>a</td><td>&amp;lt;</td><td>down</td></tr>\n",
     ]),
     ("a verdict of another word, and the verdicts that are rare", "",
         "1,1.000000,0,ABORTED,9,aborted,,,,,,,\n2,2.000000,0,STOPPED,9,stopped,,,,,,,\n3,3.000000,,SHORT,,short,,,,,,,\n\
@@ -112,25 +154,25 @@ static ROWS: [Row; 9] = [
 ];
 
 /// What a row shows, the bytes of a file, and the refusal.
-type Refusal = (&'static str, &'static [u8], Unlike);
+type Refusal = (&'static str, &'static [u8], NoRows);
 
 #[rattlefmt::skip]
 const REFUSED: [Refusal; 6] = [
-    ("JSON lines", b"{\"number\":1}\n", Unlike::JsonLines { which: Which::First }),
-    ("an empty file", b"", Unlike::NoReport { which: Which::First, line: 1 }),
-    ("a report without its head", b"1,1.000000,0,PASS,9,arp,,,,,,,\n", Unlike::NoReport { which: Which::First, line: 1 }),
+    ("JSON lines", b"{\"number\":1}\n", NoRows::JsonLines),
+    ("an empty file", b"", NoRows::NoReport { line: 1 }),
+    ("a report without its head", b"1,1.000000,0,PASS,9,arp,,,,,,,\n", NoRows::NoReport { line: 1 }),
     ("a second row of twelve fields",
         b"number,moment,worker,verdict,steps,case,backend,address,source,source_port,destination,destination_port,protocol\n\
              1,1.000000,0,PASS,9,arp,,,,,,,\n2,2.000000,0,PASS,9,arp,,,,,,\n3\n",
-        Unlike::NoReport { which: Which::First, line: 3 }),
+        NoRows::NoReport { line: 3 }),
     ("a last row without its line feed",
         b"number,moment,worker,verdict,steps,case,backend,address,source,source_port,destination,destination_port,protocol\n\
              1,1.000000,0,PASS,9,arp,,,,,,,\n2,2.000000,0,PASS,9,arp,,,,,,,",
-        Unlike::NoReport { which: Which::First, line: 3 }),
+        NoRows::NoReport { line: 3 }),
     ("bytes that are no text",
         b"number,moment,worker,verdict,steps,case,backend,address,source,source_port,destination,destination_port,protocol\n\
              1,1.000000,0,PASS,9,arp,,,,,,,\n\xff\n",
-        Unlike::NoReport { which: Which::First, line: 3 }),
+        NoRows::NoReport { line: 3 }),
 ];
 
 /// The page of these rows and these commands.
@@ -207,7 +249,7 @@ fn commands_in_turn(alloc: Global, count: u64) -> Result<String, AllocError> {
 /// Parts of the page of 200 records over forty backends and 150 commands, one behind the other. A slot of 3.316667 seconds has three records or
 /// four; the first four are of four backends.
 #[rattlefmt::skip]
-static MANY: [&str; 16] = [
+static MANY: [&str; 17] = [
     "<tr><th>records</th><td>200</td></tr>\n<tr><th>sent</th><td>200</td></tr>\n",
     "<tr><th>moves of flows</th><td>199</td></tr>\n<tr><th>first moment</th><td>1.000000 s</td></tr>\n<tr><th>last moment</th><td>200.000000 s</td></tr>\n",
     "<g fill=\"url(#f0)\"><rect x=\"36\" y=\"110\" width=\"5\" height=\"30\"/>",
@@ -223,8 +265,10 @@ static MANY: [&str; 16] = [
     "<text class=\"end\" x=\"80\" y=\"460\">others</text>\
      <rect class=\"key\" x=\"84\" y=\"452\" width=\"240\" height=\"10\" fill=\"url(#f8)\"/><text x=\"328\" y=\"460\">40</text>\n</svg>\n",
     "<tr><td>100</td><td>100</td><td>100.000000</td><td>down 99</td></tr>\n</table></div>\n<p>and 50 more</p>\n",
-    "<tr><td>2</td><td>2.000000</td><td>tcp 10.0.0.1:1000 to 203.0.113.1:80</td><td>192.0.2.0</td><td>192.0.2.1</td></tr>\n",
-    "<tr><td>101</td><td>101.000000</td><td>tcp 10.0.0.1:1000 to 203.0.113.1:80</td><td>192.0.2.19</td><td>192.0.2.20</td></tr>\n</table></div>\n\
+    "<rect class=\"key\" x=\"84\" y=\"4\" width=\"240\" height=\"10\" fill=\"url(#f0)\"/><text x=\"328\" y=\"12\">199</text>\n",
+    "<tr><td>2</td><td>2.000000</td><td>tcp 10.0.0.1:1000 to 203.0.113.1:80</td><td>192.0.2.0</td><td>192.0.2.1</td><td>down</td></tr>\n",
+    "<tr><td>101</td><td>101.000000</td><td>tcp 10.0.0.1:1000 to 203.0.113.1:80</td><td>192.0.2.19</td><td>192.0.2.20</td><td>down</td></tr>\n\
+     </table></div>\n\
      <p>and 99 more</p>\n",
     "</body>\n</html>\n",
 ];
@@ -237,4 +281,29 @@ fn a_long_report_has_a_short_page(rt: HostRuntime) {
     let made = page_of_rows(&rt, alloc, "many records", commands.as_str(), rows.as_str());
     find_parts(&rt, "many records", made.as_str(), &MANY);
     assert!(&rt; made.len() < 65536, "the page is short");
+}
+
+/// So many backends come up before the first record, each with its own address.
+fn backends_up(alloc: Global, count: u64) -> Result<String, AllocError> {
+    let mut commands = String::new(alloc);
+    for backend in 0..count {
+        let command = format!(in alloc; "0 up {backend} 10.1.0.{backend}\n")?;
+        commands.push_str(command.as_str())?;
+    }
+    Ok(commands)
+}
+
+#[test]
+fn forty_backends_have_six_slots_or_seven(rt: HostRuntime) {
+    let alloc = rt.alloc();
+    let commands = backends_up(alloc, 40).expect(&rt, "the commands");
+    let made = page_of_rows(&rt, alloc, "many backends", commands.as_str(), "");
+    let parts = [
+        "<tr><td>0</td><td>7</td><td>7</td><td>",
+        "<tr><td>10</td><td>7</td><td>7</td><td>",
+        "<tr><td>11</td><td>6</td><td>6</td><td>",
+        "<tr><td>39</td><td>6</td><td>6</td><td>",
+        "</table></div>\n<h2>Moved frames, by reason</h2>\n",
+    ];
+    find_parts(&rt, "many backends", made.as_str(), &parts);
 }

@@ -2,25 +2,26 @@
 
 ghost use Rattle.std.specs.Prelude.{◌≡◌, ◌≤◌, IfErr, IfOk, length, map, string_bytes};
 ghost use Rattle.comparison.specs.Rows.{IsUnread};
-ghost use Rattle.comparison.specs.declared.fault.Which.TheVariants.{First};
+ghost use Rattle.flows.specs.FlowRecords.{moved_of};
 ghost use Rattle.page.specs.Page.{IsPage, IsPageOf, backends_in_time, by_backend, by_fate, command_marks, fates_in_time, figures_in, figures_of};
-ghost use Rattle.page.specs.Moves.{moves_in_rows};
+ghost use Rattle.page.specs.Page.{commands_and_shares, moves_and_reasons, moves_in_rows};
 ghost use Rattle.page.specs.Page.{of_backends, page_at};
 ghost use Rattle.page.specs.Reading.{keys_of};
-ghost use Rattle.page.specs.Tables.{moves_text};
 ghost use Rattle.page.specs.Tallies.{AreLeast};
 
 use crate::charts::{
     backends_over_time, backends_text, fates_named, fates_over_time, seconds_text,
 };
 use crate::html::{COMMANDS, command_slots, commands_text, first_commands, whole_text};
-use crate::moves::moves_of;
 use crate::reading::{fates_of, keys_of, moments_of};
+use crate::reasons::reasons_text;
+use crate::shares::shares_told;
 use crate::svg::marks_of;
 use crate::tables::{fate_figures, figures_text, moves_text};
 use crate::tallies::{classes_of, counts_of, earliest, latest, lowest_keys, slot_length, slots_of};
-use comparison::{Unlike, Which, rows_in};
+use comparison::{NoRows, rows_in};
 use control::{Command, Script};
+use flows::{Move, moved_frames};
 use std::alloc::{AllocError, Global};
 
 /// The figures of so many records, by what became of each and how often a flow moved.
@@ -194,15 +195,44 @@ fn backends_in(alloc: Global, listed: &[u64], rows: &[&str]) -> Result<String, A
     of_backends(alloc, listed, &keys)
 }
 
-/// How often flows of rows were moved, and the table of these moves.
-fn moves_told(alloc: Global, rows: &[&str]) -> Result<(usize, String), AllocError>
-    ensures count { IfOk result (λ told. told.0 ≡ length (moves_in_rows (map (λ row. row.now) rows.now))) }
-    ensures text { IfOk result (λ told. string_bytes told.1 ≡
-        moves_text (map (λ row. row.now) rows.now) (moves_in_rows (map (λ row. row.now) rows.now))) }
+/// Moved frames by reason, and the table of the first of them.
+fn moves_and_reasons(alloc: Global, rows: &[&str], moves: &[Move]) -> Result<String, AllocError>
+    ensures { IfOk result (λ text. string_bytes text ≡ moves_and_reasons (map (λ row. row.now) rows.now) (map moved_of moves.now)) }
 {
-    let moves = moves_of(alloc, rows)?;
-    let text = moves_text(alloc, rows, &moves)?;
+    let mut text = reasons_text(alloc, moves)?;
+    let table = moves_text(alloc, rows, moves)?;
+    text.push_str(table.as_str())?;
+    Ok(text)
+}
+
+/// How many frames of rows were moved, by reason, and the table of the first of them.
+fn moves_told(
+    alloc: Global,
+    rows: &[&str],
+    commands: &[Command],
+) -> Result<(usize, String), AllocError>
+    ensures count { IfOk result (λ told. told.0 ≡ length (moves_in_rows (map (λ row. row.now) rows.now) commands.now)) }
+    ensures text { IfOk result (λ told. string_bytes told.1 ≡
+        moves_and_reasons (map (λ row. row.now) rows.now) (moves_in_rows (map (λ row. row.now) rows.now) commands.now)) }
+{
+    let moves = moved_frames(alloc, rows, commands)?;
+    let text = moves_and_reasons(alloc, rows, &moves)?;
     Ok((moves.len(), text))
+}
+
+/// The commands, and the shares of the lookup table.
+fn commands_and_shares(
+    alloc: Global,
+    moments: &[u64],
+    last: u64,
+    commands: &[Command],
+    shares: &str,
+) -> Result<String, AllocError>
+    ensures { IfOk result (λ text. string_bytes text ≡ commands_and_shares moments.now last commands.now shares.now) }
+{
+    let mut text = commands_text(alloc, moments, last, commands)?;
+    text.push_str(shares)?;
+    Ok(text)
 }
 
 /// The keys of the backends that are listed: the least 32.
@@ -218,6 +248,7 @@ fn listed_of(alloc: Global, rows: &[&str]) -> Result<Vec<u64>, AllocError>
 fn page_at(
     alloc: Global,
     listed: &[u64],
+    shares: &str,
     rows: &[&str],
     commands: &[Command],
     moments: &[u64],
@@ -226,13 +257,13 @@ fn page_at(
 ) -> Result<String, AllocError>
     requires { length listed.now ≤ 32 }
     ensures { IfOk result
-        (λ text. string_bytes text ≡ page_at listed.now (map (λ row. row.now) rows.now) commands.now moments.now first last) }
+        (λ text. string_bytes text ≡ page_at listed.now shares.now (map (λ row. row.now) rows.now) commands.now moments.now first last) }
 {
     let by_backend = backends_in_time(alloc, listed, rows, commands, moments, first, last)?;
     let by_fate = fates_in_time(alloc, rows, commands, moments, first, last)?;
     let backends = backends_in(alloc, listed, rows)?;
-    let listing = commands_text(alloc, moments, last, commands)?;
-    let (count, moves) = moves_told(alloc, rows)?;
+    let listing = commands_and_shares(alloc, moments, last, commands, shares)?;
+    let (count, moves) = moves_told(alloc, rows, commands)?;
     let figures = figures_in(alloc, rows, count, first, last)?;
     whole_text(
         alloc,
@@ -253,21 +284,26 @@ fn page_of(alloc: Global, rows: &[&str], commands: &[Command]) -> Result<String,
     let moments = moments_of(alloc, rows)?;
     let first = earliest(&moments);
     let last = latest(&moments);
-    let text = page_at(alloc, &listed, rows, commands, &moments, first, last)?;
+    let shares = shares_told(alloc, commands)?;
+    let shares = shares.as_str();
+    let text = page_at(
+        alloc, &listed, shares, rows, commands, &moments, first, last,
+    )?;
     Ok(text)
 }
 
 /// A page of HTML on a report of CSV and the script of its replay, which any browser shows without a network: figures; frames over time, by
-/// backend and by what became of them, with the commands as marks; frames by backend; the commands; and the first hundred records at which
-/// a flow was sent to another address than at its frame before. Its size is bounded, however long the report is, but for the lengths of
+/// backend and by what became of them, with the commands as marks; frames by backend; the commands; the shares of the lookup table at the start
+/// of the script and at its end; how many frames were sent to another address than the sent frame of their flow before, by reason; and the
+/// first hundred of these. Its size is bounded, however long the report is, but for the lengths of
 /// numbers and of the report's own fields.
 ///
 /// Refused where the file is no report of CSV, with the first line that shows it, and where memory is refused.
-pub fn page(alloc: Global, report: &[u8], script: &Script) -> Result<String, Unlike>
+pub fn page(alloc: Global, report: &[u8], script: &Script) -> Result<String, NoRows>
     ensures page { IfOk result (λ text. IsPage report.now script.now (string_bytes text)) }
-    ensures refused { IfErr result (λ unlike. IsUnread First report.now unlike) }
+    ensures refused { IfErr result (λ none. IsUnread report.now none) }
 {
-    let rows = rows_in(alloc, report, Which::First)?;
+    let rows = rows_in(alloc, report)?;
     let text = page_of(alloc, &rows, script.commands())?;
     Ok(text)
 }

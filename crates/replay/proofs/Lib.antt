@@ -8,10 +8,12 @@ pub mod Accounts
 pub mod PartLemmas
 pub mod TurnLemmas
 pub mod TurnBeginnings
+pub mod WhyInTurn
 pub mod TurnUpdates
 pub mod TurnDeeds
 pub mod TurnRuns
 pub mod TurnLeaving
+pub mod TurnBegun
 pub mod TurnCommands
 pub mod TurnRounds
 pub mod TurnFates

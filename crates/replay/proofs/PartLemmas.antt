@@ -1,6 +1,7 @@
 -- The controller's part and the reclaimer's.
-use Rattle.std.proofs.Common.{◌≡◌, ℕ, zero, suc, ◌+◌, ◌*◌, ◌<◌, List, [], ◌∷◌, ◌++◌, length, length-append, refl, sym, ap, ◌∙◌, subst, arith}
-use Rattle.std.specs.Prelude.{Option, Some, None, IfSome, IsTrue, is_some, slice_get, map, replicate, reverse}
+use Rattle.std.proofs.Common.{◌≡◌, ℕ, zero, suc, ◌+◌, ◌*◌, ◌<◌, ◌≤◌, Bool, true, false, nat_lt, List, [], ◌∷◌, ◌++◌, length, take, length-append, refl, sym, ap, ◌∙◌, subst, arith}
+use Rattle.std.specs.Prelude.{Option, Some, None, IfSome, IsTrue, is_some, slice_get, map, replicate, reverse, slice_index, if◌then◌else◌}
+use Rattle.std.proofs.lemmas.Bool.Decides.{nat_tests}
 use Rattle.std.proofs.lemmas.Option.{slice_get_within}
 use Rattle.std.proofs.Math.Nat.{mod-lt}
 use Rattle.ebpf_decode.specs.declared.map.MapDef.{MapDef}
@@ -10,7 +11,7 @@ use Rattle.semantics.specs.declared.call.Caller.{Caller}
 use Rattle.semantics.specs.declared.call.Caller.TheVariants.{Reclaimer}
 use Rattle.shards.specs.declared.deeds.Deed.{Deed}
 use Rattle.shards.specs.declared.deeds.OrderPart.TheVariants.{ByCaller}
-use Rattle.shards.specs.Deeds.{deeds_of}
+use Rattle.shards.specs.Deeds.{deeds_of, AreFirst}
 use Rattle.semantics.specs.declared.call.Call.TheVariants.{Reclaim}
 use Rattle.semantics.specs.declared.call.Entry.{Entry}
 use Rattle.semantics.specs.declared.options.Options.{Options}
@@ -28,15 +29,15 @@ use Rattle.control.specs.declared.command.Command.{Command}
 use Rattle.control.specs.MapUpdates.{UpdateBytes}
 use Rattle.actors.specs.declared.outcome.Applied.{Applied}
 use Rattle.actors.specs.SharedUpdates.{shard_of, controller_update}
-use Rattle.actors.specs.Commands.{CommanderView, CommandDone, IsScriptAccount, IsShardFullForUpdate, ServesScript}
+use Rattle.actors.specs.Commands.{CommanderView, CommandDone, AreNotedOf, IsScriptAccountBehind, IsShardFullForUpdate, HasAccount, OfEachAccount, ServesScript}
 use Rattle.actors.specs.ActorJobs.{command_jobs}
 use Rattle.actors.specs.Rounds.{AreReclaimed, AreRoundsDone, IsReclaimedBy}
-use Rattle.actors.specs.Actors.{numbers_from, commands_from}
+use Rattle.actors.specs.Actors.{numbers_from, commands_from, due_to, AreDue}
 use Rattle.maglev.specs.RingSize.{IsRingSize}
 use Rattle.map_updates.specs.declared.update.MapUpdate.{MapUpdate}
 use Rattle.semantics.proofs.shared.HoldingLemmas.{each_weaker}
 use Rattle.semantics.proofs.shared.PlanLemmas.{some_shards, below_count}
-use Rattle.actors.specs.Parts.{HasCommanded, HasReclaimed, IsScriptRun, IsFullInJournal, IsScriptAccounted, AreRoundsAccounted, numbers_of, refused_of}
+use Rattle.actors.specs.Parts.{HasCommanded, HasReclaimed, HasBegunWith, IsScriptRun, IsScriptRunBehind, IsFullInJournal, IsScriptAccounted, AreRoundsAccounted, numbers_of, refused_of, first_commands, first_deeds}
 use Rattle.replay.proofs.Accounts.{full_later, IsOwnIn}
 
 -- ---- rounds
@@ -133,27 +134,73 @@ numbers_next before after one first were is noted =
 pub script_run : (plan : ℕ → ShardPlan) (maps : List MapDef) (options : Options) (updates : List MapUpdate) (script : List Command) (size : ℕ)
     (start : CommanderView) (noted : List Applied) (pass : PassView) (first count : ℕ) → start.updates ≡ updates → start.script ≡ script → start.port.maps ≡ maps → start.port.options ≡ options
     → start.controller.size ≡ size → numbers_of start.noted ≡ numbers_from 0 first → first + count ≡ length script
-    → HasCommanded plan start (commands_from first count ++ End ∷ []) noted pass → IsScriptRun plan maps options updates script size noted pass
-script_run plan maps options updates script size start noted pass first count is_updates is_script is_maps is_options is_size were all has =
+    → HasCommanded plan start (commands_from first count ++ End ∷ []) noted pass
+    → OfEachAccount plan start (λ done. IsScriptRun plan maps options updates script size done noted pass)
+script_run plan maps options updates script size start noted pass first count is_updates is_script is_maps is_options is_size were all has begun =
     let later = has.taken.later in
     let rest : numbers_of later ≡ numbers_from first count =
     sym (numbers_noted later) ∙ ap job_numbers (sym has.taken.each_once) ∙ numbers_handed (numbers_from first count) in
     let here : first ≡ 0 + first = omega arith in
     let state = has.account.state in
-    let one = subst (λ m. IsScriptAccount plan m start.port.options start.updates start.script start.controller.size noted state pass) is_maps has.account.account in
-    let two = subst (λ o. IsScriptAccount plan maps o start.updates start.script start.controller.size noted state pass) is_options one in
-    let set = subst (λ u. IsScriptAccount plan maps options u start.script start.controller.size noted state pass) is_updates two in
-    let three = subst (λ s. IsScriptAccount plan maps options updates s start.controller.size noted state pass) is_script set in
+    let one = subst (λ m. IsScriptAccountBehind plan m start.port.options start.updates start.script start.controller.size noted state pass begun.done) is_maps (has.account.account begun) in
+    let two = subst (λ o. IsScriptAccountBehind plan maps o start.updates start.script start.controller.size noted state pass begun.done) is_options one in
+    let set = subst (λ u. IsScriptAccountBehind plan maps options u start.script start.controller.size noted state pass begun.done) is_updates two in
+    let three = subst (λ s. IsScriptAccountBehind plan maps options updates s start.controller.size noted state pass begun.done) is_script set in
     record {
       each_once = ap numbers_of has.taken.noted ∙ numbers_both start.noted later ∙ ap (λ (l : List ℕ). l ++ numbers_of later) were
           ∙ ap (λ (l : List ℕ). numbers_from 0 first ++ l) (rest ∙ ap (λ (n : ℕ). numbers_from n count) here) ∙ numbers_more 0 first count
           ∙ ap (λ (n : ℕ). numbers_from 0 n) all;
       state = state;
-      account = subst (λ n. IsScriptAccount plan maps options updates script n noted state pass) is_size three;
+      account = subst (λ n. IsScriptAccountBehind plan maps options updates script n noted state pass begun.done) is_size three;
       who = has.who;
     }
 
-within_of : (maps : List MapDef) (map parts : ℕ) (key : List ℕ) (found : Option MapDef) → 0 < parts → slice_get maps map ≡ found →
+-- and so are the deeds with which the order begins
+pub script_run_behind : (plan : ℕ → ShardPlan) (maps : List MapDef) (options : Options) (updates : List MapUpdate) (script : List Command) (size : ℕ)
+    (start : CommanderView) (noted : List Applied) (pass : PassView) (deeds : List Deed) →
+    OfEachAccount plan start (λ done. IsScriptRun plan maps options updates script size done noted pass) → HasBegunWith plan maps options updates script start deeds →
+    IsScriptRunBehind plan maps options updates script size noted pass deeds
+script_run_behind plan maps options updates script size start noted pass deeds runs begun =
+    record { first = begun.account.done; run = runs begun.account; counted = begun.counted; deeds_are = begun.deeds_are }
+
+-- ---- the commands before the first record
+
+pub noted_as_many : (script : List Command) (noted : List Applied) (done : List CommandDone) → AreNotedOf script noted done → length done ≡ length (numbers_of noted)
+noted_as_many script [] [] are = refl
+noted_as_many script [] (one ∷ later) are = absurd are
+noted_as_many script (noted ∷ more) [] are = absurd are
+noted_as_many script (noted ∷ more) (one ∷ later) are = ap suc (noted_as_many script more later are.1)
+
+pub numbers_count : (first count : ℕ) → length (numbers_from first count) ≡ count
+numbers_count first zero = refl
+numbers_count first (suc count) = ap suc (numbers_count (first + 1) count)
+
+due_is : (starts : List ℕ) (end : ℕ) → end ≤ length starts → ((place : ℕ) → place < end → slice_index starts place ≤ 0) →
+    (end < length starts → 0 < slice_index starts end) → due_to starts 0 ≡ end
+due_is [] end within due early = omega (arith, within)
+due_is (start ∷ later) zero within due early =
+    let some : 0 < start = early (omega arith) in
+    let is : nat_lt 0 start ≡ true = grind (arith, nat_tests, some) in
+    ap (λ (test : Bool). if test then 0 else suc (due_to later 0)) is
+due_is (start ∷ later) (suc end) within due early =
+    let none : start ≤ 0 = due 0 (omega arith) in
+    let is : nat_lt 0 start ≡ false = grind (arith, nat_tests, none) in
+    ap (λ (test : Bool). if test then 0 else suc (due_to later 0)) is
+    ∙ ap suc (due_is later end (omega (arith, within)) (λ place below. due (suc place) (omega (arith, below))) (λ below. early (omega (arith, below))))
+
+pub begun_with : (plan : ℕ → ShardPlan) (maps : List MapDef) (options : Options) (updates : List MapUpdate) (script : List Command) (start : CommanderView)
+    (starts : List ℕ) (first : ℕ) (deeds : List Deed) → start.port.maps ≡ maps → start.port.options ≡ options → start.updates ≡ updates → start.script ≡ script →
+    numbers_of start.noted ≡ numbers_from 0 first → starts ≡ map (λ (line : Command). line.frame) script → AreDue starts 0 0 first → HasAccount plan start →
+    deeds ≡ start.port.pass.deeds → HasBegunWith plan maps options updates script start deeds
+begun_with plan maps options updates script start starts first deeds is_maps is_options is_updates is_script numbers are due account same = record {
+  account = account;
+  counted = noted_as_many start.script start.noted account.done account.are_noted ∙ ap (λ (l : List ℕ). length l) numbers ∙ numbers_count 0 first
+      ∙ sym (due_is starts first due.within (λ place below. due.due place (omega arith) below) due.early) ∙ ap (λ (l : List ℕ). due_to l 0) are;
+  deeds_are = same ∙ account.did
+      ∙ (λ i. first_deeds (is_maps i) (is_options i) (is_updates i) account.done);
+}
+
+pub within_of : (maps : List MapDef) (map parts : ℕ) (key : List ℕ) (found : Option MapDef) → 0 < parts → slice_get maps map ≡ found →
     IsTrue (is_some found) → shard_in_map found parts map key < length maps * parts
 within_of maps map parts key None some is there = absurd cc
 within_of maps map parts key (Some definition) some is there =
@@ -177,25 +224,50 @@ full_stands plan maps options count journals pass plans are settled (Some update
 
 pub script_stands : (plan : ℕ → ShardPlan) (maps : List MapDef) (options : Options) (count : ℕ) (updates : List MapUpdate) (script : List Command)
     (size : ℕ) (noted : List Applied) (pass : PassView) (journals : JournalsView) (order : List Deed) (refused : List Applied) → ArePlans maps options count plan → AreOptions maps options →
-    IsRingSize size → ServesScript maps size script → IsScriptRun plan maps options updates script size noted pass → AreSettled count journals pass →
+    IsRingSize size → ServesScript maps size script → (first : List CommandDone) → IsScriptRun plan maps options updates script size first noted pass → AreSettled count journals pass →
     IsOwnIn order pass → refused ≡ refused_of noted → IsScriptAccounted plan maps options count updates script journals order refused
-script_stands plan maps options count updates script size noted pass journals order refused plans are served serves run settled owned refused_are = record {
+script_stands plan maps options count updates script size noted pass journals order refused plans are served serves first run settled owned refused_are = record {
   size = size;
   size_is_served = served;
   serves = serves;
   noted = noted;
   each_once = run.each_once;
-  done = run.account.done;
-  are_noted = run.account.are_noted;
+  done = run.account.account.done;
+  are_noted = run.account.account.are_noted;
   state = run.state;
-  are_done = run.account.are_done;
-  own = λ number within. ap (λ (c : Caller). own_entries c (reverse (entries_at journals number))) (sym run.who) ∙ sym (settled number within).own ∙ run.account.own number;
+  are_done = run.account.account.are_done;
+  own = λ number within. ap (λ (c : Caller). own_entries c (reverse (entries_at journals number))) (sym run.who) ∙ sym (settled number within).own ∙ run.account.account.own number;
   full = each_weaker (λ (one : CommandDone). IfSome one.stopped (IsShardFullForUpdate plan maps options pass))
       (λ (one : CommandDone). IfSome one.stopped (IsFullInJournal plan maps options count journals))
-      (λ one. full_stands plan maps options count journals pass plans are settled one.stopped) run.account.done run.account.full;
-  did = ap (λ (c : Caller). deeds_of (ByCaller c) order) (sym run.who) ∙ sym owned ∙ run.account.did;
+      (λ one. full_stands plan maps options count journals pass plans are settled one.stopped) run.account.account.done run.account.account.full;
+  did = ap (λ (c : Caller). deeds_of (ByCaller c) order) (sym run.who) ∙ sym owned ∙ run.account.account.did;
   refused_are = refused_are;
 }
+
+-- with what the order begins with
+pub record IsScriptBegun (plan : ℕ → ShardPlan) (maps : List MapDef) (options : Options) (count : ℕ) (updates : List MapUpdate) (script : List Command)
+    (journals : JournalsView) (order : List Deed) (refused : List Applied) : Type 0 where
+  pub commands : IsScriptAccounted plan maps options count updates script journals order refused
+  pub begins : AreFirst (first_deeds maps options updates (take (first_commands script) commands.done)) order
+
+take_first : (first later : List CommandDone) → take (length first) (first ++ later) ≡ first
+take_first [] later = refl
+take_first (one ∷ first) later = ap (λ (done : List CommandDone). one ∷ done) (take_first first later)
+
+pub script_begins : (plan : ℕ → ShardPlan) (maps : List MapDef) (options : Options) (count : ℕ) (updates : List MapUpdate) (script : List Command)
+    (size : ℕ) (noted : List Applied) (pass : PassView) (journals : JournalsView) (order : List Deed) (refused : List Applied) (deeds : List Deed) →
+    ArePlans maps options count plan → AreOptions maps options → IsRingSize size → ServesScript maps size script →
+    IsScriptRunBehind plan maps options updates script size noted pass deeds → AreSettled count journals pass →
+    IsOwnIn order pass → refused ≡ refused_of noted → AreFirst deeds order → IsScriptBegun plan maps options count updates script journals order refused
+unfolding script_stands
+script_begins plan maps options count updates script size noted pass journals order refused deeds plans are served serves behind settled owned refused_are begins =
+    let run = behind.run in record {
+      commands = script_stands plan maps options count updates script size noted pass journals order refused plans are served serves behind.first run settled owned refused_are;
+      begins = subst (λ (first : List Deed). AreFirst first order)
+          (behind.deeds_are ∙ ap (λ (done : List CommandDone). first_deeds maps options updates done)
+          (sym (ap (λ (n : ℕ). take n run.account.account.done) (sym behind.counted)
+          ∙ ap (λ (done : List CommandDone). take (length behind.first) done) run.account.goes_on ∙ take_first behind.first run.account.later))) begins;
+    }
 
 -- ---- all passes, when the shards are closed
 

@@ -1,5 +1,5 @@
 -- The account of a replay on one thread.
-use Rattle.std.proofs.Common.{◌≡◌, ℕ, zero, suc, false, ◌/◌, ◌<◌, List, [], ◌∷◌, length, replicate, reverse, get_or, refl, sym, ap, ◌∙◌, subst, arith}
+use Rattle.std.proofs.Common.{◌≡◌, ℕ, zero, suc, false, ◌/◌, ◌<◌, ◌≤◌, List, [], ◌∷◌, length, take, drop, replicate, reverse, get_or, refl, sym, ap, ◌∙◌, subst, arith}
 use Rattle.std.specs.Prelude.{Option, Some, None, slice_get, option_map}
 use Rattle.std.proofs.lemmas.List.{append-nil, length-map, length-replicate, reverse-reverse}
 use Rattle.wire.specs.declared.records.Sent.{Sent}
@@ -30,8 +30,9 @@ use Rattle.actors.specs.declared.runner.Ran.{Ran}
 use Rattle.actors.specs.Accounts.{runs_at, sent_frames}
 use Rattle.actors.specs.Accounted.{IsWorkOf, IsAccounted}
 use Rattle.actors.specs.Actors.{IsUnused, numbers_from}
-use Rattle.actors.specs.Commands.{all_set, IsMoved}
-use Rattle.actors.specs.Parts.{IsScriptRun, round_count}
+use Rattle.control.specs.Controlling.{opened_controller}
+use Rattle.actors.specs.Commands.{CommandDone, IsScriptAccount, all_set, IsMoved}
+use Rattle.actors.specs.Parts.{IsScriptRunBehind, round_count, first_commands, first_deeds}
 use Rattle.actors.specs.RunJobs.{records_of}
 use Rattle.actors.specs.RunsInOrder.{IsRunAt, IsChainOfRuns}
 use Rattle.actors.specs.RunsOverShards.{IsRunOf, IsRunIn}
@@ -43,7 +44,8 @@ use Rattle.replay.specs.TurnOrder.{AreDeedsBy, IsInTurnOrder, IsExact}
 use Rattle.replay.specs.TurnsAccounted.{TurnsAreAccounted}
 use Rattle.replay.proofs.Accounts.{IsOwnIn, chain_stands}
 use Rattle.actors.proofs.shared.CommandAccounts.{account_of_nothing}
-use Rattle.replay.proofs.PartLemmas.{script_stands, rounds_stand}
+use Rattle.replay.proofs.PartLemmas.{IsScriptBegun, script_begins, rounds_stand, noted_as_many, numbers_count}
+use Rattle.replay.proofs.TurnBegun.{AreControllers, begins_now, take_count, take_and_drop, due_few}
 use Rattle.actors.proofs.shared.RoundLemmas.{no_round}
 use Rattle.actors.proofs.shared.SetLemmas.{moved_by_set, has_set}
 use Rattle.replay.proofs.TurnCommands.{by_pass, AreSetByPass, set_steps}
@@ -147,6 +149,13 @@ module _ (program : Program) (script : List Command) (options : Options) (record
   other_unused : (who : Caller) → is_caller who Controller ≡ false → IsPassOf count who set.order' (unused count who)
   other_unused who apart = others_stay count Controller who [] set.order' (unused count who) set.more apart (unused_mine count who)
 
+  nothing_noted : IsScriptAccount plan program.maps options updates script turns.size [] (opened_controller turns.size) set.pass'
+  nothing_noted = account_of_nothing plan program.maps options updates script turns.size set.pass'
+      (has_set plan program.maps options updates (unused count Controller) (by_pass turns.begun set.pass') (is_unused count Controller) refl set.set)
+
+  alone : AreControllers set.order'
+  alone = subst AreControllers (sym (set.more.more ∙ append-nil set.more.deeds)) set.more.made_by
+
   -- before the first turn
   abbrev first : IsSimulated program updates script options records turns.size plan count 0 0 0 (first_state turns.begun turns.size)
   first = record {
@@ -173,8 +182,12 @@ module _ (program : Program) (script : List Command) (options : Options) (record
     controller = set.pass';
     controls = set.stands.mine;
     each_once = refl;
-    account = account_of_nothing plan program.maps options updates script turns.size set.pass'
-        (has_set plan program.maps options updates (unused count Controller) (by_pass turns.begun set.pass') (is_unused count Controller) refl set.set);
+    begun = record {
+      account = nothing_noted;
+      late = λ up. begins_now plan program.maps options updates script turns.size [] (opened_controller turns.size) set.pass' set.order' nothing_noted
+          (let none = noted_as_many script [] nothing_noted.done nothing_noted.are_noted in omega (arith, none, up)) alone set.stands.mine.did;
+    };
+    early = λ less. alone;
     reclaimer = unused count Reclaimer;
     reclaims = other_unused Reclaimer refl;
     reclaimed = no_round plan count (unused count Reclaimer) (is_unused count Reclaimer);
@@ -185,7 +198,7 @@ module _ (program : Program) (script : List Command) (options : Options) (record
       (all_turns (starts_in script) (length records)) (first_state turns.begun turns.size) turns.last turns.in_order first.order (length records)
       (length (starts_in script)) (round_count (length records))
   went = all_turned program updates script options records turns.size plan count writes writes_refused are.some_worker numbered staffed (starts_in script)
-      (length records) (first_state turns.begun turns.size) turns.last first turns.in_order
+      (length records) (first_state turns.begun turns.size) turns.last first refl turns.in_order
 
   abbrev ended : IsSimulated program updates script options records turns.size plan count (length records) (length (starts_in script)) (round_count (length records)) turns.last
   ended = went.now
@@ -224,13 +237,32 @@ module _ (program : Program) (script : List Command) (options : Options) (record
         did = mine.did;
       }
 
-  script_run : IsScriptRun plan program.maps options updates script turns.size turns.last.noted ended.controller
+  first_within : first_commands script ≤ length (starts_in script)
+  first_within = due_few (starts_in script) 0
+
+  abbrev done : List CommandDone
+  done = ended.begun.account.done
+
+  script_run : IsScriptRunBehind plan program.maps options updates script turns.size turns.last.noted ended.controller
+      (first_deeds program.maps options updates (take (first_commands script) done))
   script_run = record {
-    each_once = ended.each_once ∙ ap (λ (n : ℕ). numbers_from 0 n) (length-map script (λ line. line.frame));
-    state = turns.last.controller;
-    account = ended.account;
-    who = ended.controls.caller;
+    first = take (first_commands script) done;
+    run = record {
+      each_once = ended.each_once ∙ ap (λ (n : ℕ). numbers_from 0 n) (length-map script (λ line. line.frame));
+      state = turns.last.controller;
+      account = record { account = ended.begun.account; later = drop (first_commands script) done; goes_on = take_and_drop (first_commands script) done };
+      who = ended.controls.caller;
+    };
+    counted = take_count (first_commands script) done
+        (let many = noted_as_many script turns.last.noted done ended.begun.account.are_noted in let all = ap (λ (l : List ℕ). length l) ended.each_once in
+        let counted = numbers_count 0 (length (starts_in script)) in let within = first_within in omega (arith, many, all, counted, within));
+    deeds_are = refl;
   }
+
+  script_begun : IsScriptBegun plan program.maps options count updates script outcome.journals ended.order outcome.refused.items
+  script_begun = script_begins plan program.maps options count updates script turns.size turns.last.noted ended.controller outcome.journals ended.order
+      outcome.refused.items (first_deeds program.maps options updates (take (first_commands script) done)) plans are turns.size_is_served turns.serves script_run
+      (settled Controller ended.controller ended.controls) (owned Controller ended.controller ended.controls) turns.refused (ended.begun.late first_within)
 
   abbrev accounted : IsAccounted program script options records outcome
   accounted = record {
@@ -255,9 +287,8 @@ module _ (program : Program) (script : List Command) (options : Options) (record
     each_once = turns.each_once;
     sent = ap sent_frames turns.sent ∙ ended.sent;
     ends = turns.ends ∙ ended.ends;
-    commands = script_stands plan program.maps options count updates script turns.size turns.last.noted ended.controller outcome.journals ended.order
-        outcome.refused.items plans are turns.size_is_served turns.serves script_run (settled Controller ended.controller ended.controls)
-        (owned Controller ended.controller ended.controls) turns.refused;
+    commands = script_begun.commands;
+    begins = script_begun.begins;
     rounds = rounds_stand plan count (round_count (length records)) outcome.journals ended.order ended.reclaimer ended.reclaims.caller
         (settled Reclaimer ended.reclaimer ended.reclaims) (owned Reclaimer ended.reclaimer ended.reclaims) ended.reclaimed;
   }

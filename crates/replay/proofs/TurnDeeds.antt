@@ -89,7 +89,7 @@ pub made_here : (number : ℕ) (entry : Entry) (order : List Deed) → shard_of_
 made_here number entry order here =
     ap (λ (test : Bool). cond test (entry ∷ made_on number order) (made_on number order)) (eq-eqb (shard_of_call entry.call) number here)
 
-one_else : (number : ℕ) (deed : Deed) (order : List Deed) → shard_of_deed deed ≢ number → made_on number (deed ∷ order) ≡ made_on number order
+pub one_else : (number : ℕ) (deed : Deed) (order : List Deed) → shard_of_deed deed ≢ number → made_on number (deed ∷ order) ≡ made_on number order
 one_else number (Wrote entry) order apart =
     ap (λ (test : Bool). cond test (entry ∷ made_on number order) (made_on number order)) (ne_eqb (shard_of_call entry.call) number apart)
 one_else number (MetFull who call) order apart = refl
@@ -126,7 +126,7 @@ no_more who order = record { deeds = []; more = refl; made_by = tt }
 pub more_by : (who : Caller) (number : ℕ) (deeds order : List Deed) → AreBy who number deeds → IsMoreBy who order (deeds ++ order)
 more_by who number deeds order are = record { deeds = deeds; more = refl; made_by = all_by who number deeds are }
 
-both_by : (who : Caller) (first second : List Deed) → AllByRecursion (λ (deed : Deed). caller_of_deed deed ≡ who) first →
+pub both_by : (who : Caller) (first second : List Deed) → AllByRecursion (λ (deed : Deed). caller_of_deed deed ≡ who) first →
     AllByRecursion (λ (deed : Deed). caller_of_deed deed ≡ who) second → AllByRecursion (λ (deed : Deed). caller_of_deed deed ≡ who) (first ++ second)
 both_by who [] second one two = two
 both_by who (deed ∷ first) second one two = (one.0, both_by who first second one.1 two)

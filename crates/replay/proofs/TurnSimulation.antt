@@ -31,19 +31,18 @@ use Rattle.actors.specs.declared.runner.RunEnd.TheVariants.{Stopped, Exited}
 use Rattle.actors.specs.Shares.{frames_of, frame_at, is_short, worker_of_frame, share}
 use Rattle.actors.specs.Accounts.{SentFrame, runs_at, end_at, fate_of, counted, counts_of, sent_by, sent_frames, sent_of, record_end, ends_of, AreRunsOfShares}
 use Rattle.actors.specs.Actors.{numbers_from}
-use Rattle.actors.specs.Commands.{IsScriptAccount}
-use Rattle.actors.specs.Parts.{numbers_of}
+use Rattle.actors.specs.Parts.{numbers_of, first_commands}
 use Rattle.actors.specs.Rounds.{AreReclaimed}
 use Rattle.actors.specs.RunsInOrder.{IsRunAt, HasHandled}
 use Rattle.actors.specs.RunsOverShards.{IsNewPass, IsRunOf, start_of}
 use Rattle.replay.specs.Turns.{Turn, TheCommand, TheRecord, TheRound, due_to, due_before, commands_between, rounds_at, turns_to, all_turns}
 use Rattle.replay.specs.InTurn.{IsRunInTurn, IsHandledInTurn, TurnState, IsRecordTurn, IsCommandTurn, IsRoundTurn, AreTurns}
-use Rattle.actors.proofs.shared.CommandAccounts.{account_more}
-use Rattle.replay.proofs.PartLemmas.{numbers_next}
+use Rattle.replay.proofs.PartLemmas.{numbers_next, noted_as_many, numbers_count}
+use Rattle.replay.proofs.TurnBegun.{AreControllers, IsBegunAccount, begun_grown, begun_more}
 use Rattle.actors.proofs.shared.PutLemmas.{share_of_short, share_of_other, share_of_own, worker_below}
 use Rattle.shards.specs.Deeds.{made_on}
 use Rattle.replay.specs.TurnOrder.{actor_of, GoesThrough}
-use Rattle.replay.proofs.TurnDeeds.{IsSound, AreLeftBy, IsPassOf, Stands, IsMoreBy, no_more, others_stay}
+use Rattle.replay.proofs.TurnDeeds.{IsSound, AreLeftBy, IsPassOf, Stands, IsMoreBy, no_more, both_by, others_stay}
 use Rattle.replay.proofs.TurnLeaving.{ends_by_pass, stops_by_pass}
 use Rattle.replay.proofs.TurnCommands.{by_pass, command_by_pass}
 use Rattle.replay.proofs.TurnRounds.{round_by_pass}
@@ -82,7 +81,9 @@ module _ (program : Program) (updates : List MapUpdate) (script : List Command) 
     pub controller : PassView
     pub controls : IsPassOf count Controller order controller
     pub each_once : numbers_of state.noted ≡ numbers_from 0 next
-    pub account : IsScriptAccount plan program.maps options updates script size state.noted state.controller controller
+    pub begun : IsBegunAccount plan program.maps options updates script size state.noted state.controller controller next order
+    -- before the first record nobody else does anything
+    pub early : next < first_commands script → AreControllers order
     -- the reclaimer
     pub reclaimer : PassView
     pub reclaims : IsPassOf count Reclaimer order reclaimer
@@ -123,8 +124,9 @@ module _ (program : Program) (updates : List MapUpdate) (script : List Command) 
     controller = was.controller;
     controls = was.controls;
     each_once = ap (λ (state : TurnState). numbers_of state.noted) same ∙ was.each_once;
-    account = subst (λ (state : TurnState). IsScriptAccount plan program.maps options updates script size state.noted state.controller was.controller)
-        (sym same) was.account;
+    begun = subst (λ (state : TurnState). IsBegunAccount plan program.maps options updates script size state.noted state.controller was.controller next was.order)
+        (sym same) was.begun;
+    early = was.early;
     reclaimer = was.reclaimer;
     reclaims = was.reclaims;
     reclaimed = was.reclaimed;
@@ -138,9 +140,9 @@ module _ (program : Program) (updates : List MapUpdate) (script : List Command) 
 
   -- ---- a round
 
-  round_turn : (number next rounds : ℕ) (before after : TurnState) → (was : Simulated number next rounds before) → IsRoundTurn before after →
-      Stepped TheRound was.order number next (rounds + 1) after
-  round_turn number next rounds before after was turn =
+  round_turn : (number next rounds : ℕ) (before after : TurnState) → (was : Simulated number next rounds before) → first_commands script ≤ next →
+      IsRoundTurn before after → Stepped TheRound was.order number next (rounds + 1) after
+  round_turn number next rounds before after was ready turn =
       let done = round_by_pass plan count numbered rounds was.order was.reclaimer before.all.shards after.all.shards
       (record { sound = was.sound; left = was.left; mine = was.reclaims }) was.reclaimed turn.round in
       record {
@@ -162,8 +164,11 @@ module _ (program : Program) (updates : List MapUpdate) (script : List Command) 
           controller = was.controller;
           controls = others_stay count Reclaimer Controller was.order done.order' was.controller done.more refl was.controls;
           each_once = ap numbers_of turn.noted ∙ was.each_once;
-          account = subst (λ (state : ControllerState). IsScriptAccount plan program.maps options updates script size after.noted state was.controller) (sym turn.controller)
-              (subst (λ (noted : List Applied). IsScriptAccount plan program.maps options updates script size noted before.controller was.controller) (sym turn.noted) was.account);
+          begun = subst (λ (state : ControllerState). IsBegunAccount plan program.maps options updates script size after.noted state was.controller next done.order')
+              (sym turn.controller)
+              (subst (λ (noted : List Applied). IsBegunAccount plan program.maps options updates script size noted before.controller was.controller next done.order') (sym turn.noted)
+              (begun_grown plan program.maps options updates script size before.noted before.controller was.controller next Reclaimer was.order done.order' done.more was.begun));
+          early = λ less. absurd (omega (arith, less, ready));
           reclaimer = done.pass';
           reclaims = done.stands.mine;
           reclaimed = done.reclaimed;
@@ -181,15 +186,19 @@ module _ (program : Program) (updates : List MapUpdate) (script : List Command) 
       let last : Applied = record { command = next; fault = turn.fault } in
       let maps : after.all.maps ≡ program.maps = done.effect.moved.maps ∙ was.maps in
       let options_are : after.all.options ≡ options = done.effect.moved.options ∙ was.options_are in
-      let there : IsScriptAccount plan before.all.maps before.all.options updates script size before.noted before.controller was.controller =
-      subst (λ (o : Options). IsScriptAccount plan before.all.maps o updates script size before.noted before.controller was.controller) (sym was.options_are)
-      (subst (λ (m : List MapDef). IsScriptAccount plan m options updates script size before.noted before.controller was.controller) (sym was.maps) was.account) in
-      let more : IsScriptAccount plan after.all.maps after.all.options updates script size (before.noted ++ last ∷ []) after.controller done.pass' =
-      account_more plan updates script size before.noted before.controller after.controller (by_pass before.all was.controller) (by_pass after.all done.pass')
-      turn.command last there turn.known done.effect in
-      let moved : IsScriptAccount plan program.maps options updates script size (before.noted ++ last ∷ []) after.controller done.pass' =
-      subst (λ (o : Options). IsScriptAccount plan program.maps o updates script size (before.noted ++ last ∷ []) after.controller done.pass') options_are
-      (subst (λ (m : List MapDef). IsScriptAccount plan m after.all.options updates script size (before.noted ++ last ∷ []) after.controller done.pass') maps more) in
+      let there : IsBegunAccount plan before.all.maps before.all.options updates script size before.noted before.controller was.controller next was.order =
+      subst (λ (o : Options). IsBegunAccount plan before.all.maps o updates script size before.noted before.controller was.controller next was.order) (sym was.options_are)
+      (subst (λ (m : List MapDef). IsBegunAccount plan m options updates script size before.noted before.controller was.controller next was.order) (sym was.maps) was.begun) in
+      let alone : next < first_commands script → AreControllers done.order' =
+      λ less. subst AreControllers (sym done.more.more) (both_by Controller done.more.deeds was.order done.more.made_by (was.early less)) in
+      let more : IsBegunAccount plan after.all.maps after.all.options updates script size (before.noted ++ last ∷ []) after.controller done.pass' (next + 1) done.order' =
+      begun_more plan updates script size before.noted before.controller after.controller (by_pass before.all was.controller) (by_pass after.all done.pass')
+      turn.command last next was.order done.order' there turn.known done.effect
+      (noted_as_many script before.noted there.account.done there.account.are_noted ∙ ap (λ (l : List ℕ). length l) was.each_once ∙ numbers_count 0 next)
+      done.more alone done.stands.mine.did in
+      let moved : IsBegunAccount plan program.maps options updates script size (before.noted ++ last ∷ []) after.controller done.pass' (next + 1) done.order' =
+      subst (λ (o : Options). IsBegunAccount plan program.maps o updates script size (before.noted ++ last ∷ []) after.controller done.pass' (next + 1) done.order') options_are
+      (subst (λ (m : List MapDef). IsBegunAccount plan m after.all.options updates script size (before.noted ++ last ∷ []) after.controller done.pass' (next + 1) done.order') maps more) in
       record {
         now = record {
           order = done.order';
@@ -209,7 +218,9 @@ module _ (program : Program) (updates : List MapUpdate) (script : List Command) 
           controller = done.pass';
           controls = done.stands.mine;
           each_once = numbers_next before.noted after.noted last next was.each_once refl turn.noted;
-          account = subst (λ (noted : List Applied). IsScriptAccount plan program.maps options updates script size noted after.controller done.pass') (sym turn.noted) moved;
+          begun = subst (λ (noted : List Applied). IsBegunAccount plan program.maps options updates script size noted after.controller done.pass' (next + 1) done.order')
+              (sym turn.noted) moved;
+          early = λ less. alone (omega (arith, less));
           reclaimer = was.reclaimer;
           reclaims = others_stay count Controller Reclaimer was.order done.order' was.reclaimer done.more refl was.reclaims;
           reclaimed = was.reclaimed;
@@ -295,8 +306,9 @@ module _ (program : Program) (updates : List MapUpdate) (script : List Command) 
           controller = was.controller;
           controls = was.controls;
           each_once = ap numbers_of noted ∙ was.each_once;
-          account = subst (λ (state : ControllerState). IsScriptAccount plan program.maps options updates script size after.noted state was.controller) (sym controller)
-              (subst (λ (list : List Applied). IsScriptAccount plan program.maps options updates script size list before.controller was.controller) (sym noted) was.account);
+          begun = subst (λ (state : ControllerState). IsBegunAccount plan program.maps options updates script size after.noted state was.controller next was.order) (sym controller)
+              (subst (λ (list : List Applied). IsBegunAccount plan program.maps options updates script size list before.controller was.controller next was.order) (sym noted) was.begun);
+          early = was.early;
           reclaimer = was.reclaimer;
           reclaims = was.reclaims;
           reclaimed = was.reclaimed;
@@ -306,7 +318,7 @@ module _ (program : Program) (updates : List MapUpdate) (script : List Command) 
 
   -- any other one is one run more of the worker of its flow
   module _ (number next rounds : ℕ) (before after : TurnState) (captured : Sent) (was : Simulated number next rounds before)
-      (known : slice_get records number ≡ Some captured) (long : is_short captured.bytes.items ≡ false) (end : RunEnd)
+      (ready : first_commands script ≤ next) (known : slice_get records number ≡ Some captured) (long : is_short captured.bytes.items ≡ false) (end : RunEnd)
       (turn : IsRunInTurn program captured (worker_of_frame captured.bytes.items options.workers) before.all.shards end after.all.shards) where
     abbrev own : ℕ
     own = worker_of_frame captured.bytes.items options.workers
@@ -423,8 +435,10 @@ module _ (program : Program) (updates : List MapUpdate) (script : List Command) 
         controller = was.controller;
         controls = others_stay count (Worker own) Controller was.order done.order' was.controller done.more refl was.controls;
         each_once = ap numbers_of noted ∙ was.each_once;
-        account = subst (λ (state : ControllerState). IsScriptAccount plan program.maps options updates script size after.noted state was.controller) (sym controller)
-            (subst (λ (list : List Applied). IsScriptAccount plan program.maps options updates script size list before.controller was.controller) (sym noted) was.account);
+        begun = subst (λ (state : ControllerState). IsBegunAccount plan program.maps options updates script size after.noted state was.controller next done.order') (sym controller)
+            (subst (λ (list : List Applied). IsBegunAccount plan program.maps options updates script size list before.controller was.controller next done.order') (sym noted)
+            (begun_grown plan program.maps options updates script size before.noted before.controller was.controller next (Worker own) was.order done.order' done.more was.begun));
+        early = λ less. absurd (omega (arith, less, ready));
         reclaimer = was.reclaimer;
         reclaims = others_stay count (Worker own) Reclaimer was.order done.order' was.reclaimer done.more refl was.reclaims;
         reclaimed = was.reclaimed;
@@ -433,22 +447,22 @@ module _ (program : Program) (updates : List MapUpdate) (script : List Command) 
     }
 
   by_end : (number next rounds : ℕ) (before after : TurnState) (captured : Sent) → (was : Simulated number next rounds before) →
-      slice_get records number ≡ Some captured → (end : Option RunEnd) →
+      first_commands script ≤ next → slice_get records number ≡ Some captured → (end : Option RunEnd) →
       IsHandledInTurn program options.workers captured before.all.shards end after.all.shards →
       after.all.maps ≡ before.all.maps → after.all.options ≡ before.all.options → after.controller ≡ before.controller → after.noted ≡ before.noted →
       after.counts ≡ counted before.counts end → sent_frames after.sent ≡ sent_frames before.sent ++ sent_by end →
       after.ends ≡ before.ends ++ record_end (worker_of_frame captured.bytes.items options.workers) end ∷ [] →
       Stepped (TheRecord number) was.order (suc number) next rounds after
-  by_end number next rounds before after captured was known None handled maps opts controller noted counts sent ends =
+  by_end number next rounds before after captured was ready known None handled maps opts controller noted counts sent ends =
       short_turn number next rounds before after captured was (record_there records number captured known) handled.short handled.nothing maps opts controller
       noted counts sent ends
-  by_end number next rounds before after captured was known (Some end) handled maps opts controller noted counts sent ends =
-      long_turn number next rounds before after captured was known handled.long end handled.run maps opts controller noted counts sent ends
+  by_end number next rounds before after captured was ready known (Some end) handled maps opts controller noted counts sent ends =
+      long_turn number next rounds before after captured was ready known handled.long end handled.run maps opts controller noted counts sent ends
 
-  record_turn : (number next rounds : ℕ) (before after : TurnState) → (was : Simulated number next rounds before) →
+  record_turn : (number next rounds : ℕ) (before after : TurnState) → (was : Simulated number next rounds before) → first_commands script ≤ next →
       IsRecordTurn program records options.workers number before after → Stepped (TheRecord number) was.order (suc number) next rounds after
-  record_turn number next rounds before after was turn =
-      by_end number next rounds before after turn.captured was turn.known turn.end turn.handled turn.maps turn.options turn.controller turn.noted turn.counts
+  record_turn number next rounds before after was ready turn =
+      by_end number next rounds before after turn.captured was ready turn.known turn.end turn.handled turn.maps turn.options turn.controller turn.noted turn.counts
       turn.sent turn.ends
 
   -- ---- turn after turn
@@ -535,14 +549,14 @@ module _ (program : Program) (updates : List MapUpdate) (script : List Command) 
       let less = mod-lt number {m = 64} (omega arith) in
       omega (arith, some, now, earlier, less, more)
 
-  round_turned : (number next : ℕ) (before after : TurnState) → (was : Simulated (suc number) next (number / 64) before) →
+  round_turned : (number next : ℕ) (before after : TurnState) → (was : Simulated (suc number) next (number / 64) before) → first_commands script ≤ next →
       (turns : Turned (rounds_at (suc number)) before after) → Went (rounds_at (suc number)) before after turns was.order (suc number) next (suc number / 64)
-  round_turned number next before after was turns = by_test (suc number % 64 == 0) refl turns
+  round_turned number next before after was ready turns = by_test (suc number % 64 == 0) refl turns
     where
       by_test : (due : Bool) → (suc number % 64 == 0) ≡ due → (turns : Turned (if due then TheRound ∷ [] else []) before after) →
           Went (if due then TheRound ∷ [] else []) before after turns was.order (suc number) next (suc number / 64)
       by_test true is one =
-          let done = round_turn (suc number) next (number / 64) before one.0 was one.1 in
+          let done = round_turn (suc number) next (number / 64) before one.0 was ready one.1 in
           let now = at_same (suc number) next (number / 64 + 1) one.0 after one.2 done.now in
           subst (λ (n : ℕ). Went (TheRound ∷ []) before after one was.order (suc number) next n) (round_over number is)
           (record { now = now; through = then_through TheRound [] before after one was.order done.now.order done.now.order done.more done.now.left refl })
@@ -578,6 +592,10 @@ module _ (program : Program) (updates : List MapUpdate) (script : List Command) 
   due_after starts zero = omega arith
   due_after starts (suc number) = due_grows starts number
 
+  due_later : (starts : List ℕ) (number : ℕ) → due_to starts 0 ≤ due_to starts number
+  due_later starts zero = omega arith
+  due_later starts (suc number) = (let earlier = due_later starts number in let more = due_grows starts number in omega (arith, earlier, more))
+
   -- ---- all of them
 
   abbrev turns_of_record : List ℕ → ℕ → List Turn
@@ -586,14 +604,15 @@ module _ (program : Program) (updates : List MapUpdate) (script : List Command) 
 
   -- the turns from one record to the next
   one_more : (starts : List ℕ) (number : ℕ) (before after : TurnState) → (was : Simulated number (due_before starts number) (number / 64) before) →
-      (turns : Turned (turns_of_record starts number) before after) →
+      first_commands script ≡ due_to starts 0 → (turns : Turned (turns_of_record starts number) before after) →
       Went (turns_of_record starts number) before after turns was.order (suc number) (due_to starts number) (suc number / 64)
-  one_more starts number before after was turns =
+  one_more starts number before after was first_are turns =
+      let ready : first_commands script ≤ due_to starts number = (let later = due_later starts number in omega (arith, later, first_are)) in
       let commands = commands_between (due_before starts number) (due_to starts number) in
       let due = turns_split commands (TheRecord number ∷ rounds_at (suc number)) before after turns in
       let commanded = between_turned number (due_before starts number) (due_to starts number) (number / 64) before due.0 (due_after starts number) was due.1 in
-      let ran = record_turn number (due_to starts number) (number / 64) due.0 due.2.0 commanded.now due.2.1 in
-      let rest = round_turned number (due_to starts number) due.2.0 after ran.now due.2.2 in
+      let ran = record_turn number (due_to starts number) (number / 64) due.0 due.2.0 commanded.now ready due.2.1 in
+      let rest = round_turned number (due_to starts number) due.2.0 after ran.now ready due.2.2 in
       record {
         now = rest.now;
         through = through_both commands (TheRecord number ∷ rounds_at (suc number)) before after turns was.order commanded.now.order rest.now.order
@@ -602,30 +621,30 @@ module _ (program : Program) (updates : List MapUpdate) (script : List Command) 
             rest.through);
       }
 
-  records_turned : (starts : List ℕ) (number : ℕ) (first after : TurnState) → (was : Simulated 0 0 0 first) →
+  records_turned : (starts : List ℕ) (number : ℕ) (first after : TurnState) → (was : Simulated 0 0 0 first) → first_commands script ≡ due_to starts 0 →
       (turns : Turned (turns_to starts number) first after) →
       Went (turns_to starts number) first after turns was.order number (due_before starts number) (number / 64)
-  records_turned starts zero first after was turns = record { now = at_same 0 0 0 first after turns was; through = refl }
-  records_turned starts (suc number) first after was turns =
+  records_turned starts zero first after was first_are turns = record { now = at_same 0 0 0 first after turns was; through = refl }
+  records_turned starts (suc number) first after was first_are turns =
       let parts = turns_split (turns_to starts number) (turns_of_record starts number) first after turns in
-      let earlier = records_turned starts number first parts.0 was parts.1 in
-      let rest = one_more starts number parts.0 after earlier.now parts.2 in
+      let earlier = records_turned starts number first parts.0 was first_are parts.1 in
+      let rest = one_more starts number parts.0 after earlier.now first_are parts.2 in
       record {
         now = rest.now;
         through = through_both (turns_to starts number) (turns_of_record starts number) first after turns was.order earlier.now.order rest.now.order
             earlier.through rest.through;
       }
 
-  pub all_turned : (starts : List ℕ) (number : ℕ) (first after : TurnState) → (was : Simulated 0 0 0 first) →
+  pub all_turned : (starts : List ℕ) (number : ℕ) (first after : TurnState) → (was : Simulated 0 0 0 first) → first_commands script ≡ due_to starts 0 →
       (turns : Turned (all_turns starts number) first after) →
       Went (all_turns starts number) first after turns was.order number (length starts) (number / 64 + 1)
-  all_turned starts number first after was turns =
+  all_turned starts number first after was first_are turns =
       let commands = commands_between (due_before starts number) (length starts) in
       let parts = turns_split (turns_to starts number) (commands ++ TheRound ∷ []) first after turns in
-      let earlier = records_turned starts number first parts.0 was parts.1 in
+      let earlier = records_turned starts number first parts.0 was first_are parts.1 in
       let left = turns_split commands (TheRound ∷ []) parts.0 after parts.2 in
       let commanded = between_turned number (due_before starts number) (length starts) (number / 64) parts.0 left.0 (before_within starts number) earlier.now left.1 in
-      let done = round_turn number (length starts) (number / 64) left.0 left.2.0 commanded.now left.2.1 in
+      let done = round_turn number (length starts) (number / 64) left.0 left.2.0 commanded.now (let within = due_within starts 0 in omega (arith, within, first_are)) left.2.1 in
       let last = at_same number (length starts) (number / 64 + 1) left.2.0 after left.2.2 done.now in
       record {
         now = last;

@@ -1,6 +1,7 @@
 -- The turns of an exact replay, one after the other: the order in which commands, records and rounds come.
-use Rattle.std.specs.Prelude.{ℕ, zero, suc, ◌-◌, ◌%◌, ◌==◌, nat_lt, List, [], ◌∷◌, ◌++◌, map, length, if◌then◌else◌}
+use Rattle.std.specs.Prelude.{ℕ, zero, suc, ◌-◌, ◌%◌, ◌==◌, List, [], ◌∷◌, ◌++◌, map, length, if◌then◌else◌}
 use Rattle.actors.specs.Actors.{numbers_from}
+pub use Rattle.actors.specs.Actors.{due_to}
 
 pub data Turn : Type 0 where
   -- the script's command of this number is applied
@@ -9,11 +10,6 @@ pub data Turn : Type 0 where
   TheRecord : ℕ → Turn
   -- the reclaimer makes a round
   TheRound : Turn
-
--- how many commands are due once N records were dispatched: those at the script's beginning that come after no more
-abbrev pub due_to : List ℕ → ℕ → ℕ
-due_to [] number = 0
-due_to (start ∷ later) number = if nat_lt number start then 0 else suc (due_to later number)
 
 -- how many commands were due before
 abbrev pub due_before : List ℕ → ℕ → ℕ

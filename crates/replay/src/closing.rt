@@ -8,7 +8,7 @@ ghost use Rattle.actors.specs.Commands.{ServesScript};
 ghost use Rattle.actors.specs.Rounds.{AreReclaimed};
 ghost use Rattle.replay.specs.Crews.{AreHandled};
 ghost use Rattle.actors.specs.Accounted.{IsAccounted};
-ghost use Rattle.actors.specs.Parts.{IsScriptRun, round_count, refused_of};
+ghost use Rattle.actors.specs.Parts.{IsScriptRunBehind, round_count, refused_of};
 ghost use Rattle.actors.specs.RunsOverShards.{IsNewAt, IsRunBy, pass_in};
 
 use crate::crew::parted;
@@ -21,7 +21,7 @@ use actors::{Applied, Outcome, RecordEnd};
 use control::Script;
 use journals::Journals;
 use map_updates::MapUpdate;
-use shards::{Naming, Pass, Shards};
+use shards::{First, Naming, Pass, Shards};
 use std::alloc::{AllocError, Global};
 use std::sync::Wait;
 use verifier::Verified;
@@ -102,6 +102,7 @@ pub(crate) fn closed<B: Naming, R: Wait>(
     script: &Script,
     size: u32,
     shards: Shards<B>,
+    first: First<B>,
     ended: AllEnded<Working<B>, Commanded<B>, Pass<B>>,
 ) -> Result<Outcome, AllocError>
     requires maps { shards.maps ≡ verified.now.maps }
@@ -111,8 +112,8 @@ pub(crate) fn closed<B: Naming, R: Wait>(
         shards.options.workers ended.workers.items }
     requires size { IsRingSize size }
     requires serves { ServesScript shards.maps size script.now }
-    requires script { IsScriptRun B.plan shards.maps shards.options updates.now script.now size ended.controller.noted.items
-        ended.controller.pass }
+    requires script { IsScriptRunBehind B.plan shards.maps shards.options updates.now script.now size ended.controller.noted.items
+        ended.controller.pass first }
     requires rounds { AreReclaimed B.plan B.count (round_count (length capture.now.records.items)) ended.reclaimer ×
         (ended.reclaimer.who ≡ Reclaimer) }
     ensures accounted { IfOk result (IsAccounted (program_of verified.now shards.options.shards) script.now shards.options
@@ -133,6 +134,6 @@ pub(crate) fn closed<B: Naming, R: Wait>(
     let Commanded { pass, noted } = controller;
     let passes = all_passes(alloc, working, pass, reclaimer)?;
     let made = copied(alloc, updates)?;
-    let journals = shards.close(rt, passes);
+    let journals = shards.close_behind(rt, passes, first);
     Ok(outcome_of(counts, made, noted, sent, ends, journals))
 }

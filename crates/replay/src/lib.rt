@@ -36,6 +36,7 @@ mod single_thread;
 mod threads;
 mod turn_shards;
 
+pub use actors::first_updates::{Unset, set_first};
 pub use actors::{
     Actor, ActorEnded, Applied, Commanded, Commander, Counts, FrameFate, Outcome, PieceOutcome,
     ROUND_EVERY, Ran, Reclaiming, RecordEnd, ReplayFault, RunEnd, Runner, SharedUpdates,

@@ -1,15 +1,22 @@
 //! A whole replay.
 
-ghost use Rattle.std.specs.Prelude.{◌≡◌, ◌<◌, ◌≤◌, ◌+◌, ◌↔◌, [], length, replicate, IfOk, OnOk, IfErr, IsErrOf};
+ghost use Rattle.std.specs.Prelude.{◌≡◌, ◌<◌, ◌≤◌, ◌+◌, ◌↔◌, true, false, [], length, map, replicate, slice_set, IfOk, OnOk, IfErr, IsErrOf};
 ghost use Rattle.machine.specs.Running.{program_of};
 ghost use Rattle.semantics.specs.ShardPlan.{KeepsRows, recorded};
 ghost use Rattle.rx_queues.specs.Passes.{IsPutPassOf, AreTakePasses, jobs_put, workers_of, record_count_of, command_count_of};
 ghost use Rattle.maglev.specs.RingSize.{IsRingSize};
-ghost use Rattle.actors.specs.Commands.{ServesScript};
+ghost use Rattle.actors.specs.Commands.{HasSet, ServesScript};
+ghost use Rattle.control.specs.declared.command.Command.{Command as Line};
+ghost use Rattle.semantics.specs.declared.call.Caller.TheVariants.{Controller as TheController, Reclaimer};
 ghost use Rattle.shards.specs.NewShards.{IsNamed};
 ghost use Rattle.actors.specs.Accounted.{IsAccounted};
-ghost use Rattle.actors.specs.Parts.{AreBadOptions};
-ghost use Rattle.actors.specs.UpdateFaults.{OfUpdate, IsOfNoUpdate, IsWhyByPass};
+ghost use Rattle.actors.specs.Parts.{AreBadOptions, IsScriptRunBehind, round_count};
+ghost use Rattle.actors.specs.Rounds.{AreReclaimed};
+ghost use Rattle.actors.specs.RunsOverShards.{IsNewAt, IsRunBy};
+ghost use Rattle.replay.specs.Crews.{AreHandled};
+ghost use Rattle.replay.specs.Settings.{AreFreshPasses};
+ghost use Rattle.actors.specs.UpdateFaults.{OfUpdate, IsOfNoUpdate};
+ghost use Rattle.replay.specs.TurnFaults.{IsWhyInTurn};
 ghost use Rattle.map_updates.specs.Misfits.{AreFitting};
 ghost use Rattle.guarantees.specs.Headline.{Headline};
 ghost use Rattle.guarantees.specs.HeadlineOf.{HeadlineOf};
@@ -17,18 +24,21 @@ ghost use Rattle.actors.specs.declared.fault.ReplayFault.TheVariants.{BadOptions
 
 use crate::closing::closed;
 use crate::setting::{
-    new_controller, new_reclaimer, new_workers, run_threads, starts_of, table_for,
+    given_up, new_controller, new_pass, new_reclaimer, new_workers, run_threads, starts_of,
+    table_for,
 };
-use crate::threads::Setting;
-use actors::worker::ShardRunner;
+use crate::threads::{AllEnded, Setting};
+use actors::controller::Commanded;
+use actors::first_updates::set_first;
+use actors::worker::{ShardRunner, Working};
 use actors::{Outcome, ReplayFault, all_are_captured};
 use control::{Script, commands_fit};
 use guarantees::headline;
 use map_updates::MapUpdate;
 use rx_queues::{PutPass, Queues, TakePass};
-use semantics::{Options, Recording};
+use semantics::{Caller, Options, Recording};
 use shard_port::Gate;
-use shards::{Naming, OpenFault, Opened};
+use shards::{Dealer, First, Naming, OpenFault, Opened, Pass, Shards};
 use std::alloc::Global;
 use std::marker::Brand;
 use std::sync::Wait;
@@ -92,47 +102,38 @@ fn replay_over<'x, B: Naming + Send + Sync, R: Threads + Wait + Sync, G: Gate + 
     requires fit { AreFitting verified.now.maps updates.now }
     ensures accounted { IfOk result (IsAccounted (program_of verified.now options.shards) script.now options capture.now.records.items) }
     ensures updates { IfOk result (λ outcome. outcome.updates.items ≡ updates.now) }
-    ensures refused { IfErr result (OfUpdate (IsWhyByPass verified.now.maps options updates.now)) }
+    ensures refused { IfErr result (OfUpdate (IsWhyInTurn verified.now.maps options updates.now)) }
     ensures served { ¬ IsErrOf result BadOptions }
 {
     let workers = options.workers as usize;
     let (shards, mut dealer) = opened.share::<B>(alloc)?;
-    let states = new_workers(alloc, &mut dealer, workers)?;
     let list = starts_of(alloc, script.commands())?;
     let starts: &[u32] = &list;
     let (queues, put, takes) = queues_for(alloc, workers, capture, starts)?;
-    let runner = ShardRunner {
-        rt,
-        gate,
-        verified,
-        shards: &shards,
+    let pass = new_pass(alloc, &mut dealer, Caller::Controller)?;
+    let pass = match set_first(rt, &shards, pass, gate, updates) {
+        Ok(pass) => pass,
+        Err(unset) => return Err(given_up(rt, alloc, shards, dealer, unset, updates)),
     };
-    let (controller, first) = new_controller(
-        alloc,
+    let (first, ended) = run_threads::<B, R, G>(
         rt,
-        &shards,
-        &mut dealer,
-        gate,
+        alloc,
+        verified,
+        capture,
         updates,
         script,
-        starts,
         size,
-    )?;
-    let reclaimer = new_reclaimer(alloc, rt, &shards, &mut dealer, gate)?;
-    let setting = Setting {
-        rt,
-        alloc,
-        queues: &queues,
-        capture,
+        gate,
+        &shards,
+        &mut dealer,
+        pass,
         starts,
-        first,
-        runner: &runner,
-    };
-    let ended = run_threads(
-        setting, updates, script, size, controller, reclaimer, put, takes, states,
+        &queues,
+        put,
+        takes,
     )?;
     Ok(closed(
-        rt, alloc, verified, capture, updates, script, size, shards, ended,
+        rt, alloc, verified, capture, updates, script, size, shards, first, ended,
     )?)
 }
 
@@ -152,7 +153,7 @@ fn accounted_replay<R: Threads + Wait + Sync, G: Gate + Sync>(
     ensures accounted { IfOk result (IsAccounted (program_of verified.now options.shards) script.now (recorded recording options)
         capture.now.records.items) }
     ensures updates { IfOk result (λ outcome. outcome.updates.items ≡ updates.now) }
-    ensures refused { IfErr result (OfUpdate (IsWhyByPass verified.now.maps (recorded recording options) updates.now)) }
+    ensures refused { IfErr result (OfUpdate (IsWhyInTurn verified.now.maps (recorded recording options) updates.now)) }
     ensures served { OnOk result (KeepsRows options.journal) }
     ensures bad_options { IsErrOf result BadOptions ↔ AreBadOptions verified.now.maps options script.now }
 {
@@ -194,7 +195,8 @@ fn accounted_replay<R: Threads + Wait + Sync, G: Gate + Sync>(
 ///
 /// What all callers did on all shards is one order: shard by shard it is the journal, and of each caller it has what the caller did, looks
 /// at full journals among it: of a worker its runs, of the controller the first updates and the commands' in the script's order, of the
-/// reclaimer a round after the other, each from the lowest shard up.
+/// reclaimer a round after the other, each from the lowest shard up. It begins with the updates and the commands of frame 0, so every run
+/// finds what they set.
 ///
 /// Each reply to a run, to the controller and to the reclaimer goes through the gate: the actor that has it calls the gate, and holds no
 /// lock then.
@@ -204,7 +206,8 @@ fn accounted_replay<R: Threads + Wait + Sync, G: Gate + Sync>(
 ///
 /// Refused with 51 where no shards of the image's maps can be opened with the options, or where there are commands and the image's maps
 /// are not those of steering; with 52 for lack of memory; with 93 for the first update that a map refused, and with 94 for the first for
-/// which a journal was full, before any thread is started; with 56 where a thread could not be started. Then nothing is left, and every
+/// which a journal was full, before any thread is started: exactly as the one-thread map refuses it behind the updates before it, where
+/// nothing else was done; with 56 where a thread could not be started. Then nothing is left, and every
 /// thread that was started has ended.
 pub fn replay<R: Threads + Wait + Sync, G: Gate + Sync>(
     rt: &R,
@@ -225,7 +228,7 @@ pub fn replay<R: Threads + Wait + Sync, G: Gate + Sync>(
         (recorded recording options) capture.now.records.items outcome) →
         HeadlineOf verified.now script.now (recorded recording options) capture.now.records.items outcome accounted) }
     ensures updates { IfOk result (λ outcome. outcome.updates.items ≡ updates.now) }
-    ensures refused { IfErr result (OfUpdate (IsWhyByPass verified.now.maps (recorded recording options) updates.now)) }
+    ensures refused { IfErr result (OfUpdate (IsWhyInTurn verified.now.maps (recorded recording options) updates.now)) }
     ensures served { OnOk result (KeepsRows options.journal) }
     ensures bad_options { IsErrOf result BadOptions ↔ AreBadOptions verified.now.maps options script.now }
 {

@@ -1,41 +1,48 @@
 //! What a replay begins with: the table and the numbers of its script, the passes, the controller and the reclaimer, and all of it
 //! together.
 
-ghost use Rattle.std.specs.Prelude.{◌≡◌, ◌<◌, ◌≤◌, ◌+◌, [], length, map, IfErr, IfOk, IsErrOf, IfSome, IsNone};
+ghost use Rattle.std.specs.Prelude.{◌≡◌, ◌<◌, ◌≤◌, ◌+◌, true, false, List, [], length, map, IfErr, IfOk, OnOk, IsErrOf, IfSome, IsNone};
+ghost use Rattle.std.specs.Prelude.{slice_set, replicate};
 ghost use Rattle.machine.specs.Running.{program_of};
 ghost use Rattle.maglev.specs.RingSize.{IsRingSize};
 ghost use Rattle.control.specs.declared.command.Command.{Command as Line};
-ghost use Rattle.semantics.specs.declared.call.Caller.TheVariants.{Reclaimer};
+ghost use Rattle.semantics.specs.declared.call.Caller.TheVariants.{Controller as TheController, Reclaimer};
+ghost use Rattle.shards.specs.LockRule.{caller_place};
+ghost use Rattle.shards.specs.Passes.{PassView};
 ghost use Rattle.semantics.specs.Each.{Each};
 ghost use Rattle.actors.specs.Actors.{AreDue, IsUnused, numbers_from};
-ghost use Rattle.actors.specs.Commands.{ServesScript, StaysOf};
+ghost use Rattle.actors.specs.Commands.{HasSet, ServesScript, StaysOf};
 ghost use Rattle.replay.specs.Crews.{AreHandled};
-ghost use Rattle.actors.specs.Parts.{HasNoTable, IsStarted, IsScriptRun, numbers_of, round_count};
+ghost use Rattle.actors.specs.Parts.{HasNoTable, IsStarted, IsScriptRunBehind, HasBegunWith, numbers_of, round_count};
 ghost use Rattle.actors.specs.Rounds.{AreReclaimed};
-ghost use Rattle.replay.specs.Settings.{AreFreshPasses, AreForAll};
+ghost use Rattle.replay.specs.Settings.{AreFreshPasses};
+ghost use Rattle.rx_queues.specs.Passes.{record_count_of, command_count_of};
 ghost use Rattle.actors.specs.RunsOverShards.{IsNewAt, IsRunBy};
-ghost use Rattle.actors.specs.UpdateFaults.{OfUpdate, IsOfNoUpdate, IsWhyByPass};
-ghost use Rattle.map_updates.specs.Misfits.{AreFitting};
+ghost use Rattle.actors.specs.UpdateFaults.{IsOfNoUpdate, IsWhyByPass};
+ghost use Rattle.replay.specs.TurnFaults.{IsWhyInTurn};
+ghost use Rattle.shards.specs.declared.deeds.Deed.{Deed};
 ghost use Rattle.actors.specs.declared.fault.ReplayFault.TheVariants.{BadOptions};
 
 use crate::threads::{AllEnded, Setting, run_all};
 use actors::ReplayFault;
 use actors::controller::{Commanded, Commander};
 use actors::dispatch::due;
+use actors::first_updates::Unset;
 use actors::reclaimer::Reclaiming;
 use actors::worker::{ShardRunner, Working};
 use conntrack::table_size;
 use control::{Command, Script};
 use ebpf_decode::MapDef;
 use map_updates::MapUpdate;
-use rx_queues::{PutPass, TakePass};
+use rx_queues::{PutPass, Queues, TakePass};
 use semantics::Caller;
 use shard_port::Gate;
-use shards::{Dealer, Naming, Pass, Shards};
+use shards::{Dealer, First, Naming, Pass, Shards};
 use std::alloc::{AllocError, Global};
 use std::sync::Wait;
 use std::thread::Threads;
-use wire::{Frame, MAX_FRAME};
+use verifier::Verified;
+use wire::{Capture, Frame, MAX_FRAME};
 
 /// The smallest lookup table: that of a replay without commands, which has none.
 const SMALLEST: u32 = 7;
@@ -122,6 +129,7 @@ pub(crate) fn new_pass<B: Naming>(
 ) -> Result<Pass<B>, AllocError>
     ensures who { IfOk result (λ pass. pass.who ≡ who) }
     ensures unused { IfOk result (λ pass. IsUnused pass) }
+    ensures dealt { OnOk result (dealer.new ≡ slice_set dealer.old (caller_place who) true) }
 {
     match dealer.pass(alloc, who) {
         Ok(pass) => Ok(pass),
@@ -129,7 +137,8 @@ pub(crate) fn new_pass<B: Naming>(
     }
 }
 
-/// The controller, which has made the updates and applied the commands before the first frame, and how many these are.
+/// The controller, whose pass has made the updates, and which has applied the commands before the first frame; how many these are; and what
+/// it did so far, as the beginning of what all callers will have done.
 pub(crate) fn new_controller<'x, B: Naming, R: Wait, G: Gate>(
     alloc: Global,
     rt: &'x R,
@@ -137,24 +146,51 @@ pub(crate) fn new_controller<'x, B: Naming, R: Wait, G: Gate>(
     dealer: &mut Dealer<B>,
     gate: &'x G,
     updates: &'x [MapUpdate],
+    pass: Pass<B>,
     script: &'x Script,
     starts: &[u32],
     size: u32,
-) -> Result<(Commander<'x, B, R, G>, usize), ReplayFault>
+) -> Result<(Commander<'x, B, R, G>, usize, First<B>), AllocError>
+    requires who { pass.who ≡ TheController }
+    requires set { HasSet shards.now.maps shards.now.options updates.now pass }
+    requires alone { dealer.old ≡ slice_set (replicate (shards.now.options.workers + 2) false) 0 true }
     requires size { IsRingSize size }
     requires script { ServesScript shards.now.maps size script.now }
-    requires each { length starts.now ≡ length script.now }
-    requires fit { AreFitting shards.now.maps updates.now }
+    requires starts { starts.now ≡ map (λ (line : Line). line.frame) script.now }
     ensures due { IfOk result (λ made. AreDue starts.now 0 0 made.1) }
     ensures started { IfOk result (λ made. IsStarted shards.now.maps shards.now.options updates.now script.now size made.0 made.1) }
-    ensures refused { IfErr result (OfUpdate (IsWhyByPass shards.now.maps shards.now.options updates.now)) }
-    ensures served { ¬ IsErrOf result BadOptions }
+    ensures first { IfOk result (λ made. HasBegunWith B.plan shards.now.maps shards.now.options updates.now script.now made.0 made.2) }
 {
-    let pass = new_pass(alloc, dealer, Caller::Controller)?;
     let commands = script.commands();
-    let mut commander = Commander::over(alloc, rt, shards, pass, gate, updates, commands, size)?;
-    let first = apply_first(alloc, &mut commander, starts)?;
-    Ok((commander, first))
+    let mut commander = Commander::over(alloc, rt, shards, pass, gate, updates, commands, size);
+    let count = apply_first(alloc, &mut commander, starts)?;
+    commander.has_account();
+    let first = commander.first(dealer);
+    Ok((commander, count, first))
+}
+
+/// Ends the calls of shards on which an update was refused, and returns why it was: as the only caller's, it is the one-thread map's answer.
+pub(crate) fn given_up<B: Naming, R: Wait>(
+    rt: &R,
+    alloc: Global,
+    shards: Shards<B>,
+    mut dealer: Dealer<B>,
+    unset: Unset<B>,
+    updates: &[MapUpdate],
+) -> ReplayFault
+    requires who { unset.pass.who ≡ TheController }
+    requires alone { dealer ≡ slice_set (replicate (shards.options.workers + 2) false) 0 true }
+    requires why { (before : PassView) × IsUnused before × (before.who ≡ TheController) ×
+        IsWhyByPass B.plan shards.maps shards.options before unset.pass updates.now unset.fault }
+    ensures fault { result ≡ unset.fault }
+    ensures refused { IsWhyInTurn shards.maps shards.options updates.now result }
+{
+    let _ = updates;
+    let Unset { fault, mut pass } = unset;
+    shards.planned();
+    let first = dealer.first(&shards, &mut pass);
+    shards.close_behind(rt, Vec::new(alloc), first);
+    fault
 }
 
 /// The reclaimer.
@@ -171,43 +207,66 @@ pub(crate) fn new_reclaimer<'x, B: Naming, R: Wait, G: Gate>(
     Ok(Reclaiming::over(rt, shards, pass, gate))
 }
 
-/// Runs all threads, from their start to their end.
+/// Runs all threads, from their start to their end, behind the updates, which the controller's pass has made; and what the controller did
+/// before any thread was started, as the beginning of what all callers did: the updates and the commands of frame 0.
 pub(crate) fn run_threads<'x, B: Naming + Send + Sync, R: Threads + Wait + Sync, G: Gate + Sync>(
-    setting: Setting<'x, ShardRunner<'x, B, R, G>, R>,
+    rt: &'x R,
+    alloc: Global,
+    verified: &'x Verified,
+    capture: &'x Capture,
     updates: &'x [MapUpdate],
     script: &'x Script,
     size: u32,
-    controller: Commander<'x, B, R, G>,
-    reclaimer: Reclaiming<'x, B, R, G>,
+    gate: &'x G,
+    shards: &'x Shards<B>,
+    dealer: &mut Dealer<B>,
+    pass: Pass<B>,
+    starts: &'x [u32],
+    queues: &'x Queues,
     put: PutPass,
     takes: Vec<TakePass>,
-    states: Vec<Working<B>>,
-) -> Result<AllEnded<Working<B>, Commanded<B>, Pass<B>>, ReplayFault>
-    requires passes { AreFreshPasses setting.queues.now (length states.items) put takes.items }
-    requires jobs { AreForAll setting }
-    requires options { setting.runner.now.shards.now.options.workers ≡ length states.items }
-    requires states { Each IsNewAt 0 states.items }
-    requires starts { length setting.starts.now ≡ length script.now }
-    requires begun { AreDue setting.starts.now 0 0 setting.first }
-    requires started { IsStarted setting.runner.now.shards.now.maps setting.runner.now.shards.now.options updates.now script.now size
-        controller setting.first }
-    requires unused { IsUnused reclaimer }
-    ensures count { IfOk result (λ it. length it.workers.items ≡ setting.entry.runner.now.shards.now.options.workers) }
+) -> Result<(First<B>, AllEnded<Working<B>, Commanded<B>, Pass<B>>), ReplayFault>
+    requires maps { shards.now.maps ≡ verified.now.maps }
+    requires size { IsRingSize size }
+    requires script { ServesScript shards.now.maps size script.now }
+    requires starts { starts.now ≡ map (λ (line : Line). line.frame) script.now }
+    requires alone { dealer.old ≡ slice_set (replicate (shards.now.options.workers + 2) false) 0 true }
+    requires who { pass.who ≡ TheController }
+    requires set { HasSet shards.now.maps shards.now.options updates.now pass }
+    requires passes { AreFreshPasses queues.now shards.now.options.workers put takes.items }
+    requires jobs { (record_count_of queues.now ≡ length capture.now.records.items) × (command_count_of queues.now ≡ length starts.now) }
+    ensures count { IfOk result (λ it. length it.1.workers.items ≡ shards.now.options.workers) }
     ensures handled { IfOk result (λ it. AreHandled IsNewAt (IsRunBy B.count B.plan
-        (program_of setting.entry.runner.now.verified.now setting.entry.runner.now.shards.now.options.shards))
-        setting.entry.capture.now.records.items setting.entry.runner.now.shards.now.options.workers it.workers.items) }
-    ensures script { IfOk result (λ it. IsScriptRun B.plan setting.entry.runner.now.shards.now.maps
-        setting.entry.runner.now.shards.now.options updates.now script.now size it.controller.noted.items it.controller.pass) }
+        (program_of verified.now shards.now.options.shards)) capture.now.records.items shards.now.options.workers it.1.workers.items) }
+    ensures script { IfOk result (λ it. IsScriptRunBehind B.plan shards.now.maps shards.now.options updates.now script.now size
+        it.1.controller.noted.items it.1.controller.pass it.0) }
+    ensures rounds { IfOk result (λ it. AreReclaimed B.plan B.count (round_count (length capture.now.records.items)) it.1.reclaimer ×
+        (it.1.reclaimer.who ≡ Reclaimer)) }
     ensures served { ¬ IsErrOf result BadOptions }
     ensures no_update { IfErr result IsOfNoUpdate }
-    ensures rounds { IfOk result (λ it. AreReclaimed B.plan B.count (round_count (length setting.entry.capture.now.records.items))
-        it.reclaimer × (it.reclaimer.who ≡ Reclaimer)) }
 {
-    let _ = updates;
-    let _ = script;
-    let _ = size;
+    let (controller, count, first) = new_controller(
+        alloc, rt, shards, dealer, gate, updates, pass, script, starts, size,
+    )?;
+    let states = new_workers(alloc, dealer, shards.options().workers as usize)?;
+    let reclaimer = new_reclaimer(alloc, rt, shards, dealer, gate)?;
+    let runner = ShardRunner {
+        rt,
+        gate,
+        verified,
+        shards,
+    };
+    let setting = Setting {
+        rt,
+        alloc,
+        queues,
+        capture,
+        starts,
+        first: count,
+        runner: &runner,
+    };
     match run_all(setting, controller, reclaimer, put, takes, states) {
-        Ok(all) => Ok(all),
+        Ok(all) => Ok((first, all)),
         Err(abandoned) => Err(abandoned.fault),
     }
 }

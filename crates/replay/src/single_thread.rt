@@ -509,9 +509,9 @@ fn with_records(rest: Outcome, done: PieceOutcome) -> Outcome
 /// Before each record come the commands that are due then, in the script's order; then the record is run, by the worker
 /// of its flow, if it has 14 bytes; and after every 64 records the reclaimer makes a round. Behind the last record come the commands that
 /// are left, and one more round. So a command finds what the runs of all frames before it left, and what it sets is found by every later
-/// one. Two such replays of the same input give the same outcome, unless memory was refused to a command (no law says so). What is returned
-/// is accounted for as what a replay on threads returns, also where no rows of journals are kept; the one order of all deeds goes through the
-/// states of the turns (`in_turn`), and the headline holds (`headline`, `one_list`).
+/// one. Two such replays of the same input give the same outcome, unless memory was refused to a command (`laws::exact_replays_agree`).
+/// What is returned is accounted for as what a replay on threads returns, also where no rows of journals are kept; the one order of all deeds
+/// goes through the states of the turns (`in_turn`), and the headline holds (`headline`, `one_list`).
 ///
 /// The gate is called after each round that follows a record, as for a reply of the reclaimer, with the number of such rounds: it shows how
 /// far the replay is.

@@ -14,7 +14,9 @@ use conntrack::{maps, table_size};
 use control::{Command, parse_script};
 use ebpf_decode::{Image, Insn, Version};
 use journals::Journals;
-use replay::{Actor, ActorEnded, Applied, Commanded, Commander, Reclaiming, ReplayFault};
+use replay::{
+    Actor, ActorEnded, Applied, Commanded, Commander, Reclaiming, ReplayFault, set_first,
+};
 use rx_queues::{Job, OpenFault, Queues, TakePass};
 use semantics::{Caller, Options};
 use shard_port::{Gate, NoGate};
@@ -144,7 +146,14 @@ fn applied<B: Naming, R: Abort + Wait>(
     let Some(size) = size else {
         return Ok(());
     };
-    let commander = Commander::over(
+    let pass = match set_first(rt, &shards, pass, &gate, &[]) {
+        Ok(pass) => pass,
+        Err(_) => {
+            holds_of(rt, row.name, "no update", false);
+            return Ok(());
+        }
+    };
+    let mut commander = Commander::over(
         alloc,
         rt,
         &shards,
@@ -154,7 +163,6 @@ fn applied<B: Naming, R: Abort + Wait>(
         script.commands(),
         size,
     );
-    let mut commander = commander.expect(rt, "a commander");
     for number in 0..script.commands().len() {
         if number < commander.script().len() {
             commander.apply(alloc, number).expect(rt, "a note");
@@ -309,7 +317,11 @@ fn taken_to_the_end<'a, B: Naming, R: Abort + Wait>(
     requires size { IsRingSize size }
     requires serves { ServesScript shards.now.maps size commands.now }
 {
-    let commander = Commander::over(alloc, rt, shards, pass, &NoGate, &[], commands, size)?;
+    let pass = match set_first(rt, shards, pass, &NoGate, &[]) {
+        Ok(pass) => pass,
+        Err(unset) => return Err(unset.fault),
+    };
+    let commander = Commander::over(alloc, rt, shards, pass, &NoGate, &[], commands, size);
     Ok(commander.until_end(rt, alloc, queues, take))
 }
 

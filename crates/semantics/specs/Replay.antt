@@ -1,7 +1,7 @@
 -- A replay is one list of events of the system. What is begun, called and gone over in it is what the capture, the script and the rounds
 -- say, and nothing else; each record's end, the report's numbers, what is sent, the answers and the journals are what comes of it.
 use Rattle.std.specs.Prelude.{◌≡◌, ℕ, zero, suc, ◌+◌, ◌*◌, ◌/◌, ◌<◌, ◌==◌, Bool, true, false, not, ◌&&◌, nat_lt, List, [], ◌∷◌, ◌++◌}
-use Rattle.std.specs.Prelude.{length, map, reverse, filter, Option, Some, None, if◌then◌else◌}
+use Rattle.std.specs.Prelude.{length, map, reverse, filter, take, Option, Some, None, if◌then◌else◌}
 use Rattle.std.specs.List.{flat_map}
 use Rattle.ebpf_decode.specs.declared.map.MapKind.{MapKind}
 use Rattle.ebpf_decode.specs.declared.map.MapKind.TheVariants.{Array}
@@ -12,7 +12,7 @@ use Rattle.semantics.specs.declared.plan.ShardPlan.{ShardPlan}
 use Rattle.semantics.specs.declared.verdict.Verdict.{Verdict}
 use Rattle.semantics.specs.declared.verdict.Verdict.TheVariants as verdicts
 use Rattle.semantics.specs.ShardPlan.{plan_at}
-use Rattle.semantics.specs.System.{Setting, SystemEvent, Idle, worker_state, history_of, opening_system, system_after, CanAllHappen}
+use Rattle.semantics.specs.System.{Setting, SystemEvent, Controls, Idle, worker_state, history_of, opening_system, system_after, CanAllHappen}
 use Rattle.semantics.specs.Events.{Input, Ending, Exited, Stopped, begun_by, controlled, reclaimed, answered, ended_by}
 
 -- ---- what is asked of a replay
@@ -31,6 +31,8 @@ pub record Asked : Type 0 where
   -- the controller's calls: updates that it makes first of all, then those of each command of the script
   pub updates : List Call
   pub commands : List (List Call)
+  -- how many of the commands come before the first record
+  pub first : ℕ
 
 -- a record without a whole Ethernet header is not run
 abbrev pub is_short_record : Captured → Bool
@@ -53,6 +55,10 @@ runner_of worker_of one = if is_short_record one then None else Some (worker_of 
 
 abbrev pub calls_of : Asked → List Call
 calls_of asked = asked.updates ++ flat_map (λ calls. calls) asked.commands
+
+-- the updates, and the calls of the commands before the first record
+abbrev pub first_calls : Asked → List Call
+first_calls asked = asked.updates ++ flat_map (λ calls. calls) (take asked.first asked.commands)
 
 -- the shards that have retired cells, the lowest number first: those of hash and LRU maps
 abbrev pub is_keyed : MapKind → Bool
@@ -204,6 +210,9 @@ pub record IsReplay (setting : Setting) (asked : Asked) (result : Result) (event
   -- calls of the commands, in the script's order over all shards; the reclaimer makes its rounds; and nothing else happens
   pub begun : (worker : ℕ) → begun_by worker events ≡ inputs_of asked worker
   pub called : controlled events ≡ calls_of asked
+  -- before all else come the updates and the calls of the commands before the first record
+  pub later : List SystemEvent
+  pub first : events ≡ map (λ (call : Call). Controls call) (first_calls asked) ++ later
   pub gone_over : reclaimed events ≡ rounds_of setting asked
   -- each record has the end of its run
   pub runners : map ran_by result.ends ≡ map (runner_of asked.worker_of) asked.records

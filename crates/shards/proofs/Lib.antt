@@ -21,6 +21,7 @@ pub mod OrderPlans
 pub mod OrderClosing
 pub mod OrderShards
 pub mod OrderDealing
+pub mod OrderBeginning
 pub mod Openings
 pub mod Names
 pub mod Transport

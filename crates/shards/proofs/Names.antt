@@ -50,7 +50,7 @@ named_each count table plan order name maps options shards opening named = each_
     })
 
 -- among this many that are not dealt, only the places past the end count as dealt
-below_places : (places place : ℕ) → is_dealt_at (replicate places false) place ≡ false → place < places
+pub below_places : (places place : ℕ) → is_dealt_at (replicate places false) place ≡ false → place < places
 below_places zero place waits = absurd (true≢false waits)
 below_places (suc places) zero waits = omega arith
 below_places (suc places) (suc place) waits = (let rest = below_places places place waits in omega (arith, rest))
@@ -75,16 +75,17 @@ all_wait table plan order name count rooms maps options shards rows dealt openin
 
 -- ---- the order of all deeds
 
-pub order_named : {S P A : Type 0} (count : ℕ) (table : ℕ → TableId) (plan : ℕ → ShardPlan) (order : TableId) (opened : OpenedShards) (the : Table S (List Account) OrderKey P A) →
-    IsNamed count table plan order opened → the.shared.table_id ≡ opened.order → IsOrderOf the.shared.table_id (λ (n : ℕ). (new_at opened.shards n).plan) (length opened.shards) the →
-    IsOrderOf order plan count the
-order_named count table plan order opened the named same is =
+pub order_named : {S P A : Type 0} (count callers : ℕ) (table : ℕ → TableId) (plan : ℕ → ShardPlan) (order : TableId) (opened : OpenedShards) (the : Table S (List Account) OrderKey P A) →
+    IsNamed count table plan order opened → the.shared.table_id ≡ opened.order → IsOrderOf the.shared.table_id (λ (n : ℕ). (new_at opened.shards n).plan) (length opened.shards) callers the →
+    IsOrderOf order plan count callers the
+order_named count callers table plan order opened the named same is =
     let name : the.shared.table_id ≡ order = same ∙ sym named.order_is in record {
       table_is = name;
       some_word = subst (λ (t : TableId). 0 < t.words) name is.some_word;
       no_slot = subst (λ (t : TableId). t.slots ≡ 0) name is.no_slot;
       sized = is.sized ∙ sym named.count_is;
       plans = λ number below. is.plans number (let e = named.count_is in omega (arith, e, below)) ∙ sym (named.plan_is number);
+      callers_are = is.callers_are;
     }
 
 pub at_order : (order : TableId) (callers : ℕ) (dealt : List Bool) (places : List (Badge (List Account))) → length places ≡ callers → AreCallerPlaces order places →

@@ -1,5 +1,5 @@
 -- What the seats know when the shards are closed makes one order of all deeds.
-use Rattle.std.proofs.Common.{◌≡◌, ◌≢◌, ℕ, ◌+◌, ◌<◌, List, [], ◌∷◌, ◌++◌, length, sym, ap, ◌∙◌, subst, ⊎_elim, inl, inr, arith}
+use Rattle.std.proofs.Common.{◌≡◌, ◌≢◌, ℕ, ◌+◌, ◌<◌, List, [], ◌∷◌, ◌++◌, length, refl, sym, ap, ◌∙◌, subst, ⊎_elim, inl, inr, arith}
 use Rattle.std.specs.Prelude.{reverse, slice_index_or}
 use Rattle.std.proofs.lemmas.List.{reverse-reverse}
 use Rattle.atomic_table.specs.Table.{Me}
@@ -11,10 +11,10 @@ use Rattle.journals.specs.JournalsView.{JournalsView, entries_at}
 use Rattle.shards.specs.declared.deeds.Deed.{Deed}
 use Rattle.shards.specs.declared.deeds.Deed.TheVariants.{Wrote, MetFull}
 use Rattle.shards.specs.declared.deeds.OrderPart.{OrderPart}
-use Rattle.shards.specs.declared.deeds.OrderPart.TheVariants.{OnShard}
+use Rattle.shards.specs.declared.deeds.OrderPart.TheVariants.{OnShard, AtFirst}
 use Rattle.shards.specs.declared.deeds.Account.{Account}
 use Rattle.shards.specs.Deeds.{entries_made, made_on, deeds_of, AreMet, AreDeedsWithin}
-use Rattle.shards.specs.ClosedOrders.{HasGathered, IsOneOrder, account_of}
+use Rattle.shards.specs.ClosedOrders.{HasGathered, IsOneOrder, IsOneOrderBehind, account_of}
 use Rattle.shards.specs.OrderRule.{account, deeds_at, account_deeds, plan_in, with_first, IsOneOfAccounts, IsEnd}
 use Rattle.shards.specs.Passes.{PassView, pass_at}
 use Rattle.shards.proofs.Settling.{same_or_other}
@@ -91,3 +91,24 @@ one_order plan count plans journals passes accounts end sized alike shards calle
       own = λ place below. end.each (account_of (pass_at passes place)) (callers place below);
       met = met_alike (plan_in plans) plan count alike end.all within end.met;
     }
+
+-- and the order begins with the deeds of the last account
+pub one_order_behind : (plan : ℕ → ShardPlan) (count : ℕ) (plans : List ShardPlan) (journals : JournalsView) (passes : List PassView) (first : List Deed) (accounts : List Account) →
+    IsEnd plans (account AtFirst first ∷ accounts) → length plans ≡ count → ((number : ℕ) → number < count → plan_in plans number ≡ plan number) →
+    ((number : ℕ) → number < count → HasShard number (entries_at journals number) accounts) →
+    ((place : ℕ) → place < length passes → IsOneOfAccounts (account_of (pass_at passes place)) accounts) → IsOneOrderBehind plan count first journals passes
+unfolding one_order
+one_order_behind plan count plans journals passes first accounts end sized alike shards callers = record {
+  one = one_order plan count plans journals passes accounts (record { all = end.all; within = end.within; met = end.met; each = λ one has. end.each one (inr has) })
+      sized alike shards callers;
+  begins = end.each (account AtFirst first) (inl refl);
+}
+
+-- where the seat took in that account last
+pub one_order_gathered : {S : Type 0} (plan : ℕ → ShardPlan) (count : ℕ) (plans : List ShardPlan) (journals : JournalsView) (passes : List PassView) (first : List Deed)
+    (before after : Me S (List Account)) → after ≡ (account AtFirst first ∷ before.0, before.1) → IsEnd plans after.0 → length plans ≡ count →
+    ((number : ℕ) → number < count → plan_in plans number ≡ plan number) → ((number : ℕ) → number < count → HasShard number (entries_at journals number) before.0) →
+    ((place : ℕ) → place < length passes → IsOneOfAccounts (account_of (pass_at passes place)) before.0) → IsOneOrderBehind plan count first journals passes
+one_order_gathered {S} plan count plans journals passes first before after is end sized alike shards callers =
+    one_order_behind plan count plans journals passes first before.0 (subst (λ (l : List Account). IsEnd plans l) (ap (λ (m : Me S (List Account)). m.0) is) end)
+    sized alike shards callers

@@ -20,9 +20,9 @@ numbered maps options count plan number plans below = number_of options number (
 pub reserved : (maps : List MapDef) (options : Options) (count : ℕ) (plan : ℕ → ShardPlan) (number : ℕ) → ArePlans maps options count plan → number < count → (plan number).reserve ≡ options.journal
 reserved maps options count plan number plans below = reserve_of maps options number (plan number) (plans.each number below)
 
-pub knows_shard : {S P A : Type 0} (plan : ℕ → ShardPlan) (order : TableId) (count : ℕ) (maps : List MapDef) (options : Options) (the : Table S (List Account) OrderKey P A) (number : ℕ) →
-    IsOrderOf order plan count the → ArePlans maps options count plan → number < count → KnowsShard (keyed (plan number) order) the
-knows_shard plan order count maps options the number is plans below =
+pub knows_shard : {S P A : Type 0} (plan : ℕ → ShardPlan) (order : TableId) (count callers : ℕ) (maps : List MapDef) (options : Options) (the : Table S (List Account) OrderKey P A) (number : ℕ) →
+    IsOrderOf order plan count callers the → ArePlans maps options count plan → number < count → KnowsShard (keyed (plan number) order) the
+knows_shard plan order count callers maps options the number is plans below =
     let same = numbered maps options count plan number plans below in record {
       table_is = is.table_is;
       some_word = is.some_word;

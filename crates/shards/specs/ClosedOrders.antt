@@ -7,7 +7,7 @@ use Rattle.journals.specs.JournalsView.{JournalsView, entries_at}
 use Rattle.shards.specs.declared.deeds.Deed.{Deed}
 use Rattle.shards.specs.declared.deeds.OrderPart.TheVariants.{OnShard, ByCaller}
 use Rattle.shards.specs.declared.deeds.Account.{Account}
-use Rattle.shards.specs.Deeds.{deeds_of, entries_made, made_on, AreMet, AreDeedsWithin}
+use Rattle.shards.specs.Deeds.{deeds_of, entries_made, made_on, AreMet, AreDeedsWithin, AreFirst}
 use Rattle.shards.specs.OrderRule.{account}
 use Rattle.shards.specs.Passes.{PassView, pass_at}
 
@@ -20,6 +20,12 @@ pub record IsOneOrder (plan : ℕ → ShardPlan) (count : ℕ) (journals : Journ
   pub journals_are : (number : ℕ) → number < count → entries_at journals number ≡ reverse (made_on number deeds)
   pub own : (place : ℕ) → place < length passes → (pass_at passes place).deeds ≡ deeds_of (ByCaller (pass_at passes place).who) deeds
   pub met : AreMet plan deeds
+
+-- and the order begins with these deeds
+pub record IsOneOrderBehind (plan : ℕ → ShardPlan) (count : ℕ) (first : List Deed) (journals : JournalsView) (passes : List PassView) : Type 0
+  where
+    pub one : IsOneOrder plan count journals passes
+    pub begins : AreFirst first one.deeds
 
 -- ---- how it is gathered
 

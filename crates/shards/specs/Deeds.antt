@@ -1,5 +1,5 @@
 -- What all callers did on all shards, in one order: the newest deed first.
-use Rattle.std.specs.Prelude.{ℕ, ◌==◌, ◌<◌, Bool, List, [], ◌∷◌, filter, Result, Ok, Err}
+use Rattle.std.specs.Prelude.{◌≡◌, ℕ, ◌==◌, ◌<◌, Bool, true, List, [], ◌∷◌, ◌++◌, filter, Result, Ok, Err}
 use Rattle.std.specs.List.{AllByRecursion}
 use Rattle.semantics.specs.declared.call.Caller.{Caller}
 use Rattle.semantics.specs.declared.call.Call.{Call}
@@ -16,7 +16,7 @@ use Rattle.shards.specs.declared.stopped.Stopped.TheVariants.{AtEnter, AtCall}
 use Rattle.shards.specs.declared.deeds.Deed.{Deed}
 use Rattle.shards.specs.declared.deeds.Deed.TheVariants.{Wrote, MetFull}
 use Rattle.shards.specs.declared.deeds.OrderPart.{OrderPart}
-use Rattle.shards.specs.declared.deeds.OrderPart.TheVariants.{OnShard, ByCaller}
+use Rattle.shards.specs.declared.deeds.OrderPart.TheVariants.{OnShard, ByCaller, AtFirst}
 
 abbrev pub shard_of_deed : Deed → ℕ
 shard_of_deed (Wrote entry) = shard_of_call entry.call
@@ -29,6 +29,7 @@ caller_of_deed (MetFull who call) = who
 abbrev pub is_deed_of : OrderPart → Deed → Bool
 is_deed_of (OnShard number) deed = shard_of_deed deed == number
 is_deed_of (ByCaller who) deed = is_caller who (caller_of_deed deed)
+is_deed_of AtFirst deed = true
 
 -- the deeds of one part, in their order
 abbrev pub deeds_of : OrderPart → List Deed → List Deed
@@ -55,6 +56,10 @@ IsMetBehind plan (MetFull who call) history = IsJournalFull (plan (shard_of_call
 abbrev pub AreMet : (ℕ → ShardPlan) → List Deed → Type 0
 AreMet plan [] = Unit {0}
 AreMet plan (deed ∷ earlier) = IsMetBehind plan deed (made_on (shard_of_deed deed) earlier) × AreMet plan earlier
+
+-- the order begins with these deeds: newest first, so that these are left where all later ones are gone
+abbrev pub AreFirst : List Deed → List Deed → Type 0
+AreFirst first all = (later : List Deed) × (all ≡ later ++ first)
 
 -- each is a deed on one of N shards
 abbrev pub AreDeedsWithin : ℕ → List Deed → Type 0

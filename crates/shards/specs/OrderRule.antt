@@ -1,7 +1,9 @@
 -- The rule of the order: each part (a shard, a caller) has one account, which lies with one seat and is all deeds of this part in the
 -- order. So who has the account of a shard and that of a caller can add what the caller does on the shard, and both know that nothing was
--- added in between.
+-- added in between. And who has the accounts of all callers knows the whole order so far: the order begins with it from then on, and any seat
+-- may know that.
 use Rattle.std.specs.Prelude.{◌≡◌, ◌≢◌, ℕ, zero, suc, ◌*◌, ◌<◌, List, [], ◌∷◌, ◌⊎◌, map, length, slice_index_or}
+use Rattle.std.specs.List.{AllByRecursion}
 use mathlib.Core.Option.{some}
 use lib.ListN.{get_elem?}
 use Rattle.atomic_table.specs.Seated.{TableId}
@@ -10,20 +12,22 @@ use Rattle.atomic_table.specs.declared.badge.Badge.{Badge}
 use Rattle.atomic_table.specs.declared.owned.Table.{Table}
 use Rattle.atomic_table.specs.declared.shared.Seat.{Seat}
 use Rattle.semantics.specs.declared.plan.ShardPlan.{ShardPlan}
+use Rattle.semantics.specs.declared.call.Caller.TheVariants.{Controller}
 use Rattle.semantics.specs.Each.{Each}
 use Rattle.shards.specs.declared.deeds.Deed.{Deed}
 use Rattle.shards.specs.declared.deeds.OrderPart.{OrderPart}
-use Rattle.shards.specs.declared.deeds.OrderPart.TheVariants.{OnShard, ByCaller}
+use Rattle.shards.specs.declared.deeds.OrderPart.TheVariants.{OnShard, ByCaller, AtFirst}
 use Rattle.shards.specs.declared.deeds.Account.{Account}
 use Rattle.shards.specs.declared.order_rule.OrderKey.{OrderKey}
-use Rattle.shards.specs.Deeds.{deeds_of, AreMet, AreDeedsWithin}
+use Rattle.shards.specs.Deeds.{caller_of_deed, deeds_of, AreMet, AreDeedsWithin, AreFirst}
 use Rattle.shards.specs.GuardedView.{KeyedPlan}
 use Rattle.shards.specs.LockRule.{caller_at, caller_place, no_plan, no_table}
 
--- parts by number
+-- parts by number; a beginning is nobody's own, and needs none
 abbrev pub part_code : OrderPart → ℕ
 part_code (OnShard number) = 2 * number
 part_code (ByCaller who) = suc (2 * caller_place who)
+part_code AtFirst = 0
 
 abbrev pub plan_in : List ShardPlan → ℕ → ShardPlan
 plan_in plans number = slice_index_or plans number no_plan
@@ -57,21 +61,45 @@ with_first accounts (one ∷ others) = one ∷ accounts
 
 -- ---- the rule
 
-pub record IsAccount (owner : ℕ → ℕ) (all : List Deed) (id : ℕ) (one : Account) : Type 0 where
-  pub own : owner (part_code one.part) ≡ id
-  pub kept : one.deeds ≡ deeds_of one.part all
+-- each is a deed of one of N callers
+abbrev pub AreByCallers : ℕ → List Deed → Type 0
+AreByCallers callers deeds = AllByRecursion (λ (deed : Deed). caller_place (caller_of_deed deed) < callers) deeds
 
-abbrev pub AreAccounts : (ℕ → ℕ) → List Deed → ℕ → List Account → Type 0
-AreAccounts owner all id [] = Unit {0}
-AreAccounts owner all id (one ∷ others) = IsAccount owner all id one × AreAccounts owner all id others
+-- one seat has the account of a part
+abbrev pub IsOwner : (ℕ → ℕ) → ℕ → OrderPart → Type 0
+IsOwner owner id (OnShard number) = owner (part_code (OnShard number)) ≡ id
+IsOwner owner id (ByCaller who) = owner (part_code (ByCaller who)) ≡ id
+IsOwner owner id AtFirst = Unit {0}
 
-pub record IsOrderRuleKept {S : Type 0} (plans : List ShardPlan) (s : State S (List Account)) : Type 0 where
+-- a caller is one of N
+abbrev pub IsPartBelow : ℕ → OrderPart → Type 0
+IsPartBelow callers (OnShard number) = Unit {0}
+IsPartBelow callers (ByCaller who) = caller_place who < callers
+IsPartBelow callers AtFirst = Unit {0}
+
+-- these deeds are the part of the order
+abbrev pub IsPartOf : List Deed → OrderPart → List Deed → Type 0
+IsPartOf all (OnShard number) deeds = deeds ≡ deeds_of (OnShard number) all
+IsPartOf all (ByCaller who) deeds = deeds ≡ deeds_of (ByCaller who) all
+IsPartOf all AtFirst deeds = AreFirst deeds all
+
+pub record IsAccount (callers : ℕ) (owner : ℕ → ℕ) (all : List Deed) (id : ℕ) (one : Account) : Type 0 where
+  pub own : IsOwner owner id one.part
+  pub below : IsPartBelow callers one.part
+  pub kept : IsPartOf all one.part one.deeds
+
+abbrev pub AreAccounts : ℕ → (ℕ → ℕ) → List Deed → ℕ → List Account → Type 0
+AreAccounts callers owner all id [] = Unit {0}
+AreAccounts callers owner all id (one ∷ others) = IsAccount callers owner all id one × AreAccounts callers owner all id others
+
+pub record IsOrderRuleKept {S : Type 0} (plans : List ShardPlan) (callers : ℕ) (s : State S (List Account)) : Type 0 where
   -- the order, newest first, and the seat that has the account of each part
   pub all : List Deed
   pub owner : ℕ → ℕ
   pub within : AreDeedsWithin (length plans) all
+  pub by : AreByCallers callers all
   pub met : AreMet (plan_in plans) all
-  pub fits : (id : ℕ) (v : List Account) → get_elem? s.views id ≡ some v → AreAccounts owner all id v
+  pub fits : (id : ℕ) (v : List Account) → get_elem? s.views id ≡ some v → AreAccounts callers owner all id v
 
 -- a seat without an account comes
 abbrev pub MakesEmptySeat : {S : Type 0} → Me S (List Account) → Type 0
@@ -83,6 +111,26 @@ noted deed accounts = map (λ (one : Account). account one.part (deed ∷ one.de
 
 abbrev pub AddsDeed : {S : Type 0} → Deed → Me S (List Account) → Me S (List Account) → Type 0
 AddsDeed deed v w = w ≡ (noted deed v.0, v.1)
+
+-- ---- the whole order
+
+-- the accounts of the first callers, the last of them first: the controller has these deeds, and the N others none
+abbrev pub callers_down : ℕ → List Deed → List Account
+callers_down zero deeds = account (ByCaller Controller) deeds ∷ []
+callers_down (suc count) deeds = account (ByCaller (caller_at (suc count))) [] ∷ callers_down count deeds
+
+abbrev pub last_deeds : List Account → List Deed
+last_deeds [] = []
+last_deeds (one ∷ []) = one.deeds
+last_deeds (one ∷ other ∷ more) = last_deeds (other ∷ more)
+
+-- who has the accounts of all callers, the controller's last, learns that the order begins with what the controller did
+abbrev pub SeesFirst : {S : Type 0} → Me S (List Account) → Me S (List Account) → Type 0
+SeesFirst v w = w ≡ (account AtFirst (last_deeds v.0) ∷ v.0, v.1)
+
+-- a seat comes that knows a beginning without deeds
+abbrev pub BringsNothing : {S : Type 0} → Me S (List Account) → Type 0
+BringsNothing w = w ≡ (account AtFirst [] ∷ [], [])
 
 -- ---- seats with one account
 
@@ -119,14 +167,29 @@ no_order_place = record { marker = record {}; table_id = no_table; id = 0; views
 abbrev pub order_place_at : List (Badge (List Account)) → ℕ → Badge (List Account)
 order_place_at places number = slice_index_or places number no_order_place
 
+-- of N callers the seats of all but the first wait in their places, and nothing was done by them
+abbrev pub AreWaiting : TableId → ℕ → List (Badge (List Account)) → Type 0
+AreWaiting table callers places = (place : ℕ) → 0 < place → place < callers →
+    (place < length places) × IsFresh table (ByCaller (caller_at place)) (order_place_at places place)
+
+-- the accounts of N callers, of which the controller did this, and the others nothing
+abbrev pub HasAllOf : {S : Type 0} → ℕ → List Deed → Me S (List Account) → Type 0
+HasAllOf callers deeds me = (others : ℕ) → callers ≡ suc others → me ≡ (callers_down others deeds, [])
+
 -- the account at a place
 abbrev pub account_at : List Account → ℕ → Account
 account_at accounts place = slice_index_or accounts place (account (OnShard 0) [])
 
+-- the part of this number is another
+abbrev pub IsOther : ℕ → OrderPart → Type 0
+IsOther code (OnShard number) = part_code (OnShard number) ≢ code
+IsOther code (ByCaller who) = part_code (ByCaller who) ≢ code
+IsOther code AtFirst = Unit {0}
+
 -- the parts of accounts are not the same twice
 abbrev pub AreOther : ℕ → List Account → Type 0
 AreOther code [] = Unit {0}
-AreOther code (one ∷ others) = (part_code one.part ≢ code) × AreOther code others
+AreOther code (one ∷ others) = IsOther code one.part × AreOther code others
 
 abbrev pub HaveDistinctParts : List Account → Type 0
 HaveDistinctParts [] = Unit {0}
@@ -146,14 +209,15 @@ AreCallerPlaces table places =
 
 -- ---- the order's table
 
--- it has this name, and knows the plans of N shards
-pub record IsOrderOf {S P A : Type 0} (table : TableId) (plan : ℕ → ShardPlan) (count : ℕ)
+-- it has this name, and knows the plans of N shards, and how many callers there are
+pub record IsOrderOf {S P A : Type 0} (table : TableId) (plan : ℕ → ShardPlan) (count callers : ℕ)
     (order : Table S (List Account) OrderKey P A) : Type 0 where
   pub table_is : order.shared.table_id ≡ table
   pub some_word : 0 < table.words
   pub no_slot : table.slots ≡ 0
   pub sized : length order.shared.key.plans.items ≡ count
   pub plans : (number : ℕ) → number < count → plan_in order.shared.key.plans.items number ≡ plan number
+  pub callers_are : order.shared.key.callers ≡ callers
 
 -- it is the order of a shard with this key, whose plan it knows
 pub record KnowsShard {S P A : Type 0} (key : KeyedPlan) (order : Table S (List Account) OrderKey P A) : Type 0 where
@@ -173,4 +237,4 @@ pub record IsEnd (plans : List ShardPlan) (accounts : List Account) : Type 0 whe
   pub all : List Deed
   pub within : AreDeedsWithin (length plans) all
   pub met : AreMet (plan_in plans) all
-  pub each : (one : Account) → IsOneOfAccounts one accounts → one.deeds ≡ deeds_of one.part all
+  pub each : (one : Account) → IsOneOfAccounts one accounts → IsPartOf all one.part one.deeds

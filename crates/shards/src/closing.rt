@@ -5,12 +5,13 @@ ghost use Rattle.semantics.specs.History.{IsLegalJournal};
 ghost use Rattle.journals.specs.JournalsView.{entries_at};
 ghost use Rattle.shards.specs.CallerView.{IsSettled};
 ghost use Rattle.shards.specs.declared.deeds.Account.{Account};
-ghost use Rattle.shards.specs.ClosedOrders.{HasGathered, IsOneOrder, account_of};
+ghost use Rattle.shards.specs.ClosedOrders.{HasGathered, IsOneOrder, IsOneOrderBehind, account_of};
 ghost use Rattle.shards.specs.GuardedView.{keyed};
 ghost use Rattle.shards.specs.OrderRule.{IsOneOfAccounts};
 ghost use Rattle.shards.specs.Passes.{pass_at, view_at, AreSettled};
 ghost use Rattle.shards.specs.Seats.{IsLockOf};
 
+use crate::first::First;
 use crate::lock::visit;
 use crate::naming::Naming;
 use crate::order::{end, gather, visitor};
@@ -26,13 +27,26 @@ use std::sync::Wait;
 impl<B: Naming> Shards<B> {
     /// Ends all calls, and returns the journals; each is legal. Of each pass that is handed in, what it saw is a beginning of the
     /// journal, and its own entries are all that the journal has of its caller. Takes no memory.
-    pub fn close(self, rt: &impl Wait, mut passes: Vec<Pass<B>>) -> Journals
+    pub fn close(self, rt: &impl Wait, passes: Vec<Pass<B>>) -> Journals
         ensures maps { result.maps ≡ self.maps }
         ensures options { result.options ≡ self.options }
         ensures count { length result.shards ≡ B.count }
         ensures legal { (number : ℕ) → number < B.count → IsLegalJournal (B.plan number) (entries_at result number) }
         ensures settled { (place : ℕ) → place < length passes.items → AreSettled B.count result (pass_at passes.items place) }
         ensures did { IsOneOrder B.plan B.count result passes.items }
+    {
+        let first = First::nothing(&self.order);
+        self.close_behind(rt, passes, first)
+    }
+
+    /// The same, where it is known what was done before all else: the one order of all deeds begins with it.
+    pub fn close_behind(self, rt: &impl Wait, mut passes: Vec<Pass<B>>, first: First<B>) -> Journals
+        ensures maps { result.maps ≡ self.maps }
+        ensures options { result.options ≡ self.options }
+        ensures count { length result.shards ≡ B.count }
+        ensures legal { (number : ℕ) → number < B.count → IsLegalJournal (B.plan number) (entries_at result number) }
+        ensures settled { (place : ℕ) → place < length passes.items → AreSettled B.count result (pass_at passes.items place) }
+        ensures did { IsOneOrderBehind B.plan B.count first result passes.items }
     {
         let Shards {
             mut locks,
@@ -57,6 +71,7 @@ impl<B: Naming> Shards<B> {
             journals.push_reserved(journal);
         }
         gather_all(&order, &mut seat, passes);
+        gather(&order, &mut seat, first.into_seat());
         end(order, seat);
         Journals::written(maps, options, journals)
     }

@@ -1,7 +1,8 @@
 //! Who deals the passes.
 
-ghost use Rattle.std.specs.Prelude.{◌≡◌, ◌≢◌, ◌≤◌, ◌<◌, ◌↔◌, ℕ, true, List, [], length, vec_capacity, IfOk, IsErrOf, OnOk, OnErr};
-ghost use Rattle.std.specs.Prelude.{slice_set};
+ghost use Rattle.std.specs.Prelude.{◌≡◌, ◌≢◌, ◌≤◌, ◌<◌, ◌↔◌, ◌+◌, ℕ, true, false, List, [], length, vec_capacity, IfOk, IsErrOf, OnOk, OnErr};
+ghost use Rattle.std.specs.Prelude.{slice_set, replicate};
+ghost use Rattle.semantics.specs.declared.call.Caller.TheVariants.{Controller};
 ghost use Rattle.shards.specs.CallerView.{nothing_seen};
 ghost use Rattle.shards.specs.HeldCells.{held_at, most_held, room_of};
 ghost use Rattle.shards.specs.LockRule.{caller_place};
@@ -9,12 +10,15 @@ ghost use Rattle.shards.specs.NewShards.{badges_at, is_dealt_at, IsNewSeat, IsPa
 ghost use Rattle.shards.specs.Passes.{badge_at, shard_pass_at, view_at};
 ghost use Rattle.shards.specs.declared.pass_fault.PassFault.TheVariants.{BadOptions, PassTaken};
 
+use crate::first::First;
 use crate::held::{HeldCells, none_held};
 use crate::naming::Naming;
+use crate::order::first_of;
 use crate::order_rule::OrderPlace;
 use crate::pass::Pass;
 use crate::pass_fault::PassFault;
 use crate::shard_pass::ShardPass;
+use crate::sharing::Shards;
 use crate::waiting::Waiting;
 use atomic_table::Badge;
 use semantics::Caller;
@@ -79,6 +83,25 @@ impl<B: Naming> Dealer<B> {
             seat,
             names: PhantomData,
         })
+    }
+
+    /// What the controller did so far, as the beginning of what all callers will have done: nobody else has a pass yet. Changes nothing.
+    pub fn first(&mut self, shards: &Shards<B>, pass: &mut Pass<B>) -> First<B>
+        requires who { pass.old.who ≡ Controller }
+        requires alone { self.old ≡ slice_set (replicate (shards.now.options.workers + 2) false) 0 true }
+        ensures first { result ≡ pass.old.deeds }
+        ensures pass { pass.new ≡ pass.old }
+        ensures unchanged { self.new ≡ self.old }
+    {
+        First {
+            seat: first_of(
+                &shards.order,
+                &mut self.places,
+                self.dealt.len(),
+                &mut pass.seat,
+            ),
+            names: PhantomData,
+        }
     }
 }
 

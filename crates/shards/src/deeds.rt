@@ -17,9 +17,11 @@ pub enum OrderPart {
     OnShard { number: u32 },
     /// All that the caller did, on every shard.
     ByCaller { who: Caller },
+    /// What was done first: the order begins with it, and then goes on.
+    AtFirst,
 }
 
-/// All deeds of one part, the newest first.
+/// The deeds of one part, the newest first.
 pub struct Account {
     pub part: OrderPart,
     pub deeds: LinkedList<Deed>,

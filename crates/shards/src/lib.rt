@@ -6,6 +6,7 @@ mod asks;
 mod closing;
 mod dealer;
 mod deeds;
+mod first;
 mod guarded_shard;
 mod held;
 mod item;
@@ -34,6 +35,7 @@ pub use asks::{
 };
 pub use dealer::Dealer;
 pub use deeds::Deed;
+pub use first::First;
 pub use map_rules::OpenFault;
 pub use naming::Naming;
 pub use opening::Opened;

@@ -2,15 +2,18 @@
 
 ghost use Rattle.std.specs.Prelude.{◌≡◌, ◌<◌, ◌∷◌, ◌≤◌, [], drop, length, IfOk, OnOk};
 ghost use Rattle.shards.specs.declared.deeds.OrderPart.{OrderPart};
-ghost use Rattle.shards.specs.declared.deeds.OrderPart.TheVariants.{OnShard, ByCaller};
+ghost use Rattle.shards.specs.declared.deeds.OrderPart.TheVariants.{OnShard, ByCaller, AtFirst};
 ghost use Rattle.shards.specs.Deeds.{shard_of_deed, caller_of_deed, entries_made, IsMetBehind};
 ghost use Rattle.shards.specs.OrderRule.{IsPlaceOf, IsSeatFor, IsEnd, HaveDistinctParts, ArePlaces, AreShardPlaces, AreCallerPlaces};
+ghost use Rattle.shards.specs.OrderRule.{AreWaiting, HasAllOf, last_deeds};
 ghost use Rattle.shards.specs.OrderRule.{deeds_at, account_deeds, plan_in, with_first};
+ghost use Rattle.semantics.specs.declared.call.Caller.TheVariants.{Controller};
 
 use crate::asks::Ask;
 use crate::item::Item;
 use crate::order_rule::{
-    AddsDeed, DealsAccount, MakesEmptySeat, Order, OrderKey, OrderPlace, OrderSeat, TakesAccount,
+    AddsDeed, BringsNothing, DealsAccount, MakesEmptySeat, Order, OrderKey, OrderPlace, OrderSeat,
+    SeesFirst, TakesAccount,
 };
 use atomic_table::Badge;
 use semantics::{Caller, ShardPlan};
@@ -56,6 +59,7 @@ pub(crate) fn open_order(
 ) -> Result<(Order, Vec<OrderPlace>, Vec<OrderPlace>), AllocError>
     ensures words { IfOk result (λ new. (0 < new.0.shared.table_id.words) × (new.0.shared.table_id.slots ≡ 0)) }
     ensures plans { IfOk result (λ new. new.0.shared.key.plans.items ≡ plans.items) }
+    ensures key { IfOk result (λ new. new.0.shared.key.callers ≡ callers) }
     ensures shards { IfOk result (λ new. (length new.1.items ≡ length plans.items) × AreShardPlaces new.0.shared.table_id new.1.items) }
     ensures callers { IfOk result (λ new. (length new.2.items ≡ callers) × AreCallerPlaces new.0.shared.table_id new.2.items) }
 {
@@ -108,6 +112,74 @@ pub(crate) fn gather(order: &Order, seat: &mut OrderSeat, other: OrderSeat)
     ensures both { seat.new.me ≡ (with_first seat.old.me.0 other.me.0, seat.old.me.1) }
 {
     order.shared.join_seat::<TakesAccount>(seat, other);
+}
+
+/// The controller's seat takes in those of the other callers of `callers`, which wait in the places behind the first.
+fn take_in(order: &Order, places: &mut Vec<OrderPlace>, callers: usize, seat: &mut OrderSeat)
+    requires order { 0 < order.now.shared.table_id.words }
+    requires some { 0 < callers }
+    requires waiting { AreWaiting order.now.shared.table_id callers places.old.items }
+    requires seat { IsSeatFor order.now.shared.table_id (ByCaller Controller) seat.old }
+    ensures count { length places.new.items ≡ length places.old.items }
+    ensures table { seat.new.table_id ≡ order.now.shared.table_id }
+    ensures all { HasAllOf callers (account_deeds seat.old.me.0) seat.new.me }
+{
+    'places: for place in 1..callers {
+        let waiting = mem::replace(&mut places[place], Badge::blank());
+        gather(order, seat, waiting.into_seat());
+    }
+}
+
+/// The other callers' seats wait in their places again.
+fn deal_again(order: &Order, places: &mut Vec<OrderPlace>, callers: usize, seat: &mut OrderSeat)
+    requires order { 0 < order.now.shared.table_id.words }
+    requires callers { (0 < callers) × (callers ≤ length places.old.items) }
+    requires table { seat.old.table_id ≡ order.now.shared.table_id }
+    requires all { HasAllOf callers (last_deeds seat.old.me.0) seat.old.me }
+    ensures count { length places.new.items ≡ length places.old.items }
+    ensures waiting { AreWaiting order.now.shared.table_id callers places.new.items }
+    ensures seat { IsSeatFor order.now.shared.table_id (ByCaller Controller) seat.new }
+    ensures deeds { account_deeds seat.new.me.0 ≡ last_deeds seat.old.me.0 }
+{
+    'places: for done in 1..callers {
+        let one = order.shared.split_seat::<DealsAccount>(seat);
+        let _blank = mem::replace(&mut places[callers - done], one.into_badge());
+    }
+}
+
+/// A seat that knows that the order begins with what the controller did so far, where the seats of all other callers wait in the places behind
+/// the first, and nothing was done by them.
+pub(crate) fn first_of(
+    order: &Order,
+    places: &mut Vec<OrderPlace>,
+    callers: usize,
+    mine: &mut OrderSeat,
+) -> OrderSeat
+    requires order { 0 < order.now.shared.table_id.words }
+    requires callers { callers ≡ order.now.shared.key.callers }
+    requires some { (0 < callers) × (callers ≤ length places.old.items) }
+    requires waiting { AreWaiting order.now.shared.table_id callers places.old.items }
+    requires mine { IsSeatFor order.now.shared.table_id (ByCaller Controller) mine.old }
+    ensures waiting { AreWaiting order.now.shared.table_id callers places.new.items }
+    ensures mine { IsSeatFor order.now.shared.table_id (ByCaller Controller) mine.new }
+    ensures same { account_deeds mine.new.me.0 ≡ account_deeds mine.old.me.0 }
+    ensures first { IsSeatFor order.now.shared.table_id AtFirst result }
+    ensures deeds { account_deeds result.me.0 ≡ account_deeds mine.old.me.0 }
+{
+    take_in(order, places, callers, mine);
+    order.shared.load::<SeesFirst>(mine, 0);
+    let first = order.shared.split_seat::<DealsAccount>(mine);
+    deal_again(order, places, callers, mine);
+    first
+}
+
+/// A seat that knows that the order begins with nothing.
+pub(crate) fn first_of_nothing(order: &Order) -> OrderSeat
+    requires { 0 < order.now.shared.table_id.words }
+    ensures first { IsSeatFor order.now.shared.table_id AtFirst result }
+    ensures nothing { account_deeds result.me.0 ≡ [] }
+{
+    order.shared.load_new_seat::<BringsNothing>(0).1
 }
 
 /// Ends the order, in which the seat's accounts are.

@@ -22,7 +22,7 @@ impl TableRule<u8, LinkedList<Account>, OrderKey> for OrderRule {
     ghost use Rattle.std.specs.Prelude.{length};
     ghost use Rattle.shards.specs.OrderRule.{IsOrderRuleKept, first_accounts};
 
-    ghost holds = { λ key s. IsOrderRuleKept key.plans.items s };
+    ghost holds = { λ key s. IsOrderRuleKept key.plans.items key.callers s };
 
     ghost first = { λ key. first_accounts 0 (length key.plans.items) key.callers };
 }
@@ -68,6 +68,24 @@ impl<D: Item> Play<u8, LinkedList<Account>> for AddsDeed<D> {
     ghost use Rattle.shards.specs.OrderRule.{AddsDeed};
 
     ghost then = { λ s v found w. AddsDeed D.item v w };
+}
+
+/// A step by which who has the accounts of all callers learns what the order begins with.
+pub struct SeesFirst;
+
+impl Play<u8, LinkedList<Account>> for SeesFirst {
+    ghost use Rattle.shards.specs.OrderRule.{SeesFirst};
+
+    ghost then = { λ s v found w. SeesFirst v w };
+}
+
+/// A step that makes a seat that knows a beginning without deeds.
+pub struct BringsNothing;
+
+impl Play<u8, LinkedList<Account>> for BringsNothing {
+    ghost use Rattle.shards.specs.OrderRule.{BringsNothing};
+
+    ghost then = { λ s v found w. BringsNothing w };
 }
 
 /// The order. Its word is never written.

@@ -49,6 +49,9 @@
 //! - `AddsDeed`: a deed is added to the order, and to each account of the seat. Nobody else has these accounts, so shard by shard the
 //!   entries of the order are the journal, and caller by caller the deeds are what it did over all shards, each in the order in which they
 //!   happened.
+//! - `SeesFirst`: who has the accounts of all callers knows the whole order so far, and that the order begins with it from then on, whatever
+//!   is added. As long as the controller alone has its pass, all other accounts lie in the dealer, which hands this knowledge out
+//!   (`Dealer::first`); `close_behind` compares it with the whole order.
 //!
 //! # Visitors
 //!
@@ -100,6 +103,7 @@ pub struct Shards<B: Naming> {
 }
 
 impl<B: Naming> Model for Shards<B> {
+    ghost use Rattle.std.specs.Prelude.{◌+◌};
     ghost use Rattle.shards.specs.OrderRule.{IsOrderOf};
     ghost use Rattle.shards.specs.SharedMaps.{SharedMaps, AreShared};
 
@@ -109,7 +113,7 @@ impl<B: Naming> Model for Shards<B> {
 
     ghost invariant = { λ shards. AreShared B.table B.plan B.order B.count shards.locks.items
         shards.maps.items shards.options
-        × IsOrderOf B.order B.plan B.count shards.order };
+        × IsOrderOf B.order B.plan B.count (shards.options.workers + 2) shards.order };
 }
 
 impl<B: Naming> Shards<B> {

@@ -310,7 +310,7 @@ strangers_agree size done others one other some tables its same frame vip choice
 
 -- ---- what moves
 
-left_both : (up : List Server) (done : List Action) (action : Action) → up_left up (done ++ action ∷ []) ≡ up_after (up_left up done) action
+pub left_both : (up : List Server) (done : List Action) (action : Action) → up_left up (done ++ action ∷ []) ≡ up_after (up_left up done) action
 left_both up [] action = refl
 left_both up (first ∷ done) action = left_both (up_after up first) done action
 

@@ -19,7 +19,9 @@ mod PlaceLemmas
 mod ServiceTables
 mod TableLemmas
 mod ServiceLemmas
+mod MomentLemmas
 mod FleetLemmas
+mod MovingStrangers
 -- flows that stay with their backends
 mod NoteLemmas
 mod StickyRuns

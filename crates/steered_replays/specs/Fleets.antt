@@ -1,12 +1,18 @@
 -- Two machines of a fleet, at moments when the commands that each has carried out leave the same backends up, whatever their captures,
 -- workers and shards are: their tables are the same, so a frame that is sent by no note goes to the same backend on both. And what a
--- backend that goes down moves: of the frames that are sent by no note those of its slots, and of the slots that change hands.
-use Rattle.std.specs.Prelude.{◌≡◌, ◌≢◌, ◌↔◌, ℕ, ◌%◌, ◌<◌, not, true, List, [], ◌∷◌, ◌++◌, Option, Some, None, option_map, slice_get}
+-- backend that goes down moves: of the frames that are sent by no note those of its slots, and of the slots that change hands. So it is
+-- at two moments of one replay.
+use Rattle.std.specs.Prelude.{◌≡◌, ◌≢◌, ◌↔◌, ℕ, ◌+◌, ◌%◌, ◌<◌, not, true, false, List, [], ◌∷◌, ◌++◌, Option, Some, None, option_map, slice_get}
+use Rattle.std.specs.Prelude.{take}
 use Rattle.std.specs.List.{AllByRecursion, find}
 use Rattle.wire.specs.FlowForm.{HasFlow, flow_bytes_of}
 use Rattle.wire.specs.Fnv.{fnv1a64_of}
+use Rattle.wire.specs.declared.records.Sent.{Sent}
+use Rattle.semantics.specs.declared.call.Entry.{Entry}
+use Rattle.semantics.specs.declared.options.Options.{Options}
 use Rattle.semantics.specs.LittleEndian.{bytes_of_number}
 use Rattle.maglev.specs.declared.backend.Backend.{Backend as Server}
+use Rattle.maglev.specs.RingSize.{IsRingSize}
 use Rattle.conntrack.specs.declared.choosing.Assigned.{Assigned}
 use Rattle.conntrack.specs.declared.choosing.Choice.{Choice}
 use Rattle.conntrack.specs.declared.choosing.Choice.TheVariants.{Drop, Tx}
@@ -18,8 +24,10 @@ use Rattle.conntrack.specs.Layouts.{ring_of, backend_of}
 use Rattle.conntrack.specs.SteeringRule.{IsSteered, fits_tunnel, is_set_up, tracked_choice}
 use Rattle.control.specs.declared.command.Action.{Action}
 use Rattle.control.specs.declared.command.Action.TheVariants.{Down}
-use Rattle.control.specs.Controlling.{has_number}
-use Rattle.steered_replays.specs.TablesAtEnd.{MapsAt, value_at, up_left, AreTablesAtEnd}
+use Rattle.control.specs.declared.command.Command.{Command}
+use Rattle.control.specs.Controlling.{IsTable, has_number, without_backend}
+use Rattle.actors.specs.declared.outcome.Outcome.{Outcome}
+use Rattle.steered_replays.specs.TablesAtEnd.{MapsAt, value_at, up_left, AreTablesAtEnd, is_refused, carried_out, IsPlainReplay, IsMoment}
 
 -- ---- the same tables
 
@@ -110,3 +118,28 @@ StrangersMove =
     (its : AreTablesAtEnd size (done ++ Down number ∷ []) after) (frame : List ℕ) (vip : VipRecord) (choice later : Choice) →
     IsSentByTable size before frame vip choice → IsSentByTable size after frame vip later →
     (later ≡ choice) ↔ (slice_get its.owners (slot_of_flow size frame) ≡ slice_get tables.owners (slot_of_flow size frame))
+
+-- ---- the same in a replay
+
+-- At two moments: the owners of the slots by the population of the backends that are up at the one, and of those that are up at the other.
+-- Of the frames that are sent by no note exactly those go to the same backend at both whose flow's slot has the same owner.
+pub record MoveWithOwners (size : ℕ) (up left : List Server) (before after : MapsAt) : Type 0 where
+  pub owners : List ℕ
+  pub table : IsTable size up owners
+  pub later_owners : List ℕ
+  pub later_table : IsTable size left later_owners
+  pub moved : (frame : List ℕ) (vip : VipRecord) (choice later : Choice) → IsSentByTable size before frame vip choice →
+      IsSentByTable size after frame vip later →
+      (later ≡ choice) ↔ (slice_get later_owners (slot_of_flow size frame) ≡ slice_get owners (slot_of_flow size frame))
+
+-- before a `down` of a replay's script that was carried out, and behind it: of the backends that were up then all but its own
+abbrev pub StrangersMoveInReplays : Type 0
+StrangersMoveInReplays =
+    (size : ℕ) → IsRingSize size → (script : List Command) (options : Options) (records : List Sent) (outcome : Outcome)
+    (plain : IsPlainReplay size script options records outcome) (commands : ℕ) (command : Command) (number : ℕ) →
+    slice_get script commands ≡ Some command → command.action ≡ Down number → is_refused outcome.refused.items commands ≡ false →
+    (before after : ℕ → List Entry) → IsMoment size script options records outcome plain commands before →
+    IsMoment size script options records outcome plain (commands + 1) after →
+    MoveWithOwners size (up_left [] (carried_out outcome.refused.items 0 (take commands script)))
+    (without_backend (up_left [] (carried_out outcome.refused.items 0 (take commands script))) number)
+    (record { journals = outcome.journals; histories = before }) (record { journals = outcome.journals; histories = after })

@@ -159,6 +159,13 @@ pub record IsMoment (size : ℕ) (script : List Command) (options : Options) (re
       own_entries Controller (histories number)
       ≡ with_updates (steering_maps size) options number (made_in (take commands plain.accounted.commands.done)) []
 
+-- there is such a moment behind any number of commands
+abbrev pub MomentsExist : Type 0
+MomentsExist =
+    (size : ℕ) (script : List Command) (options : Options) (records : List Sent) (outcome : Outcome)
+    (plain : IsPlainReplay size script options records outcome) (commands : ℕ) →
+    (histories : ℕ → List Entry) × IsMoment size script options records outcome plain commands histories
+
 -- at each moment the tables are those that the commands so far have left
 abbrev pub TablesFollow : Type 0
 TablesFollow =

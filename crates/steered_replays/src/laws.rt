@@ -18,9 +18,10 @@ ghost use Rattle.actors.specs.Captured.{IsCaptured};
 ghost use Rattle.steered_replays.specs.StickyFlows.{NotesAreFound, NotedFlowsStick};
 ghost use Rattle.steered_replays.specs.StickyReplays.{FlowsStayInReplays};
 ghost use Rattle.steered_replays.specs.StickyRow.{StickyRow};
-ghost use Rattle.steered_replays.specs.TablesAtEnd.{TablesFollow, TablesAreLeft, ServicesFollow, ServicesAreLeft};
-ghost use Rattle.steered_replays.specs.TablesAtEnd.{MetNoFullJournal, AreTablesAtEnd, carried_out, maps_at_end};
+ghost use Rattle.steered_replays.specs.TablesAtEnd.{MomentsExist, TablesFollow, TablesAreLeft, ServicesFollow, ServicesAreLeft};
+ghost use Rattle.steered_replays.specs.TablesAtEnd.{MetNoFullJournal, AreServices, AreTablesAtEnd, carried_out, maps_at_end};
 ghost use Rattle.steered_replays.specs.Fleets.{SameTables, OwnersAreSentTo, SomeAreSentTo, FramesAreSent, StrangersAgree, StrangersMove};
+ghost use Rattle.steered_replays.specs.Fleets.{StrangersMoveInReplays};
 ghost use Rattle.steered_replays.specs.Totals.{AreTotals, TotalsAreExact};
 
 use conntrack::laws::{finished_runs_are_results, flows_stick};
@@ -79,6 +80,13 @@ pub fn services_follow()
     replays_are_steered();
 }
 
+/// There are such moments: a replay of the shipped program in which no command met a full journal has one behind any number of its commands.
+/// There the history of each shard is the oldest part of what its journal leads to, with the controller's updates of these commands, and with
+/// none of later ones.
+pub fn moments_exist()
+    ensures { MomentsExist }
+{}
+
 /// Two machines on which the same backends are up have the same tables: at moments of any two replays, of any captures, on any numbers of
 /// workers and shards, when the commands carried out so far leave the same backends up, the slots of the lookup tables and the records of
 /// these backends are the same.
@@ -101,6 +109,16 @@ pub fn strangers_move()
     ensures { StrangersMove }
 {}
 
+/// So it is in a replay: before a `down` that was carried out and behind it, whatever frames came between, of the frames that are sent by no
+/// note exactly those go to the same backend whose flow's slot has the same owner by the population of the backends that were up before the
+/// command, and by that of all of them but its own.
+pub fn strangers_move_in_replays()
+    ensures { StrangersMoveInReplays }
+{
+    tables_follow();
+    strangers_move();
+}
+
 /// What the laws on replays above say of every replay of an image that is the shipped one for a lookup table of `size` slots, however it was
 /// made.
 pub fn shipped_replays_are_steered(verified: &Verified, size: u32)
@@ -119,12 +137,18 @@ pub fn shipped_replays_are_steered(verified: &Verified, size: u32)
         IsAccounted (program_of verified.now options.shards) script options records outcome →
         outcome.updates.items ≡ [] → MetNoFullJournal outcome.refused.items →
         AreTablesAtEnd size (carried_out outcome.refused.items 0 script) (maps_at_end outcome.journals) }
+    ensures services { (script : List Command) (options : Options) (records : List Sent) (outcome : Outcome) →
+        AreOptions verified.now.maps options → AllByRecursion IsCaptured records →
+        IsAccounted (program_of verified.now options.shards) script options records outcome →
+        outcome.updates.items ≡ [] → MetNoFullJournal outcome.refused.items →
+        AreServices (carried_out outcome.refused.items 0 script) (maps_at_end outcome.journals) }
 {
     let _ = size;
     let _ = verified.image();
     replays_are_steered();
     totals_are_exact();
     tables_follow();
+    services_follow();
 }
 
 /// A flow stays with the backend that was noted for it. In a legal history of the flows' shard, as long as after the Update that noted a

@@ -3,3 +3,4 @@ pub mod MoveLemmas
 pub mod TableLemmas
 pub mod ReadingLemmas
 pub mod ShareLemmas
+pub mod AppliedLemmas

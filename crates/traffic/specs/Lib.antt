@@ -11,3 +11,4 @@ pub mod WrittenMaps
 pub mod MapLaws
 pub mod Shares
 pub mod TableText
+pub mod Applied

@@ -1,6 +1,7 @@
 //! What a capture holds and where a replay sent it, for people: frames by their kind, sent frames by their backend.
 #![tactic(auto)]
 
+mod applying;
 mod backends;
 mod flow_columns;
 mod kind;
@@ -14,6 +15,7 @@ mod tables;
 mod tunnels;
 mod written_maps;
 
+pub use applying::words_after;
 pub use backends::Backends;
 pub use kind::FrameKind;
 pub use moves::{moved_places, moves_in};

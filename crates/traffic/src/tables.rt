@@ -242,7 +242,7 @@ fn show(
 }
 
 /// A controller of a lookup table of a size, before its first command.
-fn opened(alloc: Global, size: u32) -> Controller
+pub(crate) fn opened(alloc: Global, size: u32) -> Controller
     requires { IsRingSize size }
     ensures { result ≡ opened_controller size }
 {

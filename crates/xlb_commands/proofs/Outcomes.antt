@@ -12,7 +12,7 @@ use Rattle.control.specs.declared.command.Command.{Command}
 use Rattle.actors.specs.Accounted.{IsAccounted}
 use Rattle.replay.specs.TurnOrder.{IsExact}
 use Rattle.actors.specs.Parts.{AreBadOptions}
-use Rattle.actors.specs.UpdateFaults.{OfUpdate, IsWhyByPass}
+use Rattle.actors.specs.UpdateFaults.{OfUpdate}
 use Rattle.replay.specs.TurnFaults.{IsWhyInTurn}
 use Rattle.actors.specs.declared.fault.ReplayFault.{ReplayFault}
 use Rattle.actors.specs.declared.fault.ReplayFault.TheVariants.{BadOptions, NoThread}
@@ -52,15 +52,12 @@ made_exact exact program updates script options records (Err why) in_turn are = 
 
 pub given_up : (exact : Bool) (maps : List MapDef) (updates : List MapUpdate) (script : List Command) (options : Options) (recording : Recording)
     (result : Made) → (IsErrOf result BadOptions ↔ AreBadOptions maps options script) → (exact ≡ true → ¬ IsErrOf result NoThread)
-    → (exact ≡ false → IfErr result (OfUpdate (IsWhyByPass maps (recorded recording options) updates)))
-    → (exact ≡ true → IfErr result (OfUpdate (IsWhyInTurn maps (recorded recording options) updates)))
-    → IfErr result (IsGivenUp exact maps updates script options recording)
-given_up exact maps updates script options recording (Ok outcome) bad no_thread by_pass in_turn = tt
-given_up exact maps updates script options recording (Err why) bad no_thread by_pass in_turn = record {
+    → IfErr result (OfUpdate (IsWhyInTurn maps (recorded recording options) updates)) → IfErr result (IsGivenUp exact maps updates script options recording)
+given_up exact maps updates script options recording (Ok outcome) bad no_thread of_update = tt
+given_up exact maps updates script options recording (Err why) bad no_thread of_update = record {
   options_are_bad = ((λ e. bad.0 (ap failed e)), (λ broken. same_fault _ _ (bad.1 broken)));
   no_thread = λ is e. no_thread is (ap failed e);
-  by_pass = by_pass;
-  in_turn = in_turn;
+  of_update = of_update;
 }
 
 -- the options of a replay fit its program's maps, since those of its journals do
@@ -88,8 +85,7 @@ pub given_up_in_turn : {X : Type 0} (maps : List MapDef) (updates : List MapUpda
 given_up_in_turn {X} maps updates script options recording result why is bad no_thread refused = record {
   options_are_bad = ((λ e. bad.0 (is ∙ ap (failed_of X) e)), (λ broken. same_why why BadOptions (sym is ∙ bad.1 broken)));
   no_thread = λ exact e. no_thread (is ∙ ap (failed_of X) e);
-  by_pass = λ exact. absurd (not_both true refl exact);
-  in_turn = λ exact. refused;
+  of_update = refused;
 }
 
 abbrev made_of : (X : Type 0) → X → Result X ReplayFault

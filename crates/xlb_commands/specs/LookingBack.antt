@@ -1,10 +1,9 @@
 -- The report of a replay beside its script: what became of each flow, and a page.
 use Rattle.std.specs.Prelude.{◌≡◌, ◌≢◌, ℕ, List, string_bytes}
-use Rattle.comparison.specs.Mistakes.{unlike_text}
+use Rattle.comparison.specs.Mistakes.{no_rows_text}
 use Rattle.comparison.specs.Rows.{IsUnread}
-use Rattle.comparison.specs.declared.fault.Unlike.{Unlike}
-use Rattle.comparison.specs.declared.fault.Unlike.TheVariants.{Memory}
-use Rattle.comparison.specs.declared.fault.Which.TheVariants.{First}
+use Rattle.comparison.specs.declared.fault.NoRows.{NoRows}
+use Rattle.comparison.specs.declared.fault.NoRows.TheVariants.{Memory}
 use Rattle.control.specs.declared.command.Command.{Command}
 use Rattle.flows.specs.FlowTexts.{AreFlows}
 use Rattle.flows.specs.Mistakes.{refusal_text}
@@ -51,10 +50,10 @@ pub record IsNoPage (files : FileBytes) (report script text : List ℕ) : Type 0
   pub commands : List Command
   pub read : files report bytes
   pub spelled : IsScriptFile files script commands
-  pub why : Unlike
-  pub unread : IsUnread First bytes why
+  pub why : NoRows
+  pub unread : IsUnread bytes why
   pub not_memory : why ≢ Memory
-  pub text_is : text ≡ unlike_text why report report
+  pub text_is : text ≡ no_rows_text why report
 
 -- what the flows of a report's bytes come to
 abbrev pub AreFlowsAnswered : List ℕ → List ℕ → List Command → ReportAnswer → Type 0
@@ -71,7 +70,7 @@ AreFlowsOfFiles files report script (answers.NoReport text) = AreNoFlows files r
 abbrev pub IsPageAnswered : List ℕ → List ℕ → List Command → ReportAnswer → Type 0
 IsPageAnswered name bytes commands (answers.Shown text notes) = IsPage bytes commands (string_bytes text)
 IsPageAnswered name bytes commands (answers.NoReport text) =
-    (why : Unlike) × IsUnread First bytes why × (why ≢ Memory) × (string_bytes text ≡ unlike_text why name name)
+    (why : NoRows) × IsUnread bytes why × (why ≢ Memory) × (string_bytes text ≡ no_rows_text why name)
 
 -- and one of two files
 abbrev pub IsPageOfFiles : FileBytes → List ℕ → List ℕ → ReportAnswer → Type 0

@@ -46,6 +46,7 @@ use Rattle.map_updates.specs.declared.misfit.Misfit.{Misfit}
 use Rattle.map_updates.specs.declared.update.MapUpdate.{MapUpdate}
 use Rattle.runs.specs.SingleRuns.{HasRunAlone, HasStoppedAlone}
 use Rattle.runs.specs.Updates.{IsRefusedUpdate, IsFullForUpdate}
+use Rattle.guarantees.specs.RunsAlone.{IsAloneInSystem, ending_at}
 use Rattle.maglev.specs.RingSize.{IsRingSize}
 use Rattle.conntrack.specs.declared.fault.SteerFault.{SteerFault}
 use Rattle.conntrack.specs.declared.fault.SteerFault.TheVariants as steering
@@ -56,7 +57,7 @@ use Rattle.control.specs.declared.fault.ControlFault.TheVariants as scripts
 use Rattle.control.specs.ScriptReading.{ExplainsScript}
 use Rattle.actors.specs.declared.fault.ReplayFault.{ReplayFault}
 use Rattle.actors.specs.declared.fault.ReplayFault.TheVariants as replays
-use Rattle.actors.specs.UpdateFaults.{OfUpdate, IsWhyByPass}
+use Rattle.actors.specs.UpdateFaults.{OfUpdate}
 use Rattle.replay.specs.TurnFaults.{IsWhyInTurn}
 use Rattle.actors.specs.declared.outcome.Outcome.{Outcome}
 use Rattle.actors.specs.Parts.{AreBadOptions}
@@ -80,7 +81,7 @@ use Rattle.xlb_commands.specs.FaultLines.{fault_line, mistake_text}
 use Rattle.xlb_commands.specs.Replays.{AreWritten, IsProgramOf, IsScriptFile, IsScriptOf, IsCaptureOf, AreCaptureBytes, program_of_replay}
 use Rattle.xlb_commands.specs.Replays.{capture_reading, recording_in, IsMade}
 use Rattle.xlb_commands.specs.Results.{IsDone, IsDoneInPart, IsReported, IsMistake, Stream, run_options, program_of_run, start_of_run}
-use Rattle.xlb_commands.specs.Results.{IsUnlikeSaid}
+use Rattle.xlb_commands.specs.Results.{IsUnlikeSaid, setting_of_run}
 
 -- ---- files
 
@@ -271,11 +272,12 @@ pub data IsRunFault (maps : List MapDef) (updates : List MapUpdate) (fault : Fau
   update_full : (place : ℕ) → IsTrue (are_served_options maps run_options) → IsFullForUpdate maps run_options updates place
       → fault ≡ faults.Script scripts.JournalFull → IsRunFault maps updates fault
 
--- the run was made, and stopped where a journal was full
+-- the run was made, and stopped where a journal was full; the updates and what it did until then are one list of events of the system
 pub record IsStoppedRun (program : Contents) (bytes : List ℕ) (now worker : ℕ) (updates : List MapUpdate) (stop : Stop) : Type 0 where
   pub frame : FrameView
   pub journals : JournalsView
   pub stopped : HasStoppedAlone (program_of_run program) (start_of_run bytes worker now) run_options worker updates frame stop journals
+  pub of_system : IsAloneInSystem (setting_of_run program) worker now bytes updates (ending_at stop) journals
 
 -- the run was made, and came to its end
 pub record IsEndedRun (program : Contents) (bytes : List ℕ) (now worker : ℕ) (updates : List MapUpdate) : Type 0 where
@@ -399,8 +401,7 @@ pub record IsGivenUp (exact : Bool) (maps : List MapDef) (updates : List MapUpda
     (recording : Recording) (why : ReplayFault) : Type 0 where
   pub options_are_bad : (why ≡ replays.BadOptions) ↔ AreBadOptions maps options script
   pub no_thread : exact ≡ true → ¬ (why ≡ replays.NoThread)
-  pub by_pass : exact ≡ false → OfUpdate (IsWhyByPass maps (recorded recording options) updates) why
-  pub in_turn : exact ≡ true → OfUpdate (IsWhyInTurn maps (recorded recording options) updates) why
+  pub of_update : OfUpdate (IsWhyInTurn maps (recorded recording options) updates) why
 
 -- The files of a replay were not written: that of the sent frames, and no other file changed; or that of the journals, and the sent
 -- frames are in theirs; or that of the report, and the sent frames and the journals are in theirs.

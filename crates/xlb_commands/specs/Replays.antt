@@ -39,7 +39,7 @@ use Rattle.guarantees.specs.ReaderReplays.{all_sent_at_opening}
 use Rattle.replay.specs.TurnOrder.{IsInTurnOrder}
 use Rattle.steered_replays.specs.SteeredRuns.{IsSteeredReplay}
 use Rattle.steered_replays.specs.StickyReplays.{FlowsStay}
-use Rattle.steered_replays.specs.TablesAtEnd.{AreTablesAtEnd, MetNoFullJournal, carried_out, maps_at_end}
+use Rattle.steered_replays.specs.TablesAtEnd.{AreServices, AreTablesAtEnd, MetNoFullJournal, carried_out, maps_at_end}
 use Rattle.steered_replays.specs.Totals.{AreTotals}
 use Rattle.traffic.specs.Readings.{IsAltered, alters}
 use Rattle.traffic.specs.declared.readings.AlteredCapture.{AlteredCapture}
@@ -172,7 +172,7 @@ abbrev pub program_of_replay : Contents → Options → Program
 program_of_replay image options = record { code = image.code; maps = image.maps; shards = options.shards }
 
 -- each run followed the steering rule; flows stayed with their backends; where no run was stopped, the counts in the maps are those of the
--- report; and where no command met a full journal, the tables at the end are those that the commands left
+-- report; and where no command met a full journal, the tables and the services at the end are those that the commands left
 pub record IsByRule (ring : ℕ) (program : Program) (script : List Command) (options : Options) (records : List Sent) (outcome : Outcome)
     (accounted : IsAccounted program script options records outcome) : Type 0 where
   pub runs : IsSteeredReplay ring program script options records outcome accounted
@@ -180,6 +180,8 @@ pub record IsByRule (ring : ℕ) (program : Program) (script : List Command) (op
   pub totals : outcome.counts.stopped ≡ 0 → AreTotals outcome
   pub tables : MetNoFullJournal outcome.refused.items →
       AreTablesAtEnd ring (carried_out outcome.refused.items 0 script) (maps_at_end outcome.journals)
+  pub services : MetNoFullJournal outcome.refused.items →
+      AreServices (carried_out outcome.refused.items 0 script) (maps_at_end outcome.journals)
 
 -- this holds of the shipped program, which runs where no image is named; of another image nothing is said
 abbrev pub FollowsRule : Option (List ℕ) → ℕ → (program : Program) (script : List Command) (options : Options) (records : List Sent)

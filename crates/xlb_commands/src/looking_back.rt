@@ -9,7 +9,7 @@ ghost use Rattle.xlb_commands.specs.declared.fault.Fault.TheVariants.{Memory};
 use crate::fault::{Fault, Refusal};
 use crate::files::bytes_of;
 use crate::replays::script_file;
-use comparison::Unlike;
+use comparison::NoRows;
 use control::Script;
 use flows::{NoFlows, flows_in};
 use folders::Folder;
@@ -57,8 +57,8 @@ fn page_shown(
 {
     match page(alloc, report, script) {
         Ok(text) => Ok(ReportAnswer::Shown { text, notes: None }),
-        Err(Unlike::Memory) => Err(Refusal::from(Fault::Memory)),
-        Err(none) => Ok(ReportAnswer::NoReport(none.text(alloc, name, name)?)),
+        Err(NoRows::Memory) => Err(Refusal::from(Fault::Memory)),
+        Err(none) => Ok(ReportAnswer::NoReport(none.text(alloc, name)?)),
     }
 }
 

@@ -5,7 +5,7 @@ ghost use Rattle.verifier.specs.Dataflow.{Accepts};
 ghost use Rattle.semantics.specs.Events.{Exited};
 ghost use Rattle.machine.specs.Running.{program_of};
 ghost use Rattle.runs.specs.SingleRuns.{HasRunAlone, HasStoppedAlone};
-ghost use Rattle.guarantees.specs.RunsAlone.{IsAloneInSystem};
+ghost use Rattle.guarantees.specs.RunsAlone.{IsAloneInSystem, ending_at};
 ghost use Rattle.guarantees.specs.SystemRuns.{setting_of};
 ghost use Rattle.map_updates.specs.Misfits.{AreFitting};
 ghost use Rattle.command_line.specs.Reading.{text_of};
@@ -145,6 +145,8 @@ fn run_over(
     ensures stop { IfOk result (λ single. IfErr single.ended (λ stop. HasStoppedAlone (program_of verified.now 1)
         (start_of_run frame.old.bytes moment.now.worker moment.now.now_ns) run_options moment.now.worker updates.now frame.new stop
         single.journals)) }
+    ensures stopped_in_system { IfOk result (λ single. IfErr single.ended (λ stop. IsAloneInSystem (setting_of verified.now run_options)
+        moment.now.worker moment.now.now_ns frame.old.bytes updates.now (ending_at stop) single.journals)) }
     ensures refused { IfErr result (λ refusal. IsRunFault verified.now.maps updates.now refusal.fault) }
 {
     match lone_run(alloc, verified, frame, moment, OPTIONS, updates) {

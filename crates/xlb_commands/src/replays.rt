@@ -28,7 +28,7 @@ ghost use Rattle.map_updates.specs.Misfits.{AreFitting};
 ghost use Rattle.xlb_commands.specs.Results.{IsReplayAnswer};
 ghost use Rattle.steered_replays.specs.SteeredRuns.{IsSteeredReplay};
 ghost use Rattle.steered_replays.specs.StickyReplays.{FlowsStayInReplays};
-ghost use Rattle.steered_replays.specs.TablesAtEnd.{AreTablesAtEnd, MetNoFullJournal, carried_out, maps_at_end};
+ghost use Rattle.steered_replays.specs.TablesAtEnd.{AreServices, AreTablesAtEnd, MetNoFullJournal, carried_out, maps_at_end};
 ghost use Rattle.steered_replays.specs.Totals.{AreTotals};
 ghost use Rattle.journals.specs.JournalText.{journals_text};
 ghost use Rattle.journals.specs.FileJournals.{ReadBackWhereLegal};
@@ -346,6 +346,11 @@ pub(crate) fn steered_where_shipped(asked: Asked<'_>)
         IsAccounted (program_with asked.entry.verified.now options.shards) script options records outcome →
         outcome.updates.items ≡ [] → MetNoFullJournal outcome.refused.items →
         AreTablesAtEnd asked.entry.ring (carried_out outcome.refused.items 0 script) (maps_at_end outcome.journals) }
+    ensures services { text_of asked.entry.files.now.image ≡ None → (script : List Command) (options : Settings) (records : List Record)
+        (outcome : Made) → AreOptions asked.entry.verified.now.maps options → AllByRecursion IsCaptured records →
+        IsAccounted (program_with asked.entry.verified.now options.shards) script options records outcome →
+        outcome.updates.items ≡ [] → MetNoFullJournal outcome.refused.items →
+        AreServices (carried_out outcome.refused.items 0 script) (maps_at_end outcome.journals) }
     ensures stay { FlowsStayInReplays }
 {
     flows_stay_in_replays();

@@ -16,7 +16,8 @@ use Rattle.control.specs.MapUpdates.{UpdateBytes}
 use Rattle.control.specs.Controlling.{ControllerState, opened_controller}
 use Rattle.actors.specs.declared.outcome.Applied.{Applied}
 use Rattle.actors.specs.SharedUpdates.{UpdatesView, shard_of, controller_update}
-use Rattle.actors.specs.Commands.{CommandDone, IsCommandDone, AreDone, IsNotedOf, AreNotedOf, all_set, made_in, with_updates, made_deeds, command_deeds, commands_deeds, IsShardFullForUpdate, IsMoved, HasEffect, HasSet, IsScriptAccount, IsCommander, ServesScript}
+use Rattle.actors.specs.Commands.{CommandDone, IsCommandDone, AreDone, IsNotedOf, AreNotedOf, all_set, made_in, with_updates, made_deeds, command_deeds, commands_deeds, IsShardFullForUpdate, IsMoved, HasEffect, HasSet, IsScriptAccount, IsScriptAccountBehind, CommanderView, HasAccountBehind, OfEachAccount, IsCommander, ServesScript}
+use Rattle.actors.specs.ActorJobs.{IsActorAccounted}
 use Rattle.actors.proofs.shared.Moving.{with_updates_more}
 use Rattle.actors.proofs.shared.FullStays.{full_stays}
 
@@ -155,3 +156,67 @@ commander_more plan updates script noted noted' state state' before after comman
           (subst (λ n. ServesScript before.maps n script) (sym size) was.serves);
       who = effect.moved.who;
     }
+
+-- ---- an account that goes on from another
+
+pub account_done : (plan : ℕ → ShardPlan) (updates : List MapUpdate) (script : List Command) (size : ℕ) (noted : List Applied) (state state' : ControllerState)
+    (before after : UpdatesView) (command : Command) (last : Applied) →
+    (account : IsScriptAccount plan before.maps before.options updates script size noted state before.pass) → (known : slice_get script last.command ≡ Some command) →
+    (effect : HasEffect plan state command.action last.fault state' before after) →
+    (account_more plan updates script size noted state state' before after command last account known effect).done ≡ account.done ++ effect.one ∷ []
+unfolding account_more
+account_done plan updates script size noted state state' before after command last account known effect = refl
+
+account_behind : (plan : ℕ → ShardPlan) (updates : List MapUpdate) (script : List Command) (size : ℕ) (noted : List Applied) (state state' : ControllerState)
+    (before after : UpdatesView) (command : Command) (last : Applied) →
+    (account : IsScriptAccount plan before.maps before.options updates script size noted state before.pass) → slice_get script last.command ≡ Some command →
+    HasEffect plan state command.action last.fault state' before after →
+    IsScriptAccountBehind plan after.maps after.options updates script size (noted ++ last ∷ []) state' after.pass account.done
+unfolding account_more
+account_behind plan updates script size noted state state' before after command last account known effect = record {
+  account = account_more plan updates script size noted state state' before after command last account known effect;
+  later = effect.one ∷ [];
+  goes_on = refl;
+}
+
+-- one command more goes on from what was before it
+pub commander_behind : (plan : ℕ → ShardPlan) (updates : List MapUpdate) (script : List Command) (noted noted' : List Applied) (state state' : ControllerState)
+    (before after : UpdatesView) (command : Command) (last : Applied) → noted' ≡ noted ++ last ∷ [] → slice_get script last.command ≡ Some command →
+    HasEffect plan state command.action last.fault state' before after → state'.size ≡ state.size →
+    OfEachAccount plan (record { updates = updates; script = script; noted = noted; controller = state; port = before })
+    (HasAccountBehind plan (record { updates = updates; script = script; noted = noted'; controller = state'; port = after }))
+commander_behind plan updates script noted noted' state state' before after command last is known effect size account =
+    subst (λ n. IsScriptAccountBehind plan after.maps after.options updates script n noted' state' after.pass account.done) (sym size)
+    (subst (λ all. IsScriptAccountBehind plan after.maps after.options updates script state.size all state' after.pass account.done) (sym is)
+    (account_behind plan updates script state.size noted state state' before after command last account known effect))
+
+pub behind_nothing : (plan : ℕ → ShardPlan) (start : CommanderView) → OfEachAccount plan start (HasAccountBehind plan start)
+behind_nothing plan start account = record { account = account; later = []; goes_on = sym (append-nil account.done) }
+
+pub behind_more : (plan : ℕ → ShardPlan) (start middle after : CommanderView) → OfEachAccount plan start (HasAccountBehind plan middle) →
+    OfEachAccount plan middle (HasAccountBehind plan after) → OfEachAccount plan start (HasAccountBehind plan after)
+behind_more plan start middle after first more account =
+    let was = first account in
+    let now = more was.account in record {
+      account = now.account;
+      later = was.later ++ now.later;
+      goes_on = now.goes_on ∙ ap (λ (done : List CommandDone). done ++ now.later) was.goes_on ∙ append_assoc account.done was.later now.later;
+    }
+
+-- what the controller gives back at the end
+pub actor_accounted : (plan : ℕ → ShardPlan) (start view : CommanderView) (noted : List Applied) (pass : PassView) → view.port.maps ≡ start.port.maps →
+    view.port.options ≡ start.port.options → view.updates ≡ start.updates → view.script ≡ start.script → view.controller.size ≡ start.controller.size →
+    noted ≡ view.noted → pass ≡ view.port.pass → OfEachAccount plan start (HasAccountBehind plan view) → IsActorAccounted plan start noted pass
+actor_accounted plan start view noted pass maps options updates script size noted_is pass_is accounts = record {
+  state = view.controller;
+  account = λ begun.
+      let one = subst (λ p. IsScriptAccountBehind plan view.port.maps view.port.options view.updates view.script view.controller.size view.noted view.controller p begun.done)
+      (sym pass_is) (accounts begun) in
+      let two = subst (λ n. IsScriptAccountBehind plan view.port.maps view.port.options view.updates view.script view.controller.size n view.controller pass begun.done)
+      (sym noted_is) one in
+      let three = subst (λ m. IsScriptAccountBehind plan m view.port.options view.updates view.script view.controller.size noted view.controller pass begun.done) maps two in
+      let four = subst (λ o. IsScriptAccountBehind plan start.port.maps o view.updates view.script view.controller.size noted view.controller pass begun.done) options three in
+      let five = subst (λ u. IsScriptAccountBehind plan start.port.maps start.port.options u view.script view.controller.size noted view.controller pass begun.done) updates four in
+      let six = subst (λ s. IsScriptAccountBehind plan start.port.maps start.port.options start.updates s view.controller.size noted view.controller pass begun.done) script five in
+      subst (λ n. IsScriptAccountBehind plan start.port.maps start.port.options start.updates start.script n noted view.controller pass begun.done) size six;
+}

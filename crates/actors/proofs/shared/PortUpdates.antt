@@ -1,5 +1,5 @@
 -- Updates before the first record, by the controller's port to shards that it shares.
-use Rattle.std.proofs.Common.{◌≡◌, ℕ, List, sym, ap, ◌∙◌, subst}
+use Rattle.std.proofs.Common.{◌≡◌, ℕ, List, [], ◌∷◌, take, refl, sym, ap, ◌∙◌, subst}
 use Rattle.ebpf_decode.specs.declared.map.MapDef.{MapDef}
 use Rattle.map_updates.specs.declared.update.MapUpdate.{MapUpdate}
 use Rattle.semantics.specs.declared.call.Caller.{Caller}
@@ -7,11 +7,11 @@ use Rattle.semantics.specs.declared.call.Caller.TheVariants.{Controller}
 use Rattle.semantics.specs.declared.options.Options.{Options}
 use Rattle.semantics.specs.declared.plan.ShardPlan.{ShardPlan}
 use Rattle.shards.specs.Passes.{PassView}
-use Rattle.shards.specs.SharedMaps.{ArePlans}
 use Rattle.actors.specs.declared.fault.ReplayFault.{ReplayFault}
+use Rattle.actors.specs.declared.fault.ReplayFault.TheVariants.{BadOptions, Memory, NoThread, Refused, Full}
 use Rattle.actors.specs.Actors.{IsUnused}
 use Rattle.actors.specs.Commands.{all_set, IsMoved, HasSet}
-use Rattle.actors.specs.FirstUpdates.{AreSet, IsWhyNotSet}
+use Rattle.actors.specs.FirstUpdates.{AreSet, IsWhyLeft}
 use Rattle.actors.specs.SharedUpdates.{UpdatesView, IsUpdated, IsTurnedAway}
 use Rattle.actors.specs.UpdateFaults.{IsWhyByPass}
 use Rattle.actors.proofs.shared.Effects.{GivesCounted, RefusesUncounted, counted_within}
@@ -45,18 +45,46 @@ port_set plan within who count maps options updates pass before after unused is_
     }
 
 pub port_refused : {P : Type 0} (plan : ℕ → ShardPlan) (within : P → UpdatesView) (who : P → Caller) (count : P → ℕ) (maps : List MapDef)
-    (options : Options) (shards : ℕ) (updates : List MapUpdate) (pass : PassView) (before : P) (fault : ReplayFault) → ArePlans maps options shards plan →
-    IsUnused pass → pass.who ≡ Controller → within before ≡ record { maps = maps; options = options; pass = pass } →
-    IsWhyNotSet (GivesCounted plan within who count) (RefusesUncounted plan within who count) before updates fault →
-    IsWhyByPass maps options updates fault
-port_refused plan within who count maps options shards updates pass before fault plans unused is_controller is why = record {
-  count = shards;
-  plan = plan;
-  plans = plans;
-  start = pass;
-  unused = unused;
-  who = is_controller;
-  why = subst (λ (port : UpdatesView). IsWhyNotSet (IsUpdated plan) (IsTurnedAway plan) port updates fault) is
-      (why_within plan within (GivesCounted plan within who count) (RefusesUncounted plan within who count) (counted_within plan within who count) updates
-      before fault why);
-}
+    (options : Options) (updates : List MapUpdate) (pass : PassView) (before after : P) (fault : ReplayFault) →
+    within before ≡ record { maps = maps; options = options; pass = pass } → within after ≡ record { maps = maps; options = options; pass = (within after).pass } →
+    IsWhyLeft (GivesCounted plan within who count) (RefusesUncounted plan within who count) before updates after fault →
+    IsWhyByPass plan maps options pass (within after).pass updates fault
+port_refused plan within who count maps options updates pass before after fault is was why =
+    let start : UpdatesView = record { maps = maps; options = options; pass = pass } in
+    subst (λ (port : UpdatesView). IsWhyLeft (IsUpdated plan) (IsTurnedAway plan) start updates port fault) was
+    (subst (λ (port : UpdatesView). IsWhyLeft (IsUpdated plan) (IsTurnedAway plan) port updates (within after) fault) is
+    (why_within plan within (GivesCounted plan within who count) (RefusesUncounted plan within who count) (counted_within plan within who count) updates before
+    after fault why))
+
+-- whatever was done, the controller's port is to the same maps, and is the controller's
+pub record IsSamePort (before after : UpdatesView) : Type 0 where
+  pub maps : after.maps ≡ before.maps
+  pub options : after.options ≡ before.options
+  pub who : after.pass.who ≡ before.pass.who
+
+same_set : (plan : ℕ → ShardPlan) (updates : List MapUpdate) (before after : UpdatesView) → AreSet (IsUpdated plan) before updates after → IsSamePort before after
+same_set plan [] before after set = subst (IsSamePort before) set (record { maps = refl; options = refl; who = refl })
+same_set plan (update ∷ later) before after (middle, given, rest) =
+    let behind = same_set plan later middle after rest in record {
+      maps = behind.maps ∙ given.maps;
+      options = behind.options ∙ given.options;
+      who = behind.who ∙ given.elsewhere.who;
+    }
+
+pub same_left : (plan : ℕ → ShardPlan) (updates : List MapUpdate) (before after : UpdatesView) (fault : ReplayFault) →
+    IsWhyLeft (IsUpdated plan) (IsTurnedAway plan) before updates after fault → IsSamePort before after
+same_left plan updates before after (Refused place answer) why =
+    let set = same_set plan (take place updates) before why.middle why.next.set in record {
+      maps = why.answered.maps ∙ set.maps;
+      options = why.answered.options ∙ set.options;
+      who = why.answered.elsewhere.who ∙ set.who;
+    }
+same_left plan updates before after (Full place) why =
+    let set = same_set plan (take place updates) before why.middle why.next.set in record {
+      maps = why.full.maps ∙ set.maps;
+      options = why.full.options ∙ set.options;
+      who = why.full.elsewhere.who ∙ set.who;
+    }
+same_left plan updates before after BadOptions why = absurd why
+same_left plan updates before after Memory why = absurd why
+same_left plan updates before after NoThread why = absurd why

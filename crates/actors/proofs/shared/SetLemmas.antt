@@ -21,7 +21,7 @@ use Rattle.actors.specs.declared.fault.ReplayFault.{ReplayFault}
 use Rattle.actors.specs.declared.fault.ReplayFault.TheVariants.{BadOptions, Memory, NoThread, Refused, Full}
 use Rattle.actors.specs.Actors.{IsUnused}
 use Rattle.actors.specs.Commands.{AnsweredUpdate, all_set, with_updates, made_deeds, IsMoved, HasSet}
-use Rattle.actors.specs.FirstUpdates.{update_bytes, AreSet, IsNextUpdate, IsWhyNotSet}
+use Rattle.actors.specs.FirstUpdates.{update_bytes, AreSet, IsNextUpdate, IsWhyLeft}
 use Rattle.actors.specs.SharedUpdates.{UpdatesView, IsUpdated, IsTurnedAway}
 use Rattle.actors.proofs.shared.Moving.{HasWithin, did_more, moved_nowhere, moved_on, moved_by_one}
 
@@ -89,32 +89,30 @@ set_within plan within gives refuses has (update ∷ later) before after (middle
     (within middle, has.given before middle (update_bytes update) success given, set_within plan within gives refuses has later middle after rest)
 
 pub why_within : {P : Type 0} (plan : ℕ → ShardPlan) (within : P → UpdatesView) (gives : P → UpdateBytes → ℤ → P → Type 0)
-    (refuses : P → UpdateBytes → P → Type 0) → HasWithin plan within gives refuses → (updates : List MapUpdate) (before : P) (fault : ReplayFault) →
-    IsWhyNotSet gives refuses before updates fault → IsWhyNotSet (IsUpdated plan) (IsTurnedAway plan) (within before) updates fault
-why_within plan within gives refuses has updates before (Refused place answer) why = record {
+    (refuses : P → UpdateBytes → P → Type 0) → HasWithin plan within gives refuses → (updates : List MapUpdate) (before after : P) (fault : ReplayFault) →
+    IsWhyLeft gives refuses before updates after fault → IsWhyLeft (IsUpdated plan) (IsTurnedAway plan) (within before) updates (within after) fault
+why_within plan within gives refuses has updates before after (Refused place answer) why = record {
   update = why.update;
   middle = within why.middle;
   next = record {
     known = why.next.known;
     set = set_within plan within gives refuses has (take place updates) before why.middle why.next.set;
   };
-  after = within why.after;
-  answered = has.given why.middle why.after (update_bytes why.update) answer why.answered;
+  answered = has.given why.middle after (update_bytes why.update) answer why.answered;
   no_success = why.no_success;
 }
-why_within plan within gives refuses has updates before (Full place) why = record {
+why_within plan within gives refuses has updates before after (Full place) why = record {
   update = why.update;
   middle = within why.middle;
   next = record {
     known = why.next.known;
     set = set_within plan within gives refuses has (take place updates) before why.middle why.next.set;
   };
-  after = within why.after;
-  full = has.refused why.middle why.after (update_bytes why.update) why.full;
+  full = has.refused why.middle after (update_bytes why.update) why.full;
 }
-why_within plan within gives refuses has updates before BadOptions why = why
-why_within plan within gives refuses has updates before Memory why = why
-why_within plan within gives refuses has updates before NoThread why = why
+why_within plan within gives refuses has updates before after BadOptions why = why
+why_within plan within gives refuses has updates before after Memory why = why
+why_within plan within gives refuses has updates before after NoThread why = why
 
 -- ---- what they make of the controller's pass
 

@@ -14,7 +14,7 @@ use control::{Script, parse_script};
 use disasm::assemble;
 use journals::{Journals, write_journals};
 use machine::{Exit, Moment, Stop};
-use replay::Commander;
+use replay::{Commander, set_first};
 use runs::run_frame;
 use semantics::{Caller, Options, Verdict};
 use shard_port::NoGate;
@@ -201,7 +201,14 @@ fn steered<B: Naming, R: Abort + Wait>(
     let Some(size) = size else {
         return;
     };
-    let commander = Commander::over(
+    let controller = match set_first(rt, &shards, controller, &NoGate, &[]) {
+        Ok(controller) => controller,
+        Err(_) => {
+            holds(rt, "no update", false);
+            return;
+        }
+    };
+    let mut commander = Commander::over(
         alloc,
         rt,
         &shards,
@@ -211,7 +218,6 @@ fn steered<B: Naming, R: Abort + Wait>(
         script.commands(),
         size,
     );
-    let mut commander = commander.expect(rt, "a commander");
     applies(rt, alloc, &mut commander, 0, 3);
     goes_to(rt, alloc, verified, &shards, &mut pass, 1);
     applies(rt, alloc, &mut commander, 3, 4);

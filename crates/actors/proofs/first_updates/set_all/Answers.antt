@@ -25,7 +25,6 @@ returns-then-answer-ne0-clause-refused g c =
       middle = c.updates.port;
       next = is_next g.U.UpdatePort.gives c.args.port.now c.updates.port c.args.updates.now c.updates.place update within (sym c.index-updates-place.is)
           c.updates.invariant.set;
-      after = c.update.new.self;
       answered = subst (λ (answer : ℤ). g.U.UpdatePort.gives c.updates.port (update_bytes update) answer c.update.new.self) (sym same) c.in-Ok.ensures.gives;
       no_success = λ zero. c.if-answer-ne0.true (ap (of_z w32) (sym same ∙ zero));
     }
@@ -39,7 +38,6 @@ returns-in-Err-clause-refused g c =
       middle = c.updates.port;
       next = is_next g.U.UpdatePort.gives c.args.port.now c.updates.port c.args.updates.now c.updates.place update within (sym c.index-updates-place.is)
           c.updates.invariant.set;
-      after = c.update.new.self;
       full = c.in-Err.ensures.refuses;
     }
 

@@ -1,7 +1,7 @@
 use Rattle.std.proofs.Common.{rules, ◌≡◌, ℕ, List, Bor, map, string_bytes, subst, sym}
-use Rattle.comparison.specs.Comparing.{AreAlike, AreCompared, AreOthers, IsUnlike}
+use Rattle.comparison.specs.Comparing.{AreAlike, AreCompared, AreOthers, IsFileUnread, IsUnlike}
 use Rattle.comparison.specs.Comparing.IsUnlike.{first_unread, not_alike, second_unread}
-use Rattle.comparison.specs.Rows.{IsReport, IsUnread}
+use Rattle.comparison.specs.Rows.{IsReport}
 use Rattle.comparison.specs.declared.fault.Which.TheVariants.{First, Second}
 use Rattle.comparison.specs.declared.comparing.Comparison.{Comparison}
 use Rattle.comparison.specs.declared.fault.Unlike.{Unlike}
@@ -35,10 +35,10 @@ returns-clause-refused c =
 
 pub returns-in_err-first_rows-clause-refused : goal.returns-in_err-first_rows-clause-refused
 returns-in_err-first_rows-clause-refused c =
-    under_err (λ (it : Unlike). IsUnread First c.args.first.now it) (λ (it : Unlike). IsUnlike c.args.first.now c.args.second.now it)
+    under_err (λ (it : Unlike). IsFileUnread First c.args.first.now it) (λ (it : Unlike). IsUnlike c.args.first.now c.args.second.now it)
     (λ it unread. first_unread unread) c.from_residual.result (search rules)
 
 pub returns-in_err-second_rows-clause-refused : goal.returns-in_err-second_rows-clause-refused
 returns-in_err-second_rows-clause-refused c =
-    under_err (λ (it : Unlike). IsUnread Second c.args.second.now it) (λ (it : Unlike). IsUnlike c.args.first.now c.args.second.now it)
+    under_err (λ (it : Unlike). IsFileUnread Second c.args.second.now it) (λ (it : Unlike). IsUnlike c.args.first.now c.args.second.now it)
     (λ it unread. second_unread _ c.in_ok-first_rows.ensures.rows unread) c.from_residual-in_err-second_rows.result (search rules)

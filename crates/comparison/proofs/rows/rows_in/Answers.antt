@@ -9,7 +9,7 @@ returns-in-Err-clause-refused c = is_no_report c.in-Err.line (c.begins_as_json.e
 
 pub returns-in-Some-clause-refused : goal.returns-in-Some-clause-refused
 returns-in-Some-clause-refused c =
-    subst (λ (it : List ℕ). IfErr c.rows_of.result (λ unlike. IsUnread c.args.which it unlike))
+    subst (λ (it : List ℕ). IfErr c.rows_of.result (λ none. IsUnread it none))
     (sym c.in-Some.ensures.begins ∙ c.in-Ok.ensures.text.0) c.rows_of.ensures.refused
 
 pub returns-in-None-clause-refused : goal.returns-in-None-clause-refused

@@ -7,9 +7,6 @@ use Rattle.flows.specs.Telling.{stories_until}
 use Rattle.flows.specs.Walking.{applied}
 use Rattle.flows.proofs.SettingLemmas.{walked_later}
 use Rattle.flows.proofs.StoryLemmas.{moves_next, room_in, stories_next, stories_small}
-use Rattle.flows.specs.Telling.{listed}
-use Rattle.flows.specs.declared.reason.Reason.{Reason}
-use Rattle.std.specs.Prelude.{Option, ◌++◌}
 use Rattle.flows.proofs.telling.told.Goals as goal
 
 pub tell-requires-clause-small : goal.tell-requires-clause-small
@@ -26,10 +23,10 @@ rows-preserved c =
       commands = c.in_ok-advance.ensures.same ∙ c.rows.invariant.commands;
       indexed = c.in_ok-moved.ensures.indexed;
       stories = c.in_ok-moved.ensures.told
-          ∙ stories_next (map (λ row. row.now) c.args.rows.now) c.args.commands.now (applied c.advance.new.self) c.rows.place c.row_at.result.now
-          (stories_in c.rows.list) c.row_at.ensures applied_is c.rows.invariant.stories;
+          ∙ stories_next (map (λ row. row.now) c.args.rows.now) c.args.commands.now (applied c.advance.new.self) c.rows.place c.row_at-row.result.now
+          (stories_in c.rows.list) c.row_at-row.ensures applied_is c.rows.invariant.stories;
       moves = c.in_ok-put_move.ensures
-          ∙ (ap (λ (it : Option Reason). c.rows.moves.items ++ listed it) c.in_ok-moved.ensures.moved
-          ∙ moves_next (map (λ row. row.now) c.args.rows.now) c.args.commands.now (applied c.advance.new.self) c.rows.place c.row_at.result.now
-          (stories_in c.rows.list) c.row_at.ensures applied_is c.rows.invariant.stories c.rows.moves.items c.rows.invariant.moves);
+          ∙ moves_next (map (λ row. row.now) c.args.rows.now) c.args.commands.now (applied c.advance.new.self) c.rows.place c.row_at-row.result.now
+          (stories_in c.rows.list) c.row_at-row.ensures applied_is c.rows.invariant.stories _ _ _ c.address_of-from.ensures
+          c.in_ok-moved.ensures.moved c.rows.invariant.moves;
     }

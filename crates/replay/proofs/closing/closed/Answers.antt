@@ -7,13 +7,13 @@ use Rattle.machine.specs.Running.{program_of}
 use Rattle.shards.specs.SharedMaps.{ArePlans}
 use Rattle.actors.specs.Accounts.{lists_of, AreRunsOfShares, counts_of, sent_of, sent_frames, ends_of}
 use Rattle.actors.specs.Shares.{frames_of}
-use Rattle.actors.specs.Parts.{IsScriptAccounted, IsScriptRun, round_count}
+use Rattle.actors.specs.Parts.{IsScriptRunBehind, round_count}
 use Rattle.actors.specs.RunsOverShards.{pass_in}
 use Rattle.actors.specs.Accounted.{IsAccounted}
 use Rattle.actors.specs.declared.outcome.Outcome.{Outcome}
 use Rattle.shards.specs.Passes.{AreSettled}
 use Rattle.replay.proofs.Accounts.{IsOwnIn, shares, work, outcome_is}
-use Rattle.replay.proofs.PartLemmas.{all_of, script_stands, rounds_stand}
+use Rattle.replay.proofs.PartLemmas.{IsScriptBegun, all_of, script_begins, rounds_stand}
 use Rattle.replay.proofs.closing.closed.Goals as goal
 
 pub account-requires-clause-runs : goal.account-requires-clause-runs
@@ -33,26 +33,35 @@ returns-clause-accounted g c =
     let program = program_of c.args.verified.now c.args.shards.options.shards in
     let lists = c.in_ok-runs.runs.items in
     let working = c.in_ok-runs.working.items in
-    let journals = c.close-journals.result in
+    let journals = c.close_behind-journals.result in
     let as_many : length lists ≡ workers = c.in_ok-runs.ensures.count.0 ∙ c.requires.count in
     let workers_passes : length (map pass_in working) ≡ workers = length-map working pass_in ∙ c.in_ok-runs.ensures.count.1 ∙ c.requires.count in
     let passes = c.in_ok-passes.passes.items in
     let settled = all_of (AreSettled g.B.Naming.count journals) passes (map pass_in working) c.args.ended.controller.pass c.args.ended.reclaimer
-    c.in_ok-passes.ensures c.close-journals.ensures.settled in
-    let one = c.close-journals.ensures.did in
+    c.in_ok-passes.ensures c.close_behind-journals.ensures.settled in
+    let did = c.close_behind-journals.ensures.did in
+    let one = did.one in
     let owned = all_of (IsOwnIn one.deeds) passes (map pass_in working) c.args.ended.controller.pass c.args.ended.reclaimer c.in_ok-passes.ensures one.own in
     let told = c.outcome_of.ensures in
     let updates_are : c.outcome_of.result.updates.items ≡ c.args.updates.now =
     ap (λ (list : Vec MapUpdate Global). list.items) told.updates ∙ c.in_ok-made.ensures in
     let is = outcome_is c.outcome_of.result c.in_ok-counts.counts c.in_ok-counts.sent c.in_ok-counts.ends journals told.counts told.sent told.ends told.journals in
+    let begun = subst (λ maps. IsScriptBegun g.B.Naming.plan maps c.args.shards.options g.B.Naming.count c.outcome_of.result.updates.items c.args.script.now journals one.deeds
+    c.outcome_of.result.refused.items) c.requires.maps
+    (script_begins g.B.Naming.plan c.args.shards.maps c.args.shards.options g.B.Naming.count c.outcome_of.result.updates.items c.args.script.now c.args.size
+    c.args.ended.controller.noted.items c.args.ended.controller.pass journals one.deeds c.outcome_of.result.refused.items c.args.first c.planned.ensures.plans
+    c.planned.ensures.options c.requires.size c.requires.serves
+    (subst (λ (updates : List MapUpdate). IsScriptRunBehind g.B.Naming.plan c.args.shards.maps c.args.shards.options updates c.args.script.now c.args.size
+    c.args.ended.controller.noted.items c.args.ended.controller.pass c.args.first) (sym updates_are) c.requires.script)
+    settled.next owned.next told.refused did.begins) in
     subst (λ (outcome : Outcome). IsAccounted program c.args.script.now c.args.shards.options records outcome) (sym is) (record {
-      maps = c.close-journals.ensures.maps ∙ c.requires.maps;
-      options_are = c.close-journals.ensures.options;
+      maps = c.close_behind-journals.ensures.maps ∙ c.requires.maps;
+      options_are = c.close_behind-journals.ensures.options;
       count = g.B.Naming.count;
-      count_is = c.close-journals.ensures.count;
+      count_is = c.close_behind-journals.ensures.count;
       plan = g.B.Naming.plan;
       plans = subst (λ maps. ArePlans maps c.args.shards.options g.B.Naming.count g.B.Naming.plan) c.requires.maps c.planned.ensures.plans;
-      legal = c.close-journals.ensures.legal;
+      legal = c.close_behind-journals.ensures.legal;
       order = one.deeds;
       ordered = record { within = one.within; journals_are = one.journals_are; met = one.met };
       runs = lists_of lists;
@@ -65,14 +74,8 @@ returns-clause-accounted g c =
       each_once = c.in_ok-counts.ensures.frames;
       sent = subst (λ n. sent_frames c.in_ok-counts.sent.items ≡ sent_of frames n (lists_of lists) (length records)) as_many c.in_ok-counts.ensures.sent;
       ends = subst (λ n. c.in_ok-counts.ends.items ≡ ends_of frames n (lists_of lists) (length records)) as_many c.in_ok-counts.ensures.ends;
-      commands = subst (λ maps. IsScriptAccounted g.B.Naming.plan maps c.args.shards.options g.B.Naming.count c.outcome_of.result.updates.items c.args.script.now journals one.deeds
-          c.outcome_of.result.refused.items)
-          c.requires.maps
-          (script_stands g.B.Naming.plan c.args.shards.maps c.args.shards.options g.B.Naming.count c.outcome_of.result.updates.items c.args.script.now c.args.size
-          c.args.ended.controller.noted.items c.args.ended.controller.pass journals one.deeds c.outcome_of.result.refused.items c.planned.ensures.plans c.planned.ensures.options c.requires.size c.requires.serves
-          (subst (λ (updates : List MapUpdate). IsScriptRun g.B.Naming.plan c.args.shards.maps c.args.shards.options updates c.args.script.now c.args.size
-          c.args.ended.controller.noted.items c.args.ended.controller.pass) (sym updates_are) c.requires.script)
-          settled.next owned.next told.refused);
+      commands = begun.commands;
+      begins = begun.begins;
       rounds = rounds_stand g.B.Naming.plan g.B.Naming.count (round_count (length records)) journals one.deeds c.args.ended.reclaimer c.requires.rounds.1
           settled.last owned.last c.requires.rounds.0;
     })

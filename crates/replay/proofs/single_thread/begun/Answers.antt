@@ -26,4 +26,4 @@ returns-in-Ok-set_all-clause-options c =
 pub returns-in-Err-set_all-clause-refused : goal.returns-in-Err-set_all-clause-refused
 returns-in-Err-set_all-clause-refused c =
     why_in_turn c.args.verified.now.maps (recorded c.args.recording c.args.options) c.args.updates.now c.in-Ok.all c.in-Err-set_all.fault
-    c.in-Ok.ensures.opened c.in-Ok.ensures.maps c.in-Ok.ensures.options c.in-Err-set_all.ensures.refused
+    c.in-Ok.ensures.opened c.in-Ok.ensures.maps c.in-Ok.ensures.options (c.set_all.new.port, c.in-Err-set_all.ensures.refused)

@@ -24,7 +24,7 @@ split_seat-one-requires c =
     let below : c.places.counter < length v = (let few = c.requires.count in let t = c.places-test.true in omega (arith, few, t)) in (
       i.table_is,
       c.requires.order,
-      deals_one _ _ _ (account_at v c.places.counter) _ (ap (λ (m : Me ℕ (List Account)). m.0) i.me_is ∙ rest_at v c.places.counter below) (apart_at v c.places.counter below c.requires.apart),
+      deals_one _ _ _ _ (account_at v c.places.counter) _ (ap (λ (m : Me ℕ (List Account)). m.0) i.me_is ∙ rest_at v c.places.counter below) (apart_at v c.places.counter below c.requires.apart),
     )
 
 pub places-preserved : goal.places-preserved

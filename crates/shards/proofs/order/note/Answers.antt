@@ -18,7 +18,7 @@ join_seat-requires g c =
       i.0 ∙ ap (λ (b : Badge (List Account)). b.table_id) was ∙ r.place.0,
       i.3,
       r.order,
-      takes_one _ _ _ _ _ (account shard (deeds_at c.args.place.now))
+      takes_one _ _ _ _ _ _ (account shard (deeds_at c.args.place.now))
           (view_there c.args.place.now c.into_seat-seat.result.me.0 shard (ap (λ (b : Badge (List Account)). b.views) (sym was) ∙ i.2) r.place.1),
     )
 
@@ -35,7 +35,7 @@ load-requires g c =
     view_there c.args.place.now c.into_seat-seat.result.me.0 shard (ap (λ (b : Badge (List Account)). b.views) (sym was) ∙ i.2) r.place.1 in
     let joined : c.join_seat.new.seat.me ≡ (the_two item there by, []) =
     c.join_seat.ensures.2 ∙ both_are c.args.mine.now.me c.into_seat-seat.result.me.0 (account shard there) (account (ByCaller (caller_of_deed item)) by) r.mine.1 w_is in
-    (c.join_seat.ensures.0 ∙ r.mine.0, r.order, adds_one _ _ _ _ _ item there by joined r.within r.met)
+    (c.join_seat.ensures.0 ∙ r.mine.0, r.order, adds_one _ _ _ _ _ _ item there by joined r.within r.met)
 
 pub split_seat-requires : goal.split_seat-requires
 split_seat-requires g c =
@@ -54,7 +54,7 @@ split_seat-requires g c =
     c.load.ensures.2 ∙ ap (λ (m : Me ℕ (List Account)). (noted item m.0, m.1)) joined in (
       c.load.ensures.0 ∙ c.join_seat.ensures.0 ∙ r.mine.0,
       r.order,
-      deals_one _ _ _ (account shard (item ∷ there)) (account (ByCaller (caller_of_deed item)) (item ∷ by) ∷ [])
+      deals_one _ _ _ _ (account shard (item ∷ there)) (account (ByCaller (caller_of_deed item)) (item ∷ by) ∷ [])
           (ap (λ (m : Me ℕ (List Account)). m.0) loaded) (two_parts (shard_of_deed item) (caller_of_deed item) (item ∷ by)),
     )
 

@@ -34,3 +34,15 @@ returns-clause-tables c = λ script options records outcome fit captured account
       none_set = none;
       none_full = met;
     })
+
+pub returns-clause-services : goal.returns-clause-services
+returns-clause-services c = λ script options records outcome fit captured accounted none met.
+    let shipped = shipped_of c.args.verified.now c.args.size c.requires.image in
+    c.services_follow.ensures.end c.args.size c.requires.size script options records outcome
+    (record {
+      fit = subst (λ (maps : List MapDef). AreOptions maps options) shipped.maps fit;
+      captured = captured;
+      accounted = of_shipped c.args.verified.now c.args.size script options records outcome shipped accounted;
+      none_set = none;
+      none_full = met;
+    })

@@ -128,6 +128,8 @@ returns-clause-left c = λ records sent ends under captured.
                 captured account (updated ∙ none) unstopped;
             tables = λ roomy. c.steered_where_shipped.ensures.tables shipped asked.script.now options records whole under.options_fit
                 captured account (updated ∙ none) roomy;
+            services = λ roomy. c.steered_where_shipped.ensures.services shipped asked.script.now options records whole under.options_fit
+                captured account (updated ∙ none) roomy;
           });
       readers = λ none reads no_commands unstopped. reader_file_is asked.verified.now.maps asked.verified.now.code asked.script.now options records whole
           (c.readers_send_alike.ensures.sends reads)

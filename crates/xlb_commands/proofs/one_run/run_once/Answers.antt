@@ -13,7 +13,7 @@ use Rattle.semantics.specs.Events.{Ending, Exited}
 use Rattle.semantics.specs.System.{Setting, IsInputFrame}
 use Rattle.semantics.specs.declared.verdict.Verdict.{Verdict}
 use Rattle.runs.specs.SingleRuns.{HasRunAlone, HasStoppedAlone}
-use Rattle.guarantees.specs.RunsAlone.{IsAloneInSystem}
+use Rattle.guarantees.specs.RunsAlone.{IsAloneInSystem, ending_at}
 use Rattle.wire.specs.FrameView.{FrameView}
 use Rattle.command_line.specs.Reading.{text_of}
 use Rattle.command_line.specs.declared.commands.RunFiles.{RunFiles}
@@ -149,11 +149,14 @@ returns-in-Err-clause-refused g c =
     let below : c.args.worker < 8 = omega (arith, c.in_ok-moment.ensures.given.1, c.in_ok-moment.ensures.below) in
     let at : HasStoppedAlone (program_of_run program) (start_of_run c.in_ok-frame.frame.bytes c.in_ok-moment.moment.worker c.in_ok-moment.moment.now_ns) run_options
     c.in_ok-moment.moment.worker c.args.updates.now c.run_over.new.frame c.in-Err.stop c.in_ok-ended.journals = search rules in
+    let alone : IsAloneInSystem (setting_of_run program) c.in_ok-moment.moment.worker c.in_ok-moment.moment.now_ns c.in_ok-frame.frame.bytes
+    c.args.updates.now (ending_at c.in-Err.stop) c.in_ok-ended.journals = search rules in
     stopped program c.in_ok-frame.frame.bytes c.in-Err.stop (kept_twice _ _ _ c.judged_of.ensures.kept c.frame_of.ensures.kept) read below
     (record {
       frame = c.run_over.new.frame;
       journals = c.in_ok-ended.journals;
       stopped = stopped_so _ _ _ _ _ _ _ _ _ _ c.in_ok-moment.ensures.given.1 c.in_ok-moment.ensures.given.0 at;
+      of_system = system_so _ _ _ _ _ _ _ _ _ c.in_ok-moment.ensures.given.1 c.in_ok-moment.ensures.given.0 alone;
     })
     c.from.ensures
 

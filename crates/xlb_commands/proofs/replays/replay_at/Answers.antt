@@ -12,8 +12,7 @@ returns-then-asked-clause-made g c =
 pub returns-then-asked-clause-given_up : goal.returns-then-asked-clause-given_up
 returns-then-asked-clause-given_up g c =
     given_up c.args.asked.exact c.args.asked.verified.now.maps c.args.asked.updates.now c.args.asked.script.now c.args.asked.options c.args.asked.recording
-    c.replay_in_turn.result c.replay_in_turn.ensures.bad_options (λ is. c.replay_in_turn.ensures.no_thread)
-    (λ is. absurd (not_both c.args.asked.exact c.if-asked.true is)) (λ is. c.replay_in_turn.ensures.refused)
+    c.replay_in_turn.result c.replay_in_turn.ensures.bad_options (λ is. c.replay_in_turn.ensures.no_thread) c.replay_in_turn.ensures.refused
 
 pub returns-else-asked-clause-made : goal.returns-else-asked-clause-made
 returns-else-asked-clause-made g c =
@@ -25,4 +24,4 @@ pub returns-else-asked-clause-given_up : goal.returns-else-asked-clause-given_up
 returns-else-asked-clause-given_up g c =
     given_up c.args.asked.exact c.args.asked.verified.now.maps c.args.asked.updates.now c.args.asked.script.now c.args.asked.options c.args.asked.recording
     c.replay.result c.replay.ensures.bad_options (λ is. absurd (not_both c.args.asked.exact is c.if-asked.false))
-    (λ is. c.replay.ensures.refused) (λ is. absurd (not_both c.args.asked.exact is c.if-asked.false))
+    c.replay.ensures.refused

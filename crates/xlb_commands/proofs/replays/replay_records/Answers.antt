@@ -88,6 +88,8 @@ returns-clause-done g c =
                   c.all_are_captured.ensures account (c.in-Ok.ensures.made.updates_are ∙ none) unstopped;
               tables = λ roomy. c.steered_where_shipped.ensures.tables shipped asked.script.now options records outcome fit
                   c.all_are_captured.ensures account (c.in-Ok.ensures.made.updates_are ∙ none) roomy;
+              services = λ roomy. c.steered_where_shipped.ensures.services shipped asked.script.now options records outcome fit
+                  c.all_are_captured.ensures account (c.in-Ok.ensures.made.updates_are ∙ none) roomy;
             });
         readers = λ none_set reads none unstopped.
             reader_file_is asked.verified.now.maps asked.verified.now.code asked.script.now options records outcome

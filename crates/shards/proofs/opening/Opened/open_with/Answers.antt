@@ -45,6 +45,7 @@ invariant_of-result c =
           no_slot = order.words.1;
           sized = ap (λ (l : List ShardPlan). length l) plans ∙ counted ∙ sym c.in_ok-shards.ensures.count;
           plans = plans_made shards _ _ c.in_ok-plans.plans.items c.in_ok-order.order.shared.key.plans.items c.in_ok-shards.shards.items plans counted each c.in_ok-shards.ensures.count c.in_ok-shards.ensures.made;
+          callers_are = order.key;
         };
         counted = order.callers.0;
         fresh = order.callers.1;
