@@ -8,3 +8,4 @@ pub mod PieceLemmas
 pub mod ReaderFiles
 pub mod Refusals
 pub mod SameFiles
+pub mod ShareLemmas

@@ -14,4 +14,5 @@ pub mod Refused
 pub mod AcceptedJournals
 pub mod SameFiles
 pub mod AskedReplays
+pub mod Shares
 pub mod InPieces

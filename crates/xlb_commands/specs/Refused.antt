@@ -438,8 +438,8 @@ pub data IsUnmade (before after : FileBytes) (failed : Type 0) (names : ReplayFi
       → IsUnmade before after failed names program script options recording exact updates records fault
 
 -- Of a program that may run and whose maps take the updates, and a script: no capture; one of which a part is replayed, and memory was
--- refused for the script's commands in it; an exact replay of the whole capture that was broken off; until then no file changed; or no
--- replay of the part was made and written down.
+-- refused for the script's commands in it; an exact replay that was broken off; until then no file changed; or no replay of the part was made
+-- and written down.
 pub data IsUnreplayed (files after : FileBytes) (failed : Type 0) (names : ReplayFiles) (program : Contents) (script : List Command)
     (options : Options) (recording : Recording) (exact : Bool) (reading : Reading) (part : Option Part) (updates : List MapUpdate)
     (fault : Fault) : Type 0 where
@@ -448,9 +448,9 @@ pub data IsUnreplayed (files after : FileBytes) (failed : Type 0) (names : Repla
   no_part : (captured : List Sent) (taken : Part) → AreKept files after → IsCaptureOf files reading names.capture.now captured
       → part ≡ Some taken → fault ≡ faults.Memory
       → IsUnreplayed files after failed names program script options recording exact reading part updates fault
-  broken_off : (captured : List Sent) → exact ≡ true → reading ≡ unaltered → part ≡ None → text_of names.report ≡ None
-      → AreKept files after → IsCaptureOf files reading names.capture.now captured → (¬ AreBadOptions program.maps options script)
-      → IsBrokenOff failed fault
+  broken_off : (captured : List Sent) → exact ≡ true → reading ≡ unaltered → text_of names.report ≡ None
+      → AreKept files after → IsCaptureOf files reading names.capture.now captured
+      → (¬ AreBadOptions program.maps options (script_in part captured script)) → IsBrokenOff failed fault
       → IsUnreplayed files after failed names program script options recording exact reading part updates fault
   unmade : (captured : List Sent) → IsCaptureOf files reading names.capture.now captured
       → IsUnmade files after failed names program (script_in part captured script) options recording exact updates (records_in part captured)

@@ -500,12 +500,9 @@ pub(crate) struct Asked<'a> {
 impl Asked<'_> {
     /// Whether the replay may be made in pieces: it is exact, and nothing is asked for that needs all records.
     fn is_in_pieces(self) -> bool
-        ensures { IsTrue result → (self.entry.exact ≡ true) × (self.entry.reading ≡ unaltered) × (self.entry.part ≡ None)
+        ensures { IsTrue result → (self.entry.exact ≡ true) × (self.entry.reading ≡ unaltered)
             × (text_of self.entry.files.now.report ≡ None) }
     {
-        if self.part.is_some() {
-            return false;
-        }
         self.exact && !self.summary && !self.reading.alters() && self.files.report.is_none()
     }
 }
