@@ -14,7 +14,7 @@ use Rattle.shards.specs.CallerView.{BeginsWith}
 use Rattle.shards.specs.declared.deeds.Deed.{Deed}
 use Rattle.shards.specs.declared.deeds.Deed.TheVariants.{Wrote, MetFull}
 use Rattle.shards.specs.Passes.{PassView, own_at, seen_at}
-use Rattle.conntrack.specs.SteeringMaps.{steering_maps}
+use Rattle.conntrack.specs.SteeringMaps.{AreSteeringMaps}
 use Rattle.map_updates.specs.declared.update.MapUpdate.{MapUpdate}
 use Rattle.control.specs.declared.command.Action.{Action}
 use Rattle.control.specs.declared.command.Command.{Command}
@@ -260,7 +260,7 @@ OfEachAccount plan view holds = (account : HasAccount plan view) → holds accou
 
 -- the maps are those of steering for the controller's table, or there is no command
 abbrev pub ServesScript : List MapDef → ℕ → List Command → Type 0
-ServesScript maps size script = (script ≡ []) ⊎ (maps ≡ steering_maps size)
+ServesScript maps size script = (script ≡ []) ⊎ AreSteeringMaps size maps
 
 pub record IsCommander (plan : ℕ → ShardPlan) (updates : List MapUpdate) (script : List Command) (noted : List Applied)
     (state : ControllerState) (port : UpdatesView) : Type 0 where

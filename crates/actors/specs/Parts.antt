@@ -16,7 +16,7 @@ use Rattle.shards.specs.Passes.{PassView}
 use Rattle.rx_queues.specs.declared.job.Job.{Job}
 use Rattle.maglev.specs.RingSize.{IsRingSize}
 use Rattle.map_updates.specs.declared.update.MapUpdate.{MapUpdate}
-use Rattle.conntrack.specs.SteeringMaps.{steering_maps}
+use Rattle.conntrack.specs.SteeringMaps.{AreSteeringMaps}
 use Rattle.control.specs.declared.command.Command.{Command}
 use Rattle.control.specs.Controlling.{ControllerState, opened_controller}
 use Rattle.control.specs.MapUpdates.{UpdateBytes}
@@ -47,7 +47,7 @@ pub record HasReclaimed (plan : ℕ → ShardPlan) (count : ℕ) (jobs : List Jo
 -- there are commands, and the maps are those of steering for no lookup table
 pub record HasNoTable (maps : List MapDef) (script : List Command) : Type 0 where
   pub some : ¬ (script ≡ [])
-  pub none : (size : ℕ) → IsRingSize size → ¬ (maps ≡ steering_maps size)
+  pub none : (size : ℕ) → IsRingSize size → ¬ AreSteeringMaps size maps
 
 -- no shards of these maps are opened with the options, or there are commands and no lookup table for them
 abbrev pub AreBadOptions : List MapDef → Options → List Command → Type 0

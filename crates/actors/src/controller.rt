@@ -8,7 +8,7 @@ ghost use Rattle.actors.specs.Actors.{HasEndLast};
 ghost use Rattle.maglev.specs.RingSize.{IsRingSize};
 ghost use Rattle.semantics.specs.declared.call.Caller.TheVariants.{Controller as TheController};
 ghost use Rattle.control.specs.declared.fault.ControlFault.{ControlFault as Fault};
-ghost use Rattle.conntrack.specs.SteeringMaps.{steering_maps};
+ghost use Rattle.conntrack.specs.SteeringMaps.{AreSteeringMaps};
 ghost use Rattle.control.specs.Controlling.{opened_controller};
 ghost use Rattle.actors.specs.Commands.{CommanderView, HasEffect, HasSet, IsScriptAccount, HasAccount, HasAccountBehind, OfEachAccount};
 ghost use Rattle.actors.specs.Commands.{StaysOf, ServesScript};
@@ -168,7 +168,7 @@ fn apply_to<B: Naming, W: Wait, G: Gate>(
     command: &Command,
     port: &mut GatedUpdates<'_, SharedUpdates<'_, B, W>, G>,
 ) -> Option<ControlFault>
-    requires serves { port.old.port.maps ≡ steering_maps controller.old.size }
+    requires serves { AreSteeringMaps controller.old.size port.old.port.maps }
     requires who { port.old.port.pass.who ≡ TheController }
     ensures effect { HasEffect B.plan controller.old command.now.action result controller.new port.old.port port.new.port }
     ensures size { controller.new.size ≡ controller.old.size }

@@ -2,7 +2,7 @@
 //! slots of the lookup table change hands.
 
 ghost use Rattle.std.specs.Prelude.{◌≡◌, ◌/◌, ◌<◌, ◌≤◌, IfOk};
-ghost use Rattle.conntrack.specs.SteeringMaps.{steering_maps};
+ghost use Rattle.conntrack.specs.SteeringMaps.{AreSteeringMaps};
 
 use anyhow::Error;
 use conntrack::maps;
@@ -73,9 +73,8 @@ fn with_backends(
     count: u8,
     sink: &mut UpdateSink,
 ) -> Result<Controller, ControlFault>
-    requires { sink.old.maps.items ≡ steering_maps SIZE }
-    ensures size { IfOk result (λ controller. controller.size ≡ SIZE) }
-    ensures serves { sink.new.maps.items ≡ steering_maps SIZE }
+    requires { AreSteeringMaps SIZE sink.old.maps.items }
+    ensures serves { IfOk result (λ controller. AreSteeringMaps controller.size sink.new.maps.items) }
 {
     let mut controller = Controller::open(alloc, SIZE)?;
     'backends: for number in 0..count {

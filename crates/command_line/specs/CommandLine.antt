@@ -72,8 +72,10 @@ explain_command = with_rule (new_app (codes "explain")) (file_rule (codes "FAULT
 abbrev pub shipped_command : App
 shipped_command =
     with_rule
+    (with_rule
     (with_rule (new_app (codes "shipped")) (file_rule (codes "OUT")))
-    (number_rule (codes "ring") 4294967295 (codes "251"))
+    (number_rule (codes "ring") 4294967295 (codes "251")))
+    (number_rule (codes "flows") 4294967295 (codes "4096"))
 
 abbrev pub table_command : App
 table_command =
@@ -107,12 +109,16 @@ replay_opened =
     (number_rule (codes "shards") 4294967295 (codes "1")))
     (number_rule (codes "journal") 4294967295 (codes "65536"))
 
--- and the size of the lookup table, whether commands take effect at exact moments, and whether a summary is printed
-abbrev pub replay_noted : App
-replay_noted =
+-- and the sizes of the lookup table and the flow table
+abbrev pub replay_sized : App
+replay_sized =
     with_rule
-    (with_rule (with_rule replay_opened (number_rule (codes "ring") 4294967295 (codes "251"))) (switch_rule (codes "exact")))
-    (switch_rule (codes "summary"))
+    (with_rule replay_opened (number_rule (codes "ring") 4294967295 (codes "251")))
+    (number_rule (codes "flows") 4294967295 (codes "4096"))
+
+-- and whether commands take effect at exact moments, and whether a summary is printed
+abbrev pub replay_noted : App
+replay_noted = with_rule (with_rule replay_sized (switch_rule (codes "exact"))) (switch_rule (codes "summary"))
 
 -- and how the records of the capture are read
 abbrev pub replay_read : App

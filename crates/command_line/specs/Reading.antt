@@ -286,9 +286,10 @@ IsReadFrom name rows (Asm text out source) = is_named name (codes "asm")
     × (text.now ≡ argument_word (codes "TEXT") rows)
     × (out.now ≡ argument_word (codes "OUT") rows)
     × IsSwitchOf (codes "source") rows source
-IsReadFrom name rows (Shipped out ring) = is_named name (codes "shipped")
+IsReadFrom name rows (Shipped out ring flows) = is_named name (codes "shipped")
     × (out.now ≡ argument_word (codes "OUT") rows)
     × IsNumberOf 32 (codes "ring") rows ring
+    × IsNumberOf 32 (codes "flows") rows flows
 IsReadFrom name rows (Table script ring) = is_named name (codes "table")
     × (script.now ≡ argument_word (codes "SCRIPT") rows)
     × IsNumberOf 32 (codes "ring") rows ring
@@ -308,6 +309,7 @@ IsReadFrom name rows (Replay asked) = is_named name (codes "replay")
     × AreReplayFiles rows asked.files
     × AreReplayOptions rows asked.options
     × IsNumberOf 32 (codes "ring") rows asked.ring
+    × IsNumberOf 32 (codes "flows") rows asked.flows
     × IsSwitchOf (codes "exact") rows asked.exact
     × IsSwitchOf (codes "summary") rows asked.summary
     × IsReadingOf rows asked.reading

@@ -8,6 +8,9 @@ use semantics::Options;
 /// How many slots the lookup table of the shipped program has, where the command line names no number.
 pub const DEFAULT_RING: u32 = 251;
 
+/// How many notes the flow table of the shipped program has, where nothing else is asked.
+pub const DEFAULT_FLOWS: u32 = 4096;
+
 /// A command with its words: names of files as they were given, and numbers.
 #[derive(Debug, Drop)]
 pub enum Settings<'a> {
@@ -48,6 +51,8 @@ pub enum Settings<'a> {
         out: &'a str,
         /// How many slots its lookup table has.
         ring: u32,
+        /// How many notes its flow table has.
+        flows: u32,
     },
     /// Prints the lookup table after each command of a script.
     Table {
@@ -88,6 +93,8 @@ pub struct ReplaySettings<'a> {
     pub options: Options,
     /// How many slots the lookup table of the shipped program has.
     pub ring: u32,
+    /// How many notes its flow table has.
+    pub flows: u32,
     /// Whether a command takes effect exactly between the frames before and after it.
     pub exact: bool,
     /// Whether lines on the error stream say what the traffic was.

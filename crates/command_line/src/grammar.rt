@@ -118,6 +118,9 @@ pub const JOURNAL: &str = "journal";
 /// The size of the ring.
 pub const RING: &str = "ring";
 
+/// The size of the flow table.
+pub const FLOWS: &str = "flows";
+
 /// A value that is set before a run, or before the first frame of a replay.
 pub const UPDATE: &str = "update";
 
@@ -368,6 +371,19 @@ fn ring<'a>(alloc: Global) -> Arg<'a>
     )
 }
 
+/// The size of the shipped program's flow table.
+fn flow_notes<'a>(alloc: Global) -> Arg<'a>
+    ensures rule { rule_of result ≡ line.number_rule (codes "flows") 4294967295 (codes "4096") }
+    ensures local { result.global ≡ false }
+{
+    count(
+        alloc,
+        FLOWS,
+        "4096",
+        "The flows that the shipped program keeps: 4096, 8192, 16384 .. 131072",
+    )
+}
+
 fn shipped<'a>(alloc: Global) -> Result<Command<'a>, AllocError>
     ensures app { IfOk result (λ command. app_of command ≡ line.shipped_command) }
     ensures local { IfOk result (λ command. (out-Command command).has_globals ≡ false) }
@@ -380,7 +396,8 @@ fn shipped<'a>(alloc: Global) -> Result<Command<'a>, AllocError>
         after_shipped(),
     )
     .arg(out)?
-    .arg(ring(alloc))
+    .arg(ring(alloc))?
+    .arg(flow_notes(alloc))
 }
 
 fn table<'a>(alloc: Global) -> Result<Command<'a>, AllocError>
@@ -478,7 +495,17 @@ fn replay_opened<'a>(alloc: Global) -> Result<Command<'a>, AllocError>
         .arg(journal)
 }
 
-/// The same with the size of the lookup table, the moments of commands and the summary.
+/// The same with the sizes of the lookup table and the flow table.
+fn replay_sized<'a>(alloc: Global) -> Result<Command<'a>, AllocError>
+    ensures app { IfOk result (λ command. app_of command ≡ line.replay_sized) }
+    ensures local { IfOk result (λ command. (out-Command command).has_globals ≡ false) }
+{
+    replay_opened(alloc)?
+        .arg(ring(alloc))?
+        .arg(flow_notes(alloc))
+}
+
+/// The same with the moments of commands and the summary.
 fn replay_noted<'a>(alloc: Global) -> Result<Command<'a>, AllocError>
     ensures app { IfOk result (λ command. app_of command ≡ line.replay_noted) }
     ensures local { IfOk result (λ command. (out-Command command).has_globals ≡ false) }
@@ -493,10 +520,7 @@ fn replay_noted<'a>(alloc: Global) -> Result<Command<'a>, AllocError>
         SUMMARY,
         "Prints the kinds of frames and where frames were sent, on the standard error",
     );
-    replay_opened(alloc)?
-        .arg(ring(alloc))?
-        .arg(exact)?
-        .arg(summary)
+    replay_sized(alloc)?.arg(exact)?.arg(summary)
 }
 
 /// The same with how the capture's records are read.

@@ -59,8 +59,8 @@ make, with the reply that a map on one thread gives, and none came past a full
 journal. Otherwise the first entry that is not is reported, by its shard and its
 place there, counted from 0. Only the image's maps count: its program is not
 judged. They have to be those of the program that wrote the journals: for the
-shipped program, 'xlb shipped --ring N' writes its image for the --ring N of the
-replay."
+shipped program, 'xlb shipped' writes its image for the --ring and the --flows of
+the replay."
 }
 
 pub fn after_explain<'a>() -> &'a str {
@@ -75,8 +75,8 @@ the command line."
 pub fn after_shipped<'a>() -> &'a str {
     "\
 Prints nothing. The image is the program that replay runs if no other one is
-given, with its maps. Audit that program's journals with it, if the ring is the
-same."
+given, with its maps. Audit that program's journals with it, if --ring and
+--flows are the same."
 }
 
 pub fn after_table<'a>() -> &'a str {
@@ -110,7 +110,8 @@ in which case the status is 1. A frame is handled by the worker of its flow,
 so that a flow's frames stay in order. --image replays any program, without a
 script; --update, as of run, sets a value in its maps before the first frame.
 --program replays one over the maps of the shipped program, with any size of the
-lookup table, and with a script. The controller works beside the workers: a
+lookup table and of the flow table, and with a script. The shipped program keeps
+the backends of --flows flows; to note one more it forgets one. The controller works beside the workers: a
 command may take effect up to some 64 frames for each worker too early, because
 a worker's queue holds 64 frames, or later. With --exact it takes effect when
 all frames before it are done, and before a later one is begun. With --summary

@@ -7,5 +7,7 @@ mod help;
 mod part_word;
 mod words;
 
-pub use commands::{DEFAULT_RING, Reading, ReplayFiles, ReplaySettings, RunFiles, Settings};
+pub use commands::{
+    DEFAULT_FLOWS, DEFAULT_RING, Reading, ReplayFiles, ReplaySettings, RunFiles, Settings,
+};
 pub use words::{WordsFault, settings};

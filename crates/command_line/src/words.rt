@@ -17,9 +17,11 @@ ghost use Rattle.command_line.specs.Reading.{are_both_given, are_updates_alone, 
 ghost use Rattle.command_line.specs.Reading.{argument_word, words_of, AsksNoPart, IsLossAsked, IsPartAsked};
 ghost use Rattle.clap.specs.declared.error.kind.ErrorKind.TheVariants.{DisplayHelp, DisplayVersion, OutOfMemory};
 
-use crate::commands::{DEFAULT_RING, Reading, ReplayFiles, ReplaySettings, RunFiles, Settings};
+use crate::commands::{
+    DEFAULT_FLOWS, DEFAULT_RING, Reading, ReplayFiles, ReplaySettings, RunFiles, Settings,
+};
 use crate::grammar::{
-    ALLOW_CUT, CAPTURE, EXACT, EXPLAIN, FAULT, FIRST, FRAME, IMAGE, JOURNAL, JOURNALS,
+    ALLOW_CUT, CAPTURE, EXACT, EXPLAIN, FAULT, FIRST, FLOWS, FRAME, IMAGE, JOURNAL, JOURNALS,
     JOURNALS_OUT, LOST, NO_CLOBBER, NO_JOURNALS, NOW, OUT, PAD_CUT, PART, PROGRAM, REPLAY_IMAGE,
     REPORT, RING, SCRIPT, SECOND, SENT, SHARDS, SKIP_LONG, SOURCE, STRICT, SUMMARY, TABLE_SCRIPT,
     TEXT, TIMED, UPDATE, WORKER, WORKERS, WRITTEN_REPORT, program,
@@ -421,6 +423,7 @@ fn replay_with<'a>(
         files: replay_files_of(found),
         options: options_of(found),
         ring: number_of(found, RING, DEFAULT_RING),
+        flows: number_of(found, FLOWS, DEFAULT_FLOWS),
         exact: switch(found, EXACT),
         summary: switch(found, SUMMARY),
         reading: reading_of(found),
@@ -491,6 +494,7 @@ fn shipped_of<'a>(found: &ArgMatches<'a>) -> Settings<'a>
     Settings::Shipped {
         out: word(found, OUT),
         ring: number_of(found, RING, DEFAULT_RING),
+        flows: number_of(found, FLOWS, DEFAULT_FLOWS),
     }
 }
 

@@ -22,6 +22,7 @@ mod long_records;
 mod looking_back;
 mod one_run;
 mod parts;
+mod parts_in_pieces;
 mod programs;
 mod record_reports;
 mod replays;

@@ -1,3 +1,4 @@
 -- Lemmas that other crates cite.
 pub mod RuleLemmas
 pub mod ResultLemmas
+pub mod MapLemmas

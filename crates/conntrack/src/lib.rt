@@ -19,4 +19,7 @@ pub use fault::SteerFault;
 pub use keys::{Service, index_key};
 pub use records::{BackendRecord, FlowRecord, RingRecord, TunnelRecord, VipRecord};
 pub use steering::steer;
-pub use steering_maps::{BACKENDS, MOST_SERVICES, SteeringMap, maps, table_size};
+pub use steering_maps::{
+    BACKENDS, MOST_SERVICES, NOTE_COUNTS, NOTES, SteeringMap, is_note_count, maps, maps_with,
+    table_size,
+};

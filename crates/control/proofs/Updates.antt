@@ -5,7 +5,7 @@ use Rattle.std.proofs.lemmas.Bool.Decides.{nat_tests}
 use Rattle.std.proofs.lemmas.List.Elements.{All-append, All-cons}
 use Rattle.ebpf_decode.specs.declared.map.MapDef.{MapDef}
 use Rattle.semantics.specs.LittleEndian.{number_of_bytes, bytes_of_number}
-use Rattle.conntrack.specs.SteeringMaps.{steering_maps}
+use Rattle.conntrack.specs.SteeringMaps.{AreSteeringMaps}
 use Rattle.control.specs.declared.update.Update.{Update}
 use Rattle.control.specs.declared.update.Update.TheVariants.{Vip, Ring, Backend, Tunnel}
 use Rattle.control.specs.declared.ring_changes.Slot.{Slot}
@@ -17,25 +17,25 @@ use Rattle.control.specs.Controlling.{ControllerState, IsTable, IsCarriedOut, Is
 four_back : (n : ℕ) → n < 2 ^ 32 → number_of_bytes (bytes_of_number 4 n) ≡ n
 four_back n lt = omega arith
 
-pub in_array : (served : List MapDef) (size : ℕ) (update : Update) → served ≡ steering_maps size → StandsInArray size update → IsInArray served (map_update update)
+pub in_array : (served : List MapDef) (size : ℕ) (update : Update) → AreSteeringMaps size served → StandsInArray size update → IsInArray served (map_update update)
 in_array served size (Vip service vip) is stands = absurd stands
 in_array served size (Ring slot ring) is stands = record {
   definition = _;
-  known = ap (λ (maps : List MapDef). slice_get maps 2) is ∙ refl;
+  known = ap (λ (maps : List MapDef). slice_get maps 2) is.maps_are ∙ refl;
   array = refl;
   index = refl;
   inside = rw (four_back slot (omega (arith, stands.0, stands.1))) (omega (arith, stands.0));
 }
 in_array served size (Backend number backend) is stands = record {
   definition = _;
-  known = ap (λ (maps : List MapDef). slice_get maps 3) is ∙ refl;
+  known = ap (λ (maps : List MapDef). slice_get maps 3) is.maps_are ∙ refl;
   array = refl;
   index = refl;
   inside = rw (four_back number (omega (arith, stands))) stands;
 }
 in_array served size (Tunnel tunnel) is stands = record {
   definition = _;
-  known = ap (λ (maps : List MapDef). slice_get maps 4) is ∙ refl;
+  known = ap (λ (maps : List MapDef). slice_get maps 4) is.maps_are ∙ refl;
   array = refl;
   index = refl;
   inside = omega arith;

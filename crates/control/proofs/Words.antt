@@ -75,7 +75,7 @@ first_letter (Up backend address) = 117
 first_letter (Down backend) = 100
 first_letter (Gateway source source_mac destination_mac) = 103
 
-letter_of : (action : Action) → get_or (action_text action) 0 0 ≡ first_letter action
+pub letter_of : (action : Action) → get_or (action_text action) 0 0 ≡ first_letter action
 unfolding action_text
 letter_of (Vip service is_notrack) = refl
 letter_of (Up backend address) = refl

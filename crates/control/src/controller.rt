@@ -4,7 +4,7 @@ ghost use Rattle.std.specs.Prelude.{◌≡◌, ◌≢◌, ◌↔◌, ◌⊎◌, 
 ghost use Rattle.std.specs.Prelude.{List, [], ◌∷◌, Option, Some, Err, IfOk, IfErr, IsErrOf, OnOk, OnErr};
 ghost use Rattle.std.specs.List.{list_any};
 ghost use Rattle.maglev.specs.RingSize.{IsRingSize};
-ghost use Rattle.conntrack.specs.SteeringMaps.{steering_maps};
+ghost use Rattle.conntrack.specs.SteeringMaps.{AreSteeringMaps};
 ghost use Rattle.control.specs.declared.command.Action.{Action as Act};
 ghost use Rattle.control.specs.declared.fault.ControlFault.{ControlFault as Fault};
 ghost use Rattle.control.specs.declared.fault.ControlFault.TheVariants as faults;
@@ -95,19 +95,20 @@ impl Controller {
     }
 
     /// Puts a service.
+    #[tactic(auto, using(crate::proofs::Serving::still_steering))]
     fn put_vip<U: UpdatePort>(
         &mut self,
         service: Service,
         is_notrack: bool,
         port: &mut U,
     ) -> Result<(), ControlFault>
-        requires serves { U.serves port.old ≡ steering_maps self.old.size }
+        requires serves { AreSteeringMaps self.old.size (U.serves port.old) }
         requires not_full { self.old.is_full ≡ false }
         ensures done { OnOk result (IsCarriedOut U.gives self.old port.old
             (first_updates self.old.up (Act.Vip service is_notrack)) self.old.up self.new port.new) }
         ensures left { IfErr result
             (λ fault. IsLeft U.gives U.refuses self.old port.old (Act.Vip service is_notrack) self.new port.new fault) }
-        ensures stays { (self.new.size ≡ self.old.size) × (U.serves port.new ≡ steering_maps self.old.size) }
+        ensures stays { (self.new.size ≡ self.old.size) × AreSteeringMaps self.new.size (U.serves port.new) }
     {
         let vip = VipRecord { is_notrack };
         match make(port, Update::Vip { service, vip }) {
@@ -132,13 +133,13 @@ impl Controller {
         destination_mac: MacAddress,
         port: &mut U,
     ) -> Result<(), ControlFault>
-        requires serves { U.serves port.old ≡ steering_maps self.old.size }
+        requires serves { AreSteeringMaps self.old.size (U.serves port.old) }
         requires not_full { self.old.is_full ≡ false }
         ensures done { OnOk result (IsCarriedOut U.gives self.old port.old
             (first_updates self.old.up (Act.Gateway source source_mac destination_mac)) self.old.up self.new port.new) }
         ensures left { IfErr result (λ fault. IsLeft U.gives U.refuses self.old port.old
             (Act.Gateway source source_mac destination_mac) self.new port.new fault) }
-        ensures stays { (self.new.size ≡ self.old.size) × (U.serves port.new ≡ steering_maps self.old.size) }
+        ensures stays { (self.new.size ≡ self.old.size) × AreSteeringMaps self.new.size (U.serves port.new) }
     {
         let tunnel = TunnelRecord {
             source,
@@ -163,7 +164,7 @@ impl Controller {
         up: Vec<Backend>,
         port: &mut U,
     ) -> Result<(), ControlFault>
-        requires serves { U.serves port.old ≡ steering_maps self.old.size }
+        requires serves { AreSteeringMaps self.old.size (U.serves port.old) }
         requires not_full { self.old.is_full ≡ false }
         requires up { AreUp self.old.size up.items }
         requires first { StandsInArray self.old.size first }
@@ -171,7 +172,7 @@ impl Controller {
         ensures done { OnOk result (IsCarriedOut U.gives self.old port.old (first ∷ []) up.items self.new port.new) }
         ensures refused { IfErr result (λ fault. ((fault ≡ faults.Memory) × IsUnchanged self.old port.old self.new port.new)
             ⊎ ((fault ≡ faults.JournalFull) × IsStopped U.gives U.refuses self.old port.old (first ∷ []) up.items self.new port.new)) }
-        ensures stays { (self.new.size ≡ self.old.size) × (U.serves port.new ≡ steering_maps self.old.size) }
+        ensures stays { (self.new.size ≡ self.old.size) × AreSteeringMaps self.new.size (U.serves port.new) }
     {
         let ring = ring_of(alloc, &up, self.size)?;
         let slots = changes(alloc, owners(&self.ring), owners(&ring), self.size)?;
@@ -196,7 +197,7 @@ impl Controller {
         address: Ipv4Address,
         port: &mut U,
     ) -> Result<(), ControlFault>
-        requires serves { U.serves port.old ≡ steering_maps self.old.size }
+        requires serves { AreSteeringMaps self.old.size (U.serves port.old) }
         requires not_full { self.old.is_full ≡ false }
         ensures done { OnOk result (IsCarriedOut U.gives self.old port.old
             (first_updates self.old.up (Act.Up number address))
@@ -204,7 +205,7 @@ impl Controller {
         ensures left { IfErr result (λ fault. IsLeft U.gives U.refuses self.old port.old (Act.Up number address) self.new port.new fault) }
         ensures first { (fault : Fault) → action_refusal self.old.size self.old.up (Act.Up number address) ≡ Some fault →
             result ≡ Err fault }
-        ensures stays { (self.new.size ≡ self.old.size) × (U.serves port.new ≡ steering_maps self.old.size) }
+        ensures stays { (self.new.size ≡ self.old.size) × AreSteeringMaps self.new.size (U.serves port.new) }
     {
         if !is_served_number(number, self.size) {
             return Err(ControlFault::UnknownBackend);
@@ -227,13 +228,13 @@ impl Controller {
         number: u32,
         port: &mut U,
     ) -> Result<(), ControlFault>
-        requires serves { U.serves port.old ≡ steering_maps self.old.size }
+        requires serves { AreSteeringMaps self.old.size (U.serves port.old) }
         requires not_full { self.old.is_full ≡ false }
         ensures done { OnOk result (IsCarriedOut U.gives self.old port.old
             (first_updates self.old.up (Act.Down number)) (up_after self.old.up (Act.Down number)) self.new port.new) }
         ensures left { IfErr result (λ fault. IsLeft U.gives U.refuses self.old port.old (Act.Down number) self.new port.new fault) }
         ensures first { (fault : Fault) → action_refusal self.old.size self.old.up (Act.Down number) ≡ Some fault → result ≡ Err fault }
-        ensures stays { (self.new.size ≡ self.old.size) × (U.serves port.new ≡ steering_maps self.old.size) }
+        ensures stays { (self.new.size ≡ self.old.size) × AreSteeringMaps self.new.size (U.serves port.new) }
     {
         let Some(known) = backend_of(&self.up, number) else {
             return Err(ControlFault::UnknownBackend);
@@ -261,7 +262,7 @@ impl Controller {
         command: &Command,
         port: &mut U,
     ) -> Result<(), ControlFault>
-        requires serves { U.serves port.old ≡ steering_maps self.old.size }
+        requires serves { AreSteeringMaps self.old.size (U.serves port.old) }
 
         // The updates that are made, and the controller after them.
         ensures done { OnOk result (IsCarriedOut U.gives self.old port.old
@@ -272,7 +273,7 @@ impl Controller {
         ensures first { (fault : Fault) → refusal_of self.old command.now.action ≡ Some fault → result ≡ Err fault }
 
         // The next command can be carried out with the same port.
-        ensures stays { (self.new.size ≡ self.old.size) × (U.serves port.new ≡ steering_maps self.old.size) }
+        ensures stays { (self.new.size ≡ self.old.size) × AreSteeringMaps self.new.size (U.serves port.new) }
     {
         if self.is_full {
             return Err(ControlFault::JournalFull);

@@ -20,7 +20,7 @@ pub use command::{Action, Command, Script};
 pub use controller::Controller;
 pub use facts::{commands_fit, commands_never_fall};
 pub use fault::ControlFault;
-pub use parsing::{parse_script, round_trip};
+pub use parsing::{one_script, parse_script, round_trip};
 pub use printing::transport_text;
 pub use ring_changes::{Slot, ring_updates};
 pub use update::Update;

@@ -105,6 +105,11 @@ pub fn parse_script(alloc: Global, bytes: &[u8]) -> Result<Script, ControlFault>
     }
 }
 
+/// A text is that of one script at most. The function does nothing: its contract is the law.
+pub fn one_script()
+    ensures { (text : List ℕ) (one other : List Line) → IsScriptText text one → IsScriptText text other → one ≡ other }
+{}
+
 /// The law of the two: `parse_script` returns what `Script::text` printed, unless memory is refused.
 pub fn round_trip(alloc: Global, script: &Script) -> Result<Script, ControlFault>
     ensures same { IfOk result (λ made. made ≡ script.now) }

@@ -3,7 +3,7 @@
 ghost use Rattle.std.specs.Prelude.{◌≡◌, ◌≤◌, ◌<◌, ◌+◌, ◌^◌, ℕ, ℤ, pos, List, length, IfOk, IfSome, OnOk, OnErr};
 ghost use Rattle.ebpf_decode.specs.declared.map.MapDef.{MapDef};
 ghost use Rattle.semantics.specs.LittleEndian.{bytes_of_number};
-ghost use Rattle.conntrack.specs.SteeringMaps.{map_place, steering_maps};
+ghost use Rattle.conntrack.specs.SteeringMaps.{map_place, AreSteeringMaps};
 ghost use Rattle.control.specs.declared.update.Update.{Update as Change};
 ghost use Rattle.control.specs.MapUpdates.{UpdateBytes, map_update, IsUpdateOf, IsInArray, HasOwner};
 
@@ -79,7 +79,7 @@ fn put<U: UpdatePort>(
 
 /// Makes an update.
 pub(crate) fn make<U: UpdatePort>(port: &mut U, update: Update) -> Result<i32, JournalFull>
-    requires size { (size : ℕ) × (U.serves port.old ≡ steering_maps size) }
+    requires size { (size : ℕ) × AreSteeringMaps size (U.serves port.old) }
     requires owner { HasOwner update }
     ensures gives { IfOk result (λ answer. U.gives port.old (map_update update) answer port.new) }
     ensures refuses { OnErr result (U.refuses port.old (map_update update) port.new) }

@@ -21,7 +21,7 @@ use Rattle.semantics.proofs.shared.HoldingLemmas.{each_find}
 use Rattle.shards.specs.SharedMaps.{ArePlans}
 use Rattle.shards.proofs.shared.Keys.{at_key, IsAtKey}
 use Rattle.maglev.specs.declared.backend.Backend.{Backend as Server}
-use Rattle.conntrack.specs.SteeringMaps.{steering_maps}
+use Rattle.conntrack.specs.SteeringMaps.{sized_maps, AreSteeringMaps}
 use Rattle.conntrack.specs.Layouts.{flag_number, owner_word}
 use Rattle.control.specs.declared.command.Action.{Action}
 use Rattle.control.specs.declared.command.Action.TheVariants as actions
@@ -124,8 +124,8 @@ tunnel_sized source mac other flag last four six also word zeros =
     let d = length-append source mac in
     omega (arith, a, b, c, d, four, six, also, word, zeros)
 
-fits : (size : ℕ) (change : Change) → IsSizedChange change → Fits (steering_maps size) (map_update change)
-fits size (Vip service vip) sized =
+fits : (notes size : ℕ) (change : Change) → IsSizedChange change → Fits (sized_maps notes size) (map_update change)
+fits notes size (Vip service vip) sized =
     let address = sized.0 in
     record {
       definition = _;
@@ -137,7 +137,7 @@ fits size (Vip service vip) sized =
           (protocol_bytes service.transport);
       value_bytes = bytes_both (bytes_of_number 4 (flag_number vip.is_notrack)) (0 ∷ 0 ∷ 0 ∷ 0 ∷ []) (number_bytes 4 (flag_number vip.is_notrack)) refl;
     }
-fits size (Ring slot ring) sized = record {
+fits notes size (Ring slot ring) sized = record {
   definition = _;
   known = refl;
   key_size = refl;
@@ -145,7 +145,7 @@ fits size (Ring slot ring) sized = record {
   key_bytes = number_bytes 4 slot;
   value_bytes = bytes_both (bytes_of_number 4 (owner_word ring.owner)) (0 ∷ 0 ∷ 0 ∷ 0 ∷ []) (number_bytes 4 (owner_word ring.owner)) refl;
 }
-fits size (Backend number backend) sized = record {
+fits notes size (Backend number backend) sized = record {
   definition = _;
   known = refl;
   key_size = refl;
@@ -153,7 +153,7 @@ fits size (Backend number backend) sized = record {
   key_bytes = number_bytes 4 number;
   value_bytes = bytes_both backend.address.0 (bytes_of_number 4 (flag_number backend.is_up)) sized.tested (number_bytes 4 (flag_number backend.is_up));
 }
-fits size (Tunnel tunnel) sized =
+fits notes size (Tunnel tunnel) sized =
     let flag : List ℕ = bytes_of_number 4 (flag_number tunnel.is_ready) in
     let zeros : List ℕ = 0 ∷ 0 ∷ 0 ∷ 0 ∷ [] in
     let both : List ℕ = tunnel.source.0 ++ tunnel.source_mac.0 in
@@ -238,13 +238,13 @@ slots_sized (slot ∷ slots) = (tt, slots_sized slots)
 
 -- ---- every command
 
-module _ (plan : ℕ → ShardPlan) (options : Options) (count size : ℕ) (plans : ArePlans (steering_maps size) options count plan)
-    (fit : AreOptions (steering_maps size) options) where
+module _ (plan : ℕ → ShardPlan) (options : Options) (count notes size : ℕ) (plans : ArePlans (sized_maps notes size) options count plan)
+    (fit : AreOptions (sized_maps notes size) options) where
   abbrev MayLook : CommandDone → Type 0
-  MayLook one = IfSome one.stopped (IsAskable plan (steering_maps size) options)
+  MayLook one = IfSome one.stopped (IsAskable plan (sized_maps notes size) options)
 
   not_stopped : (one : CommandDone) → one.stopped ≡ None → MayLook one
-  not_stopped one none = subst (λ (stopped : Option UpdateBytes). IfSome stopped (IsAskable plan (steering_maps size) options)) (sym none) tt
+  not_stopped one none = subst (λ (stopped : Option UpdateBytes). IfSome stopped (IsAskable plan (sized_maps notes size) options)) (sym none) tt
 
   -- what a command leaves
   record Leaves (one : CommandDone) (state' : ControllerState) : Type 0 where
@@ -279,8 +279,8 @@ module _ (plan : ℕ → ShardPlan) (options : Options) (count size : ℕ) (plan
       (firsts_sized state.up one.action all sized) (slots_sized (changes_below state.owners is.owners state.size)) in
       let parts = all_parts IsSizedChange is.begun (is.next ∷ is.later) (subst (AllByRecursion IsSizedChange) is.in_order updates) in
       record {
-        may = subst (λ (stopped : Option UpdateBytes). IfSome stopped (IsAskable plan (steering_maps size) options)) (sym is.stopped)
-            (askable plan (steering_maps size) options count plans fit (map_update is.next) (fits size is.next parts.1.0));
+        may = subst (λ (stopped : Option UpdateBytes). IfSome stopped (IsAskable plan (sized_maps notes size) options)) (sym is.stopped)
+            (askable plan (sized_maps notes size) options count plans fit (map_update is.next) (fits notes size is.next parts.1.0));
         up = subst (λ (here : ControllerState). AreSized here.up) (sym is.state_is) all;
       }
 
@@ -322,14 +322,14 @@ none_may plan maps options [] (one ∷ later) are = absurd are
 none_may plan maps options (noted ∷ more) [] are = absurd are
 
 pub commands_may_look : (plan : ℕ → ShardPlan) (maps : List MapDef) (options : Options) (count size : ℕ) → ArePlans maps options count plan →
-    AreOptions maps options → (script : List Command) → AllByRecursion CommandFits script → ((script ≡ []) ⊎ (maps ≡ steering_maps size)) →
+    AreOptions maps options → (script : List Command) → AllByRecursion CommandFits script → ((script ≡ []) ⊎ AreSteeringMaps size maps) →
     (noted : List Applied) (done : List CommandDone) → AreNotedOf script noted done → (state state' : ControllerState) → AreDone state done state' →
     state.up ≡ [] → AllByRecursion (λ (one : CommandDone). IfSome one.stopped (IsAskable plan maps options)) done
 commands_may_look plan maps options count size plans fit script sized serves noted done are state state' is none = ⊎_elim
     (λ empty. none_may plan maps options noted done (subst (λ (list : List Command). AreNotedOf list noted done) empty are))
-    (λ same.
-    subst (λ (list : List MapDef). AllByRecursion (λ (one : CommandDone). IfSome one.stopped (IsAskable plan list options)) done) (sym same)
-    (all_may plan options count size (subst (λ (list : List MapDef). ArePlans list options count plan) same plans)
-    (subst (λ (list : List MapDef). AreOptions list options) same fit) script sized noted done are state state' is
+    (λ steering.
+    subst (λ (list : List MapDef). AllByRecursion (λ (one : CommandDone). IfSome one.stopped (IsAskable plan list options)) done) (sym steering.maps_are)
+    (all_may plan options count steering.notes size (subst (λ (list : List MapDef). ArePlans list options count plan) steering.maps_are plans)
+    (subst (λ (list : List MapDef). AreOptions list options) steering.maps_are fit) script sized noted done are state state' is
     (subst AreSized (sym none) tt)))
     serves

@@ -10,8 +10,8 @@
 //! | Definition | Files | Definitions | Lines |
 //! |---|---|---|---|
 //! | `IsReplay` | 31 | 328 | 1,303 |
-//! | `Headline` | 54 | 438 | 1,704 |
-//! | `HeadlineOf` | 80 | 614 | 2,451 |
+//! | `Headline` | 54 | 441 | 1,712 |
+//! | `HeadlineOf` | 80 | 617 | 2,459 |
 //!
 //! The laws of `step_laws` show that the definitions are not empty, those of `place_laws` that a worker is inside and holds a cell by places
 //! in the history alone. `one_caller` speaks of runs one after the other without locks, `readers` of programs that only read.

@@ -22,5 +22,5 @@ pub use histories::{about_entry, about_journals};
 pub use images::{about_image, about_map};
 pub use map_lines::about_map_line;
 pub use namesakes::explained;
-pub use openings::{about_options, about_ring, about_worker};
+pub use openings::{about_flows, about_options, about_ring, about_worker};
 pub use scripts::about_script;

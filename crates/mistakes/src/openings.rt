@@ -4,6 +4,7 @@ ghost use Rattle.std.specs.Prelude.{string_bytes, IfOk};
 ghost use Rattle.mistakes.specs.Notes.{AreFewNotes};
 
 use crate::notes::notes_of;
+use conntrack::NOTE_COUNTS;
 use ebpf_decode::MapDef;
 use maglev::RING_SIZES;
 use semantics::{LEAST_ENTRIES, MOST_ENTRIES, MOST_WORKERS, Options};
@@ -86,11 +87,11 @@ pub fn about_worker(alloc: Global, worker: u32) -> Result<String, AllocError>
     about_number(alloc, "worker", worker, "expected 0 to 7")
 }
 
-/// The least size of a lookup table that is larger than this.
-fn next_size(ring: u32) -> Option<u32> {
-    for size in &RING_SIZES {
-        if *size > ring {
-            return Some(*size);
+/// The first of these numbers, which rise, that is larger than this one.
+fn next_of(numbers: &[u32], number: u32) -> Option<u32> {
+    for next in numbers {
+        if *next > number {
+            return Some(*next);
         }
     }
     None
@@ -103,7 +104,7 @@ pub fn about_ring(alloc: Global, ring: u32) -> Result<String, AllocError>
     ensures { IfOk result (λ text. AreFewNotes 3 (string_bytes text)) }
 {
     let wrong = format!(in alloc; "--ring {ring}")?;
-    let next = match next_size(ring) {
+    let next = match next_of(&RING_SIZES, ring) {
         Some(size) => format!(in alloc; "the next larger one is {size}")?,
         None => String::from_str(alloc, "the largest one is 65537")?,
     };
@@ -111,6 +112,25 @@ pub fn about_ring(alloc: Global, ring: u32) -> Result<String, AllocError>
         alloc,
         wrong.as_str(),
         "expected the number of slots of a lookup table: 7, 251, 4093 or 65537",
+        next.as_str(),
+    )
+}
+
+/// Lines for people on a number of notes that no flow table has (fault 73): which numbers there are, and the next larger one.
+///
+/// At most three lines, each with two spaces at its beginning and a line feed at its end. It can fail only for lack of memory.
+pub fn about_flows(alloc: Global, flows: u32) -> Result<String, AllocError>
+    ensures { IfOk result (λ text. AreFewNotes 3 (string_bytes text)) }
+{
+    let wrong = format!(in alloc; "--flows {flows}")?;
+    let next = match next_of(&NOTE_COUNTS, flows) {
+        Some(count) => format!(in alloc; "the next larger one is {count}")?,
+        None => String::from_str(alloc, "the largest one is 131072")?,
+    };
+    notes_of(
+        alloc,
+        wrong.as_str(),
+        "expected the number of notes of a flow table: 4096, 8192, 16384, 32768, 65536 or 131072",
         next.as_str(),
     )
 }

@@ -29,7 +29,9 @@ fn shown(rt: &impl Abort, alloc: Global, settings: Settings<'_>) -> Result<Strin
             format!(in alloc; "explain {number}")
         }
         Settings::Asm { text, out, source } => format!(in alloc; "asm {text} {out} {source}"),
-        Settings::Shipped { out, ring } => format!(in alloc; "shipped {out} {ring}"),
+        Settings::Shipped { out, ring, flows } => {
+            format!(in alloc; "shipped {out} {ring} {flows}")
+        }
         Settings::Table { script, ring } => format!(in alloc; "table {script} {ring}"),
         Settings::Script { capture, timed } => format!(in alloc; "script {capture} {timed}"),
         Settings::Compare { first, second } => format!(in alloc; "compare {first} {second}"),
@@ -37,6 +39,7 @@ fn shown(rt: &impl Abort, alloc: Global, settings: Settings<'_>) -> Result<Strin
         Settings::Page { report, script } => format!(in alloc; "page {report} {script}"),
         Settings::Replay(asked) => {
             let mut text = replay_shown(rt, alloc, asked.files, asked.options, asked.ring);
+            put_flows(rt, alloc, &mut text, asked.flows);
             put_flags(rt, &mut text, &asked);
             put_part(rt, alloc, &mut text, &asked);
             put_report(rt, &mut text, asked.files);
@@ -51,6 +54,12 @@ fn put_if(rt: &impl Abort, text: &mut String, is_said: bool, word: &str) {
     if is_said {
         text.push_str(word).expect(rt, "memory");
     }
+}
+
+/// The number of notes, where it is not the usual one.
+fn put_flows(rt: &impl Abort, alloc: Global, text: &mut String, flows: u32) {
+    let shown = format!(in alloc; " flows {flows}").expect(rt, "memory");
+    put_if(rt, text, flows != 4096, shown.as_str());
 }
 
 /// The flags of a replay that are given.
@@ -147,7 +156,7 @@ fn replay_shown(
 }
 
 #[rattlefmt::skip]
-const READ: [(&str, &str); 58] = [
+const READ: [(&str, &str); 62] = [
     ("xlb check a",                             "check a false"),
     ("xlb check --explain a",                   "check a true"),
     ("xlb check a --explain",                   "check a true"),
@@ -175,9 +184,11 @@ const READ: [(&str, &str); 58] = [
     ("xlb run a b --update +1 00 00",           "run a b 0 0 - 1=00:00"),
     ("xlb check -- -a",                         "check -a false"),
     ("another check check",                     "check check false"),
-    ("xlb shipped a",                           "shipped a 251"),
-    ("xlb shipped a --ring 7",                  "shipped a 7"),
-    ("xlb shipped --ring 4294967295 a",         "shipped a 4294967295"),
+    ("xlb shipped a",                           "shipped a 251 4096"),
+    ("xlb shipped a --ring 7",                  "shipped a 7 4096"),
+    ("xlb shipped --ring 4294967295 a",         "shipped a 4294967295 4096"),
+    ("xlb shipped a --flows 8192",              "shipped a 251 8192"),
+    ("xlb shipped --flows 4294967295 --ring 8 a", "shipped a 8 4294967295"),
     ("xlb table a",                             "table a 251"),
     ("xlb table --ring 7 a",                    "table a 7"),
     ("xlb replay a b",                          "replay a b - - 1 1 65536 251 -"),
@@ -193,6 +204,8 @@ const READ: [(&str, &str); 58] = [
     ("xlb replay a b --no-clobber",             "replay a b - - 1 1 65536 251 - no-clobber"),
     ("xlb replay a b --no-clobber --strict --allow-cut --pad-cut --skip-long --exact",
         "replay a b - - 1 1 65536 251 - exact skip-long pad-cut allow-cut strict no-clobber"),
+    ("xlb replay a b --flows 131072",           "replay a b - - 1 1 65536 251 - flows 131072"),
+    ("xlb replay --flows=0 a b --exact --image i", "replay a b i - 1 1 65536 251 - flows 0 exact no-steering"),
     ("xlb replay a b --part 0/1",              "replay a b - - 1 1 65536 251 - part 0 of 1"),
     ("xlb replay --part=3/8 a b --exact",      "replay a b - - 1 1 65536 251 - exact part 3 of 8"),
     ("xlb replay a b --part +1/4294967295",    "replay a b - - 1 1 65536 251 - part 1 of 4294967295"),
@@ -231,7 +244,7 @@ fn reads_commands(rt: HostRuntime) {
 
 /// A command line, the status, and what its text begins with.
 #[rattlefmt::skip]
-const REFUSED: [(&str, u8, &str); 73] = [
+const REFUSED: [(&str, u8, &str); 76] = [
     ("xlb",                                     2, "error: 'xlb' requires a subcommand but one was not provided"),
     ("xlb play a b",                            2, "error: unrecognized subcommand 'play'"),
     ("xlb replay a",                            2, "error: the following required arguments were not provided:\n  <SENT>"),
@@ -305,6 +318,9 @@ const REFUSED: [(&str, u8, &str); 73] = [
     ("xlb shipped",                             2, "error: the following required arguments were not provided:\n  <OUT>"),
     ("xlb shipped a b",                         2, "error: unexpected argument 'b' found"),
     ("xlb shipped a --ring x",                  2, "error: invalid value 'x' for '--ring <N>'"),
+    ("xlb shipped a --flows x",                 2, "error: invalid value 'x' for '--flows <N>'"),
+    ("xlb replay a b --flows 4294967296",       2, "error: invalid value '4294967296' for '--flows <N>'"),
+    ("xlb table a --flows 8192",                2, "error: unexpected argument '--flows' found"),
     ("xlb table",                               2, "error: the following required arguments were not provided:\n  <SCRIPT>"),
     ("xlb help run",                            0, "Runs an image on one frame"),
     ("xlb --help",                              0,

@@ -1,29 +1,32 @@
 -- Why the threads of a replay were given up.
-use Rattle.std.proofs.Common.{inl, inr, ◌≡◌, ◌⊎◌, ℕ, ◌+◌, List, Result, Err, ap}
+use Rattle.std.proofs.Common.{inl, inr, ◌≡◌, ◌⊎◌, ◌∙◌, ℕ, ◌+◌, ◌<◌, List, length}
 use Rattle.rx_queues.specs.declared.job.Job.{Job}
 use Rattle.actors.specs.Actors.{AreAllEnded}
-use Rattle.actors.specs.Puts.{AreNonePut, AreAllPut}
-use Rattle.replay.specs.Settings.{IsAbandoned}
+use Rattle.actors.specs.Puts.{put_at}
+use Rattle.actors.specs.Shares.{frames_of}
+use Rattle.replay.specs.declared.threads.Setting.{Setting}
+use Rattle.replay.specs.Settings.{IsAbandoned, WereGivenUp}
 use Rattle.actors.specs.UpdateFaults.{IsOfNoUpdate}
 use Rattle.actors.specs.declared.fault.ReplayFault.{ReplayFault}
-use Rattle.actors.specs.declared.fault.ReplayFault.TheVariants.{BadOptions, Memory, NoThread}
+use Rattle.actors.specs.declared.fault.ReplayFault.TheVariants.{BadOptions}
 
-abbrev failed_of : (X : Type 0) → ReplayFault → Result X ReplayFault
-failed_of X why = Err why
-
-memory_is_no_thread : {X : Type 0} (fault : ReplayFault) → fault ≡ Memory → failed_of X fault ≡ failed_of X NoThread → ⊥
-memory_is_no_thread fault is same = cc
-
--- why the threads were given up, by what their start and their end say
-pub abandoned_by : {X : Type 0} (frames : List (List ℕ)) (workers count : ℕ) (fault : ReplayFault) (puts : List (List Job))
-    → ¬ (failed_of X fault ≡ failed_of X BadOptions) → IsOfNoUpdate fault → (failed_of X fault ≡ failed_of X NoThread → AreNonePut workers puts)
-    → (¬ (failed_of X fault ≡ failed_of X NoThread) → AreAllPut frames workers count puts) → AreAllEnded (workers + 2) puts
-    → IsAbandoned frames workers count fault puts
-abandoned_by frames workers count fault puts served (inl memory) none all ended =
-    inr (inr (record { no_memory = memory; records = all (memory_is_no_thread fault memory); ended = ended }))
-abandoned_by {X} frames workers count fault puts served (inr (inl bad)) none all ended = absurd (served (ap (failed_of X) bad))
-abandoned_by {X} frames workers count fault puts served (inr (inr unstarted)) none all ended =
-    inr (inl (record { no_thread = unstarted; no_record = none (ap (failed_of X) unstarted); ended = ended }))
+-- the workers were, and then every thread was handed the end
+pub given_up_then : {W R : Type 0} (setting : Setting W R) (workers : ℕ) (before after : List (List Job)) (fault : ReplayFault)
+    → WereGivenUp setting workers before fault → ((place : ℕ) → place < workers → put_at after place ≡ put_at before place)
+    → AreAllEnded (workers + 2) after
+    → IsAbandoned (frames_of setting.capture.now.records.items) workers (length setting.capture.now.records.items) fault after
+given_up_then setting workers before after fault (inl unstarted) same ended =
+    inr (inl (record {
+      no_thread = unstarted.0;
+      no_record = λ worker below. same worker below ∙ unstarted.1 worker below;
+      ended = ended;
+    }))
+given_up_then setting workers before after fault (inr refused) same ended =
+    inr (inr (record {
+      no_memory = refused.0;
+      records = λ worker below. same worker below ∙ refused.1 worker below;
+      ended = ended;
+    }))
 
 -- the fault is that of no update, and not that of the options
 pub of_abandoned : (frames : List (List ℕ)) (workers count : ℕ) (fault : ReplayFault) (puts : List (List Job))

@@ -265,7 +265,7 @@ first_controller maps script size other served served' (inl none) serves' = inl 
 first_controller maps script size other served served' (inr of_table) (inl none) = inl none
 first_controller maps script size other served served' (inr of_table) (inr of_other) =
     let slots : ring_entries size ≡ ring_entries other =
-    ap (λ (list : List MapDef). entries_in (slice_get list 2)) (sym of_table ∙ of_other) in
+    ap (λ (list : List MapDef). entries_in (slice_get list 2)) (sym of_table.maps_are ∙ of_other.maps_are) in
     inr (ap opened_controller (one_size size other served served' slots))
 
 -- ---- what they return

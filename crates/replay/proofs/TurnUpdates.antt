@@ -111,25 +111,33 @@ module _ {maps : List MapDef} {options : Options} {shards : List JournaledShard}
     }
     still_serves keep shards' (Err fault) made same = subst (ServesTurns maps options) (sym same) stands.serves
 
--- ---- what a command leaves of the options
+-- ---- what a command leaves of the maps and the options
 
-made_options : (updates : List Change) (before after : TurnMaps) → AreMade IsUpdatedInTurn before updates after → after.options ≡ before.options
-made_options [] before after made = ap (λ (all : TurnMaps). all.options) (sym made)
-made_options (update ∷ later) before after made = made_options later made.0 after made.2 ∙ made.1.same_options
+abbrev IsOfOneKind : TurnMaps → TurnMaps → Type 0
+IsOfOneKind before after = (after.maps ≡ before.maps) × (after.options ≡ before.options)
 
-pub carried_options : (state : ControllerState) (before : TurnMaps) (firsts : List Change) (up : List Server) (state' : ControllerState) (after : TurnMaps) →
-    IsCarriedOut IsUpdatedInTurn state before firsts up state' after → after.options ≡ before.options
-carried_options state before firsts up state' after whole = made_options (updates_of state firsts whole.owners) before after whole.are_made
+one_kind : (before after : TurnMaps) → after ≡ before → IsOfOneKind before after
+one_kind before after same = (ap (λ (all : TurnMaps). all.maps) same, ap (λ (all : TurnMaps). all.options) same)
 
-pub left_options : (state : ControllerState) (before : TurnMaps) (action : Action) (state' : ControllerState) (after : TurnMaps) (fault : ControlFault) →
-    IsLeft IsUpdatedInTurn IsTurnedAwayInTurn state before action state' after fault → after.options ≡ before.options
-left_options state before action state' after UnknownBackend (unchanged, is) = ap (λ (all : TurnMaps). all.options) unchanged.port_is
-left_options state before action state' after BackendTwice (unchanged, is) = ap (λ (all : TurnMaps). all.options) unchanged.port_is
-left_options state before action state' after (Refused answer) told = told.answered.same_options
-left_options state before action state' after Full (inl (unchanged, is)) = ap (λ (all : TurnMaps). all.options) unchanged.port_is
-left_options state before action state' after Full (inr cut) =
-    ap (λ (all : TurnMaps). all.options) cut.cut_short.is_refused.nothing
-    ∙ made_options cut.cut_short.made before cut.cut_short.middle cut.cut_short.are_made
-left_options state before action state' after Memory (unchanged, is) = ap (λ (all : TurnMaps). all.options) unchanged.port_is
-left_options state before action state' after BadSize left = absurd left
-left_options state before action state' after (BadLine line) left = absurd left
+made_kind : (updates : List Change) (before after : TurnMaps) → AreMade IsUpdatedInTurn before updates after → IsOfOneKind before after
+made_kind [] before after made = one_kind before after (sym made)
+made_kind (update ∷ later) before after made =
+    let rest = made_kind later made.0 after made.2 in (rest.0 ∙ made.1.same_maps, rest.1 ∙ made.1.same_options)
+
+pub carried_kind : (state : ControllerState) (before : TurnMaps) (firsts : List Change) (up : List Server) (state' : ControllerState) (after : TurnMaps) →
+    IsCarriedOut IsUpdatedInTurn state before firsts up state' after → IsOfOneKind before after
+carried_kind state before firsts up state' after whole = made_kind (updates_of state firsts whole.owners) before after whole.are_made
+
+pub left_kind : (state : ControllerState) (before : TurnMaps) (action : Action) (state' : ControllerState) (after : TurnMaps) (fault : ControlFault) →
+    IsLeft IsUpdatedInTurn IsTurnedAwayInTurn state before action state' after fault → IsOfOneKind before after
+left_kind state before action state' after UnknownBackend (unchanged, is) = one_kind before after unchanged.port_is
+left_kind state before action state' after BackendTwice (unchanged, is) = one_kind before after unchanged.port_is
+left_kind state before action state' after (Refused answer) told = (told.answered.same_maps, told.answered.same_options)
+left_kind state before action state' after Full (inl (unchanged, is)) = one_kind before after unchanged.port_is
+left_kind state before action state' after Full (inr cut) =
+    let made = made_kind cut.cut_short.made before cut.cut_short.middle cut.cut_short.are_made in
+    let stopped = one_kind cut.cut_short.middle after cut.cut_short.is_refused.nothing in
+    (stopped.0 ∙ made.0, stopped.1 ∙ made.1)
+left_kind state before action state' after Memory (unchanged, is) = one_kind before after unchanged.port_is
+left_kind state before action state' after BadSize left = absurd left
+left_kind state before action state' after (BadLine line) left = absurd left

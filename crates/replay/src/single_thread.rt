@@ -9,7 +9,7 @@ ghost use Rattle.semantics.specs.declared.options.Options.{Options as Settings};
 ghost use Rattle.semantics.specs.Program.{Program};
 ghost use Rattle.semantics.specs.ShardPlan.{KeepsRows, are_served_options, recorded};
 ghost use Rattle.wire.specs.declared.records.Sent.{Sent as Record};
-ghost use Rattle.conntrack.specs.SteeringMaps.{steering_maps};
+ghost use Rattle.conntrack.specs.SteeringMaps.{AreSteeringMaps};
 ghost use Rattle.control.specs.declared.command.Command.{Command as Line};
 ghost use Rattle.control.specs.declared.fault.ControlFault.{ControlFault as Fault};
 ghost use Rattle.control.specs.Controlling.{refusal_of, opened_controller};
@@ -134,7 +134,7 @@ fn apply_to(
     command: &Command,
     all: &mut TurnShards,
 ) -> Option<ControlFault>
-    requires serves { all.old.maps ≡ steering_maps controller.old.size }
+    requires serves { AreSteeringMaps controller.old.size all.old.maps }
     ensures did { IsAppliedInTurn result controller.old all.old command.now.action controller.new all.new }
     ensures first { (fault : Fault) → refusal_of controller.old command.now.action ≡ Some fault → result ≡ Some fault }
     ensures maps { all.new.maps ≡ all.old.maps }

@@ -1,18 +1,13 @@
 //! All threads from their start to their end.
 
-ghost use Rattle.std.specs.Prelude.{◌≡◌, ◌<◌, ◌≤◌, ◌+◌, ◌/◌, ◌∷◌, ◌++◌, [], ℕ, length, replicate, vec_capacity};
-ghost use Rattle.std.specs.Prelude.{IfOk, IfErr, IsErrOf, IfSome, IsNone};
+ghost use Rattle.std.specs.Prelude.{◌≡◌, ◌<◌, ◌≤◌, ◌+◌, ◌∷◌, ◌++◌, [], ℕ, length, vec_capacity, IfOk, IfErr, IfSome, IsNone};
 ghost use Rattle.rx_queues.specs.declared.job.Job.TheVariants.{Note, End};
 ghost use Rattle.rx_queues.specs.Passes.{IsPutPassOf, IsTakePassOf, TakeAtTheirPlaces, AreTakePasses};
 ghost use Rattle.rx_queues.specs.Passes.{place_taken_from, jobs_taken, workers_of, jobs_put};
-ghost use Rattle.actors.specs.Actors.{HasNoEnd, EndsOnce, AreAllEnded, AreBothEnded, OfCommandsFrom};
-ghost use Rattle.semantics.specs.Each.{Each};
-ghost use Rattle.replay.specs.Crews.{IsReadyAt, AreHandled};
-ghost use Rattle.replay.specs.Settings.{IsReadyToRun, AreForAll, AreAllDone, IsAbandoned};
-ghost use Rattle.actors.specs.Puts.{put_at, AreNonePut, AreAllPut};
+ghost use Rattle.actors.specs.Actors.{HasNoEnd, EndsOnce, AreAllEnded, AreBothEnded};
+ghost use Rattle.replay.specs.Settings.{IsReadyToRun, AreReadyToWork, HaveWorked, WereGivenUp, AreAllDone, IsAbandoned};
+ghost use Rattle.actors.specs.Puts.{put_at};
 ghost use Rattle.actors.specs.Shares.{frames_of};
-ghost use Rattle.actors.specs.UpdateFaults.{IsOfNoUpdate};
-ghost use Rattle.actors.specs.declared.fault.ReplayFault.TheVariants.{BadOptions, NoThread};
 
 use crate::crew::{Handled, abandon, finish_all, start_all};
 use actors::actor::{Actor, ActorThread, settled_actor, start_actor};
@@ -86,14 +81,13 @@ fn start_both<
     X,
     E: Drop + Send + 's,
     F: Drop + Send + 's,
+    W,
     C: Actor<E> + Drop + Send + 's,
     D: Actor<F> + Drop + Send + 's,
     R: Threads + Wait + Sync,
 >(
     scope: &Scope<'s, X>,
-    rt: &'s R,
-    alloc: Global,
-    queues: &'s Queues,
+    setting: Setting<'s, W, R>,
     put: &mut PutPass,
     controller: C,
     reclaimer: D,
@@ -101,19 +95,26 @@ fn start_both<
     takes: (TakePass, TakePass),
 ) -> Option<(ActorThread<'s, E, C>, ActorThread<'s, F, D>)>
     requires workers { workers ≤ 8 }
-    requires put { IsPutPassOf queues.now put.old }
-    requires of_controller { IsTakePassOf queues.now takes.0 × (place_taken_from takes.0 ≡ workers) × (jobs_taken takes.0 ≡ []) }
-    requires of_reclaimer { IsTakePassOf queues.now takes.1 × (place_taken_from takes.1 ≡ workers + 1) × (jobs_taken takes.1 ≡ []) }
-    requires ready { C.is_ready controller queues.now (place_taken_from takes.0) ×
-        D.is_ready reclaimer queues.now (place_taken_from takes.1) }
-    ensures put { IsPutPassOf queues.now put.new }
+    requires put { IsPutPassOf setting.queues.now put.old }
+    requires of_controller { IsTakePassOf setting.queues.now takes.0 × (place_taken_from takes.0 ≡ workers) × (jobs_taken takes.0 ≡ []) }
+    requires of_reclaimer { IsTakePassOf setting.queues.now takes.1 × (place_taken_from takes.1 ≡ workers + 1) ×
+        (jobs_taken takes.1 ≡ []) }
+    requires ready { C.is_ready controller setting.queues.now (place_taken_from takes.0) ×
+        D.is_ready reclaimer setting.queues.now (place_taken_from takes.1) }
+    ensures put { IsPutPassOf setting.entry.queues.now put.new }
     ensures puts { IfSome result (λ both. jobs_put put.new ≡ jobs_put put.old) }
-    ensures ended { IsNone result → AreBothEnded (workers_of queues.now) (jobs_put put.old) (jobs_put put.new) }
-    ensures controller { IfSome result (λ both. (both.0.promise.queues.now ≡ queues.now) × (both.0.promise.place ≡ workers) ×
+    ensures ended { IsNone result → AreBothEnded (workers_of setting.entry.queues.now) (jobs_put put.old) (jobs_put put.new) }
+    ensures controller { IfSome result (λ both. (both.0.promise.queues.now ≡ setting.entry.queues.now) × (both.0.promise.place ≡ workers) ×
         (both.0.promise.actor.value ≡ controller)) }
-    ensures reclaimer { IfSome result (λ both. (both.1.promise.queues.now ≡ queues.now) × (both.1.promise.place ≡ workers + 1) ×
-        (both.1.promise.actor.value ≡ reclaimer)) }
+    ensures reclaimer { IfSome result (λ both. (both.1.promise.queues.now ≡ setting.entry.queues.now) ×
+        (both.1.promise.place ≡ workers + 1) × (both.1.promise.actor.value ≡ reclaimer)) }
 {
+    let Setting {
+        rt,
+        alloc,
+        queues,
+        ..
+    } = setting;
     let (of_controller, of_reclaimer) = takes;
     let Some(commanding) = start_actor(scope, rt, alloc, queues, controller, workers, of_controller)
     else {
@@ -200,26 +201,11 @@ fn work_all<'s, X, S: Drop + Send + 's, W: Runner<S> + Sync + 's, R: Threads + W
     takes: Vec<TakePass>,
     states: Vec<S>,
 ) -> Result<Vec<Handled<S>>, ReplayFault>
-    requires workers { (workers_of setting.queues.now ≡ length states.items) × (0 < length states.items) × (length states.items ≤ 8) }
-    requires first { setting.first ≤ length setting.starts.now }
-    requires jobs { AreForAll setting }
-    requires put { IsPutPassOf setting.queues.now put.old × (jobs_put put.old ≡ replicate (length states.items + 2) []) }
-    requires takes { (length states.items ≤ length takes.items) × TakeAtTheirPlaces setting.queues.now takes.items }
-    requires states { Each (IsReadyAt (W.is_new setting.runner.now) (W.is_idle setting.runner.now)) 0 states.items }
+    requires ready { AreReadyToWork W.is_new W.is_idle setting put.old takes.items states.items }
     requires room { (lanes.items ≡ []) × (length states.items ≤ vec_capacity lanes) }
     ensures put { IsPutPassOf setting.entry.queues.now put.new }
-    ensures count { IfOk result (λ all. length all.items ≡ length states.items) }
-    ensures handled { IfOk result (λ all. AreHandled (W.is_new setting.entry.runner.now) (W.runs setting.entry.runner.now)
-        setting.entry.capture.now.records.items (length states.items) all.items) }
-    ensures commands { IfOk result (λ all. OfCommandsFrom setting.entry.first setting.entry.starts.now
-        (λ jobs. put_at (jobs_put put.new) (workers_of setting.entry.queues.now) ≡ jobs)) }
-    ensures notes { IfOk result (λ all. put_at (jobs_put put.new) (workers_of setting.entry.queues.now + 1) ≡
-        replicate (length setting.entry.capture.now.records.items / 64) Note) }
-    ensures served { ¬ IsErrOf result BadOptions }
-    ensures no_update { IfErr result IsOfNoUpdate }
-    ensures no_thread { IsErrOf result NoThread → AreNonePut (length states.items) (jobs_put put.new) }
-    ensures handed { ¬ IsErrOf result NoThread → AreAllPut (frames_of setting.entry.capture.now.records.items) (length states.items)
-        (length setting.entry.capture.now.records.items) (jobs_put put.new) }
+    ensures done { IfOk result (λ all. HaveWorked W.is_new W.runs setting.entry (length states.items) (jobs_put put.new) all.items) }
+    ensures given_up { IfErr result (WereGivenUp setting.entry (length states.items) (jobs_put put.new)) }
     ensures ended { AreAllEnded (length states.items) (jobs_put put.new) }
     ensures others { HasNoEnd (put_at (jobs_put put.new) (workers_of setting.entry.queues.now)) ×
         HasNoEnd (put_at (jobs_put put.new) (workers_of setting.entry.queues.now + 1)) }
@@ -266,74 +252,8 @@ fn work_all<'s, X, S: Drop + Send + 's, W: Runner<S> + Sync + 's, R: Threads + W
     }
 }
 
-/// Starts all threads in a scope, hands everything over, ends the threads and joins them. On each way out every thread was asked to end.
-fn run_all_in<
-    's,
-    X,
-    S: Drop + Send + 's,
-    E: Drop + Send + 's,
-    F: Drop + Send + 's,
-    W: Runner<S> + Sync + 's,
-    C: Actor<E> + Drop + Send + 's,
-    D: Actor<F> + Drop + Send + 's,
-    R: Threads + Wait + Sync,
->(
-    scope: &Scope<'s, X>,
-    setting: Setting<'s, W, R>,
-    controller: C,
-    reclaimer: D,
-    put: &mut PutPass,
-    lanes: Vec<Lane<'s, S, W>>,
-    mut takes: Vec<TakePass>,
-    states: Vec<S>,
-) -> Result<AllEnded<S, E, F>, ReplayFault>
-    requires ready { IsReadyToRun W.is_new W.is_idle setting put.old takes.items states.items }
-    requires actors { C.is_ready controller setting.queues.now (length states.items) × D.is_ready reclaimer setting.queues.now
-        (length states.items + 1) }
-    requires room { (lanes.items ≡ []) × (length states.items ≤ vec_capacity lanes) }
-    ensures done { IfOk result (AreAllDone W.is_new W.runs (C.gives controller) (D.gives reclaimer) setting.entry (length states.items)) }
-    ensures served { ¬ IsErrOf result BadOptions }
-    ensures no_update { IfErr result IsOfNoUpdate }
-    ensures no_thread { IsErrOf result NoThread → AreNonePut (length states.items) (jobs_put put.new) }
-    ensures handed { ¬ IsErrOf result NoThread → AreAllPut (frames_of setting.entry.capture.now.records.items) (length states.items)
-        (length setting.entry.capture.now.records.items) (jobs_put put.new) }
-    ensures ended { AreAllEnded (length states.items + 2) (jobs_put put.new) }
-{
-    let workers = states.len();
-    let last = last_two(setting.queues, &mut takes, workers);
-    let Some((commanding, reclaiming)) = start_both(
-        scope,
-        setting.rt,
-        setting.alloc,
-        setting.queues,
-        put,
-        controller,
-        reclaimer,
-        workers,
-        last,
-    ) else {
-        end_all(setting.rt, setting.queues, put, workers);
-        return Err(ReplayFault::NoThread);
-    };
-    match work_all(scope, setting, put, lanes, takes, states) {
-        Ok(handled) => match close_both(setting.rt, setting.queues, put, commanding, reclaiming) {
-            Some((controller, reclaimer)) => Ok(AllEnded {
-                workers: handled,
-                controller,
-                reclaimer,
-            }),
-            None => Err(ReplayFault::Memory),
-        },
-        Err(fault) => {
-            end_both(setting.rt, setting.queues, put);
-            commanding.join(setting.rt);
-            reclaiming.join(setting.rt);
-            Err(fault)
-        }
-    }
-}
-
-/// The same, which owns the right to put and returns it where it gives up. Without memory for the threads' list none is started.
+/// Starts all threads in a scope, hands everything over, ends the threads and joins them. On each way out every thread that was started was
+/// asked to end, and the right to put comes back where it is given up. Without memory for the threads' list none is started.
 fn run_in<
     's,
     X,
@@ -350,7 +270,7 @@ fn run_in<
     controller: C,
     reclaimer: D,
     mut put: PutPass,
-    takes: Vec<TakePass>,
+    mut takes: Vec<TakePass>,
     states: Vec<S>,
 ) -> Result<AllEnded<S, E, F>, Abandoned>
     requires ready { IsReadyToRun W.is_new W.is_idle setting put takes.items states.items }
@@ -360,17 +280,38 @@ fn run_in<
     ensures abandoned { IfErr result (λ it. IsAbandoned (frames_of setting.entry.capture.now.records.items) (length states.items)
         (length setting.entry.capture.now.records.items) it.fault (jobs_put it.put)) }
 {
-    let Ok(lanes) = Vec::with_capacity(setting.alloc, states.len()) else {
-        return Err(Abandoned {
-            fault: ReplayFault::Memory,
-            put,
-        });
+    let Setting { rt, queues, .. } = setting;
+    let workers = states.len();
+    let Ok(lanes) = Vec::with_capacity(setting.alloc, workers) else {
+        let fault = ReplayFault::Memory;
+        return Err(Abandoned { fault, put });
     };
-    match run_all_in(
-        scope, setting, controller, reclaimer, &mut put, lanes, takes, states,
-    ) {
-        Ok(all) => Ok(all),
-        Err(fault) => Err(Abandoned { fault, put }),
+    let last = last_two(queues, &mut takes, workers);
+    let Some((commanding, reclaiming)) = start_both(
+        scope, setting, &mut put, controller, reclaimer, workers, last,
+    ) else {
+        end_all(rt, queues, &mut put, workers);
+        let fault = ReplayFault::NoThread;
+        return Err(Abandoned { fault, put });
+    };
+    match work_all(scope, setting, &mut put, lanes, takes, states) {
+        Ok(handled) => match close_both(rt, queues, &mut put, commanding, reclaiming) {
+            Some((controller, reclaimer)) => Ok(AllEnded {
+                workers: handled,
+                controller,
+                reclaimer,
+            }),
+            None => {
+                let fault = ReplayFault::Memory;
+                Err(Abandoned { fault, put })
+            }
+        },
+        Err(fault) => {
+            end_both(rt, queues, &mut put);
+            commanding.join(rt);
+            reclaiming.join(rt);
+            Err(Abandoned { fault, put })
+        }
     }
 }
 

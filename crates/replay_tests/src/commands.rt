@@ -1,7 +1,7 @@
 //! What no clause says: rows worked out elsewhere, and that what takes memory succeeds where there is enough.
 
 ghost use Rattle.std.specs.Prelude.{◌≡◌, IfOk};
-ghost use Rattle.conntrack.specs.SteeringMaps.{steering_maps};
+ghost use Rattle.conntrack.specs.SteeringMaps.{steering_maps, AreSteeringMaps};
 
 use crate::asserting::{holds, holds_at, same, same_at, same_bytes, same_fact};
 use conntrack::maps;
@@ -24,7 +24,7 @@ fn maps_opened(alloc: Global, room: usize) -> Result<UpdateList, ControlFault>
 
 /// A controller for a table of seven slots, and its maps in memory.
 fn opened(alloc: Global, room: usize) -> Result<(Controller, UpdateList), ControlFault>
-    ensures { IfOk result (λ both. both.1.maps ≡ steering_maps both.0.size) }
+    ensures { IfOk result (λ both. AreSteeringMaps both.0.size both.1.maps) }
 {
     let list = maps_opened(alloc, room)?;
     Ok((Controller::open(alloc, 7)?, list))

@@ -3,6 +3,7 @@
 mod exact;
 mod in_pieces;
 mod moments;
+mod more_notes;
 mod record_ends;
 mod schedules;
 mod shipped_program;

@@ -6,7 +6,7 @@ use crate::asserting::{same, same_at, same_bytes, same_fact};
 use crate::datagrams::{UDP_FRAME, with_byte};
 use conntrack::{
     Assigned, BackendRecord, Choice, FlowRecord, Records, RingRecord, Service, SteerFault,
-    TunnelRecord, VipRecord, choose, maps, steer, table_size,
+    TunnelRecord, VipRecord, choose, is_note_count, maps, maps_with, steer, table_size,
 };
 use std::alloc::Global;
 use std::process::Abort;
@@ -391,6 +391,60 @@ fn refusal_of(alloc: Global, size: u32) -> u8 {
         Ok(_) => 0,
         Err(fault) => fault.number(),
     }
+}
+
+const NOTES: [u32; 6] = [4096, 8192, 16384, 32768, 65536, 131072];
+
+/// Numbers of notes and sizes of lookup tables of which one is not served.
+#[rattlefmt::skip]
+const NO_NOTES: [(u32, u32); 8] = [
+    (0, 7), (4095, 7), (4097, 7), (12288, 7), (131071, 7), (262144, 7), (4096, 8), (5000, 8),
+];
+
+/// The maps for a flow table of so many notes are those for one of 4096 in all but this number.
+fn are_maps_with(rt: &impl Abort, alloc: Global, notes: u32, size: u32) -> Result<(), SteerFault> {
+    let mut usual = maps(alloc, size)?;
+    if let Some(flows) = usual.get_mut(1) {
+        flows.max_entries = notes;
+    }
+    let made = maps_with(alloc, notes, size)?;
+    let row = u64::from(notes);
+    same_at(rt, "maps", row, &made.as_slice(), &usual.as_slice());
+    same_at(rt, "size", row, &table_size(&made), &Some(size));
+    same_at(rt, "may be", row, &is_note_count(notes), &true);
+    Ok(())
+}
+
+/// The number of the refusal to make maps with so many notes, or 0; and the size of the lookup table that others with as many would have.
+fn refusal_with(alloc: Global, notes: u32, size: u32) -> Result<(u8, Option<u32>), SteerFault> {
+    let mut others = maps(alloc, 7)?;
+    if let Some(flows) = others.get_mut(1) {
+        flows.max_entries = notes;
+    }
+    let found = table_size(&others);
+    match maps_with(alloc, notes, size) {
+        Ok(_) => Ok((0, found)),
+        Err(fault) => Ok((fault.number(), found)),
+    }
+}
+
+#[test]
+fn six_maps_for_each_number_of_notes(rt: HostRuntime) -> Result<(), SteerFault> {
+    for notes in NOTES {
+        are_maps_with(&rt, rt.alloc(), notes, 7)?;
+        are_maps_with(&rt, rt.alloc(), notes, 65537)?;
+    }
+    for (notes, size) in NO_NOTES {
+        let found = if notes == 4096 { Some(7) } else { None };
+        same_at(
+            &rt,
+            "none with",
+            u64::from(notes),
+            &refusal_with(rt.alloc(), notes, size)?,
+            &(73, found),
+        );
+    }
+    Ok(())
 }
 
 #[test]

@@ -19,17 +19,17 @@ use Rattle.block_runs.proofs.shared.SpelledStates.{spelled, as_spelled}
 use Rattle.steer.proofs.NumberLemmas.{small_cells, bytes_back, upper_four, port_word, one_byte_word}
 use Rattle.steer.specs.ShippedProgram.{key_block}
 
-abbrev KeyFrom : SteeringSizes → List Insn → (ℕ → RegisterValue) → (ℕ → StackByte) → ℕ → ℕ → ℕ → FrameView → Type 0
-KeyFrom setting code r p worker now steps frame =
-    Meets (Arrives (promise setting) 34 (from_vip setting)) (program setting code) key_block
+abbrev KeyFrom : ℕ → SteeringSizes → List Insn → (ℕ → RegisterValue) → (ℕ → StackByte) → ℕ → ℕ → ℕ → FrameView → Type 0
+KeyFrom notes setting code r p worker now steps frame =
+    Meets (Arrives (promise setting) 34 (from_vip setting)) (program notes setting code) key_block
     (spelled 23 (r 0 ∷ r 1 ∷ r 2 ∷ r 3 ∷ Number (slice_index frame.bytes 23) ∷ r 5 ∷ ContextPointer ∷ packet_start ∷ r 8 ∷ Number (total_length frame.bytes) ∷ StackPointer (pos 0) ∷ [])
     (any_stack p) frame 0 worker now steps)
     (by_service setting frame)
 
-key_from : (setting : SteeringSizes) (code : List Insn) (r : ℕ → RegisterValue) (p : ℕ → StackByte) (worker now steps : ℕ) (byte : ℕ → ℕ) (rest : List ℕ) →
-    ((n : ℕ) → byte n < 256) → IsLong (came_in byte rest) → KeyFrom setting code r p worker now steps (came_in byte rest)
+key_from : (notes : ℕ) (setting : SteeringSizes) (code : List Insn) (r : ℕ → RegisterValue) (p : ℕ → StackByte) (worker now steps : ℕ) (byte : ℕ → ℕ) (rest : List ℕ) →
+    ((n : ℕ) → byte n < 256) → IsLong (came_in byte rest) → KeyFrom notes setting code r p worker now steps (came_in byte rest)
 unfolding slot_count
-key_from setting code r p worker now steps byte rest are long =
+key_from notes setting code r p worker now steps byte rest are long =
     let eight : bytes_of_number 8 (number_of_bytes (cells 26 8 byte)) ≡ cells 26 8 byte = bytes_back (cells 26 8 byte) (small_cells 26 8 byte are) in
     let four : bytes_of_number 4 (number_of_bytes (cells 34 4 byte)) ≡ cells 34 4 byte = bytes_back (cells 34 4 byte) (small_cells 34 4 byte are) in
     let protocol : bytes_of_number 4 (byte 23) ≡ byte 23 ∷ 0 ∷ 0 ∷ 0 ∷ [] = one_byte_word (byte 23) (are 23) in
@@ -51,11 +51,11 @@ key_from setting code r p worker now steps byte rest are long =
       plan_is = refl;
     }
 
-pub key_meets : (setting : SteeringSizes) (code : List Insn) (state : MachineState) (plan : Plan) → AtKey setting state plan →
-    Meets (Arrives (promise setting) 34 (from_vip setting)) (program setting code) key_block state plan
-key_meets setting code state plan at =
-    as_spelled (Meets (Arrives (promise setting) 34 (from_vip setting)) (program setting code) key_block) state plan _ 23 _ _ 0
+pub key_meets : (notes : ℕ) (setting : SteeringSizes) (code : List Insn) (state : MachineState) (plan : Plan) → AtKey setting state plan →
+    Meets (Arrives (promise setting) 34 (from_vip setting)) (program notes setting code) key_block state plan
+key_meets notes setting code state plan at =
+    as_spelled (Meets (Arrives (promise setting) 34 (from_vip setting)) (program notes setting code) key_block) state plan _ 23 _ _ 0
     at.here.slot at.here.registers at.here.stack at.here.generation at.plan_is
-    (subst (KeyFrom setting code (reg state.registers) (place state.stack) state.worker state.now state.steps) (sym (is_came_in state.frame at.here.frame))
-    (key_from setting code (reg state.registers) (place state.stack) state.worker state.now state.steps (slice_index state.frame.bytes) (drop 42 state.frame.bytes)
+    (subst (KeyFrom notes setting code (reg state.registers) (place state.stack) state.worker state.now state.steps) (sym (is_came_in state.frame at.here.frame))
+    (key_from notes setting code (reg state.registers) (place state.stack) state.worker state.now state.steps (slice_index state.frame.bytes) (drop 42 state.frame.bytes)
     at.here.frame.are_bytes (subst IsLong (is_came_in state.frame at.here.frame) at.here.frame)))

@@ -30,17 +30,17 @@ use Rattle.steer.specs.ShippedProgram.{vip_block, guards_block, tracking_block, 
 
 -- ---- the service
 
-abbrev VipFrom : SteeringSizes → List Insn → (ℕ → RegisterValue) → (ℕ → StackByte) → ℕ → ℕ → ℕ → FrameView → Type 0
-VipFrom setting code r p worker now steps frame =
-    Meets (Arrives (promise setting) 41 (from_guards setting)) (program setting code) vip_block
+abbrev VipFrom : ℕ → SteeringSizes → List Insn → (ℕ → RegisterValue) → (ℕ → StackByte) → ℕ → ℕ → ℕ → FrameView → Type 0
+VipFrom notes setting code r p worker now steps frame =
+    Meets (Arrives (promise setting) 41 (from_guards setting)) (program notes setting code) vip_block
     (spelled 34 (with_r6 ContextPointer packet_start (r 8) (Number (total_length frame.bytes)) r)
     (service_stack p (service_bytes_of frame.bytes) (flow_bytes_of frame.bytes)) frame 0 worker now steps)
     (by_service setting frame)
 
-vip_from : (setting : SteeringSizes) (code : List Insn) (r : ℕ → RegisterValue) (p : ℕ → StackByte) (worker now steps : ℕ) (byte : ℕ → ℕ) (rest : List ℕ) →
-    IsLong (came_in byte rest) → VipFrom setting code r p worker now steps (came_in byte rest)
+vip_from : (notes : ℕ) (setting : SteeringSizes) (code : List Insn) (r : ℕ → RegisterValue) (p : ℕ → StackByte) (worker now steps : ℕ) (byte : ℕ → ℕ) (rest : List ℕ) →
+    IsLong (came_in byte rest) → VipFrom notes setting code r p worker now steps (came_in byte rest)
 unfolding slot_count
-vip_from setting code r p worker now steps byte rest long = (
+vip_from notes setting code r p worker now steps byte rest long = (
   refl,
   (
     λ id. falls _ _ _ _ _ _ (refl, λ word fits. record { flags = word; here = record { slot = refl; registers = refl; stack = refl; generation = refl; frame = long }; plan_is = refl }),
@@ -48,13 +48,13 @@ vip_from setting code r p worker now steps byte rest long = (
   ),
 )
 
-pub vip_meets : (setting : SteeringSizes) (code : List Insn) (state : MachineState) (plan : Plan) → AtVip setting state plan →
-    Meets (Arrives (promise setting) 41 (from_guards setting)) (program setting code) vip_block state plan
-vip_meets setting code state plan at =
-    as_spelled (Meets (Arrives (promise setting) 41 (from_guards setting)) (program setting code) vip_block) state plan _ 34 _ _ 0
+pub vip_meets : (notes : ℕ) (setting : SteeringSizes) (code : List Insn) (state : MachineState) (plan : Plan) → AtVip setting state plan →
+    Meets (Arrives (promise setting) 41 (from_guards setting)) (program notes setting code) vip_block state plan
+vip_meets notes setting code state plan at =
+    as_spelled (Meets (Arrives (promise setting) 41 (from_guards setting)) (program notes setting code) vip_block) state plan _ 34 _ _ 0
     at.here.slot at.here.registers at.here.stack at.here.generation at.plan_is
-    (subst (VipFrom setting code (reg state.registers) (place state.stack) state.worker state.now state.steps) (sym (is_came_in state.frame at.here.frame))
-    (vip_from setting code (reg state.registers) (place state.stack) state.worker state.now state.steps (slice_index state.frame.bytes) (drop 42 state.frame.bytes)
+    (subst (VipFrom notes setting code (reg state.registers) (place state.stack) state.worker state.now state.steps) (sym (is_came_in state.frame at.here.frame))
+    (vip_from notes setting code (reg state.registers) (place state.stack) state.worker state.now state.steps (slice_index state.frame.bytes) (drop 42 state.frame.bytes)
     (subst IsLong (is_came_in state.frame at.here.frame) at.here.frame)))
 
 not_not : (b : Bool) → not (not b) ≡ b
@@ -63,17 +63,17 @@ not_not false = refl
 
 -- ---- guards
 
-abbrev GuardsFrom : SteeringSizes → List Insn → ℕ → (ℕ → RegisterValue) → (ℕ → StackByte) → ℕ → ℕ → ℕ → FrameView → Type 0
-GuardsFrom setting code flags r p worker now steps frame =
-    Meets (Arrives (promise setting) 57 (from_tracking setting)) (program setting code) guards_block
+abbrev GuardsFrom : ℕ → SteeringSizes → List Insn → ℕ → (ℕ → RegisterValue) → (ℕ → StackByte) → ℕ → ℕ → ℕ → FrameView → Type 0
+GuardsFrom notes setting code flags r p worker now steps frame =
+    Meets (Arrives (promise setting) 57 (from_tracking setting)) (program notes setting code) guards_block
     (spelled 41 (with_r6 ContextPointer packet_start (Number flags) (Number (total_length frame.bytes)) r)
     (flow_stack p (flow_bytes_of frame.bytes)) frame 0 worker now steps)
     (by_tunnel setting flags frame)
 
-guards_from : (setting : SteeringSizes) (code : List Insn) (flags : ℕ) (r : ℕ → RegisterValue) (p : ℕ → StackByte) (worker now steps : ℕ) (byte : ℕ → ℕ) (rest : List ℕ) →
-    IsLong (came_in byte rest) → GuardsFrom setting code flags r p worker now steps (came_in byte rest)
+guards_from : (notes : ℕ) (setting : SteeringSizes) (code : List Insn) (flags : ℕ) (r : ℕ → RegisterValue) (p : ℕ → StackByte) (worker now steps : ℕ) (byte : ℕ → ℕ) (rest : List ℕ) →
+    IsLong (came_in byte rest) → GuardsFrom notes setting code flags r p worker now steps (came_in byte rest)
 unfolding slot_count
-guards_from setting code flags r p worker now steps byte rest long =
+guards_from notes setting code flags r p worker now steps byte rest long =
     forks _ _ _ _ _ _ _ _ _ refl (λ dead. record { here = record { slot = refl; registers = refl; stack = refl }; plan_is = refl })
     (λ alive. forks _ _ _ _ _ _ _ _ _ refl (λ long_packet. record { here = record { slot = refl; registers = refl; stack = refl }; plan_is = refl })
     (λ fits. (
@@ -96,28 +96,28 @@ guards_from setting code flags r p worker now steps byte rest long =
       ),
     )))
 
-pub guards_meets : (setting : SteeringSizes) (code : List Insn) (state : MachineState) (plan : Plan) → AtGuards setting state plan →
-    Meets (Arrives (promise setting) 57 (from_tracking setting)) (program setting code) guards_block state plan
-guards_meets setting code state plan at =
-    as_spelled (Meets (Arrives (promise setting) 57 (from_tracking setting)) (program setting code) guards_block) state plan _ 41 _ _ 0
+pub guards_meets : (notes : ℕ) (setting : SteeringSizes) (code : List Insn) (state : MachineState) (plan : Plan) → AtGuards setting state plan →
+    Meets (Arrives (promise setting) 57 (from_tracking setting)) (program notes setting code) guards_block state plan
+guards_meets notes setting code state plan at =
+    as_spelled (Meets (Arrives (promise setting) 57 (from_tracking setting)) (program notes setting code) guards_block) state plan _ 41 _ _ 0
     at.here.slot at.here.registers at.here.stack at.here.generation at.plan_is
-    (subst (GuardsFrom setting code at.flags (reg state.registers) (place state.stack) state.worker state.now state.steps) (sym (is_came_in state.frame at.here.frame))
-    (guards_from setting code at.flags (reg state.registers) (place state.stack) state.worker state.now state.steps (slice_index state.frame.bytes) (drop 42 state.frame.bytes)
+    (subst (GuardsFrom notes setting code at.flags (reg state.registers) (place state.stack) state.worker state.now state.steps) (sym (is_came_in state.frame at.here.frame))
+    (guards_from notes setting code at.flags (reg state.registers) (place state.stack) state.worker state.now state.steps (slice_index state.frame.bytes) (drop 42 state.frame.bytes)
     (subst IsLong (is_came_in state.frame at.here.frame) at.here.frame)))
 
 -- ---- tracking
 
-abbrev TrackingFrom : SteeringSizes → List Insn → ℕ → ℕ → ℕ → (ℕ → RegisterValue) → (ℕ → StackByte) → ℕ → ℕ → ℕ → FrameView → Type 0
-TrackingFrom setting code flags source macs r p worker now steps frame =
-    Meets (Arrives (promise setting) 76 (from_hash setting)) (program setting code) tracking_block
+abbrev TrackingFrom : ℕ → SteeringSizes → List Insn → ℕ → ℕ → ℕ → (ℕ → RegisterValue) → (ℕ → StackByte) → ℕ → ℕ → ℕ → FrameView → Type 0
+TrackingFrom notes setting code flags source macs r p worker now steps frame =
+    Meets (Arrives (promise setting) 76 (from_hash setting)) (program notes setting code) tracking_block
     (spelled 57 (with_r6 ContextPointer packet_start (Number flags) (r 9) r)
     (tunnel_stack p source macs (flow_bytes_of frame.bytes)) frame 0 worker now steps)
     (by_note setting flags source macs frame)
 
-tracking_from : (setting : SteeringSizes) (code : List Insn) (flags source macs : ℕ) (r : ℕ → RegisterValue) (p : ℕ → StackByte) (worker now steps : ℕ) (byte : ℕ → ℕ) (rest : List ℕ) →
-    IsLong (came_in byte rest) → TrackingFrom setting code flags source macs r p worker now steps (came_in byte rest)
+tracking_from : (notes : ℕ) (setting : SteeringSizes) (code : List Insn) (flags source macs : ℕ) (r : ℕ → RegisterValue) (p : ℕ → StackByte) (worker now steps : ℕ) (byte : ℕ → ℕ) (rest : List ℕ) →
+    IsLong (came_in byte rest) → TrackingFrom notes setting code flags source macs r p worker now steps (came_in byte rest)
 unfolding slot_count
-tracking_from setting code flags source macs r p worker now steps byte rest long =
+tracking_from notes setting code flags source macs r p worker now steps byte rest long =
     forks _ _ _ _ _ _ _ _ _ refl
     (λ notrack. record { flags = flags; source = source; macs = macs; here = record { slot = refl; registers = refl; stack = refl; generation = refl; frame = long }; plan_is = refl })
     (λ tracked. (
@@ -142,13 +142,13 @@ tracking_from setting code flags source macs r p worker now steps byte rest long
       ),
     ))
 
-pub tracking_meets : (setting : SteeringSizes) (code : List Insn) (state : MachineState) (plan : Plan) → AtTracking setting state plan →
-    Meets (Arrives (promise setting) 76 (from_hash setting)) (program setting code) tracking_block state plan
-tracking_meets setting code state plan at =
-    as_spelled (Meets (Arrives (promise setting) 76 (from_hash setting)) (program setting code) tracking_block) state plan _ 57 _ _ 0
+pub tracking_meets : (notes : ℕ) (setting : SteeringSizes) (code : List Insn) (state : MachineState) (plan : Plan) → AtTracking setting state plan →
+    Meets (Arrives (promise setting) 76 (from_hash setting)) (program notes setting code) tracking_block state plan
+tracking_meets notes setting code state plan at =
+    as_spelled (Meets (Arrives (promise setting) 76 (from_hash setting)) (program notes setting code) tracking_block) state plan _ 57 _ _ 0
     at.here.slot at.here.registers at.here.stack at.here.generation at.plan_is
-    (subst (TrackingFrom setting code at.flags at.source at.macs (reg state.registers) (place state.stack) state.worker state.now state.steps) (sym (is_came_in state.frame at.here.frame))
-    (tracking_from setting code at.flags at.source at.macs (reg state.registers) (place state.stack) state.worker state.now state.steps
+    (subst (TrackingFrom notes setting code at.flags at.source at.macs (reg state.registers) (place state.stack) state.worker state.now state.steps) (sym (is_came_in state.frame at.here.frame))
+    (tracking_from notes setting code at.flags at.source at.macs (reg state.registers) (place state.stack) state.worker state.now state.steps
     (slice_index state.frame.bytes) (drop 42 state.frame.bytes)
     (subst IsLong (is_came_in state.frame at.here.frame) at.here.frame)))
 
@@ -171,17 +171,17 @@ three_zero_bytes hash =
 first_number : (a b : ℕ) (rest : List RegisterValue) → a ≡ b → Number a ∷ rest ≡ Number b ∷ rest
 first_number a b rest same = ap (λ n. Number n ∷ rest) same
 
-abbrev HashFrom : SteeringSizes → List Insn → ℕ → ℕ → ℕ → (ℕ → RegisterValue) → (ℕ → StackByte) → ℕ → ℕ → ℕ → FrameView → Type 0
-HashFrom setting code flags source macs r p worker now steps frame =
-    Meets (Arrives (promise setting) 122 (from_ring setting)) (program setting code) hash_block
+abbrev HashFrom : ℕ → SteeringSizes → List Insn → ℕ → ℕ → ℕ → (ℕ → RegisterValue) → (ℕ → StackByte) → ℕ → ℕ → ℕ → FrameView → Type 0
+HashFrom notes setting code flags source macs r p worker now steps frame =
+    Meets (Arrives (promise setting) 122 (from_ring setting)) (program notes setting code) hash_block
     (spelled 76 (with_r6 ContextPointer packet_start (Number flags) (r 9) r)
     (tunnel_stack p source macs (flow_bytes_of frame.bytes)) frame 0 worker now steps)
     (by_ring setting flags source macs frame)
 
-hash_from : (setting : SteeringSizes) (code : List Insn) (flags source macs : ℕ) (r : ℕ → RegisterValue) (p : ℕ → StackByte) (worker now steps : ℕ) (byte : ℕ → ℕ) (rest : List ℕ) →
-    IsLong (came_in byte rest) → HashFrom setting code flags source macs r p worker now steps (came_in byte rest)
+hash_from : (notes : ℕ) (setting : SteeringSizes) (code : List Insn) (flags source macs : ℕ) (r : ℕ → RegisterValue) (p : ℕ → StackByte) (worker now steps : ℕ) (byte : ℕ → ℕ) (rest : List ℕ) →
+    IsLong (came_in byte rest) → HashFrom notes setting code flags source macs r p worker now steps (came_in byte rest)
 unfolding slot_count
-hash_from setting code flags source macs r p worker now steps byte rest long =
+hash_from notes setting code flags source macs r p worker now steps byte rest long =
     record {
       flags = flags;
       source = source;
@@ -196,13 +196,13 @@ hash_from setting code flags source macs r p worker now steps byte rest long =
       plan_is = refl;
     }
 
-pub hash_meets : (setting : SteeringSizes) (code : List Insn) (state : MachineState) (plan : Plan) → AtHash setting state plan →
-    Meets (Arrives (promise setting) 122 (from_ring setting)) (program setting code) hash_block state plan
-hash_meets setting code state plan at =
-    as_spelled (Meets (Arrives (promise setting) 122 (from_ring setting)) (program setting code) hash_block) state plan _ 76 _ _ 0
+pub hash_meets : (notes : ℕ) (setting : SteeringSizes) (code : List Insn) (state : MachineState) (plan : Plan) → AtHash setting state plan →
+    Meets (Arrives (promise setting) 122 (from_ring setting)) (program notes setting code) hash_block state plan
+hash_meets notes setting code state plan at =
+    as_spelled (Meets (Arrives (promise setting) 122 (from_ring setting)) (program notes setting code) hash_block) state plan _ 76 _ _ 0
     at.here.slot at.here.registers at.here.stack at.here.generation at.plan_is
-    (subst (HashFrom setting code at.flags at.source at.macs (reg state.registers) (place state.stack) state.worker state.now state.steps) (sym (is_came_in state.frame at.here.frame))
-    (hash_from setting code at.flags at.source at.macs (reg state.registers) (place state.stack) state.worker state.now state.steps
+    (subst (HashFrom notes setting code at.flags at.source at.macs (reg state.registers) (place state.stack) state.worker state.now state.steps) (sym (is_came_in state.frame at.here.frame))
+    (hash_from notes setting code at.flags at.source at.macs (reg state.registers) (place state.stack) state.worker state.now state.steps
     (slice_index state.frame.bytes) (drop 42 state.frame.bytes)
     (subst IsLong (is_came_in state.frame at.here.frame) at.here.frame)))
 
@@ -221,17 +221,17 @@ modulo a b some = ap (λ (t : Bool). if t then a else a % b) some
 one_less : (owner : ℕ) → owner < 256 ^ 4 → (owner == 0) ≡ false → (owner + 18446744073709551615) % 18446744073709551616 ≡ owner - 1
 one_less owner small some = grind (arith, nat_tests)
 
-abbrev RingFrom : SteeringSizes → List Insn → ℕ → ℕ → ℕ → (ℕ → RegisterValue) → (ℕ → StackByte) → ℕ → ℕ → ℕ → FrameView → Type 0
-RingFrom setting code flags source macs r p worker now steps frame =
-    Meets (Arrives (promise setting) 153 (from_tunnel setting)) (program setting code) (ring_block setting.size)
+abbrev RingFrom : ℕ → SteeringSizes → List Insn → ℕ → ℕ → ℕ → (ℕ → RegisterValue) → (ℕ → StackByte) → ℕ → ℕ → ℕ → FrameView → Type 0
+RingFrom notes setting code flags source macs r p worker now steps frame =
+    Meets (Arrives (promise setting) 153 (from_tunnel setting)) (program notes setting code) (ring_block setting.size)
     (spelled 122 (Number (fnv1a64_of (flow_bytes_of frame.bytes)) ∷ drop 1 (with_r6 ContextPointer packet_start (Number flags) (r 9) r))
     (tunnel_stack p source macs (flow_bytes_of frame.bytes)) frame 0 worker now steps)
     (by_ring setting flags source macs frame)
 
-ring_from : (setting : SteeringSizes) (code : List Insn) (flags source macs : ℕ) (r : ℕ → RegisterValue) (p : ℕ → StackByte) (worker now steps : ℕ) (byte : ℕ → ℕ) (rest : List ℕ) →
-    IsLong (came_in byte rest) → (setting.size == 0) ≡ false → RingFrom setting code flags source macs r p worker now steps (came_in byte rest)
+ring_from : (notes : ℕ) (setting : SteeringSizes) (code : List Insn) (flags source macs : ℕ) (r : ℕ → RegisterValue) (p : ℕ → StackByte) (worker now steps : ℕ) (byte : ℕ → ℕ) (rest : List ℕ) →
+    IsLong (came_in byte rest) → (setting.size == 0) ≡ false → RingFrom notes setting code flags source macs r p worker now steps (came_in byte rest)
 unfolding slot_count
-ring_from setting code flags source macs r p worker now steps byte rest long some_size = (
+ring_from notes setting code flags source macs r p worker now steps byte rest long some_size = (
   same_key 2 Array setting.shards _ _ (modulo _ setting.size some_size),
   (
     λ id. falls _ _ _ _ _ _ (
@@ -261,12 +261,12 @@ ring_from setting code flags source macs r p worker now steps byte rest long som
   ),
 )
 
-pub ring_meets : (setting : SteeringSizes) (code : List Insn) → (setting.size == 0) ≡ false → (state : MachineState) (plan : Plan) → AtRing setting state plan →
-    Meets (Arrives (promise setting) 153 (from_tunnel setting)) (program setting code) (ring_block setting.size) state plan
-ring_meets setting code some state plan at =
-    as_spelled (Meets (Arrives (promise setting) 153 (from_tunnel setting)) (program setting code) (ring_block setting.size)) state plan _ 122 _ _ 0
+pub ring_meets : (notes : ℕ) (setting : SteeringSizes) (code : List Insn) → (setting.size == 0) ≡ false → (state : MachineState) (plan : Plan) → AtRing setting state plan →
+    Meets (Arrives (promise setting) 153 (from_tunnel setting)) (program notes setting code) (ring_block setting.size) state plan
+ring_meets notes setting code some state plan at =
+    as_spelled (Meets (Arrives (promise setting) 153 (from_tunnel setting)) (program notes setting code) (ring_block setting.size)) state plan _ 122 _ _ 0
     at.here.slot at.here.registers at.here.stack at.here.generation at.plan_is
-    (subst (RingFrom setting code at.flags at.source at.macs (reg state.registers) (place state.stack) state.worker state.now state.steps) (sym (is_came_in state.frame at.here.frame))
-    (ring_from setting code at.flags at.source at.macs (reg state.registers) (place state.stack) state.worker state.now state.steps
+    (subst (RingFrom notes setting code at.flags at.source at.macs (reg state.registers) (place state.stack) state.worker state.now state.steps) (sym (is_came_in state.frame at.here.frame))
+    (ring_from notes setting code at.flags at.source at.macs (reg state.registers) (place state.stack) state.worker state.now state.steps
     (slice_index state.frame.bytes) (drop 42 state.frame.bytes)
     (subst IsLong (is_came_in state.frame at.here.frame) at.here.frame) some))

@@ -21,13 +21,13 @@ use Rattle.semantics.specs.RegisterValue.{Number, StackPointer, ContextPointer, 
 use Rattle.semantics.specs.MachineState.{MachineState}
 use Rattle.semantics.specs.Program.{Program}
 use Rattle.semantics.specs.Semantics.{verdict_number}
-use Rattle.conntrack.specs.SteeringMaps.{steering_maps}
+use Rattle.conntrack.specs.SteeringMaps.{sized_maps}
 use Rattle.steer.specs.ShippedProgram as B
 
 -- ---- the program
 
-abbrev pub program : SteeringSizes → List Insn → Program
-program setting code = record { code = code; maps = steering_maps setting.size; shards = setting.shards }
+abbrev pub program : ℕ → SteeringSizes → List Insn → Program
+program notes setting code = record { code = code; maps = sized_maps notes setting.size; shards = setting.shards }
 
 pub record AtEnd (setting : SteeringSizes) (state : MachineState) (plan : Plan) : Type 0 where
   pub verdict : Verdict

@@ -25,9 +25,9 @@ use Rattle.block_runs.proofs.shared.BlockTests.{falls}
 use Rattle.steer.proofs.ChecksumLemmas.{checksum_field, added, fold_once}
 use Rattle.steer.specs.ShippedProgram.{tunnel_block, checksum_block}
 
-abbrev TunnelFrom : SteeringSizes → List Insn → ℕ → ℕ → ℕ → (ℕ → RegisterValue) → (ℕ → StackByte) → ℕ → ℕ → ℕ → FrameView → Type 0
-TunnelFrom setting code source macs backend r p worker now steps frame =
-    Meets (Arrives (promise setting) 185 (from_checksum setting)) (program setting code) tunnel_block
+abbrev TunnelFrom : ℕ → SteeringSizes → List Insn → ℕ → ℕ → ℕ → (ℕ → RegisterValue) → (ℕ → StackByte) → ℕ → ℕ → ℕ → FrameView → Type 0
+TunnelFrom notes setting code source macs backend r p worker now steps frame =
+    Meets (Arrives (promise setting) 185 (from_checksum setting)) (program notes setting code) tunnel_block
     (spelled 153 (with_r6 ContextPointer packet_start (r 8) (Number backend) r)
     (tunnel_stack p source macs (flow_bytes_of frame.bytes)) frame 0 worker now steps)
     (sent setting source macs backend frame)
@@ -36,10 +36,10 @@ seventh_to_ninth : (a b c d e f g : RegisterValue) (h h' i i' j j' : ℕ) (k : R
     a ∷ b ∷ c ∷ d ∷ e ∷ f ∷ g ∷ Number h ∷ Number i ∷ Number j ∷ k ∷ [] ≡ a ∷ b ∷ c ∷ d ∷ e ∷ f ∷ g ∷ Number h' ∷ Number i' ∷ Number j' ∷ k ∷ []
 seventh_to_ninth a b c d e f g h h' i i' j j' k at_h at_i at_j = (λ n. a ∷ b ∷ c ∷ d ∷ e ∷ f ∷ g ∷ Number (at_h n) ∷ Number (at_i n) ∷ Number (at_j n) ∷ k ∷ [])
 
-tunnel_from : (setting : SteeringSizes) (code : List Insn) (source macs backend : ℕ) (r : ℕ → RegisterValue) (p : ℕ → StackByte) (worker now steps : ℕ) (byte : ℕ → ℕ) (rest : List ℕ) →
-    ((n : ℕ) → byte n < 256) → IsLong (came_in byte rest) → TunnelFrom setting code source macs backend r p worker now steps (came_in byte rest)
+tunnel_from : (notes : ℕ) (setting : SteeringSizes) (code : List Insn) (source macs backend : ℕ) (r : ℕ → RegisterValue) (p : ℕ → StackByte) (worker now steps : ℕ) (byte : ℕ → ℕ) (rest : List ℕ) →
+    ((n : ℕ) → byte n < 256) → IsLong (came_in byte rest) → TunnelFrom notes setting code source macs backend r p worker now steps (came_in byte rest)
 unfolding slot_count
-tunnel_from setting code source macs backend r p worker now steps byte rest are long =
+tunnel_from notes setting code source macs backend r p worker now steps byte rest are long =
     falls _ _ _ _ _ _ (falls _ _ _ _ _ _ (record {
       source = source;
       macs = macs;
@@ -64,13 +64,13 @@ tunnel_from setting code source macs backend r p worker now steps byte rest are 
       plan_is = refl;
     }))
 
-pub tunnel_meets : (setting : SteeringSizes) (code : List Insn) (state : MachineState) (plan : Plan) → AtTunnel setting state plan →
-    Meets (Arrives (promise setting) 185 (from_checksum setting)) (program setting code) tunnel_block state plan
-tunnel_meets setting code state plan at =
-    as_spelled (Meets (Arrives (promise setting) 185 (from_checksum setting)) (program setting code) tunnel_block) state plan _ 153 _ _ 0
+pub tunnel_meets : (notes : ℕ) (setting : SteeringSizes) (code : List Insn) (state : MachineState) (plan : Plan) → AtTunnel setting state plan →
+    Meets (Arrives (promise setting) 185 (from_checksum setting)) (program notes setting code) tunnel_block state plan
+tunnel_meets notes setting code state plan at =
+    as_spelled (Meets (Arrives (promise setting) 185 (from_checksum setting)) (program notes setting code) tunnel_block) state plan _ 153 _ _ 0
     at.here.slot at.here.registers at.here.stack at.here.generation at.plan_is
-    (subst (TunnelFrom setting code at.source at.macs at.backend (reg state.registers) (place state.stack) state.worker state.now state.steps) (sym (is_came_in state.frame at.here.frame))
-    (tunnel_from setting code at.source at.macs at.backend (reg state.registers) (place state.stack) state.worker state.now state.steps
+    (subst (TunnelFrom notes setting code at.source at.macs at.backend (reg state.registers) (place state.stack) state.worker state.now state.steps) (sym (is_came_in state.frame at.here.frame))
+    (tunnel_from notes setting code at.source at.macs at.backend (reg state.registers) (place state.stack) state.worker state.now state.steps
     (slice_index state.frame.bytes) (drop 42 state.frame.bytes) at.here.frame.are_bytes
     (subst IsLong (is_came_in state.frame at.here.frame) at.here.frame)))
 
@@ -79,19 +79,19 @@ tunnel_meets setting code state plan at =
 digits : ℕ → ℕ → ℕ
 digits word n = slice_index (bytes_of_number 4 word) n
 
-ChecksumFrom : SteeringSizes → List Insn → ℕ → ℕ → ℕ → FrameView → ℕ → ℕ → (ℕ → RegisterValue) → (ℕ → StackByte) → ℕ → ℕ → ℕ → Type 0
-ChecksumFrom setting code source macs backend old first second r p worker now steps =
-    Meets (Arrives (promise setting) 205 (from_pass setting)) (program setting code) checksum_block
+ChecksumFrom : ℕ → SteeringSizes → List Insn → ℕ → ℕ → ℕ → FrameView → ℕ → ℕ → (ℕ → RegisterValue) → (ℕ → StackByte) → ℕ → ℕ → ℕ → Type 0
+ChecksumFrom notes setting code source macs backend old first second r p worker now steps =
+    Meets (Arrives (promise setting) 205 (from_pass setting)) (program notes setting code) checksum_block
     (spelled 185 (r 0 ∷ PacketPointer 1 (pos 0) ∷ r 2 ∷ r 3 ∷ Number (number_of_bytes (bytes_of_number 4 source)) ∷ r 5 ∷ r 6
     ∷ Number (number_of_bytes (be_bytes (total_length old.bytes + 20))) ∷ Number (69 + 256 * type_of_service old.bytes)
     ∷ Number (number_of_bytes (bytes_of_number 4 backend)) ∷ StackPointer (pos 0) ∷ [])
     (any_stack p) (tunnelled_with (first ∷ second ∷ []) old source macs backend) 1 worker now steps)
     (sent setting source macs backend old)
 
-checksum_from : (setting : SteeringSizes) (code : List Insn) (source macs backend : ℕ) (old : FrameView) (first second : ℕ) (r : ℕ → RegisterValue) (p : ℕ → StackByte) (worker now steps : ℕ) →
-    IsLong old → ChecksumFrom setting code source macs backend old first second r p worker now steps
+checksum_from : (notes : ℕ) (setting : SteeringSizes) (code : List Insn) (source macs backend : ℕ) (old : FrameView) (first second : ℕ) (r : ℕ → RegisterValue) (p : ℕ → StackByte) (worker now steps : ℕ) →
+    IsLong old → ChecksumFrom notes setting code source macs backend old first second r p worker now steps
 unfolding slot_count ChecksumFrom
-checksum_from setting code source macs backend old first second r p worker now steps long =
+checksum_from notes setting code source macs backend old first second r p worker now steps long =
     record {
       verdict = V.Tx;
       here = record {
@@ -120,15 +120,15 @@ checksum_from setting code source macs backend old first second r p worker now s
         (low source) (low (source / 256)) (low (source / 256 / 256)) (low (source / 256 / 256 / 256))
         (low backend) (low (backend / 256)) (low (backend / 256 / 256)) (low (backend / 256 / 256 / 256))
 
-pub checksum_meets : (setting : SteeringSizes) (code : List Insn) (state : MachineState) (plan : Plan) → AtChecksum setting state plan →
-    Meets (Arrives (promise setting) 205 (from_pass setting)) (program setting code) checksum_block state plan
+pub checksum_meets : (notes : ℕ) (setting : SteeringSizes) (code : List Insn) (state : MachineState) (plan : Plan) → AtChecksum setting state plan →
+    Meets (Arrives (promise setting) 205 (from_pass setting)) (program notes setting code) checksum_block state plan
 unfolding ChecksumFrom
-checksum_meets setting code state plan at =
-    as_spelled (Meets (Arrives (promise setting) 205 (from_pass setting)) (program setting code) checksum_block) state plan _ 185 _ _ 1
+checksum_meets notes setting code state plan at =
+    as_spelled (Meets (Arrives (promise setting) 205 (from_pass setting)) (program notes setting code) checksum_block) state plan _ 185 _ _ 1
     at.slot at.registers at.stack at.generation at.plan_is
-    (subst (λ (f : FrameView). Meets (Arrives (promise setting) 205 (from_pass setting)) (program setting code) checksum_block
+    (subst (λ (f : FrameView). Meets (Arrives (promise setting) 205 (from_pass setting)) (program notes setting code) checksum_block
     (spelled 185 (reg state.registers 0 ∷ PacketPointer 1 (pos 0) ∷ reg state.registers 2 ∷ reg state.registers 3 ∷ Number (number_of_bytes (bytes_of_number 4 at.source))
     ∷ reg state.registers 5 ∷ reg state.registers 6 ∷ Number (number_of_bytes (be_bytes (total_length at.old.bytes + 20))) ∷ Number (69 + 256 * type_of_service at.old.bytes)
     ∷ Number (number_of_bytes (bytes_of_number 4 at.backend)) ∷ StackPointer (pos 0) ∷ [])
     (any_stack (place state.stack)) f 1 state.worker state.now state.steps) (sent setting at.source at.macs at.backend at.old)) (sym at.frame_is)
-    (checksum_from setting code at.source at.macs at.backend at.old at.first at.second (reg state.registers) (place state.stack) state.worker state.now state.steps at.frame))
+    (checksum_from notes setting code at.source at.macs at.backend at.old at.first at.second (reg state.registers) (place state.stack) state.worker state.now state.steps at.frame))

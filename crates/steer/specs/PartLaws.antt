@@ -20,9 +20,9 @@ use Rattle.conntrack.specs.Steering.{SteeringSizes, steering, read_service, pass
 use Rattle.steer.specs.SteeringLaws.{shipped_program}
 use Rattle.steer.specs.PartStarts.{FlowStart, VipStart, GuardsStart, TrackingStart, RingStart, TunnelStart, VerdictStart, CountStart}
 
--- from this state the shipped program does the plan, in at most as many instructions as it has slots
-abbrev pub DoesFrom : SteeringSizes → MachineState → Plan → Type 0
-DoesFrom setting state plan = Does (total_slots (shipped_program setting).code) (shipped_program setting) state plan
+-- from this state the shipped program, over a flow table of so many notes, does the plan, in at most as many instructions as it has slots
+abbrev pub DoesFrom : ℕ → SteeringSizes → MachineState → Plan → Type 0
+DoesFrom notes setting state plan = Does (total_slots (shipped_program notes setting).code) (shipped_program notes setting) state plan
 
 -- ---- the records, by the words in which they were read
 
@@ -47,59 +47,62 @@ pub record IsPastGuards (frame : List ℕ) (tunnel : TunnelRecord) : Type 0 wher
 -- flow: does the frame have one? Else it passes
 abbrev pub FlowDoesItsPart : Type 0
 FlowDoesItsPart =
-    (setting : SteeringSizes) → IsRingSize setting.size → (state : MachineState) → FlowStart state →
-    DoesFrom setting state (steering setting state.frame)
+    (notes : ℕ) (setting : SteeringSizes) → IsRingSize setting.size → (state : MachineState) → FlowStart state →
+    DoesFrom notes setting state (steering setting state.frame)
 
 -- vip: is the flow for a service? Else it passes
 abbrev pub VipDoesItsPart : Type 0
 VipDoesItsPart =
-    (setting : SteeringSizes) → IsRingSize setting.size → (state : MachineState) → VipStart state → HasFlow state.frame.bytes →
-    DoesFrom setting state (read_service setting state.frame)
+    (notes : ℕ) (setting : SteeringSizes) → IsRingSize setting.size → (state : MachineState) → VipStart state → HasFlow state.frame.bytes →
+    DoesFrom notes setting state (read_service setting state.frame)
 
 -- guards: can the packet be tunnelled, and is the tunnel set up? Else it is dropped
 abbrev pub GuardsDoTheirPart : Type 0
 GuardsDoTheirPart =
-    (setting : SteeringSizes) → IsRingSize setting.size → (flags : ℕ) (state : MachineState) → GuardsStart flags state →
+    (notes : ℕ) (setting : SteeringSizes) → IsRingSize setting.size → (flags : ℕ) (state : MachineState) → GuardsStart flags state →
     HasFlow state.frame.bytes →
-    DoesFrom setting state (pass_guard setting state.frame (vip_in flags))
+    DoesFrom notes setting state (pass_guard setting state.frame (vip_in flags))
 
 -- tracking: the backend that was noted for the flow, if it is up and the service is tracked
 abbrev pub TrackingDoesItsPart : Type 0
 TrackingDoesItsPart =
-    (setting : SteeringSizes) → IsRingSize setting.size → (flags source macs word : ℕ) (state : MachineState) →
+    (notes : ℕ) (setting : SteeringSizes) → IsRingSize setting.size → (flags source macs word : ℕ) (state : MachineState) →
     TrackingStart flags source macs state → IsPastGuards state.frame.bytes (tunnel_in source macs word) →
-    DoesFrom setting state (read_note setting state.frame (vip_in flags) (records_of_words flags source macs word None))
+    DoesFrom notes setting state (read_note setting state.frame (vip_in flags) (records_of_words flags source macs word None))
 
 -- ring: the owner of the flow's slot, where no noted backend gets the frame
 abbrev pub RingDoesItsPart : Type 0
 RingDoesItsPart =
-    (setting : SteeringSizes) → IsRingSize setting.size → (flags source macs word : ℕ) (tracked : Option Assigned) (state : MachineState) →
+    (notes : ℕ) (setting : SteeringSizes) → IsRingSize setting.size → (flags source macs word : ℕ) (tracked : Option Assigned)
+    (state : MachineState) →
     RingStart flags source macs state → IsPastGuards state.frame.bytes (tunnel_in source macs word) →
     tracked_choice (vip_in flags) (records_of_words flags source macs word tracked) ≡ None →
-    DoesFrom setting state (read_slot setting state.frame (records_of_words flags source macs word tracked))
+    DoesFrom notes setting state (read_slot setting state.frame (records_of_words flags source macs word tracked))
 
 -- tunnel: the frame goes into the tunnel to the chosen backend, and is sent
 abbrev pub TunnelDoesItsPart : Type 0
 TunnelDoesItsPart =
-    (setting : SteeringSizes) → IsRingSize setting.size → (source macs word backend : ℕ) → backend < 2 ^ 64 → (state : MachineState) →
+    (notes : ℕ) (setting : SteeringSizes) → IsRingSize setting.size → (source macs word backend : ℕ) → backend < 2 ^ 64 →
+    (state : MachineState) →
     TunnelStart source macs backend state →
-    DoesFrom setting state (counted_end setting V.Tx
+    DoesFrom notes setting state (counted_end setting V.Tx
     (encapsulated_frame (tunnel_to (tunnel_in source macs word) (backend_of (bytes_of_number 8 backend)).address) state.frame))
 
 -- count: the verdict's count is raised, and the run ends with it
 abbrev pub CountDoesItsPart : Type 0
 CountDoesItsPart =
-    (setting : SteeringSizes) → IsRingSize setting.size → (verdict : Verdict) (state : MachineState) → CountStart verdict state →
-    DoesFrom setting state (counted_end setting verdict state.frame)
+    (notes : ℕ) (setting : SteeringSizes) → IsRingSize setting.size → (verdict : Verdict) (state : MachineState) →
+    CountStart verdict state →
+    DoesFrom notes setting state (counted_end setting verdict state.frame)
 
 -- count, at the block for frames that pass
 abbrev pub PassIsCounted : Type 0
 PassIsCounted =
-    (setting : SteeringSizes) → IsRingSize setting.size → (state : MachineState) → VerdictStart 205 state →
-    DoesFrom setting state (counted_end setting V.Pass state.frame)
+    (notes : ℕ) (setting : SteeringSizes) → IsRingSize setting.size → (state : MachineState) → VerdictStart 205 state →
+    DoesFrom notes setting state (counted_end setting V.Pass state.frame)
 
 -- count, at the block for frames that are dropped
 abbrev pub DropIsCounted : Type 0
 DropIsCounted =
-    (setting : SteeringSizes) → IsRingSize setting.size → (state : MachineState) → VerdictStart 207 state →
-    DoesFrom setting state (counted_end setting V.Drop state.frame)
+    (notes : ℕ) (setting : SteeringSizes) → IsRingSize setting.size → (state : MachineState) → VerdictStart 207 state →
+    DoesFrom notes setting state (counted_end setting V.Drop state.frame)

@@ -24,7 +24,7 @@ use Rattle.semantics.specs.Linux.{helper_number}
 use Rattle.semantics.specs.Semantics.{verdict_number}
 use Rattle.conntrack.specs.declared.steering_maps.SteeringMap.{SteeringMap}
 use Rattle.conntrack.specs.declared.steering_maps.SteeringMap.TheVariants.{Vips, Flows, Ring, Backends, Ctl, Stats}
-use Rattle.conntrack.specs.SteeringMaps.{steering_maps, map_place}
+use Rattle.conntrack.specs.SteeringMaps.{sized_maps, map_place}
 use Rattle.steer.specs.declared.layout.Block.{Block}
 use Rattle.steer.specs.declared.layout.Block.TheVariants as B
 use Rattle.steer.specs.declared.layout.Line.{Line}
@@ -402,5 +402,10 @@ abbrev pub code_of : List (List Insn) → List Insn
 code_of [] = []
 code_of (block ∷ blocks) = block ++ code_of blocks
 
+-- the image over a flow table of so many notes and a lookup table of this size
+abbrev pub sized_image : ℕ → ℕ → Contents
+sized_image notes size = record { version = V1; maps = sized_maps notes size; code = code_of (shipped_blocks size) }
+
+-- the one that is meant where nothing is said of the notes
 abbrev pub shipped_image : ℕ → Contents
-shipped_image size = record { version = V1; maps = steering_maps size; code = code_of (shipped_blocks size) }
+shipped_image size = sized_image 4096 size

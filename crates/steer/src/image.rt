@@ -2,27 +2,40 @@
 
 ghost use Rattle.std.specs.Prelude.{◌≡◌, ◌↔◌, IfOk, IsErrOf};
 ghost use Rattle.maglev.specs.RingSize.{IsRingSize};
+ghost use Rattle.conntrack.specs.SteeringMaps.{IsNoteCount};
 ghost use Rattle.conntrack.specs.declared.fault.SteerFault.TheVariants.{BadSize};
-ghost use Rattle.steer.specs.ShippedProgram.{shipped_image, code_of, shipped_blocks};
+ghost use Rattle.steer.specs.ShippedProgram.{shipped_image, sized_image, code_of, shipped_blocks};
 
 use crate::blocks;
 use crate::layout::{Block, put};
-use conntrack::{SteerFault, maps};
+use conntrack::{NOTES, SteerFault, is_note_count, maps_with};
 use ebpf_decode::{Image, Insn, Version};
 use maglev::is_ring_size;
 use std::alloc::Global;
 
-/// The shipped program for a lookup table of `size` slots, over the six maps of steering. Refused with 73 exactly where that is none of
-/// Maglev's sizes here (7, 251, 4093, 65537), and with 74 without memory.
-#[tactic(auto, using(crate::proofs::Encodable::no_fault))]
+/// The shipped program for a lookup table of `size` slots, over the six maps of steering with a flow table of 4096 notes. Refused with 73
+/// exactly where the size is none of Maglev's here (7, 251, 4093, 65537), and with 74 without memory.
 pub fn shipped(alloc: Global, size: u32) -> Result<Image, SteerFault>
     ensures image { IfOk result (λ image. image ≡ shipped_image size) }
     ensures bad_size { IsErrOf result BadSize ↔ ¬ IsRingSize size }
 {
+    shipped_with(alloc, NOTES, size)
+}
+
+/// The same program over a flow table of `notes` notes. Refused with 73 exactly where the size is none of Maglev's here, or the notes are
+/// not 4096, 8192, 16384, 32768, 65536 or 131072; and with 74 without memory.
+#[tactic(auto, using(crate::proofs::Encodable::no_fault))]
+pub fn shipped_with(alloc: Global, notes: u32, size: u32) -> Result<Image, SteerFault>
+    ensures image { IfOk result (λ image. image ≡ sized_image notes size) }
+    ensures bad_size { IsErrOf result BadSize ↔ ¬ (IsNoteCount notes × IsRingSize size) }
+{
+    if !is_note_count(notes) {
+        return Err(SteerFault::BadSize);
+    }
     if !is_ring_size(size) {
         return Err(SteerFault::BadSize);
     }
-    let maps = maps(alloc, size)?;
+    let maps = maps_with(alloc, notes, size)?;
     let code = code(alloc, size)?;
     match Image::of(Version::V1, maps, code) {
         Ok(image) => Ok(image),

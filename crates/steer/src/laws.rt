@@ -17,8 +17,8 @@ pub fn comes_in_blocks(size: u32)
     let _ = size;
 }
 
-/// The program carries out the steering rule: on each input frame, worker, time and number of shards, and on all replies that have their
-/// calls' form, its calls, verdict and frame are those of the rule's plan; where the run is over, it is a result of the rule.
+/// The program carries out the steering rule: on each input frame, worker, time, number of notes and number of shards, and on all replies
+/// that have their calls' form, its calls, verdict and frame are those of the rule's plan; where the run is over, it is a result of the rule.
 pub fn steers()
     ensures plan { ShippedSteers }
     ensures results { ExitedRunsAreResults }

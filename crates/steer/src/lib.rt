@@ -7,4 +7,4 @@ pub mod laws;
 mod layout;
 mod names;
 
-pub use image::shipped;
+pub use image::{shipped, shipped_with};

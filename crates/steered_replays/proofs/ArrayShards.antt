@@ -40,7 +40,7 @@ succeeded (Answer code) = is_success code
 succeeded reply = false
 
 -- in a shard that has every so many indices
-abbrev put_by : ℕ → ℕ → Call → Reply → List ℕ → List ℕ
+abbrev pub put_by : ℕ → ℕ → Call → Reply → List ℕ → List ℕ
 put_by parts cell (Update number key value flags) reply before = if succeeded reply && (number_of_bytes key / parts == cell) then value else before
 put_by parts cell call reply before = before
 

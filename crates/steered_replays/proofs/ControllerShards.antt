@@ -10,7 +10,7 @@ use Rattle.semantics.specs.declared.call.Entry.{Entry}
 use Rattle.semantics.specs.declared.options.Options.{Options}
 use Rattle.semantics.specs.LittleEndian.{number_of_bytes, bytes_of_number}
 use Rattle.conntrack.specs.Layouts.{service_key}
-use Rattle.conntrack.specs.SteeringMaps.{steering_maps}
+use Rattle.conntrack.specs.SteeringMaps.{sized_maps}
 use Rattle.control.specs.declared.fault.ControlFault.{ControlFault}
 use Rattle.control.specs.declared.fault.ControlFault.TheVariants.{BadSize, BadLine, UnknownBackend, BackendTwice, Refused, JournalFull, Memory}
 use Rattle.control.specs.declared.update.Update.{Update as Change}
@@ -54,16 +54,16 @@ all_made state (one ∷ later) state' are =
 
 -- ---- where they go
 
-change_below : (size : ℕ) (options : Options) → 0 < options.shards → (change : Change) → shard_of (steering_maps size) options (map_update change) < 5 * options.shards
-change_below size options some (Vip service vip) =
+change_below : (notes size : ℕ) (options : Options) → 0 < options.shards → (change : Change) → shard_of (sized_maps notes size) options (map_update change) < 5 * options.shards
+change_below notes size options some (Vip service vip) =
     let part : fnv1a64_of (service_key service) % options.shards < options.shards = mod-lt (fnv1a64_of (service_key service)) some in omega (arith, part, some)
-change_below size options some (Ring slot ring) =
+change_below notes size options some (Ring slot ring) =
     let part : number_of_bytes (bytes_of_number 4 slot) % options.shards < options.shards = mod-lt (number_of_bytes (bytes_of_number 4 slot)) some in
     omega (arith, part, some)
-change_below size options some (Backend number backend) =
+change_below notes size options some (Backend number backend) =
     let part : number_of_bytes (bytes_of_number 4 number) % options.shards < options.shards = mod-lt (number_of_bytes (bytes_of_number 4 number)) some in
     omega (arith, part, some)
-change_below size options some (Tunnel tunnel) =
+change_below notes size options some (Tunnel tunnel) =
     let part : number_of_bytes (bytes_of_number 4 0) % options.shards < options.shards = mod-lt (number_of_bytes (bytes_of_number 4 0)) some in
     omega (arith, part, some)
 
@@ -71,21 +71,21 @@ not_there : (at number most : ℕ) → at < most → most ≤ number → (at == 
 not_there at number most below past =
     let less : at < number = omega (arith, below, past) in grind (arith, nat_tests, less)
 
-module _ (size : ℕ) (options : Options) (some : 0 < options.shards) (number : ℕ) (past : 5 * options.shards ≤ number) where
-  one_aside : (made : AnsweredUpdate) → IsOfChange made → (history : List Entry) → with_update (steering_maps size) options number made history ≡ history
+module _ (notes size : ℕ) (options : Options) (some : 0 < options.shards) (number : ℕ) (past : 5 * options.shards ≤ number) where
+  one_aside : (made : AnsweredUpdate) → IsOfChange made → (history : List Entry) → with_update (sized_maps notes size) options number made history ≡ history
   one_aside made of history =
-      let below : shard_of (steering_maps size) options made.update < 5 * options.shards =
-      subst (λ (update : UpdateBytes). shard_of (steering_maps size) options update < 5 * options.shards) (sym of.1) (change_below size options some of.0) in
+      let below : shard_of (sized_maps notes size) options made.update < 5 * options.shards =
+      subst (λ (update : UpdateBytes). shard_of (sized_maps notes size) options update < 5 * options.shards) (sym of.1) (change_below notes size options some of.0) in
       ap (λ (test : Bool). if test then controller_entry number made ∷ history else history)
-      (not_there (shard_of (steering_maps size) options made.update) number (5 * options.shards) below past)
+      (not_there (shard_of (sized_maps notes size) options made.update) number (5 * options.shards) below past)
 
   all_aside : (made : List AnsweredUpdate) → AllByRecursion IsOfChange made → (history : List Entry) →
-      with_updates (steering_maps size) options number made history ≡ history
+      with_updates (sized_maps notes size) options number made history ≡ history
   all_aside [] all history = refl
   all_aside (made ∷ later) all history =
-      all_aside later all.1 (with_update (steering_maps size) options number made history) ∙ one_aside made all.0 history
+      all_aside later all.1 (with_update (sized_maps notes size) options number made history) ∙ one_aside made all.0 history
 
   -- the controller's entries there are none
   pub none_from_commands : (state : ControllerState) (done : List CommandDone) (state' : ControllerState) → AreDone state done state' →
-      with_updates (steering_maps size) options number (made_in done) [] ≡ []
+      with_updates (sized_maps notes size) options number (made_in done) [] ≡ []
   none_from_commands state done state' are = all_aside (made_in done) (all_made state done state' are) []

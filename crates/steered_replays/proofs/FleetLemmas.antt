@@ -166,13 +166,13 @@ number_there size (server ∷ up) (suc place) within =
     by false had = had
 
 -- a slot's owner is up
-record HasUpOwner (up : List Server) (owner : Option ℕ) : Type 0 where
-  server : Server
-  number : ℕ
-  owner_is : owner ≡ Some number
-  found : find (has_number number) up ≡ Some server
+pub record HasUpOwner (up : List Server) (owner : Option ℕ) : Type 0 where
+  pub server : Server
+  pub number : ℕ
+  pub owner_is : owner ≡ Some number
+  pub found : find (has_number number) up ≡ Some server
 
-owner_up : (size : ℕ) (server : Server) (up : List Server) (owners : List ℕ) → IsTable size (server ∷ up) owners → (slot : ℕ) → slot < size →
+pub owner_up : (size : ℕ) (server : Server) (up : List Server) (owners : List ℕ) → IsTable size (server ∷ up) owners → (slot : ℕ) → slot < size →
     HasUpOwner (server ∷ up) (slice_get owners slot)
 owner_up size server up owners table slot within =
     let all : List Preference = hashed_preferences size (server ∷ up) in
@@ -182,7 +182,7 @@ owner_up size server up owners table slot within =
     let found = found_any (server ∷ up) (slice_index_or all place no_backend).number (number_there size (server ∷ up) place below) in
     record { server = found.0; number = (slice_index_or all place no_backend).number; owner_is = turn.1; found = found.1 }
 
-found_one : (P : Server → Type 0) (test : Server → Bool) (up : List Server) (server : Server) → find test up ≡ Some server → AllByRecursion P up → (test server ≡ true) × P server
+pub found_one : (P : Server → Type 0) (test : Server → Bool) (up : List Server) (server : Server) → find test up ≡ Some server → AllByRecursion P up → (test server ≡ true) × P server
 found_one P test [] server found all = absurd cc
 found_one P test (one ∷ up) server found all = by (λ same. found_one P test up server same all.1) (test one) refl found
   where

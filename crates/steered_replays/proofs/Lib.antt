@@ -22,8 +22,11 @@ mod ServiceLemmas
 mod MomentLemmas
 mod FleetLemmas
 mod MovingStrangers
+mod WordLemmas
+mod WordTables
 -- flows that stay with their backends
 mod NoteLemmas
 mod StickyRuns
 mod StickyReplays
+mod StandingRuns
 mod StickyRow

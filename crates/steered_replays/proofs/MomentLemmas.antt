@@ -7,7 +7,7 @@ use Rattle.semantics.specs.declared.call.Caller.TheVariants.{Controller}
 use Rattle.semantics.specs.declared.call.Entry.{Entry}
 use Rattle.semantics.specs.declared.options.Options.{Options}
 use Rattle.semantics.specs.CallerLaws.{is_caller, own_entries}
-use Rattle.conntrack.specs.SteeringMaps.{steering_maps}
+use Rattle.conntrack.specs.SteeringMaps.{sized_maps}
 use Rattle.control.specs.declared.command.Command.{Command}
 use Rattle.map_updates.specs.declared.update.MapUpdate.{MapUpdate}
 use Rattle.actors.specs.declared.outcome.Outcome.{Outcome}
@@ -80,8 +80,8 @@ made_parts (one ∷ done) (suc commands) =
 
 -- ---- the moment
 
-module _ (size : ℕ) (script : List Command) (options : Options) (records : List Sent) (outcome : Outcome)
-    (plain : IsPlainReplay size script options records outcome) (commands : ℕ) where
+module _ (notes size : ℕ) (script : List Command) (options : Options) (records : List Sent) (outcome : Outcome)
+    (plain : IsPlainReplay notes size script options records outcome) (commands : ℕ) where
   abbrev all_done : List CommandDone
   all_done = plain.accounted.commands.done
 
@@ -89,24 +89,24 @@ module _ (size : ℕ) (script : List Command) (options : Options) (records : Lis
   whole number = last_histories outcome.journals number
 
   abbrev so_far : ℕ → List Entry
-  so_far number = with_updates (steering_maps size) options number (made_in (take commands all_done)) []
+  so_far number = with_updates (sized_maps notes size) options number (made_in (take commands all_done)) []
 
   -- what the controller does behind these commands
   abbrev later : ℕ → List Entry
-  later number = with_updates (steering_maps size) options number (made_in (drop commands all_done)) []
+  later number = with_updates (sized_maps notes size) options number (made_in (drop commands all_done)) []
 
   own_parts : (number : ℕ) → number < plain.accounted.count → own_entries Controller (whole number) ≡ later number ++ so_far number
   own_parts number within =
       plain.accounted.commands.own number within
-      ∙ ap (λ (updates : List MapUpdate). with_updates (steering_maps size) options number (all_set updates ++ made_in all_done) []) plain.none_set
-      ∙ ap (λ (made : List AnsweredUpdate). with_updates (steering_maps size) options number made []) (made_parts all_done commands)
-      ∙ with_updates_more (steering_maps size) options number (made_in (take commands all_done)) (made_in (drop commands all_done)) []
-      ∙ made_above (steering_maps size) options number (made_in (drop commands all_done)) (so_far number)
+      ∙ ap (λ (updates : List MapUpdate). with_updates (sized_maps notes size) options number (all_set updates ++ made_in all_done) []) plain.none_set
+      ∙ ap (λ (made : List AnsweredUpdate). with_updates (sized_maps notes size) options number made []) (made_parts all_done commands)
+      ∙ with_updates_more (sized_maps notes size) options number (made_in (take commands all_done)) (made_in (drop commands all_done)) []
+      ∙ made_above (sized_maps notes size) options number (made_in (drop commands all_done)) (so_far number)
 
   abbrev histories : ℕ → List Entry
   histories number = cut (length (later number)) (whole number)
 
-  pub is_moment : IsMoment size script options records outcome plain commands histories
+  pub is_moment : IsMoment notes size script options records outcome plain commands histories
   is_moment = record {
     newer = λ number. cut_off (length (later number)) (whole number);
     oldest = λ number within. both_parts (length (later number)) (whole number);
@@ -114,5 +114,5 @@ module _ (size : ℕ) (script : List Command) (options : Options) (records : Lis
   }
 
 pub moments_exist : MomentsExist
-moments_exist size script options records outcome plain commands =
-    (histories size script options records outcome plain commands, is_moment size script options records outcome plain commands)
+moments_exist notes size script options records outcome plain commands =
+    (histories notes size script options records outcome plain commands, is_moment notes size script options records outcome plain commands)

@@ -47,7 +47,7 @@ some_slots size is =
     All-contains (λ n. 0 < n) ring_sizes size (All-from_recursion (λ n. 0 < n) ring_sizes (omega arith, (omega arith, (omega arith, (omega arith, tt))))) is
 
 pub strangers_move_in_replays : TablesFollow → StrangersMove → StrangersMoveInReplays
-strangers_move_in_replays follow move size is script options records outcome plain commands command number known down kept before after moment next =
+strangers_move_in_replays follow move notes size is script options records outcome plain commands command number known down kept before after moment next =
     let first : MapsAt = record { journals = outcome.journals; histories = before } in
     let second : MapsAt = record { journals = outcome.journals; histories = after } in
     let done : List Action = carried_out outcome.refused.items 0 (take commands script) in
@@ -55,9 +55,9 @@ strangers_move_in_replays follow move size is script options records outcome pla
     ap (λ (count : ℕ). carried_out outcome.refused.items 0 (take count script)) (add-one commands)
     ∙ one_more outcome.refused.items 0 script commands command known (ap (is_refused outcome.refused.items) (from_zero commands) ∙ kept)
     ∙ ap (λ (action : Action). done ++ action ∷ []) down in
-    let tables : AreTablesAtEnd size done first = follow size is script options records outcome plain commands before moment in
+    let tables : AreTablesAtEnd size done first = follow notes size is script options records outcome plain commands before moment in
     let its : AreTablesAtEnd size (done ++ Down number ∷ []) second =
-    subst (λ (acts : List Action). AreTablesAtEnd size acts second) more (follow size is script options records outcome plain (commands + 1) after next) in
+    subst (λ (acts : List Action). AreTablesAtEnd size acts second) more (follow notes size is script options records outcome plain (commands + 1) after next) in
     record {
       owners = tables.owners;
       table = tables.table;

@@ -21,7 +21,7 @@ use Rattle.semantics.specs.SequentialShard.{shard_after, cell_bytes, cell_of_key
 use Rattle.semantics.specs.ShardPlan.{plan_at, plan_for_map}
 use Rattle.maglev.specs.RingSize.{IsRingSize}
 use Rattle.conntrack.specs.Layouts.{vip_bytes}
-use Rattle.conntrack.specs.SteeringMaps.{steering_maps, defined}
+use Rattle.conntrack.specs.SteeringMaps.{sized_maps, defined}
 use Rattle.steer.specs.SteeringLaws.{of_size, shipped_program}
 use Rattle.control.specs.declared.command.Action.{Action}
 use Rattle.control.specs.declared.command.Command.{Command}
@@ -100,10 +100,10 @@ rounds_kept kind hash plan number rounds own seen made =
 below_all : (n shards count : ℕ) → n < shards → count ≡ 6 * shards → n < count
 below_all n shards count below is = omega (arith, below, is)
 
-module _ (size : ℕ) (is_size : IsRingSize size) (script : List Command) (options : Options) (records : List Sent) (outcome : Outcome)
-    (plain : IsPlainReplay size script options records outcome)
-    (replayed : IsSteeredReplay size (shipped_program (of_size options.shards size)) script options records outcome plain.accounted) where
-  abbrev accounted : IsAccounted (shipped_program (of_size options.shards size)) script options records outcome
+module _ (notes size : ℕ) (is_size : IsRingSize size) (script : List Command) (options : Options) (records : List Sent) (outcome : Outcome)
+    (plain : IsPlainReplay notes size script options records outcome)
+    (replayed : IsSteeredReplay size (shipped_program notes (of_size options.shards size)) script options records outcome plain.accounted) where
+  abbrev accounted : IsAccounted (shipped_program notes (of_size options.shards size)) script options records outcome
   accounted = plain.accounted
 
   abbrev whole : ℕ → List Entry
@@ -128,17 +128,17 @@ module _ (size : ℕ) (is_size : IsRingSize size) (script : List Command) (optio
         (record {
           of_workers = λ worker below.
               quiet_kept (own_entries (Worker worker) (whole number))
-              (tables.worker_quiet size is_size script options records outcome plain replayed number within still worker (subst (λ (n : ℕ). worker < n) workers below));
-          of_controller = subst (λ (own : List Entry). AllByRecursion IsKept own) (sym (tables.controller_own size is_size script options records outcome plain replayed number within still))
-              (updates_kept (steering_maps size) options number (made_in all_done) [] tt);
+              (tables.worker_quiet notes size is_size script options records outcome plain replayed number within still worker (subst (λ (n : ℕ). worker < n) workers below));
+          of_controller = subst (λ (own : List Entry). AllByRecursion IsKept own) (sym (tables.controller_own notes size is_size script options records outcome plain replayed number within still))
+              (updates_kept (sized_maps notes size) options number (made_in all_done) [] tt);
           of_reclaimer = rounds_kept (accounted.plan number).definition.kind hash (accounted.plan number) number (round_count (length records))
               (own_entries Reclaimer (whole number)) (whole number) (accounted.rounds.each number within);
         })
 
     service_holds : (newer older : List Entry) → whole number ≡ newer ++ older → (made : List AnsweredUpdate) →
-        own_entries Controller older ≡ with_updates (steering_maps size) options number made [] → (key : List ℕ) →
+        own_entries Controller older ≡ with_updates (sized_maps notes size) options number made [] → (key : List ℕ) →
         option_map (cell_bytes (shard_after (accounted.plan number) older)) (cell_of_key (accounted.plan number) (shard_after (accounted.plan number) older) key)
-        ≡ kept_made (is_key_in (steering_maps size) options number key) made None
+        ≡ kept_made (is_key_in (sized_maps notes size) options number key) made None
     service_holds newer older is made own key =
         let known : AllByRecursion IsKept older = (all_parts IsKept newer older (subst (λ (h : List Entry). AllByRecursion IsKept h) is all_kept)).1 in
         kept_after (accounted.plan number) hash key older
@@ -146,10 +146,10 @@ module _ (size : ℕ) (is_size : IsRingSize size) (script : List Command) (optio
         (kept_keeping older known)
         ∙ own_keeps key older (kept_aside older known)
         ∙ ap (last_kept key) own
-        ∙ updates_keep (steering_maps size) options number key made []
+        ∙ updates_keep (sized_maps notes size) options number key made []
 
   -- a moment
-  module _ (commands : ℕ) (histories : ℕ → List Entry) (moment : IsMoment size script options records outcome plain commands histories) where
+  module _ (commands : ℕ) (histories : ℕ → List Entry) (moment : IsMoment notes size script options records outcome plain commands histories) where
     abbrev done : List CommandDone
     done = take commands all_done
 
@@ -172,7 +172,7 @@ module _ (size : ℕ) (is_size : IsRingSize size) (script : List Command) (optio
       is_plan : IsPlanOf options (defined Hash 8 8 64) plan
       is_plan =
           planned_of options number (defined Hash 8 8 64) plan
-          (sym (ap (plan_for_map options number) (ap (slice_get (steering_maps size)) (part_place options.shards 0 (fnv1a64_of key % options.shards) part)))
+          (sym (ap (plan_for_map options number) (ap (slice_get (sized_maps notes size)) (part_place options.shards 0 (fnv1a64_of key % options.shards) part)))
           ∙ accounted.plans.each number within)
 
       has_value : value_in_shard (histories (0 * outcome.journals.options.shards + fnv1a64_of key % outcome.journals.options.shards))
@@ -185,20 +185,20 @@ module _ (size : ℕ) (is_size : IsRingSize size) (script : List Command) (optio
           ∙ ap (λ (p : Option ShardPlan). value_in_shard (histories number) p key) (accounted.plans.each number within)
           ∙ service_holds number within first_map (ap (λ (d : MapDef). d.kind) is_plan.definition_is) is_plan.workers_are (moment.newer number) (histories number)
           (moment.oldest number within) (made_in done) (moment.controlled number within) key
-          ∙ same_kept (is_key_in (steering_maps size) options number key) (is_service key) (made_in done) None
-          (all_places (is_key_in (steering_maps size) options number key) (is_service key) (λ made of. service_place size options some made of key) (made_in done)
-          (tables.changes size is_size script options records outcome plain replayed commands histories moment))
-          ∙ services_done key (opened_controller size) done (tables.ended size is_size script options records outcome plain replayed commands histories moment).0
-          (tables.ended size is_size script options records outcome plain replayed commands histories moment).1
-          (tables.unstopped size is_size script options records outcome plain replayed commands histories moment) None
+          ∙ same_kept (is_key_in (sized_maps notes size) options number key) (is_service key) (made_in done) None
+          (all_places (is_key_in (sized_maps notes size) options number key) (is_service key) (λ made of. service_place notes size options some made of key) (made_in done)
+          (tables.changes notes size is_size script options records outcome plain replayed commands histories moment))
+          ∙ services_done key (opened_controller size) done (tables.ended notes size is_size script options records outcome plain replayed commands histories moment).0
+          (tables.ended notes size is_size script options records outcome plain replayed commands histories moment).1
+          (tables.unstopped notes size is_size script options records outcome plain replayed commands histories moment) None
 
     pub are_services : AreServices (carried_out outcome.refused.items 0 (take commands script)) (record { journals = outcome.journals; histories = histories })
     are_services key =
         has_value key
         ∙ ap (λ (acts : List Action). option_map vip_bytes (service_left key None acts))
-        (sym (tables.are_carried size is_size script options records outcome plain replayed commands histories moment))
+        (sym (tables.are_carried notes size is_size script options records outcome plain replayed commands histories moment))
 
   pub services_left : AreServices (carried_out outcome.refused.items 0 script) (maps_at_end outcome.journals)
   services_left =
       subst (λ (l : List Command). AreServices (carried_out outcome.refused.items 0 l) (maps_at_end outcome.journals)) (take_all (length script) script (omega arith))
-      (are_services (length script) (last_histories outcome.journals) (tables.at_the_end size is_size script options records outcome plain replayed))
+      (are_services (length script) (last_histories outcome.journals) (tables.at_the_end notes size is_size script options records outcome plain replayed))

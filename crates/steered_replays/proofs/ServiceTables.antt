@@ -10,7 +10,7 @@ use Rattle.semantics.specs.LittleEndian.{number_of_bytes, bytes_of_number}
 use Rattle.semantics.specs.declared.options.Options.{Options}
 use Rattle.conntrack.specs.declared.records.VipRecord.{VipRecord}
 use Rattle.conntrack.specs.Layouts.{service_key, vip_bytes}
-use Rattle.conntrack.specs.SteeringMaps.{steering_maps}
+use Rattle.conntrack.specs.SteeringMaps.{sized_maps}
 use Rattle.maglev.specs.declared.backend.Backend.{Backend as Server}
 use Rattle.control.specs.declared.command.Action.{Action}
 use Rattle.control.specs.declared.command.Action.TheVariants as actions
@@ -91,7 +91,7 @@ module _ (key : List ℕ) where
 
 -- ---- where they go
 
-module _ (size : ℕ) (options : Options) (some : 0 < options.shards) where
+module _ (notes size : ℕ) (options : Options) (some : 0 < options.shards) where
   same_shard : (asked key : List ℕ) (x : Bool) →
       ((0 * options.shards + fnv1a64_of asked % options.shards == 0 * options.shards + fnv1a64_of key % options.shards) && (x && bytes_eq asked key))
       ≡ (x && bytes_eq asked key)
@@ -113,14 +113,14 @@ module _ (size : ℕ) (options : Options) (some : 0 < options.shards) where
       by false is = neither_shard (0 * options.shards + fnv1a64_of asked % options.shards == 0 * options.shards + fnv1a64_of key % options.shards) x
 
   pub service_place : (made : AnsweredUpdate) → IsOfChange made → (key : List ℕ) →
-      is_key_in (steering_maps size) options (0 * options.shards + fnv1a64_of key % options.shards) key made ≡ is_service key made
+      is_key_in (sized_maps notes size) options (0 * options.shards + fnv1a64_of key % options.shards) key made ≡ is_service key made
   service_place made (change, is) key =
-      ap (λ (u : UpdateBytes). is_key_in (steering_maps size) options (0 * options.shards + fnv1a64_of key % options.shards) key (record { update = u; answer = made.answer })) is
+      ap (λ (u : UpdateBytes). is_key_in (sized_maps notes size) options (0 * options.shards + fnv1a64_of key % options.shards) key (record { update = u; answer = made.answer })) is
       ∙ by change
       ∙ ap (λ (u : UpdateBytes). is_service key (record { update = u; answer = made.answer })) (sym is)
     where
       by : (change : Change) →
-          is_key_in (steering_maps size) options (0 * options.shards + fnv1a64_of key % options.shards) key (record { update = map_update change; answer = made.answer })
+          is_key_in (sized_maps notes size) options (0 * options.shards + fnv1a64_of key % options.shards) key (record { update = map_update change; answer = made.answer })
           ≡ is_service key (record { update = map_update change; answer = made.answer })
       by (Vip service vip) = same_shard (service_key service) key (is_success made.answer)
       by (Ring slot ring) = aside_of options.shards some 0 2 (number_of_bytes (bytes_of_number 4 slot) % options.shards) (fnv1a64_of key)

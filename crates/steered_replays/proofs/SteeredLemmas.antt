@@ -22,6 +22,7 @@ use Rattle.conntrack.specs.Steering.{SteeringSizes, steering}
 use Rattle.conntrack.specs.Results.{IsResult}
 use Rattle.steer.specs.SteeringLaws.{of_size, shipped_program, ShippedSteers, ExitedRunsAreResults}
 use Rattle.journals.specs.JournalsView.{JournalsView}
+use Rattle.shards.specs.declared.deeds.Deed.{Deed}
 use Rattle.shards.specs.Passes.{PassView}
 use Rattle.runs.specs.FrameRuns.{AreFormed}
 use Rattle.machine.specs.declared.exit.Stop.{Stop}
@@ -35,7 +36,7 @@ use Rattle.actors.specs.RunJobs.{records_of}
 use Rattle.actors.specs.RunsInOrder.{IsRunAt, IsChainOfRuns}
 use Rattle.actors.specs.RunsOverShards.{IsRunIn, IsExit, StopsFor}
 use Rattle.actors.specs.Shares.{frames_of, frame_at, is_short, is_spread_by_flow, worker_of_frame, is_handed, share}
-use Rattle.steered_replays.specs.SteeredRuns.{IsSteeredFate, IsSteeredExit, IsSteeredStop, IsSteeredRun}
+use Rattle.steered_replays.specs.SteeredRuns.{IsSteeredFate, IsSteeredExit, IsSteeredStop, IsSteeredRun, IsEndOfRun, runs_in_chain, runs_in_work}
 use Rattle.actors.specs.Captured.{IsCaptured}
 use Rattle.steered_replays.specs.SteeredRuns.{RunsAreSteered, RefusedRunsAreSteered, ReplaysAreSteered}
 use Rattle.steered_replays.proofs.ResultCounts.{all_both}
@@ -52,29 +53,29 @@ before_answered program [] next formed = tt
 before_answered program (exchange ∷ later) next formed = (formed.0, before_answered program later next formed.1)
 
 pub runs_are_steered : ShippedSteers → ExitedRunsAreResults → RunsAreSteered
-runs_are_steered steers results size shards is frame input told now count worker before after verdict steps left run =
+runs_are_steered steers results notes size shards is frame input told now count worker before after verdict steps left run =
     let setting : SteeringSizes = of_size shards size in
-    let program : Program = shipped_program setting in
+    let program : Program = shipped_program notes setting in
     let answers : AreReplies program (calls_in run.exchanges) (replies_in run.exchanges) = all_answered program run.exchanges run.formed in
     let own : AreReplies program (whole_trace program (initial_state (input_frame frame) told now) (replies_in run.exchanges)).calls (replies_in run.exchanges) =
     subst (λ (t : RunTrace). AreReplies program t.calls (replies_in run.exchanges)) (sym run.trace) answers in
     let done : plan_outcome (steering setting (input_frame frame)) (replies_in run.exchanges)
     ≡ record { calls = calls_in run.exchanges; ending = Ended verdict run.last.frame } =
-    sym (steers size shards is frame input told now (replies_in run.exchanges) own) ∙ ap outcome_of run.trace in
+    sym (steers notes size shards is frame input told now (replies_in run.exchanges) own) ∙ ap outcome_of run.trace in
     record {
       plan = done ∙ ap (λ (f : FrameView). record { calls = calls_in run.exchanges; ending = Ended verdict f }) (sym run.sent);
       result = subst (λ (f : FrameView). IsResult setting (input_frame frame) run.exchanges verdict f) (sym run.sent)
-          (results size shards is frame input told now run.exchanges verdict run.last answers run.trace);
+          (results notes size shards is frame input told now run.exchanges verdict run.last answers run.trace);
     }
 
 pub refused_runs_are_steered : ShippedSteers → RefusedRunsAreSteered
-refused_runs_are_steered steers size shards is frame input told now plan count worker before after left shard was =
+refused_runs_are_steered steers notes size shards is frame input told now plan count worker before after left shard was =
     let setting : SteeringSizes = of_size shards size in
-    let program : Program = shipped_program setting in
+    let program : Program = shipped_program notes setting in
     let answers = before_answered program was.exchanges was.refused was.formed in
     let own : AreReplies program (whole_trace program (initial_state (input_frame frame) told now) (replies_in was.exchanges)).calls (replies_in was.exchanges) =
     subst (λ (t : RunTrace). AreReplies program t.calls (replies_in was.exchanges)) (sym was.trace) answers in
-    sym (steers size shards is frame input told now (replies_in was.exchanges) own) ∙ ap outcome_of was.trace
+    sym (steers notes size shards is frame input told now (replies_in was.exchanges) own) ∙ ap outcome_of was.trace
 
 -- ---- the frames of a worker's share
 
@@ -169,13 +170,13 @@ share_at frames workers worker number (suc count) handed below =
 
 -- ---- a worker's runs
 
-module _ (steers : ShippedSteers) (results : ExitedRunsAreResults) (size shards : ℕ) (is : IsRingSize size) (plan : ℕ → ShardPlan) (count worker : ℕ)
+module _ (steers : ShippedSteers) (results : ExitedRunsAreResults) (notes size shards : ℕ) (is : IsRingSize size) (plan : ℕ → ShardPlan) (count worker : ℕ)
     (journals : JournalsView) where
   abbrev ruled : SteeringSizes
   ruled = of_size shards size
 
   abbrev program : Program
-  program = shipped_program ruled
+  program = shipped_program notes ruled
 
   exit_steered : (captured : Sent) → IsInputFrame captured.bytes.items → (before : PassView) (end : RunEnd) (after : PassView) →
       IsExit count program worker captured before end after → IsSteeredExit ruled count worker captured before end after
@@ -184,7 +185,7 @@ module _ (steers : ShippedSteers) (results : ExitedRunsAreResults) (size shards 
     verdict = exit.verdict;
     frame = exit.frame;
     sessions = exit.run.sessions;
-    by_rule = runs_are_steered steers results size shards is captured.bytes.items input worker _ count worker before after exit.verdict exit.steps exit.frame exit.run;
+    by_rule = runs_are_steered steers results notes size shards is captured.bytes.items input worker _ count worker before after exit.verdict exit.steps exit.frame exit.run;
     told = exit.told;
   }
 
@@ -196,7 +197,7 @@ module _ (steers : ShippedSteers) (results : ExitedRunsAreResults) (size shards 
         exchanges = was.exchanges;
         refused = was.refused;
         sessions = was.sessions;
-        by_rule = refused_runs_are_steered steers size shards is captured.bytes.items input worker _ plan count worker before after frame shard was;
+        by_rule = refused_runs_are_steered steers notes size shards is captured.bytes.items input worker _ plan count worker before after frame shard was;
       }
 
   run_steered : (captured : Sent) → IsInputFrame captured.bytes.items → (before : PassView) (end : RunEnd) (after : PassView) →
@@ -218,79 +219,92 @@ module _ (steers : ShippedSteers) (results : ExitedRunsAreResults) (size shards 
 
 -- ---- what became of each record
 
--- the run is one of the record by the rule
-record IsSteeredOne (plan : ℕ → ShardPlan) (count : ℕ) (setting : SteeringSizes) (worker : ℕ) (records : List Sent) (ran : Ran) : Type 0 where
-  captured : Sent
-  known : slice_get records ran.number ≡ Some captured
-  before : PassView
-  after : PassView
-  run : IsSteeredRun plan count setting worker captured before ran.end after
-
-each_steered : (plan : ℕ → ShardPlan) (count : ℕ) (setting : SteeringSizes) (worker : ℕ) (records : List Sent) (before : PassView) (runs : List Ran) (after : PassView) →
-    IsChainOfRuns (IsRunAt (IsSteeredRun plan count setting worker) records) before runs after → AllByRecursion (IsSteeredOne plan count setting worker records) runs
-each_steered plan count setting worker records before [] after chain = tt
-each_steered plan count setting worker records before (ran ∷ later) after chain =
-    let run = chain.1 in (
-      record { captured = run.sent; known = run.known; before = before; after = chain.0; run = run.run },
-      each_steered plan count setting worker records chain.0 later after chain.2,
+-- the run at the place of a record
+end_there : (IsRun : PassView → Ran → PassView → Type 0) (number : ℕ) (before : PassView) (runs : List Ran) (after : PassView)
+    (chain : IsChainOfRuns IsRun before runs after) (place : ℕ) → slice_get (records_of runs) place ≡ Some number →
+    (end : RunEnd) × (end_at runs place ≡ Some end) × IsEndOfRun (runs_in_chain IsRun before runs after chain) place number end
+end_there IsRun number before [] after chain place there = absurd cc
+end_there IsRun number before (ran ∷ later) after chain zero there = (
+  ran.end,
+  refl,
+  record {
+    one = record { before = before; ran = ran; after = chain.0; run = chain.1 };
+    in_place = refl;
+    number_is = cc there;
+    end_is = refl;
+  },
+)
+end_there IsRun number before (ran ∷ later) after chain (suc place) there =
+    let rest = end_there IsRun number chain.0 later after chain.2 place there in (
+      rest.0,
+      rest.1,
+      record { one = rest.2.one; in_place = rest.2.in_place; number_is = rest.2.number_is; end_is = rest.2.end_is },
     )
 
 -- a fate is that of the run at the record's place
-fate_there : (plan : ℕ → ShardPlan) (count : ℕ) (setting : SteeringSizes) (worker : ℕ) (records : List Sent) (captured : Sent) (number : ℕ) →
-    slice_get records number ≡ Some captured → (runs : List Ran) (place : ℕ) → AllByRecursion (IsSteeredOne plan count setting worker records) runs →
-    slice_get (records_of runs) place ≡ Some number → IsSteeredFate plan count setting worker captured (end_at runs place)
-fate_there plan count setting worker records captured number known [] place all there = absurd cc
-fate_there plan count setting worker records captured number known (ran ∷ later) zero all there =
-    let same : ran.number ≡ number = cc there in
-    let one : all.0.captured ≡ captured = cc (sym all.0.known ∙ ap (slice_get records) same ∙ known) in
-    (all.0.before, all.0.after, subst (λ (c : Sent). IsSteeredRun plan count setting worker c all.0.before ran.end all.0.after) one all.0.run)
-fate_there plan count setting worker records captured number known (ran ∷ later) (suc place) all there =
-    fate_there plan count setting worker records captured number known later place all.1 there
+fate_there : (IsRun : PassView → Ran → PassView → Type 0) (captured : Sent) (number : ℕ) (before : PassView) (runs : List Ran) (after : PassView)
+    (chain : IsChainOfRuns IsRun before runs after) (place : ℕ) → slice_get (records_of runs) place ≡ Some number →
+    IsSteeredFate (runs_in_chain IsRun before runs after chain) place number captured (end_at runs place)
+fate_there IsRun captured number before runs after chain place there =
+    let found = end_there IsRun number before runs after chain place there in
+    subst (λ (fate : Option RunEnd). IsSteeredFate (runs_in_chain IsRun before runs after chain) place number captured fate) (sym found.1) found.2
 
 flow_below : (flow : Bool) (hash workers : ℕ) → 0 < workers → (if flow then hash % workers else 0) < workers
 flow_below true hash workers some = mod-lt hash some
 flow_below false hash workers some = some
 
-module _ (plan : ℕ → ShardPlan) (count : ℕ) (setting : SteeringSizes) (workers : ℕ) (some : 0 < workers) (records : List Sent) (runs : List (List Ran))
-    (in_order : (worker : ℕ) → worker < workers → records_of (runs_at runs worker) ≡ share (frames_of records) workers worker (length records))
-    (steered : (worker : ℕ) → worker < workers → AllByRecursion (IsSteeredOne plan count setting worker records) (runs_at runs worker)) where
-  fate_by_length : (number : ℕ) (captured : Sent) → slice_get records number ≡ Some captured → number < length records → (short : Bool) →
-      is_short (frame_at (frames_of records) number) ≡ short → frame_at (frames_of records) number ≡ captured.bytes.items →
-      IsSteeredFate plan count setting (worker_of_frame (frame_at (frames_of records) number) workers) captured (fate_of (frames_of records) workers runs number)
-  fate_by_length number captured known below true is same =
-      let fate : fate_of (frames_of records) workers runs number ≡ None = rw is refl in
-      subst (λ (f : Option RunEnd). IsSteeredFate plan count setting (worker_of_frame (frame_at (frames_of records) number) workers) captured f) (sym fate)
-      (ap is_short (sym same) ∙ is)
-  fate_by_length number captured known below false is same =
+module _ (Ruled : ℕ → PassView → Ran → PassView → Type 0) (workers : ℕ) (some : 0 < workers) (records : List Sent) (runs : List (List Ran)) (count : ℕ)
+    (journals : JournalsView) (order : List Deed)
+    (work : (worker : ℕ) → worker < workers → IsWorkOf (Ruled worker) (share (frames_of records) workers worker (length records)) worker (runs_at runs worker)
+    count journals order) where
+  -- the fate of the record by the runs of the worker of these bytes
+  abbrev HasFate : List ℕ → ℕ → Sent → Type 0
+  HasFate bytes number captured =
+      (below : worker_of_frame bytes workers < workers)
+      × IsSteeredFate (runs_in_work (work (worker_of_frame bytes workers) below))
+      (length (share (frames_of records) workers (worker_of_frame bytes workers) number)) number captured (fate_of (frames_of records) workers runs number)
+
+  worker_below : (bytes : List ℕ) → worker_of_frame bytes workers < workers
+  worker_below bytes = flow_below (is_spread_by_flow bytes) (fnv1a64_of (flow_bytes_of bytes)) workers some
+
+  fate_by_length : (number : ℕ) (captured : Sent) → number < length records → (short : Bool) → is_short (frame_at (frames_of records) number) ≡ short →
+      frame_at (frames_of records) number ≡ captured.bytes.items → HasFate (frame_at (frames_of records) number) number captured
+  fate_by_length number captured below true is same =
+      let few = worker_below (frame_at (frames_of records) number) in
+      let place : ℕ = length (share (frames_of records) workers (worker_of_frame (frame_at (frames_of records) number) workers) number) in
+      let fate : fate_of (frames_of records) workers runs number ≡ None = rw is refl in (
+        few,
+        subst
+            (λ (f : Option RunEnd). IsSteeredFate (runs_in_work (work (worker_of_frame (frame_at (frames_of records) number) workers) few)) place number captured f)
+            (sym fate) (ap is_short (sym same) ∙ is),
+      )
+  fate_by_length number captured below false is same =
       let worker : ℕ = worker_of_frame (frame_at (frames_of records) number) workers in
-      let few : worker < workers =
-      flow_below (is_spread_by_flow (frame_at (frames_of records) number)) (fnv1a64_of (flow_bytes_of (frame_at (frames_of records) number))) workers some in
+      let few = worker_below (frame_at (frames_of records) number) in
+      let place : ℕ = length (share (frames_of records) workers worker number) in
       let own : (worker_of_frame (frame_at (frames_of records) number) workers == worker) ≡ true = same_test worker in
       let handed : is_handed (frames_of records) workers worker number ≡ true = rw (is, own) refl in
-      let fate : fate_of (frames_of records) workers runs number
-      ≡ end_at (runs_at runs worker) (length (share (frames_of records) workers worker number)) = rw is refl in
-      subst (λ (f : Option RunEnd). IsSteeredFate plan count setting worker captured f) (sym fate)
-      (fate_there plan count setting worker records captured number known (runs_at runs worker) (length (share (frames_of records) workers worker number))
-      (steered worker few)
-      (ap (λ (l : List ℕ). slice_get l (length (share (frames_of records) workers worker number))) (in_order worker few)
-      ∙ share_at (frames_of records) workers worker number (length records) handed below))
+      let fate : fate_of (frames_of records) workers runs number ≡ end_at (runs_at runs worker) place = rw is refl in
+      let done = work worker few in (
+        few,
+        subst (λ (f : Option RunEnd). IsSteeredFate (runs_in_work (work worker few)) place number captured f) (sym fate)
+            (fate_there (Ruled worker) captured number done.handled.before (runs_at runs worker) done.after done.handled.chain place
+            (ap (λ (l : List ℕ). slice_get l place) done.handled.records_are ∙ share_at (frames_of records) workers worker number (length records) handed below)),
+      )
 
   fate_steered : (number : ℕ) (captured : Sent) → slice_get records number ≡ Some captured → AllByRecursion IsCaptured records →
-      IsSteeredFate plan count setting (worker_of_frame captured.bytes.items workers) captured (fate_of (frames_of records) workers runs number)
+      HasFate captured.bytes.items number captured
   fate_steered number captured known all =
       let same : frame_at (frames_of records) number ≡ captured.bytes.items = (record_of records number captured known all).1 in
-      subst (λ (bytes : List ℕ). IsSteeredFate plan count setting (worker_of_frame bytes workers) captured (fate_of (frames_of records) workers runs number)) same
-      (fate_by_length number captured known (known_below records number captured known) (is_short (frame_at (frames_of records) number)) refl same)
+      subst (λ (bytes : List ℕ). HasFate bytes number captured) same
+      (fate_by_length number captured (known_below records number captured known) (is_short (frame_at (frames_of records) number)) refl same)
 
 pub replays_are_steered : ShippedSteers → ExitedRunsAreResults → ReplaysAreSteered
-replays_are_steered steers results size is script options records outcome fit captured accounted = record {
+replays_are_steered steers results notes size is script options records outcome fit captured accounted = record {
   work = works;
   fates = λ number one known.
-      fate_steered accounted.plan accounted.count (of_size options.shards size) options.workers fit.some_worker records accounted.runs
-      (λ worker below. (works worker below).handled.records_are)
-      (λ worker below. each_steered accounted.plan accounted.count (of_size options.shards size) worker records (works worker below).handled.before
-      (runs_at accounted.runs worker) (works worker below).after (works worker below).handled.chain)
-      number one known captured;
+      fate_steered (λ (worker : ℕ). IsRunAt (IsSteeredRun accounted.plan accounted.count (of_size options.shards size) worker) records) options.workers
+      fit.some_worker records accounted.runs accounted.count outcome.journals accounted.order works number one known captured;
 }
   where
     works : (worker : ℕ) → worker < options.workers →
@@ -308,7 +322,7 @@ replays_are_steered steers results size is script options records outcome fit ca
             records_are = handled.records_are;
             before = handled.before;
             is_new = handled.is_new;
-            chain = chain_steered steers results size options.shards is accounted.plan accounted.count worker outcome.journals records handled.before
+            chain = chain_steered steers results notes size options.shards is accounted.plan accounted.count worker outcome.journals records handled.before
                 (runs_at accounted.runs worker) work.after inputs handled.chain;
           };
           own = work.own;

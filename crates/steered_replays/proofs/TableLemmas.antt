@@ -28,7 +28,7 @@ use Rattle.maglev.specs.declared.backend.Backend.{Backend as Server}
 use Rattle.conntrack.specs.declared.records.BackendRecord.{BackendRecord}
 use Rattle.conntrack.specs.declared.steering_maps.SteeringMap.TheVariants as maps
 use Rattle.conntrack.specs.Layouts.{flag_number, service_key, ring_bytes, backend_bytes}
-use Rattle.conntrack.specs.SteeringMaps.{steering_maps, defined, ring_entries}
+use Rattle.conntrack.specs.SteeringMaps.{sized_maps, defined, ring_entries}
 use Rattle.conntrack.specs.Steering.{SteeringSizes}
 use Rattle.steer.specs.SteeringLaws.{of_size, shipped_program}
 use Rattle.shards.specs.CallerView.{CallerView}
@@ -200,17 +200,17 @@ all_taken script (noted ∷ more) (one ∷ others) first (command ∷ later) num
 
 -- ---- where an update goes
 
-module _ (size : ℕ) (options : Options) (some : 0 < options.shards) where
+module _ (notes size : ℕ) (options : Options) (some : 0 < options.shards) where
   -- of the lookup table
   ring_place : (made : AnsweredUpdate) → IsOfChange made → (number : ℕ) →
-      is_in_cell (steering_maps size) options (2 * options.shards + number % options.shards) options.shards (number / options.shards) made ≡ is_at 2 number made
+      is_in_cell (sized_maps notes size) options (2 * options.shards + number % options.shards) options.shards (number / options.shards) made ≡ is_at 2 number made
   ring_place made (change, is) number =
-      ap (λ (u : UpdateBytes). is_in_cell (steering_maps size) options (2 * options.shards + number % options.shards) options.shards (number / options.shards) (record { update = u; answer = made.answer })) is
+      ap (λ (u : UpdateBytes). is_in_cell (sized_maps notes size) options (2 * options.shards + number % options.shards) options.shards (number / options.shards) (record { update = u; answer = made.answer })) is
       ∙ by change
       ∙ ap (λ (u : UpdateBytes). is_at 2 number (record { update = u; answer = made.answer })) (sym is)
     where
       by : (change : Change) →
-          is_in_cell (steering_maps size) options (2 * options.shards + number % options.shards) options.shards (number / options.shards) (record { update = map_update change; answer = made.answer })
+          is_in_cell (sized_maps notes size) options (2 * options.shards + number % options.shards) options.shards (number / options.shards) (record { update = map_update change; answer = made.answer })
           ≡ is_at 2 number (record { update = map_update change; answer = made.answer })
       by (Vip service vip) = aside_of options.shards some 2 0 (fnv1a64_of (service_key service) % options.shards) number
           (is_success made.answer && (number_of_bytes (service_key service) / options.shards == number / options.shards))
@@ -228,14 +228,14 @@ module _ (size : ℕ) (options : Options) (some : 0 < options.shards) where
 
   -- and of the backends
   backend_place : (made : AnsweredUpdate) → IsOfChange made → (number : ℕ) →
-      is_in_cell (steering_maps size) options (3 * options.shards + number % options.shards) options.shards (number / options.shards) made ≡ is_at 3 number made
+      is_in_cell (sized_maps notes size) options (3 * options.shards + number % options.shards) options.shards (number / options.shards) made ≡ is_at 3 number made
   backend_place made (change, is) number =
-      ap (λ (u : UpdateBytes). is_in_cell (steering_maps size) options (3 * options.shards + number % options.shards) options.shards (number / options.shards) (record { update = u; answer = made.answer })) is
+      ap (λ (u : UpdateBytes). is_in_cell (sized_maps notes size) options (3 * options.shards + number % options.shards) options.shards (number / options.shards) (record { update = u; answer = made.answer })) is
       ∙ by change
       ∙ ap (λ (u : UpdateBytes). is_at 3 number (record { update = u; answer = made.answer })) (sym is)
     where
       by : (change : Change) →
-          is_in_cell (steering_maps size) options (3 * options.shards + number % options.shards) options.shards (number / options.shards) (record { update = map_update change; answer = made.answer })
+          is_in_cell (sized_maps notes size) options (3 * options.shards + number % options.shards) options.shards (number / options.shards) (record { update = map_update change; answer = made.answer })
           ≡ is_at 3 number (record { update = map_update change; answer = made.answer })
       by (Vip service vip) = aside_of options.shards some 3 0 (fnv1a64_of (service_key service) % options.shards) number
           (is_success made.answer && (number_of_bytes (service_key service) / options.shards == number / options.shards))
@@ -343,7 +343,7 @@ in_ring shards (inr (inr (inr is))) size slot within = subst (λ (s : ℕ). slot
 rounded_up : (size slot : ℕ) → slot < size → slot < (size + 7) / 8 * 8
 rounded_up size slot within = omega (arith, within)
 
-below_all : (n shards count : ℕ) → n < 5 * shards → count ≡ 6 * shards → n < count
+pub below_all : (n shards count : ℕ) → n < 5 * shards → count ≡ 6 * shards → n < count
 below_all n shards count below is = omega (arith, below, is)
 
 in_backends : (shards : ℕ) → IsShards shards → (number : ℕ) → number < 256 → number / shards < 256 / shards
@@ -357,10 +357,21 @@ last_known newer older all = (all_parts IsKnown newer older all).1
 
 -- ---- the whole
 
-module _ (size : ℕ) (is_size : IsRingSize size) (script : List Command) (options : Options) (records : List Sent) (outcome : Outcome)
-    (plain : IsPlainReplay size script options records outcome)
-    (replayed : IsSteeredReplay size (shipped_program (of_size options.shards size)) script options records outcome plain.accounted) where
-  abbrev accounted : IsAccounted (shipped_program (of_size options.shards size)) script options records outcome
+-- in these histories the last values that were put in the lookup table and in the backends are those that these commands leave
+pub record AreLastPuts (size shards : ℕ) (done : List Action) (histories : ℕ → List Entry) : Type 0 where
+  pub owners : List ℕ
+  pub table : IsTable size (up_left [] done) owners
+  pub up : AllByRecursion (IsRecordedUp done) (up_left [] done)
+  pub ring : (slot : ℕ) → slot < size →
+      last_put shards (slot / shards) (replicate 8 0) (histories (2 * shards + slot % shards)) ≡ ring_bytes (record { owner = slice_get owners slot })
+  pub backends : (number : ℕ) → number < 256 →
+      last_put shards (number / shards) (replicate 8 0) (histories (3 * shards + number % shards)) ≡ backend_bytes (record_left number no_record done)
+  pub four : (number : ℕ) → number < 256 → length (record_left number no_record done).address.0 ≡ 4
+
+module _ (notes size : ℕ) (is_size : IsRingSize size) (script : List Command) (options : Options) (records : List Sent) (outcome : Outcome)
+    (plain : IsPlainReplay notes size script options records outcome)
+    (replayed : IsSteeredReplay size (shipped_program notes (of_size options.shards size)) script options records outcome plain.accounted) where
+  abbrev accounted : IsAccounted (shipped_program notes (of_size options.shards size)) script options records outcome
   accounted = plain.accounted
 
   abbrev sizes : SteeringSizes
@@ -382,13 +393,13 @@ module _ (size : ℕ) (is_size : IsRingSize size) (script : List Command) (optio
   ended_all : (state : ControllerState) × AreDone (opened_controller size) all_done state
   ended_all = by accounted.commands.serves
     where
-      by : ServesScript (steering_maps size) accounted.commands.size script → (state : ControllerState) × AreDone (opened_controller size) all_done state
+      by : ServesScript (sized_maps notes size) accounted.commands.size script → (state : ControllerState) × AreDone (opened_controller size) all_done state
       by (inl empty) =
           let none : all_done ≡ [] =
           none_done script accounted.commands.noted all_done (accounted.commands.each_once ∙ ap (λ (l : List Command). numbers_from 0 (length l)) empty) accounted.commands.are_noted in
           (opened_controller size, subst (λ (l : List CommandDone). AreDone (opened_controller size) l (opened_controller size)) (sym none) refl)
       by (inr same) =
-          let one : accounted.commands.size ≡ size = sym (one_size size accounted.commands.size is_size accounted.commands.size_is_served (ap third_entries same)) in
+          let one : accounted.commands.size ≡ size = sym (one_size size accounted.commands.size is_size accounted.commands.size_is_served (ap third_entries same.maps_are)) in
           (accounted.commands.state, subst (λ (n : ℕ). AreDone (opened_controller n) all_done accounted.commands.state) one accounted.commands.are_done)
 
   -- one shard in which runs change nothing
@@ -410,10 +421,10 @@ module _ (size : ℕ) (is_size : IsRingSize size) (script : List Command) (optio
         (worker_named worker below) number within still
         (subst (λ (own : List Entry). AllByRecursion (λ (entry : Entry). IsQuiet entry.call) own) (sym (nothing_yet worker below)) tt))
 
-    pub controller_own : own_entries Controller (whole number) ≡ with_updates (steering_maps size) options number (made_in all_done) []
+    pub controller_own : own_entries Controller (whole number) ≡ with_updates (sized_maps notes size) options number (made_in all_done) []
     controller_own =
         accounted.commands.own number within
-        ∙ ap (λ (updates : List MapUpdate). with_updates (steering_maps size) options number (all_set updates ++ made_in all_done) []) plain.none_set
+        ∙ ap (λ (updates : List MapUpdate). with_updates (sized_maps notes size) options number (all_set updates ++ made_in all_done) []) plain.none_set
 
   -- one shard of an array that the program only reads
   module _ (number : ℕ) (within : number < accounted.count) (low : 2 * options.shards ≤ number) (high : number < 5 * options.shards)
@@ -433,42 +444,48 @@ module _ (size : ℕ) (is_size : IsRingSize size) (script : List Command) (optio
         (record {
           of_workers = λ worker below. quiet_known (own_entries (Worker worker) (whole number)) (worker_quiet number within still worker (subst (λ (n : ℕ). worker < n) workers below));
           of_controller = subst (λ (own : List Entry). AllByRecursion IsKnown own) (sym (controller_own number within still))
-              (updates_known (steering_maps size) options number (made_in all_done) [] tt);
+              (updates_known (sized_maps notes size) options number (made_in all_done) [] tt);
           of_reclaimer = subst (λ (own : List Entry). AllByRecursion IsKnown own) (sym reclaimer_none) tt;
         })
 
-    -- at any moment, by what the controller has then made
-    cell_holds : (newer older : List Entry) → whole number ≡ newer ++ older → (made : List AnsweredUpdate) →
-        own_entries Controller older ≡ with_updates (steering_maps size) options number made [] → (cell : ℕ) → cell < capacity (accounted.plan number) →
-        cell_bytes (shard_after (accounted.plan number) older) cell
-        ≡ put_made (is_in_cell (steering_maps size) options number (accounted.plan number).parts cell) made (replicate (accounted.plan number).definition.value_size 0)
-    cell_holds newer older is made own cell inside =
+    -- at any moment the last value that was put in a cell is the last of what the controller has then made
+    last_holds : (newer older : List Entry) → whole number ≡ newer ++ older → (made : List AnsweredUpdate) →
+        own_entries Controller older ≡ with_updates (sized_maps notes size) options number made [] → (cell : ℕ) →
+        last_put (accounted.plan number).parts cell (replicate (accounted.plan number).definition.value_size 0) older
+        ≡ put_made (is_in_cell (sized_maps notes size) options number (accounted.plan number).parts cell) made (replicate (accounted.plan number).definition.value_size 0)
+    last_holds newer older is made own cell =
         let first : List ℕ = replicate (accounted.plan number).definition.value_size 0 in
         let parts : ℕ = (accounted.plan number).parts in
         let known : AllByRecursion IsKnown older = last_known newer older (subst (λ (h : List Entry). AllByRecursion IsKnown h) is all_known) in
-        cell_after (accounted.plan number) older cell array inside
-        (legal_before (accounted.plan number) newer older (subst (λ (h : List Entry). IsLegalHistory (accounted.plan number) h) is (accounted.legal number within)))
-        (known_sets older known)
-        ∙ own_puts parts cell first older (known_controlled older known)
+        own_puts parts cell first older (known_controlled older known)
         ∙ ap (λ (l : List Entry). last_put parts cell first l) own
-        ∙ updates_put (steering_maps size) options number parts cell first made []
+        ∙ updates_put (sized_maps notes size) options number parts cell first made []
+
+    legal_then : (newer older : List Entry) → whole number ≡ newer ++ older → IsLegalHistory (accounted.plan number) older
+    legal_then newer older is =
+        legal_before (accounted.plan number) newer older (subst (λ (h : List Entry). IsLegalHistory (accounted.plan number) h) is (accounted.legal number within))
+
+    -- so the cell holds it
+    cell_holds : (newer older : List Entry) → whole number ≡ newer ++ older → (made : List AnsweredUpdate) →
+        own_entries Controller older ≡ with_updates (sized_maps notes size) options number made [] → (cell : ℕ) → cell < capacity (accounted.plan number) →
+        cell_bytes (shard_after (accounted.plan number) older) cell
+        ≡ put_made (is_in_cell (sized_maps notes size) options number (accounted.plan number).parts cell) made (replicate (accounted.plan number).definition.value_size 0)
+    cell_holds newer older is made own cell inside =
+        let known : AllByRecursion IsKnown older = last_known newer older (subst (λ (h : List Entry). AllByRecursion IsKnown h) is all_known) in
+        cell_after (accounted.plan number) older cell array inside (legal_then newer older is) (known_sets older known) ∙ last_holds newer older is made own cell
 
     -- and so much has each cell
     cell_sized : (newer older : List Entry) → whole number ≡ newer ++ older → (made : List AnsweredUpdate) →
-        own_entries Controller older ≡ with_updates (steering_maps size) options number made [] → (cell : ℕ) →
-        length (put_made (is_in_cell (steering_maps size) options number (accounted.plan number).parts cell) made (replicate (accounted.plan number).definition.value_size 0))
+        own_entries Controller older ≡ with_updates (sized_maps notes size) options number made [] → (cell : ℕ) →
+        length (put_made (is_in_cell (sized_maps notes size) options number (accounted.plan number).parts cell) made (replicate (accounted.plan number).definition.value_size 0))
         ≡ (accounted.plan number).definition.value_size
     cell_sized newer older is made own cell =
         let first : List ℕ = replicate (accounted.plan number).definition.value_size 0 in
-        let parts : ℕ = (accounted.plan number).parts in
-        let known : AllByRecursion IsKnown older = last_known newer older (subst (λ (h : List Entry). AllByRecursion IsKnown h) is all_known) in
-        ap (λ (l : List ℕ). length l) (sym (own_puts parts cell first older (known_controlled older known) ∙ ap (λ (l : List Entry). last_put parts cell first l) own
-        ∙ updates_put (steering_maps size) options number parts cell first made []))
-        ∙ last_sized (accounted.plan number) cell first (length-replicate (accounted.plan number).definition.value_size 0) older
-        (legal_before (accounted.plan number) newer older (subst (λ (h : List Entry). IsLegalHistory (accounted.plan number) h) is (accounted.legal number within)))
+        ap (λ (l : List ℕ). length l) (sym (last_holds newer older is made own cell))
+        ∙ last_sized (accounted.plan number) cell first (length-replicate (accounted.plan number).definition.value_size 0) older (legal_then newer older is)
 
   -- a moment
-  module _ (commands : ℕ) (histories : ℕ → List Entry) (moment : IsMoment size script options records outcome plain commands histories) where
+  module _ (commands : ℕ) (histories : ℕ → List Entry) (moment : IsMoment notes size script options records outcome plain commands histories) where
     abbrev done : List CommandDone
     done = take commands all_done
 
@@ -495,11 +512,11 @@ module _ (size : ℕ) (is_size : IsRingSize size) (script : List Command) (optio
         from_zero k = omega arith
 
     -- a key of an array in such a place
-    module _ (place entries : ℕ) (known : slice_get (steering_maps size) place ≡ Some (defined Array 4 8 entries)) (index : ℕ)
+    module _ (place entries : ℕ) (known : slice_get (sized_maps notes size) place ≡ Some (defined Array 4 8 entries)) (index : ℕ)
         (low : 2 * options.shards ≤ place * options.shards + index % options.shards) (high : place * options.shards + index % options.shards < 5 * options.shards)
         (small : index < 2 ^ 32) (inside : index < entries) (in_part : index / options.shards < entries / options.shards)
         (same : (made : AnsweredUpdate) → IsOfChange made →
-        is_in_cell (steering_maps size) options (place * options.shards + index % options.shards) options.shards (index / options.shards) made ≡ is_at place index made) where
+        is_in_cell (sized_maps notes size) options (place * options.shards + index % options.shards) options.shards (index / options.shards) made ≡ is_at place index made) where
       abbrev key : List ℕ
       key = bytes_of_number 4 index
 
@@ -521,7 +538,7 @@ module _ (size : ℕ) (is_size : IsRingSize size) (script : List Command) (optio
       is_plan : IsPlanOf options (defined Array 4 8 entries) plan
       is_plan =
           planned_of options number (defined Array 4 8 entries) plan
-          (sym (ap (plan_for_map options number) (ap (slice_get (steering_maps size)) (part_place options.shards place (index % options.shards) (mod-lt index some)) ∙ known))
+          (sym (ap (plan_for_map options number) (ap (slice_get (sized_maps notes size)) (part_place options.shards place (index % options.shards) (mod-lt index some)) ∙ known))
           ∙ accounted.plans.each number within)
 
       array : plan.definition.kind ≡ Array
@@ -535,22 +552,33 @@ module _ (size : ℕ) (is_size : IsRingSize size) (script : List Command) (optio
       abbrev shard : SequentialShard
       shard = shard_after plan (histories number)
 
+      -- what is put in the cell is what is put under the key
+      puts_are : put_made (is_in_cell (sized_maps notes size) options number plan.parts cell) (made_in done) (replicate plan.definition.value_size 0)
+          ≡ put_made (is_at place index) (made_in done) (replicate 8 0)
+      puts_are =
+          ap (λ (parts : ℕ). put_made (is_in_cell (sized_maps notes size) options number parts cell) (made_in done) (replicate plan.definition.value_size 0)) is_plan.parts_are
+          ∙ ap (λ (d : MapDef). put_made (is_in_cell (sized_maps notes size) options number options.shards cell) (made_in done) (replicate d.value_size 0)) is_plan.definition_is
+          ∙ same_put (is_in_cell (sized_maps notes size) options number options.shards cell) (is_at place index) (made_in done) (replicate 8 0)
+          (all_places (is_in_cell (sized_maps notes size) options number options.shards cell) (is_at place index) same (made_in done) changes)
+
       holds : cell_bytes shard cell ≡ put_made (is_at place index) (made_in done) (replicate 8 0)
       holds =
           cell_holds number within low high array is_plan.workers_are (moment.newer number) (histories number) (moment.oldest number within) (made_in done)
           (moment.controlled number within) cell inside_plan
-          ∙ ap (λ (parts : ℕ). put_made (is_in_cell (steering_maps size) options number parts cell) (made_in done) (replicate plan.definition.value_size 0)) is_plan.parts_are
-          ∙ ap (λ (d : MapDef). put_made (is_in_cell (steering_maps size) options number options.shards cell) (made_in done) (replicate d.value_size 0)) is_plan.definition_is
-          ∙ same_put (is_in_cell (steering_maps size) options number options.shards cell) (is_at place index) (made_in done) (replicate 8 0)
-          (all_places (is_in_cell (steering_maps size) options number options.shards cell) (is_at place index) same (made_in done) changes)
+          ∙ puts_are
+
+      -- by the entries alone
+      last_is : last_put options.shards cell (replicate 8 0) (histories number) ≡ put_made (is_at place index) (made_in done) (replicate 8 0)
+      last_is =
+          ap (λ (parts : ℕ). last_put parts cell (replicate 8 0) (histories number)) (sym is_plan.parts_are)
+          ∙ ap (λ (d : MapDef). last_put plan.parts cell (replicate d.value_size 0) (histories number)) (sym is_plan.definition_is)
+          ∙ last_holds number within low high array is_plan.workers_are (moment.newer number) (histories number) (moment.oldest number within) (made_in done)
+          (moment.controlled number within) cell
+          ∙ puts_are
 
       sized : length (put_made (is_at place index) (made_in done) (replicate 8 0)) ≡ 8
       sized =
-          ap (λ (l : List ℕ). length l) (sym (
-          ap (λ (parts : ℕ). put_made (is_in_cell (steering_maps size) options number parts cell) (made_in done) (replicate plan.definition.value_size 0)) is_plan.parts_are
-          ∙ ap (λ (d : MapDef). put_made (is_in_cell (steering_maps size) options number options.shards cell) (made_in done) (replicate d.value_size 0)) is_plan.definition_is
-          ∙ same_put (is_in_cell (steering_maps size) options number options.shards cell) (is_at place index) (made_in done) (replicate 8 0)
-          (all_places (is_in_cell (steering_maps size) options number options.shards cell) (is_at place index) same (made_in done) changes)))
+          ap (λ (l : List ℕ). length l) (sym puts_are)
           ∙ cell_sized number within low high array is_plan.workers_are (moment.newer number) (histories number) (moment.oldest number within) (made_in done)
           (moment.controlled number within) cell
           ∙ ap (λ (d : MapDef). d.value_size) is_plan.definition_is
@@ -574,7 +602,7 @@ module _ (size : ℕ) (is_size : IsRingSize size) (script : List Command) (optio
           ∙ ap (λ (maps : List MapDef). value_in_shard (histories (place * options.shards + number_of_bytes key % options.shards))
           (plan_at maps options (place * options.shards + number_of_bytes key % options.shards)) key) accounted.maps
           ∙ ap (λ (n : ℕ). value_in_shard (histories (place * options.shards + n % options.shards))
-          (plan_at (steering_maps size) options (place * options.shards + n % options.shards)) key) back
+          (plan_at (sized_maps notes size) options (place * options.shards + n % options.shards)) key) back
           ∙ ap (λ (p : Option ShardPlan). value_in_shard (histories number) p key) (accounted.plans.each number within)
           ∙ ap (option_map (cell_bytes shard)) found
           ∙ ap Some holds
@@ -596,8 +624,17 @@ module _ (size : ℕ) (is_size : IsRingSize size) (script : List Command) (optio
     ring_holds slot within =
         let few : size ≤ 65538 = small_size size is_size in
         has_value 2 (ring_entries size) refl slot (low_two (slot % options.shards)) (high_two slot) (omega (arith, few, within)) (rounded_up size slot within)
-        (in_ring options.shards plain.fit.power_of_two size slot within) (λ made of. ring_place size options some made of slot)
+        (in_ring options.shards plain.fit.power_of_two size slot within) (λ made of. ring_place notes size options some made of slot)
         ∙ ap Some (slot_done slot (opened_controller size) done state ended.1 unstopped few within)
+
+    ring_last : (slot : ℕ) → slot < size →
+        last_put options.shards (slot / options.shards) (replicate 8 0) (histories (2 * options.shards + slot % options.shards))
+        ≡ ring_bytes (record { owner = slice_get state.owners slot })
+    ring_last slot within =
+        let few : size ≤ 65538 = small_size size is_size in
+        last_is 2 (ring_entries size) refl slot (low_two (slot % options.shards)) (high_two slot) (omega (arith, few, within)) (rounded_up size slot within)
+        (in_ring options.shards plain.fit.power_of_two size slot within) (λ made of. ring_place notes size options some made of slot)
+        ∙ slot_done slot (opened_controller size) done state ended.1 unstopped few within
 
     abbrev left : ℕ → BackendRecord
     left number = record_left number no_record (done_actions done)
@@ -609,8 +646,15 @@ module _ (size : ℕ) (is_size : IsRingSize size) (script : List Command) (optio
         value_at (record { journals = outcome.journals; histories = histories }) maps.Backends (bytes_of_number 4 number) ≡ Some (backend_bytes (left number))
     backend_holds number few =
         has_value 3 256 refl number (low_three (number % options.shards)) (high_three number) (omega (arith, few)) few
-        (in_backends options.shards plain.fit.power_of_two number few) (λ made of. backend_place size options some made of number)
+        (in_backends options.shards plain.fit.power_of_two number few) (λ made of. backend_place notes size options some made of number)
         ∙ ap Some (recorded.0 number)
+
+    backend_last : (number : ℕ) → number < 256 →
+        last_put options.shards (number / options.shards) (replicate 8 0) (histories (3 * options.shards + number % options.shards)) ≡ backend_bytes (left number)
+    backend_last number few =
+        last_is 3 256 refl number (low_three (number % options.shards)) (high_three number) (omega (arith, few)) few
+        (in_backends options.shards plain.fit.power_of_two number few) (λ made of. backend_place notes size options some made of number)
+        ∙ recorded.0 number
 
     -- and an address of four bytes
     four_bytes : (number : ℕ) → number < 256 → length (left number).address.0 ≡ 4
@@ -618,7 +662,7 @@ module _ (size : ℕ) (is_size : IsRingSize size) (script : List Command) (optio
         let whole_is : length (backend_bytes (left number)) ≡ 8 =
         ap (λ (l : List ℕ). length l) (sym (recorded.0 number))
         ∙ sized 3 256 refl number (low_three (number % options.shards)) (high_three number) (omega (arith, few)) few
-        (in_backends options.shards plain.fit.power_of_two number few) (λ made of. backend_place size options some made of number) in
+        (in_backends options.shards plain.fit.power_of_two number few) (λ made of. backend_place notes size options some made of number) in
         let both : length (backend_bytes (left number)) ≡ length (left number).address.0 + 4 = length-append (left number).address.0 (bytes_of_number 4 (flag_number (left number).is_up)) in
         omega (arith, whole_is, both)
 
@@ -636,26 +680,43 @@ module _ (size : ℕ) (is_size : IsRingSize size) (script : List Command) (optio
     same_up : state.up ≡ up_left [] (done_actions done)
     same_up = up_done (opened_controller size) done state ended.1 unstopped
 
+    table_left : IsTable size (up_left [] (done_actions done)) state.owners
+    table_left =
+        subst (λ (up : List Server). IsTable size up state.owners) same_up
+        (subst (λ (n : ℕ). IsTable n state.up state.owners) (size_done (opened_controller size) done state ended.1 unstopped)
+        (table_done (opened_controller size) done state ended.1 unstopped refl))
+
+    all_up : AllByRecursion (IsRecordedUp (done_actions done)) (up_left [] (done_actions done))
+    all_up = subst (λ (up : List Server). AllByRecursion (IsRecordedUp (done_actions done)) up) same_up (up_recorded state.up recorded.1)
+
     pub are_tables : AreTablesAtEnd size (carried_out outcome.refused.items 0 (take commands script)) (record { journals = outcome.journals; histories = histories })
     are_tables = subst (λ (acts : List Action). AreTablesAtEnd size acts (record { journals = outcome.journals; histories = histories })) (sym are_carried) (record {
       owners = state.owners;
-      table = subst (λ (up : List Server). IsTable size up state.owners) same_up
-          (subst (λ (n : ℕ). IsTable n state.up state.owners) (size_done (opened_controller size) done state ended.1 unstopped)
-          (table_done (opened_controller size) done state ended.1 unstopped refl));
+      table = table_left;
       ring = ring_holds;
       backends = backend_holds;
-      up = subst (λ (up : List Server). AllByRecursion (IsRecordedUp (done_actions done)) up) same_up (up_recorded state.up recorded.1);
+      up = all_up;
+    })
+
+    pub are_last_puts : AreLastPuts size options.shards (carried_out outcome.refused.items 0 (take commands script)) histories
+    are_last_puts = subst (λ (acts : List Action). AreLastPuts size options.shards acts histories) (sym are_carried) (record {
+      owners = state.owners;
+      table = table_left;
+      up = all_up;
+      ring = ring_last;
+      backends = backend_last;
+      four = four_bytes;
     })
 
   -- the end is the moment after all commands
-  pub at_the_end : IsMoment size script options records outcome plain (length script) (last_histories outcome.journals)
+  pub at_the_end : IsMoment notes size script options records outcome plain (length script) (last_histories outcome.journals)
   at_the_end = record {
     newer = λ number. [];
     oldest = λ number within. refl;
     controlled = λ number within.
         accounted.commands.own number within
-        ∙ ap (λ (updates : List MapUpdate). with_updates (steering_maps size) options number (all_set updates ++ made_in all_done) []) plain.none_set
-        ∙ ap (λ (l : List CommandDone). with_updates (steering_maps size) options number (made_in l) [])
+        ∙ ap (λ (updates : List MapUpdate). with_updates (sized_maps notes size) options number (all_set updates ++ made_in all_done) []) plain.none_set
+        ∙ ap (λ (l : List CommandDone). with_updates (sized_maps notes size) options number (made_in l) [])
         (sym (all_taken script accounted.commands.noted all_done 0 script accounted.commands.each_once accounted.commands.are_noted));
   }
 
@@ -663,3 +724,8 @@ module _ (size : ℕ) (is_size : IsRingSize size) (script : List Command) (optio
   are_left =
       subst (λ (l : List Command). AreTablesAtEnd size (carried_out outcome.refused.items 0 l) (maps_at_end outcome.journals)) (take_all (length script) script (omega arith))
       (are_tables (length script) (last_histories outcome.journals) at_the_end)
+
+  pub last_puts : AreLastPuts size options.shards (carried_out outcome.refused.items 0 script) (last_histories outcome.journals)
+  last_puts =
+      subst (λ (l : List Command). AreLastPuts size options.shards (carried_out outcome.refused.items 0 l) (last_histories outcome.journals))
+      (take_all (length script) script (omega arith)) (are_last_puts (length script) (last_histories outcome.journals) at_the_end)

@@ -24,7 +24,7 @@ use Rattle.semantics.specs.ShardPlan.{plan_at, plan_for_map, AreOptions, capacit
 use Rattle.semantics.proofs.shared.CallNumbers.{same_number}
 use Rattle.semantics.proofs.shared.ConditionLemmas.{first_true}
 use Rattle.journals.specs.JournalsView.{entries_at}
-use Rattle.conntrack.specs.SteeringMaps.{steering_maps, defined}
+use Rattle.conntrack.specs.SteeringMaps.{sized_maps, defined}
 use Rattle.conntrack.specs.Steering.{SteeringSizes}
 use Rattle.conntrack.specs.Results.{count_key}
 use Rattle.steer.specs.SteeringLaws.{of_size, shipped_program}
@@ -115,21 +115,21 @@ plan_number : (options : Options) (number : ℕ) (found : Option MapDef) (plan :
 plan_number options number None plan is = absurd cc
 plan_number options number (Some definition) plan is = cc is
 
-module _ (size : ℕ) (options : Options) (shards : IsShards options.shards) where
+module _ (notes size : ℕ) (options : Options) (shards : IsShards options.shards) where
   abbrev counted_in : SteeringSizes
   counted_in = of_size options.shards size
 
   count_place : (verdict : Verdict) → count_shard counted_in verdict / options.shards ≡ 5
   count_place verdict = ap (λ n. n / options.shards) (count_shard_is counted_in verdict) ∙ sixth_map options.shards shards (verdict_number verdict)
 
-  count_plan : (verdict : Verdict) (plan : ShardPlan) → plan_at (steering_maps size) options (count_shard counted_in verdict) ≡ Some plan →
+  count_plan : (verdict : Verdict) (plan : ShardPlan) → plan_at (sized_maps notes size) options (count_shard counted_in verdict) ≡ Some plan →
       IsCountPlan options (count_shard counted_in verdict) plan
   count_plan verdict plan planned =
       planned_of options (count_shard counted_in verdict) (defined Array 4 8 8) plan refl
-      (sym (ap (λ (n : ℕ). plan_for_map options (count_shard counted_in verdict) (slice_get (steering_maps size) n)) (count_place verdict)) ∙ planned)
+      (sym (ap (λ (n : ℕ). plan_for_map options (count_shard counted_in verdict) (slice_get (sized_maps notes size) n)) (count_place verdict)) ∙ planned)
 
   -- a lookup of a count finds it
-  all_found : (number : ℕ) (plan : ShardPlan) → plan_at (steering_maps size) options number ≡ Some plan → LookupsOfArraysFind → (history : List Entry) →
+  all_found : (number : ℕ) (plan : ShardPlan) → plan_at (sized_maps notes size) options number ≡ Some plan → LookupsOfArraysFind → (history : List Entry) →
       IsLegalHistory plan history → AllByRecursion (IsFoundIn counted_in) history
   all_found number plan planned finds [] legal = tt
   all_found number plan planned finds (entry ∷ older) legal = (here, all_found number plan planned finds older legal.1)
@@ -139,9 +139,9 @@ module _ (size : ℕ) (options : Options) (shards : IsShards options.shards) whe
           let own : shard_of_call entry.call ≡ plan.number =
           same_number (shard_of_call entry.call) plan.number (first_true (shard_of_call entry.call == plan.number) (meets_part plan older entry.who entry.call) legal.0.step.met) in
           let there : number ≡ count_shard counted_in verdict =
-          sym (plan_number options number (slice_get (steering_maps size) (number / options.shards)) plan planned) ∙ sym own ∙ ap shard_of_call asked in
+          sym (plan_number options number (slice_get (sized_maps notes size) (number / options.shards)) plan planned) ∙ sym own ∙ ap shard_of_call asked in
           let is : IsCountPlan options (count_shard counted_in verdict) plan =
-          count_plan verdict plan (subst (λ (n : ℕ). plan_at (steering_maps size) options n ≡ Some plan) there planned) in
+          count_plan verdict plan (subst (λ (n : ℕ). plan_at (sized_maps notes size) options n ≡ Some plan) there planned) in
           let array : plan.definition.kind ≡ Array = ap (λ (d : MapDef). d.kind) is.definition_is in
           let entries : plan.definition.max_entries ≡ 8 = ap (λ (d : MapDef). d.max_entries) is.definition_is in
           let number_back = key_number verdict in
@@ -232,10 +232,10 @@ module _ (plan : ℕ → ShardPlan) (count : ℕ) (setting : SteeringSizes) (som
 rounds_none : (kind : MapKind) → kind ≡ Array → (plan : ShardPlan) (number rounds : ℕ) (own seen : List Entry) → IsReclaimedBy kind plan number rounds own seen → own ≡ []
 rounds_none kind array plan number rounds own seen made = subst (λ (k : MapKind). IsReclaimedBy k plan number rounds own seen) array made
 
-module _ (exact : CountsAreExact) (finds : LookupsOfArraysFind) (size : ℕ) (script : List Command) (options : Options) (records : List Sent) (outcome : Outcome)
-    (fit : AreOptions (steering_maps size) options)
-    (accounted : IsAccounted (shipped_program (of_size options.shards size)) script options records outcome)
-    (replayed : IsSteeredReplay size (shipped_program (of_size options.shards size)) script options records outcome accounted) (none_set : outcome.updates.items ≡ [])
+module _ (exact : CountsAreExact) (finds : LookupsOfArraysFind) (notes size : ℕ) (script : List Command) (options : Options) (records : List Sent) (outcome : Outcome)
+    (fit : AreOptions (sized_maps notes size) options)
+    (accounted : IsAccounted (shipped_program notes (of_size options.shards size)) script options records outcome)
+    (replayed : IsSteeredReplay size (shipped_program notes (of_size options.shards size)) script options records outcome accounted) (none_set : outcome.updates.items ≡ [])
     (none : outcome.counts.stopped ≡ 0) where
   abbrev setting : SteeringSizes
   setting = of_size options.shards size
@@ -266,7 +266,7 @@ module _ (exact : CountsAreExact) (finds : LookupsOfArraysFind) (size : ℕ) (sc
 
   found : (number : ℕ) → number < accounted.count → AllByRecursion (IsFoundIn setting) (history number)
   found number within =
-      all_found size options fit.power_of_two number (accounted.plan number) (accounted.plans.each number within) finds (history number)
+      all_found notes size options fit.power_of_two number (accounted.plan number) (accounted.plans.each number within) finds (history number)
       (accounted.legal number within)
 
   module _ (verdict : Verdict) where
@@ -290,7 +290,7 @@ module _ (exact : CountsAreExact) (finds : LookupsOfArraysFind) (size : ℕ) (sc
     plan = accounted.plan number
 
     is_plan : IsCountPlan options number plan
-    is_plan = count_plan size options fit.power_of_two verdict plan (accounted.plans.each number within)
+    is_plan = count_plan notes size options fit.power_of_two verdict plan (accounted.plans.each number within)
 
     array : plan.definition.kind ≡ Array
     array = ap (λ (d : MapDef). d.kind) is_plan.definition_is
@@ -324,8 +324,8 @@ module _ (exact : CountsAreExact) (finds : LookupsOfArraysFind) (size : ℕ) (sc
     controller_none : own_entries Controller (history number) ≡ []
     controller_none =
         let commands = accounted.commands in
-        let none_first = ap (λ (updates : List MapUpdate). with_updates (steering_maps size) options number (all_set updates ++ made_in commands.done) []) none_set in
-        commands.own number within ∙ none_first ∙ none_from_commands size options some number past (opened_controller commands.size) commands.done commands.state commands.are_done
+        let none_first = ap (λ (updates : List MapUpdate). with_updates (sized_maps notes size) options number (all_set updates ++ made_in commands.done) []) none_set in
+        commands.own number within ∙ none_first ∙ none_from_commands notes size options some number past (opened_controller commands.size) commands.done commands.state commands.are_done
 
     reclaimer_none : own_entries Reclaimer (history number) ≡ []
     reclaimer_none =
@@ -391,7 +391,7 @@ module _ (exact : CountsAreExact) (finds : LookupsOfArraysFind) (size : ℕ) (sc
           plan = plan;
           planned = ap (λ (n : ℕ). plan_at outcome.journals.maps outcome.journals.options n) there
               ∙ ap (λ (maps : List MapDef). plan_at maps outcome.journals.options number) accounted.maps
-              ∙ ap (λ (o : Options). plan_at (steering_maps size) o number) same
+              ∙ ap (λ (o : Options). plan_at (sized_maps notes size) o number) same
               ∙ accounted.plans.each number within;
           cell = cell;
           found = ap (λ (n : ℕ). cell_of_key plan (shard_after plan (history n)) (count_key verdict)) there ∙ key_found;

@@ -135,11 +135,11 @@ pub record MoveWithOwners (size : ℕ) (up left : List Server) (before after : M
 -- before a `down` of a replay's script that was carried out, and behind it: of the backends that were up then all but its own
 abbrev pub StrangersMoveInReplays : Type 0
 StrangersMoveInReplays =
-    (size : ℕ) → IsRingSize size → (script : List Command) (options : Options) (records : List Sent) (outcome : Outcome)
-    (plain : IsPlainReplay size script options records outcome) (commands : ℕ) (command : Command) (number : ℕ) →
+    (notes size : ℕ) → IsRingSize size → (script : List Command) (options : Options) (records : List Sent) (outcome : Outcome)
+    (plain : IsPlainReplay notes size script options records outcome) (commands : ℕ) (command : Command) (number : ℕ) →
     slice_get script commands ≡ Some command → command.action ≡ Down number → is_refused outcome.refused.items commands ≡ false →
-    (before after : ℕ → List Entry) → IsMoment size script options records outcome plain commands before →
-    IsMoment size script options records outcome plain (commands + 1) after →
+    (before after : ℕ → List Entry) → IsMoment notes size script options records outcome plain commands before →
+    IsMoment notes size script options records outcome plain (commands + 1) after →
     MoveWithOwners size (up_left [] (carried_out outcome.refused.items 0 (take commands script)))
     (without_backend (up_left [] (carried_out outcome.refused.items 0 (take commands script))) number)
     (record { journals = outcome.journals; histories = before }) (record { journals = outcome.journals; histories = after })

@@ -3,6 +3,7 @@ pub mod Counting
 pub mod SteeredRuns
 pub mod Totals
 pub mod TablesAtEnd
+pub mod LastWords
 pub mod Fleets
 pub mod StickyFlows
 pub mod StickyReplays

@@ -1,14 +1,17 @@
 -- Runs of the shipped program as a replay makes them. On the replies that are among its worker's entries a run makes the calls of the
 -- steering rule's plan (conntrack's Steering) and ends with the plan's verdict and frame, which are a result of the rule (conntrack's
 -- Results); a run that a full journal stopped made a beginning of these calls.
-use Rattle.std.specs.Prelude.{◌≡◌, ℕ, ◌<◌, true, List, [], ◌∷◌, ◌++◌, length, Option, Some, None, slice_get}
+use Rattle.std.specs.Prelude.{◌≡◌, ℕ, ◌<◌, true, List, [], ◌∷◌, ◌++◌, length, reverse, Option, Some, None, slice_get}
 use Rattle.std.specs.List.{AllByRecursion}
 use Rattle.wire.specs.FrameView.{FrameView}
 use Rattle.wire.specs.declared.records.Sent.{Sent}
 use Rattle.semantics.specs.declared.call.Call.{Call}
+use Rattle.semantics.specs.declared.call.Caller.TheVariants.{Worker}
+use Rattle.semantics.specs.declared.call.Entry.{Entry}
 use Rattle.semantics.specs.declared.options.Options.{Options}
 use Rattle.semantics.specs.declared.plan.ShardPlan.{ShardPlan}
 use Rattle.semantics.specs.declared.verdict.Verdict.{Verdict}
+use Rattle.semantics.specs.CallerLaws.{own_entries}
 use Rattle.semantics.specs.MachineState.{initial_state}
 use Rattle.semantics.specs.ShardPlan.{AreOptions}
 use Rattle.semantics.specs.System.{IsInputFrame, input_frame}
@@ -17,19 +20,22 @@ use Rattle.maglev.specs.RingSize.{IsRingSize}
 use Rattle.map_port.specs.Exchanges.{Exchange, calls_in, replies_in}
 use Rattle.block_runs.specs.Plan.{Ended, Waiting, plan_outcome}
 use Rattle.conntrack.specs.Steering.{SteeringSizes, steering}
-use Rattle.conntrack.specs.SteeringMaps.{steering_maps}
+use Rattle.conntrack.specs.SteeringMaps.{sized_maps}
 use Rattle.conntrack.specs.Results.{IsResult}
 use Rattle.steer.specs.SteeringLaws.{of_size, shipped_program}
+use Rattle.journals.specs.JournalsView.{JournalsView, entries_at}
+use Rattle.shards.specs.declared.deeds.Deed.{Deed}
 use Rattle.shards.specs.Passes.{PassView}
-use Rattle.shard_port.specs.PassSessions.{HasSessions, HasRefusedSessions}
+use Rattle.shard_port.specs.PassSessions.{HasSessions, HasRefusedSessions, session_at}
 use Rattle.runs.specs.FrameRuns.{HasRun, WasRefused}
 use Rattle.control.specs.declared.command.Command.{Command}
 use Rattle.actors.specs.declared.outcome.Outcome.{Outcome}
+use Rattle.actors.specs.declared.runner.Ran.{Ran}
 use Rattle.actors.specs.declared.runner.RunEnd.{RunEnd}
 use Rattle.actors.specs.declared.runner.RunEnd.TheVariants.{Stopped}
 use Rattle.actors.specs.Accounted.{IsAccounted, IsWorkOf}
 use Rattle.actors.specs.Accounts.{runs_at, fate_of}
-use Rattle.actors.specs.RunsInOrder.{IsRunAt}
+use Rattle.actors.specs.RunsInOrder.{IsRunAt, IsChainOfRuns}
 use Rattle.actors.specs.RunsOverShards.{IsTold}
 use Rattle.actors.specs.Shares.{frames_of, is_short, worker_of_frame, share}
 use Rattle.actors.specs.Captured.{IsCaptured}
@@ -73,14 +79,42 @@ IsSteeredRun plan count setting worker captured before end after = IsSteeredExit
 
 -- ---- replays
 
--- what became of a record: it is short, and was not run; or it is the end of a run by the rule
-abbrev pub IsSteeredFate : (ℕ → ShardPlan) → ℕ → SteeringSizes → ℕ → Sent → Option RunEnd → Type 0
-IsSteeredFate plan count setting worker captured None = is_short captured.bytes.items ≡ true
-IsSteeredFate plan count setting worker captured (Some end) =
-    (before : PassView) × (after : PassView) × IsSteeredRun plan count setting worker captured before end after
+-- a run among others: the pass as the runs before it left it, the run, and the pass as it left it
+pub record RunInPlace (IsRun : PassView → Ran → PassView → Type 0) : Type 0 where
+  pub before : PassView
+  pub ran : Ran
+  pub after : PassView
+  pub run : IsRun before ran after
+
+-- the runs of a chain, each in its place
+abbrev pub runs_in_chain : (IsRun : PassView → Ran → PassView → Type 0) (before : PassView) (runs : List Ran) (after : PassView)
+    → IsChainOfRuns IsRun before runs after → List (RunInPlace IsRun)
+runs_in_chain IsRun before [] after chain = []
+runs_in_chain IsRun before (ran ∷ later) after chain =
+    record { before = before; ran = ran; after = chain.0; run = chain.1 } ∷ runs_in_chain IsRun chain.0 later after chain.2
+
+-- the runs that a worker made
+abbrev pub runs_in_work : {IsRun : PassView → Ran → PassView → Type 0} {shared : List ℕ} {worker : ℕ} {runs : List Ran} {count : ℕ}
+    {journals : JournalsView} {order : List Deed} → IsWorkOf IsRun shared worker runs count journals order → List (RunInPlace IsRun)
+runs_in_work {IsRun} {shared} {worker} {runs} {count} {journals} {order} work =
+    runs_in_chain IsRun work.handled.before runs work.after work.handled.chain
+
+-- the run at this place of these is of the record of this number, and ended so
+pub record IsEndOfRun {IsRun : PassView → Ran → PassView → Type 0} (runs : List (RunInPlace IsRun)) (place number : ℕ) (end : RunEnd) :
+    Type 0 where
+  pub one : RunInPlace IsRun
+  pub in_place : slice_get runs place ≡ Some one
+  pub number_is : one.ran.number ≡ number
+  pub end_is : one.ran.end ≡ end
+
+-- what became of a record: it is short, and was not run; or it is the end of the run at this place of these
+abbrev pub IsSteeredFate : {IsRun : PassView → Ran → PassView → Type 0} → List (RunInPlace IsRun) → ℕ → ℕ → Sent → Option RunEnd → Type 0
+IsSteeredFate runs place number captured None = is_short captured.bytes.items ≡ true
+IsSteeredFate runs place number captured (Some end) = IsEndOfRun runs place number end
 
 -- Of the runs that are accounted for: each worker made them by the rule, one after the other, and its entries in the journals are those of
--- these runs. What became of a record, by which it is counted and its frame sent or not, is the end of such a run.
+-- these runs. What became of a record, by which it is counted and its frame sent or not, is the end of one of these runs: its worker's
+-- behind those of the worker's earlier records.
 pub record IsSteeredReplay (size : ℕ) (program : Program) (script : List Command) (options : Options) (records : List Sent) (outcome : Outcome)
     (accounted : IsAccounted program script options records outcome) : Type 0 where
   pub work :
@@ -90,33 +124,77 @@ pub record IsSteeredReplay (size : ℕ) (program : Program) (script : List Comma
       outcome.journals accounted.order
   pub fates :
       (number : ℕ) (captured : Sent) → slice_get records number ≡ Some captured →
-      IsSteeredFate accounted.plan accounted.count (of_size options.shards size)
-      (worker_of_frame captured.bytes.items options.workers) captured (fate_of (frames_of records) options.workers accounted.runs number)
+      let worker = worker_of_frame captured.bytes.items options.workers in
+      (below : worker < options.workers)
+      × IsSteeredFate (runs_in_work (work worker below)) (length (share (frames_of records) options.workers worker number)) number captured
+      (fate_of (frames_of records) options.workers accounted.runs number)
+
+-- ---- the runs stand in the journals
+
+-- of a worker's own entries in a shard's journal, newest first: those of its later runs, those of this run's session there, and those of its
+-- earlier runs
+pub record StandsAmong (worker number : ℕ) (exchanges : List Exchange) (own : List Entry) : Type 0 where
+  pub newer : List Entry
+  pub older : List Entry
+  pub own_are : own ≡ newer ++ (reverse (session_at worker number exchanges) ++ older)
+
+abbrev pub StandsInJournals : ℕ → ℕ → List Exchange → JournalsView → Type 0
+StandsInJournals count worker exchanges journals =
+    (number : ℕ) → number < count →
+    StandsAmong worker number exchanges (own_entries (Worker worker) (reverse (entries_at journals number)))
+
+-- so it is of a run that ended
+abbrev pub StandsIfEnded : (plan : ℕ → ShardPlan) (count : ℕ) (setting : SteeringSizes) (worker : ℕ) (journals : JournalsView)
+    (captured : Sent) (before : PassView) (end : RunEnd) (after : PassView)
+    → IsSteeredRun plan count setting worker captured before end after → Type 0
+StandsIfEnded plan count setting worker journals captured before Stopped after run = Unit {0}
+StandsIfEnded plan count setting worker journals captured before end after run = StandsInJournals count worker run.exchanges journals
+
+abbrev pub FateStands : (plan : ℕ → ShardPlan) (count : ℕ) (setting : SteeringSizes) (records : List Sent) (worker : ℕ)
+    (journals : JournalsView) (runs : List (RunInPlace (IsRunAt (IsSteeredRun plan count setting worker) records))) (place number : ℕ)
+    (captured : Sent) (fate : Option RunEnd) → IsSteeredFate runs place number captured fate → Type 0
+FateStands plan count setting records worker journals runs place number captured None steered = Unit {0}
+FateStands plan count setting records worker journals runs place number captured (Some end) steered =
+    StandsIfEnded plan count setting worker journals steered.one.run.sent steered.one.before steered.one.ran.end steered.one.after
+    steered.one.run.run
 
 -- ---- the laws
 
 -- a run of the shipped program over a worker's pass ends by the rule
 abbrev pub RunsAreSteered : Type 0
 RunsAreSteered =
-    (size shards : ℕ) → IsRingSize size → (frame : List ℕ) → IsInputFrame frame → (told now count worker : ℕ) (before after : PassView)
-    (verdict : Verdict) (steps : ℕ) (left : FrameView)
-    (run : HasRun (shipped_program (of_size shards size)) (initial_state (input_frame frame) told now) count worker before after verdict
-    steps left) →
+    (notes size shards : ℕ) → IsRingSize size → (frame : List ℕ) → IsInputFrame frame → (told now count worker : ℕ)
+    (before after : PassView) (verdict : Verdict) (steps : ℕ) (left : FrameView)
+    (run : HasRun (shipped_program notes (of_size shards size)) (initial_state (input_frame frame) told now) count worker before after
+    verdict steps left) →
     EndsByRule (of_size shards size) (input_frame frame) run.exchanges verdict left
 
 -- and one that was refused a call waits by the rule
 abbrev pub RefusedRunsAreSteered : Type 0
 RefusedRunsAreSteered =
-    (size shards : ℕ) → IsRingSize size → (frame : List ℕ) → IsInputFrame frame → (told now : ℕ) (plan : ℕ → ShardPlan) (count worker : ℕ)
-    (before after : PassView) (left : FrameView) (shard : ℕ)
-    (was : WasRefused (shipped_program (of_size shards size)) (initial_state (input_frame frame) told now) plan count worker before after
-    left shard) →
+    (notes size shards : ℕ) → IsRingSize size → (frame : List ℕ) → IsInputFrame frame → (told now : ℕ) (plan : ℕ → ShardPlan)
+    (count worker : ℕ) (before after : PassView) (left : FrameView) (shard : ℕ)
+    (was : WasRefused (shipped_program notes (of_size shards size)) (initial_state (input_frame frame) told now) plan count worker before
+    after left shard) →
     WaitsByRule (of_size shards size) (input_frame frame) was.exchanges was.refused
 
 -- so all runs of a replay are
 abbrev pub ReplaysAreSteered : Type 0
 ReplaysAreSteered =
-    (size : ℕ) → IsRingSize size → (script : List Command) (options : Options) (records : List Sent) (outcome : Outcome) →
-    AreOptions (steering_maps size) options → AllByRecursion IsCaptured records →
-    (accounted : IsAccounted (shipped_program (of_size options.shards size)) script options records outcome) →
-    IsSteeredReplay size (shipped_program (of_size options.shards size)) script options records outcome accounted
+    (notes size : ℕ) → IsRingSize size → (script : List Command) (options : Options) (records : List Sent) (outcome : Outcome) →
+    AreOptions (sized_maps notes size) options → AllByRecursion IsCaptured records →
+    (accounted : IsAccounted (shipped_program notes (of_size options.shards size)) script options records outcome) →
+    IsSteeredReplay size (shipped_program notes (of_size options.shards size)) script options records outcome accounted
+
+-- what a record's run asked and was answered is in the journals, where its worker's runs are
+abbrev pub FatesStand : Type 0
+FatesStand =
+    (size : ℕ) (program : Program) (script : List Command) (options : Options) (records : List Sent) (outcome : Outcome)
+    (accounted : IsAccounted program script options records outcome)
+    (steered : IsSteeredReplay size program script options records outcome accounted)
+    (number : ℕ) (captured : Sent) (known : slice_get records number ≡ Some captured) →
+    let worker = worker_of_frame captured.bytes.items options.workers in
+    FateStands accounted.plan accounted.count (of_size options.shards size) records worker outcome.journals
+    (runs_in_work (steered.work worker (steered.fates number captured known).0))
+    (length (share (frames_of records) options.workers worker number)) number captured
+    (fate_of (frames_of records) options.workers accounted.runs number) (steered.fates number captured known).1

@@ -1,5 +1,6 @@
 -- Flows stay with their backends in a replay of the shipped program, by the histories to which its own journals lead.
-use Rattle.std.specs.Prelude.{◌≡◌, ℕ, ◌<◌, List, reverse, Option, Some, None, slice_get}
+use Rattle.std.specs.Prelude.{◌≡◌, ℕ, ◌<◌, List, reverse}
+use Rattle.std.specs.List.{AllByRecursion}
 use Rattle.wire.specs.FrameView.{FrameView}
 use Rattle.wire.specs.declared.records.Sent.{Sent}
 use Rattle.semantics.specs.declared.call.Entry.{Entry}
@@ -16,15 +17,15 @@ use Rattle.conntrack.specs.declared.records.TunnelRecord.{TunnelRecord}
 use Rattle.conntrack.specs.Steering.{SteeringSizes}
 use Rattle.conntrack.specs.SteeringRule.{tunnel_to}
 use Rattle.steer.specs.SteeringLaws.{of_size}
+use Rattle.shards.specs.Passes.{PassView}
 use Rattle.control.specs.declared.command.Command.{Command}
 use Rattle.actors.specs.declared.outcome.Outcome.{Outcome}
 use Rattle.actors.specs.declared.runner.RunEnd.{RunEnd}
 use Rattle.actors.specs.declared.runner.RunEnd.TheVariants.{Stopped}
 use Rattle.actors.specs.Accounted.{IsAccounted}
-use Rattle.actors.specs.Accounts.{fate_of}
+use Rattle.actors.specs.RunsInOrder.{IsRunAt}
 use Rattle.actors.specs.RunsOverShards.{IsTold}
-use Rattle.actors.specs.Shares.{frames_of, worker_of_frame}
-use Rattle.steered_replays.specs.SteeredRuns.{IsSteeredFate, IsSteeredReplay}
+use Rattle.steered_replays.specs.SteeredRuns.{IsSteeredReplay, IsSteeredRun, RunInPlace, runs_in_work}
 use Rattle.steered_replays.specs.StickyFlows.{RunOfNoted}
 
 -- the history is the one to which the journal of a shard of the replay leads, by the shard's plan
@@ -43,24 +44,27 @@ pub record IsNotedRun (plans : ℕ → ShardPlan) (count : ℕ) (journals : Jour
   pub flows : IsOfReplay plans count journals run.flows run.flows_history
   pub backends : IsOfReplay plans count journals run.backends run.backends_history
 
--- where the run of a record that ended is one of a flow that is noted, its frame is sent through the tunnel to the noted backend
+-- where a run that ended is one of a flow that is noted, its record's frame is sent through the tunnel to the noted backend
 abbrev pub StaysWithBackend : (plans : ℕ → ShardPlan) (count : ℕ) (setting : SteeringSizes) (worker : ℕ) (journals : JournalsView)
-    (captured : Sent) (fate : Option RunEnd) → IsSteeredFate plans count setting worker captured fate → Type 0
-StaysWithBackend plans count setting worker journals captured None steered = Unit {0}
-StaysWithBackend plans count setting worker journals captured (Some Stopped) steered = Unit {0}
-StaysWithBackend plans count setting worker journals captured (Some end) steered =
+    (captured : Sent) (before : PassView) (end : RunEnd) (after : PassView)
+    → IsSteeredRun plans count setting worker captured before end after → Type 0
+StaysWithBackend plans count setting worker journals captured before Stopped after steered = Unit {0}
+StaysWithBackend plans count setting worker journals captured before end after steered =
     (tunnel : TunnelRecord) (number : ℕ) (backend : BackendRecord) →
-    IsNotedRun plans count journals (input_frame captured.bytes.items) tunnel number backend worker steered.2.exchanges →
+    IsNotedRun plans count journals (input_frame captured.bytes.items) tunnel number backend worker steered.exchanges →
     IsTold captured V.Tx (encapsulated_frame (tunnel_to tunnel backend.address) (input_frame captured.bytes.items)) end
 
--- so it is of every record of a replay whose runs follow the rule
+-- so it is of every run that the workers of a replay made by the rule
 abbrev pub FlowsStay : (size : ℕ) (program : Program) (script : List Command) (options : Options) (records : List Sent) (outcome : Outcome)
     (accounted : IsAccounted program script options records outcome)
     → IsSteeredReplay size program script options records outcome accounted → Type 0
 FlowsStay size program script options records outcome accounted steered =
-    (number : ℕ) (captured : Sent) (known : slice_get records number ≡ Some captured) →
-    StaysWithBackend accounted.plan accounted.count (of_size options.shards size) (worker_of_frame captured.bytes.items options.workers)
-    outcome.journals captured (fate_of (frames_of records) options.workers accounted.runs number) (steered.fates number captured known)
+    (worker : ℕ) (below : worker < options.workers) →
+    AllByRecursion
+    (λ (one : RunInPlace (IsRunAt (IsSteeredRun accounted.plan accounted.count (of_size options.shards size) worker) records)).
+    StaysWithBackend accounted.plan accounted.count (of_size options.shards size) worker outcome.journals one.run.sent one.before one.ran.end
+    one.after one.run.run)
+    (runs_in_work (steered.work worker below))
 
 -- in every replay
 abbrev pub FlowsStayInReplays : Type 0

@@ -22,7 +22,7 @@ use Rattle.conntrack.specs.declared.records.VipRecord.{VipRecord}
 use Rattle.conntrack.specs.declared.steering_maps.SteeringMap.{SteeringMap}
 use Rattle.conntrack.specs.declared.steering_maps.SteeringMap.TheVariants.{Vips, Ring, Backends}
 use Rattle.conntrack.specs.Layouts.{service_key, vip_bytes, ring_bytes, backend_bytes}
-use Rattle.conntrack.specs.SteeringMaps.{map_place, map_kind, steering_maps}
+use Rattle.conntrack.specs.SteeringMaps.{map_place, map_kind, sized_maps}
 use Rattle.steer.specs.SteeringLaws.{of_size, shipped_program}
 use Rattle.control.specs.declared.command.Action.{Action}
 use Rattle.control.specs.declared.command.Action.TheVariants as actions
@@ -140,57 +140,58 @@ AreServices done now = (key : List ℕ) → value_at now Vips key ≡ option_map
 
 -- ---- replays
 
--- a replay of the shipped program for a lookup table of this size, without updates before its first record, in which no command met a full
--- journal
-pub record IsPlainReplay (size : ℕ) (script : List Command) (options : Options) (records : List Sent) (outcome : Outcome) : Type 0 where
-  pub fit : AreOptions (steering_maps size) options
+-- a replay of the shipped program for a flow table of so many notes and a lookup table of this size, without updates before its first
+-- record, in which no command met a full journal
+pub record IsPlainReplay (notes size : ℕ) (script : List Command) (options : Options) (records : List Sent) (outcome : Outcome)
+    : Type 0 where
+  pub fit : AreOptions (sized_maps notes size) options
   pub captured : AllByRecursion IsCaptured records
-  pub accounted : IsAccounted (shipped_program (of_size options.shards size)) script options records outcome
+  pub accounted : IsAccounted (shipped_program notes (of_size options.shards size)) script options records outcome
   pub none_set : outcome.updates.items ≡ []
   pub none_full : MetNoFullJournal outcome.refused.items
 
 -- The histories of the shards at a moment when the controller has applied this many commands: each is the oldest part of the one to which
 -- the shard's journal leads, and has the updates of these commands, and no other of the controller's.
-pub record IsMoment (size : ℕ) (script : List Command) (options : Options) (records : List Sent) (outcome : Outcome)
-    (plain : IsPlainReplay size script options records outcome) (commands : ℕ) (histories : ℕ → List Entry) : Type 0 where
+pub record IsMoment (notes size : ℕ) (script : List Command) (options : Options) (records : List Sent) (outcome : Outcome)
+    (plain : IsPlainReplay notes size script options records outcome) (commands : ℕ) (histories : ℕ → List Entry) : Type 0 where
   pub newer : ℕ → List Entry
   pub oldest : (number : ℕ) → number < plain.accounted.count → last_histories outcome.journals number ≡ newer number ++ histories number
   pub controlled : (number : ℕ) → number < plain.accounted.count →
       own_entries Controller (histories number)
-      ≡ with_updates (steering_maps size) options number (made_in (take commands plain.accounted.commands.done)) []
+      ≡ with_updates (sized_maps notes size) options number (made_in (take commands plain.accounted.commands.done)) []
 
 -- there is such a moment behind any number of commands
 abbrev pub MomentsExist : Type 0
 MomentsExist =
-    (size : ℕ) (script : List Command) (options : Options) (records : List Sent) (outcome : Outcome)
-    (plain : IsPlainReplay size script options records outcome) (commands : ℕ) →
-    (histories : ℕ → List Entry) × IsMoment size script options records outcome plain commands histories
+    (notes size : ℕ) (script : List Command) (options : Options) (records : List Sent) (outcome : Outcome)
+    (plain : IsPlainReplay notes size script options records outcome) (commands : ℕ) →
+    (histories : ℕ → List Entry) × IsMoment notes size script options records outcome plain commands histories
 
 -- at each moment the tables are those that the commands so far have left
 abbrev pub TablesFollow : Type 0
 TablesFollow =
-    (size : ℕ) → IsRingSize size → (script : List Command) (options : Options) (records : List Sent) (outcome : Outcome)
-    (plain : IsPlainReplay size script options records outcome) (commands : ℕ) (histories : ℕ → List Entry) →
-    IsMoment size script options records outcome plain commands histories →
+    (notes size : ℕ) → IsRingSize size → (script : List Command) (options : Options) (records : List Sent) (outcome : Outcome)
+    (plain : IsPlainReplay notes size script options records outcome) (commands : ℕ) (histories : ℕ → List Entry) →
+    IsMoment notes size script options records outcome plain commands histories →
     AreTablesAtEnd size (carried_out outcome.refused.items 0 (take commands script)) (record { journals = outcome.journals; histories = histories })
 
 -- and at the end those that the script has left
 abbrev pub TablesAreLeft : Type 0
 TablesAreLeft =
-    (size : ℕ) → IsRingSize size → (script : List Command) (options : Options) (records : List Sent) (outcome : Outcome) →
-    IsPlainReplay size script options records outcome →
+    (notes size : ℕ) → IsRingSize size → (script : List Command) (options : Options) (records : List Sent) (outcome : Outcome) →
+    IsPlainReplay notes size script options records outcome →
     AreTablesAtEnd size (carried_out outcome.refused.items 0 script) (maps_at_end outcome.journals)
 
 -- so it is of the services
 abbrev pub ServicesFollow : Type 0
 ServicesFollow =
-    (size : ℕ) → IsRingSize size → (script : List Command) (options : Options) (records : List Sent) (outcome : Outcome)
-    (plain : IsPlainReplay size script options records outcome) (commands : ℕ) (histories : ℕ → List Entry) →
-    IsMoment size script options records outcome plain commands histories →
+    (notes size : ℕ) → IsRingSize size → (script : List Command) (options : Options) (records : List Sent) (outcome : Outcome)
+    (plain : IsPlainReplay notes size script options records outcome) (commands : ℕ) (histories : ℕ → List Entry) →
+    IsMoment notes size script options records outcome plain commands histories →
     AreServices (carried_out outcome.refused.items 0 (take commands script)) (record { journals = outcome.journals; histories = histories })
 
 abbrev pub ServicesAreLeft : Type 0
 ServicesAreLeft =
-    (size : ℕ) → IsRingSize size → (script : List Command) (options : Options) (records : List Sent) (outcome : Outcome) →
-    IsPlainReplay size script options records outcome →
+    (notes size : ℕ) → IsRingSize size → (script : List Command) (options : Options) (records : List Sent) (outcome : Outcome) →
+    IsPlainReplay notes size script options records outcome →
     AreServices (carried_out outcome.refused.items 0 script) (maps_at_end outcome.journals)

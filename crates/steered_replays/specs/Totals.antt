@@ -12,7 +12,7 @@ use Rattle.semantics.specs.ShardPlan.{plan_at, AreOptions}
 use Rattle.journals.specs.JournalsView.{JournalsView, entries_at}
 use Rattle.maglev.specs.RingSize.{IsRingSize}
 use Rattle.conntrack.specs.declared.steering_maps.SteeringMap.TheVariants.{Stats}
-use Rattle.conntrack.specs.SteeringMaps.{map_place, map_kind, steering_maps}
+use Rattle.conntrack.specs.SteeringMaps.{map_place, map_kind, sized_maps}
 use Rattle.conntrack.specs.Results.{count_key}
 use Rattle.steer.specs.SteeringLaws.{of_size, shipped_program}
 use Rattle.control.specs.declared.command.Command.{Command}
@@ -46,7 +46,7 @@ pub record AreTotals (outcome : Outcome) : Type 0 where
 -- a replay of the shipped program, without updates before its first record, that stopped no run leaves them so
 abbrev pub TotalsAreExact : Type 0
 TotalsAreExact =
-    (size : ℕ) → IsRingSize size → (script : List Command) (options : Options) (records : List Sent) (outcome : Outcome) →
-    AreOptions (steering_maps size) options → AllByRecursion IsCaptured records →
-    IsAccounted (shipped_program (of_size options.shards size)) script options records outcome →
+    (notes size : ℕ) → IsRingSize size → (script : List Command) (options : Options) (records : List Sent) (outcome : Outcome) →
+    AreOptions (sized_maps notes size) options → AllByRecursion IsCaptured records →
+    IsAccounted (shipped_program notes (of_size options.shards size)) script options records outcome →
     outcome.updates.items ≡ [] → outcome.counts.stopped ≡ 0 → AreTotals outcome

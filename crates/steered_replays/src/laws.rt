@@ -10,14 +10,15 @@ ghost use Rattle.wire.specs.declared.records.Sent.{Sent};
 ghost use Rattle.control.specs.declared.command.Command.{Command};
 ghost use Rattle.actors.specs.Accounted.{IsAccounted};
 ghost use Rattle.actors.specs.declared.outcome.Outcome.{Outcome};
-ghost use Rattle.steer.specs.ShippedProgram.{shipped_image};
+ghost use Rattle.steer.specs.ShippedProgram.{sized_image};
 ghost use Rattle.steered_replays.specs.Counting.{CountsAreExact, LookupsOfArraysFind};
 ghost use Rattle.steered_replays.specs.SteeredRuns.{RunsAreSteered, RefusedRunsAreSteered, ReplaysAreSteered};
-ghost use Rattle.steered_replays.specs.SteeredRuns.{IsSteeredReplay};
+ghost use Rattle.steered_replays.specs.SteeredRuns.{FatesStand, IsSteeredReplay};
 ghost use Rattle.actors.specs.Captured.{IsCaptured};
 ghost use Rattle.steered_replays.specs.StickyFlows.{NotesAreFound, NotedFlowsStick};
 ghost use Rattle.steered_replays.specs.StickyReplays.{FlowsStayInReplays};
 ghost use Rattle.steered_replays.specs.StickyRow.{StickyRow};
+ghost use Rattle.steered_replays.specs.LastWords.{LastWordsFollow};
 ghost use Rattle.steered_replays.specs.TablesAtEnd.{MomentsExist, TablesFollow, TablesAreLeft, ServicesFollow, ServicesAreLeft};
 ghost use Rattle.steered_replays.specs.TablesAtEnd.{MetNoFullJournal, AreServices, AreTablesAtEnd, carried_out, maps_at_end};
 ghost use Rattle.steered_replays.specs.Fleets.{SameTables, OwnersAreSentTo, SomeAreSentTo, FramesAreSent, StrangersAgree, StrangersMove};
@@ -46,12 +47,18 @@ pub fn runs_are_steered()
 }
 
 /// So all runs of a replay of the shipped program follow the rule: each on the records that its worker's entries say it read. Each record
-/// is counted, and its frame is sent or not, by the end of such a run, if it is not short.
+/// is counted, and its frame is sent or not, by the end of its own run among these, if it is not short.
 pub fn replays_are_steered()
     ensures { ReplaysAreSteered }
 {
     steers();
 }
+
+/// What such a run asked and was answered, by which its record is counted and sent or not, is in the journals: in each shard's its session is
+/// one part of its worker's entries, behind those of the worker's earlier runs and before those of later ones.
+pub fn fates_stand_in_journals()
+    ensures { FatesStand }
+{}
 
 /// Where a replay of the shipped program stopped no run, the counts in its maps are the report's: in the state to which the journals lead
 /// the one-thread map, the verdicts' counts are how many frames were aborted, dropped, passed and sent.
@@ -68,6 +75,14 @@ pub fn totals_are_exact()
 pub fn tables_follow()
     ensures moments { TablesFollow }
     ensures end { TablesAreLeft }
+{
+    replays_are_steered();
+}
+
+/// So the words that `last_words` finds in its journals are those of the lookup table by the population of the backends that the script has
+/// left up: each backend has as many of them as it has slots, and 0 stands where none is up. And those of the backends are their addresses.
+pub fn last_words_follow()
+    ensures { LastWordsFollow }
 {
     replays_are_steered();
 }
@@ -119,11 +134,12 @@ pub fn strangers_move_in_replays()
     strangers_move();
 }
 
-/// What the laws on replays above say of every replay of an image that is the shipped one for a lookup table of `size` slots, however it was
-/// made.
-pub fn shipped_replays_are_steered(verified: &Verified, size: u32)
+/// What the laws on replays above say of every replay of an image that is the shipped one for a lookup table of `size` slots and a flow
+/// table of `notes` notes, however it was made.
+pub fn shipped_replays_are_steered(verified: &Verified, notes: u32, size: u32)
     requires size { IsRingSize size }
-    requires image { record { version = verified.now.version; maps = verified.now.maps; code = verified.now.code } ≡ shipped_image size }
+    requires image { record { version = verified.now.version; maps = verified.now.maps; code = verified.now.code }
+        ≡ sized_image notes size }
     ensures steered { (script : List Command) (options : Options) (records : List Sent) (outcome : Outcome) →
         AreOptions verified.now.maps options → AllByRecursion IsCaptured records →
         (accounted : IsAccounted (program_of verified.now options.shards) script options records outcome) →
@@ -143,6 +159,7 @@ pub fn shipped_replays_are_steered(verified: &Verified, size: u32)
         outcome.updates.items ≡ [] → MetNoFullJournal outcome.refused.items →
         AreServices (carried_out outcome.refused.items 0 script) (maps_at_end outcome.journals) }
 {
+    let _ = notes;
     let _ = size;
     let _ = verified.image();
     replays_are_steered();

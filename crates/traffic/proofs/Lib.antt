@@ -3,4 +3,5 @@ pub mod MoveLemmas
 pub mod TableLemmas
 pub mod ReadingLemmas
 pub mod ShareLemmas
+pub mod LastShareLemmas
 pub mod AppliedLemmas

@@ -2,7 +2,8 @@
 use Rattle.std.proofs.Common.{Err, None, Ok, Option, Result, Some, suc, ◌≡◌, ◌∙◌, ◌++◌, ◌+◌, ◌<◌, ℕ, List, [], ◌∷◌, ap, arith, drop, length, refl, subst, sym}
 use Rattle.std.proofs.lemmas.List.{append-nil, append_assoc}
 use Rattle.std.proofs.lemmas.List.Elements.{All-contains, All-from_recursion}
-use Rattle.conntrack.specs.SteeringMaps.{steering_maps}
+use Rattle.conntrack.specs.SteeringMaps.{steering_maps, AreSteeringMaps}
+use Rattle.conntrack.proofs.shared.MapLemmas.{are_steering}
 use Rattle.std.proofs.Math.Seq.{drop-length}
 use Rattle.maglev.specs.RingSize.{IsRingSize, ring_sizes}
 use Rattle.control.specs.declared.command.Command.{Command}
@@ -64,8 +65,9 @@ not_refused (Some fault) x first = absurd (ok_is_no_err x fault (first fault ref
 pub none_noted : {now old : List Refused} → now ≡ old → now ≡ old ++ []
 none_noted {old = old} same = same ∙ sym (append-nil old)
 
-pub still_serves : (size size' maps' : ℕ) → size' ≡ size → steering_maps maps' ≡ steering_maps size → steering_maps maps' ≡ steering_maps size'
-still_serves size size' maps' same serves = serves ∙ ap steering_maps (sym same)
+-- the maps for a table of the controller's size are its own
+pub own_serves : (size maps' : ℕ) → maps' ≡ size → AreSteeringMaps size (steering_maps maps')
+own_serves size maps' same = are_steering size (steering_maps maps') (ap steering_maps same)
 
 same_line : (size size' number share share' : ℕ) (backend backend' : List ℕ) → size ≡ size' → share ≡ share' → backend ≡ backend'
     → backend_line size number share backend ≡ backend_line size' number share' backend'

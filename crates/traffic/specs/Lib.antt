@@ -11,4 +11,5 @@ pub mod WrittenMaps
 pub mod MapLaws
 pub mod Shares
 pub mod TableText
+pub mod LastShares
 pub mod Applied

@@ -17,7 +17,7 @@ pub fn share_of(word: u32, words: &[u32]) -> usize
 }
 
 /// The word of a slot.
-fn word_at(words: &[u32], place: u32) -> u32
+pub(crate) fn word_at(words: &[u32], place: u32) -> u32
     ensures { result ≡ share_at words.now place }
 {
     words.get(place as usize).copied().unwrap_or(0)

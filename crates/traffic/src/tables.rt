@@ -2,7 +2,7 @@
 
 ghost use Rattle.std.specs.Prelude.{◌≡◌, ◌++◌, ◌+◌, ◌<◌, ◌^◌, ◌∷◌, ℕ, [], List, IfOk, OnOk, string_bytes};
 ghost use Rattle.maglev.specs.RingSize.{IsRingSize};
-ghost use Rattle.conntrack.specs.SteeringMaps.{steering_maps};
+ghost use Rattle.conntrack.specs.SteeringMaps.{steering_maps, AreSteeringMaps};
 ghost use Rattle.control.specs.FaultNumber.{control_fault_number};
 ghost use Rattle.traffic.specs.Shares.{AreShares};
 ghost use Rattle.traffic.specs.TableText.{backend_line, backend_text, byte_at, done_line, done_lines, front_address, hundredths};
@@ -215,7 +215,6 @@ fn done_lines(
 }
 
 /// Carries a command out, and appends what is printed of it.
-#[tactic(auto, using(crate::proofs::TableLemmas::still_serves))]
 fn show(
     alloc: Global,
     place: usize,
@@ -224,12 +223,12 @@ fn show(
     maps: &mut WrittenMaps,
     tables: &mut Tables,
 ) -> Result<(), AllocError>
-    requires { steering_maps maps.old.size ≡ steering_maps controller.old.size }
+    requires { AreSteeringMaps controller.old.size (steering_maps maps.old.size) }
     ensures shown { OnOk result ((first : List ℕ) × (one : List Refused)
         × IsShown place controller.old maps.old command.now controller.new maps.new first one
         × (string_bytes tables.new.text ≡ string_bytes tables.old.text ++ first) ×
         (tables.new.refused.items ≡ tables.old.refused.items ++ one)) }
-    ensures serves { steering_maps maps.new.size ≡ steering_maps controller.new.size }
+    ensures serves { AreSteeringMaps controller.new.size (steering_maps maps.new.size) }
 {
     let before = maps.words().to_vec(alloc)?;
     match controller.apply(alloc, command, maps) {
@@ -255,6 +254,7 @@ pub(crate) fn opened(alloc: Global, size: u32) -> Controller
 /// What is printed of a script: for each command, in its order, how many slots of the lookup table change hands, beside the fewest that
 /// have to, and the share of each backend that is up then; or that it was refused, with the fault's number. The controller is that of a
 /// replay, over new maps and without journals, so no command meets a full one (94). It fails only for lack of memory.
+#[tactic(auto, using(crate::proofs::TableLemmas::own_serves))]
 pub fn tables_of(alloc: Global, script: &Script, size: u32) -> Result<Tables, AllocError>
     requires { IsRingSize size }
     ensures { IfOk result (λ tables. AreTables size script.now (string_bytes tables.text) tables.refused.items) }

@@ -4,7 +4,7 @@ mod queues;
 pub(crate) mod sessions;
 
 ghost use Rattle.std.specs.Prelude.{◌≡◌, ◌<◌, ℕ, All, IsTrue, length};
-ghost use Rattle.conntrack.specs.SteeringMaps.{steering_maps};
+ghost use Rattle.conntrack.specs.SteeringMaps.{AreSteeringMaps};
 
 use crate::asserting::{holds, same, same_at};
 use crate::frames::DATAGRAM;
@@ -81,7 +81,7 @@ fn a_flow_has_its_worker(rt: HostRuntime) {
 
 /// A controller for a table of seven slots, and its maps in memory.
 fn opened(rt: &impl Abort, alloc: Global) -> (Controller, UpdateList)
-    ensures { result.1.maps ≡ steering_maps result.0.size }
+    ensures { AreSteeringMaps result.0.size result.1.maps }
 {
     let maps = maps(alloc, 7).expect(rt, "maps");
     let list = UpdateList::open(alloc, maps, 99).expect(rt, "a list");

@@ -96,9 +96,10 @@ pub(crate) fn with_streams<'a>(settings: Settings<'a>) -> Settings<'a> {
             out: written_to(out),
             source,
         },
-        Settings::Shipped { out, ring } => Settings::Shipped {
+        Settings::Shipped { out, ring, flows } => Settings::Shipped {
             out: written_to(out),
             ring,
+            flows,
         },
         Settings::Table { script, ring } => Settings::Table {
             script: read_from(script),

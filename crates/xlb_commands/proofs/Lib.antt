@@ -8,3 +8,5 @@ pub mod PieceLemmas
 pub mod ReaderFiles
 pub mod Refusals
 pub mod SameFiles
+pub mod SameFolders
+pub mod ShareLemmas

@@ -14,6 +14,7 @@ use Rattle.folders.specs.PieceReading.{ReaderView}
 use Rattle.control.specs.declared.command.Command.{Command}
 use Rattle.actors.specs.Captured.{IsCaptured}
 use Rattle.journals.specs.JournalText.{journals_text}
+use Rattle.fleet.specs.declared.part.Part.{Part}
 use Rattle.replay.specs.Pieces.{IsUnderway}
 use Rattle.replay.specs.declared.in_pieces.PieceReplay.{PieceReplay}
 use Rattle.actors.specs.declared.outcome.Outcome.{Outcome}
@@ -23,6 +24,8 @@ use Rattle.command_line.specs.Reading.{text_of}
 use Rattle.command_line.specs.declared.commands.ReplayFiles.{ReplayFiles}
 use Rattle.xlb_commands.specs.declared.report.Report.{Report}
 use Rattle.xlb_commands.specs.Files.{FileBytes}
+use Rattle.xlb_commands.specs.Parts.{command_frames, records_in, script_in}
+use Rattle.xlb_commands.specs.Shares.{AreNumbers}
 use Rattle.xlb_commands.specs.Replays.{AreAccepted, FollowsRule, IsCaptureOf, IsMade, KeepsHeadline, LeavesNothingOut, SendsAlike}
 use Rattle.xlb_commands.specs.Replays.{counts_text, program_of_replay, refusals_text}
 
@@ -77,19 +80,26 @@ pub record IsMadeOf (files : ReplayFiles) (program : Contents) (states : List (O
   pub none_refused : (whole.refused.items ≡ []) ↔ (report.is_refused ≡ false)
   pub all : report.leaves_out ≡ false → LeavesNothingOut script records whole
 
--- the file is a capture, and all its records were run
-pub record HasGoneThrough (files : FileBytes) (name : List ℕ) (program : Program) (script : List Command) (options : Options)
-    (before after : PieceReplay) (made made' : FileBytes) : Type 0 where
-  pub records : List Sent
-  pub capture : IsCaptureOf files unaltered name records
-  pub have_run : HaveRun program script options before after made made' records
+-- the file is a capture, in the part of which the commands of this script have these numbers
+pub record HasNumbers (files : FileBytes) (name : List ℕ) (part : Option Part) (whole : List Command) (numbers : List ℕ) : Type 0 where
+  pub captured : List Sent
+  pub capture : IsCaptureOf files unaltered name captured
+  pub numbers_are : AreNumbers part (command_frames whole) captured numbers
 
--- besides, the replay came to its end, and the report and the bytes of the journals are its
-pub record IsReplayLeft (before made made' : FileBytes) (files : ReplayFiles) (program : Contents) (states : List (Option State))
-    (script : List Command) (options : Options) (recording : Recording) (ring : ℕ) (updates : List MapUpdate) (report : Report)
-    (journals : List ℕ) : Type 0 where
-  pub records : List Sent
+-- besides, all records of the part were run, or where none is asked for all of the capture
+pub record HasGoneThrough (files : FileBytes) (name : List ℕ) (part : Option Part) (whole : List Command) (numbers : List ℕ)
+    (program : Program) (script : List Command) (options : Options) (before after : PieceReplay) (made made' : FileBytes) : Type 0 where
+  pub numbered : HasNumbers files name part whole numbers
+  pub have_run : HaveRun program script options before after made made' (records_in part numbered.captured)
+
+-- the file is a capture, in the part of which the commands of the script for the whole capture are those of this script; besides, the replay
+-- of the part came to its end, and the report and the bytes of the journals are its
+pub record IsReplayLeft (before made made' : FileBytes) (files : ReplayFiles) (part : Option Part) (whole : List Command) (program : Contents)
+    (states : List (Option State)) (script : List Command) (options : Options) (recording : Recording) (ring : ℕ) (updates : List MapUpdate)
+    (report : Report) (journals : List ℕ) : Type 0 where
+  pub captured : List Sent
   pub sent : List Sent
-  pub capture : IsCaptureOf before unaltered files.capture.now records
+  pub capture : IsCaptureOf before unaltered files.capture.now captured
+  pub script_is : script_in part captured whole ≡ script
   pub added : AreAdded made made' sent
-  pub made_of : IsMadeOf files program states script options recording ring updates records sent report journals
+  pub made_of : IsMadeOf files program states script options recording ring updates (records_in part captured) sent report journals

@@ -5,6 +5,7 @@ pub mod RecordReports
 pub mod Parts
 pub mod Replays
 pub mod Tables
+pub mod LastTable
 pub mod Timed
 pub mod Comparing
 pub mod LookingBack
@@ -13,5 +14,7 @@ pub mod FaultLines
 pub mod Refused
 pub mod AcceptedJournals
 pub mod SameFiles
+pub mod SameFolders
 pub mod AskedReplays
+pub mod Shares
 pub mod InPieces

@@ -4,7 +4,7 @@ use Rattle.wire.specs.declared.records.Sent.{Sent}
 use Rattle.control.specs.declared.command.Command.{Command}
 use Rattle.control.specs.Renumbering.{at_frames}
 use Rattle.fleet.specs.declared.part.Part.{Part}
-use Rattle.fleet.specs.Parts.{number_in_part, records_of_part}
+use Rattle.fleet.specs.Parts.{number_in_part, records_behind, records_of_part}
 
 -- how many records of the capture come before each command
 abbrev pub command_frames : List Command → List ℕ
@@ -18,6 +18,11 @@ numbers_of_part part records script = map (number_in_part part.of part.lost part
 abbrev pub records_in : Option Part → List Sent → List Sent
 records_in (Some part) records = records_of_part part.of part.lost part.number records
 records_in None records = records
+
+-- those among the next records of the capture, behind so many
+abbrev pub records_next : Option Part → ℕ → List Sent → List Sent
+records_next (Some part) past records = records_behind part.of part.lost part.number past records
+records_next None past records = records
 
 -- the script that is carried out: its commands at their numbers in the part, or where none is named as they are
 abbrev pub script_in : Option Part → List Sent → List Command → List Command

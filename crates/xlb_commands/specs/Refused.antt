@@ -50,7 +50,7 @@ use Rattle.guarantees.specs.RunsAlone.{IsAloneInSystem, ending_at}
 use Rattle.maglev.specs.RingSize.{IsRingSize}
 use Rattle.conntrack.specs.declared.fault.SteerFault.{SteerFault}
 use Rattle.conntrack.specs.declared.fault.SteerFault.TheVariants as steering
-use Rattle.steer.specs.ShippedProgram.{shipped_image}
+use Rattle.steer.specs.ShippedProgram.{sized_image}
 use Rattle.control.specs.declared.command.Command.{Command}
 use Rattle.control.specs.declared.fault.ControlFault.{ControlFault}
 use Rattle.control.specs.declared.fault.ControlFault.TheVariants as scripts
@@ -79,6 +79,7 @@ use Rattle.xlb_commands.specs.Parts.{records_in, script_in}
 use Rattle.xlb_commands.specs.Clashes.{IsOver, clash_text, IsWrittenAnew, present_text}
 use Rattle.xlb_commands.specs.FaultLines.{fault_line, mistake_text}
 use Rattle.xlb_commands.specs.Replays.{AreWritten, IsProgramOf, IsScriptFile, IsScriptOf, IsCaptureOf, AreCaptureBytes, program_of_replay}
+use Rattle.xlb_commands.specs.Replays.{AreServedSizes}
 use Rattle.xlb_commands.specs.Replays.{capture_reading, recording_in, IsMade}
 use Rattle.xlb_commands.specs.Results.{IsDone, IsDoneInPart, IsReported, IsMistake, Stream, run_options, program_of_run, start_of_run}
 use Rattle.xlb_commands.specs.Results.{IsUnlikeSaid, setting_of_run}
@@ -311,32 +312,31 @@ pub data IsRunRefusal (files after : FileBytes) (failed : Type 0) (run : RunFile
 
 -- ---- replays
 
--- the shipped program was not made: the fault of a lookup table without a size that is served comes exactly for one; else memory was
--- refused
-pub record IsNotMade (ring : ℕ) (fault : Fault) : Type 0 where
+-- the shipped program was not made: the fault of a size that is not served comes exactly for one; else memory was refused
+pub record IsNotMade (flows ring : ℕ) (fault : Fault) : Type 0 where
   pub why : SteerFault
-  pub size : (why ≡ steering.BadSize) ↔ (¬ IsRingSize ring)
+  pub size : (why ≡ steering.BadSize) ↔ (¬ AreServedSizes flows ring)
   pub fault_is : fault ≡ faults.Steering why
 
 -- the shipped program was not made, or breaks a rule: its first reject
-pub data IsShippedRefusal (ring : ℕ) (fault : Fault) : Type 0 where
-  not_made : IsNotMade ring fault → IsShippedRefusal ring fault
-  shipped_rejected : (image : Contents) (why : Reject) → image ≡ shipped_image ring → IsFirstReject image.version image.maps image.code why
-      → fault ≡ faults.Program why → IsShippedRefusal ring fault
+pub data IsShippedRefusal (flows ring : ℕ) (fault : Fault) : Type 0 where
+  not_made : IsNotMade flows ring fault → IsShippedRefusal flows ring fault
+  shipped_rejected : (image : Contents) (why : Reject) → image ≡ sized_image flows ring
+      → IsFirstReject image.version image.maps image.code why → fault ≡ faults.Program why → IsShippedRefusal flows ring fault
 
 -- xlb shipped: the program was not made, and no file changed; or it was made, and its file was not written
-pub data IsShippedFileRefusal (files after : FileBytes) (failed : Type 0) (ring : ℕ) (fault : Fault) : Type 0 where
-  none_made : AreKept files after → IsNotMade ring fault → IsShippedFileRefusal files after failed ring fault
-  no_shipped_file : IsRingSize ring → IsUnwritten failed fault → IsShippedFileRefusal files after failed ring fault
+pub data IsShippedFileRefusal (files after : FileBytes) (failed : Type 0) (flows ring : ℕ) (fault : Fault) : Type 0 where
+  none_made : AreKept files after → IsNotMade flows ring fault → IsShippedFileRefusal files after failed flows ring fault
+  no_shipped_file : AreServedSizes flows ring → IsUnwritten failed fault → IsShippedFileRefusal files after failed flows ring fault
 
 -- no program that may run: of the file, or where none is named the shipped one
-abbrev pub IsReplayProgramRefusal : FileBytes → Type 0 → Option (List ℕ) → ℕ → Fault → Type 0
-IsReplayProgramRefusal files failed (Some name) ring fault = IsProgramRefusal files failed name fault
-IsReplayProgramRefusal files failed None ring fault = IsShippedRefusal ring fault
+abbrev pub IsReplayProgramRefusal : FileBytes → Type 0 → Option (List ℕ) → ℕ → ℕ → Fault → Type 0
+IsReplayProgramRefusal files failed (Some name) flows ring fault = IsProgramRefusal files failed name fault
+IsReplayProgramRefusal files failed None flows ring fault = IsShippedRefusal flows ring fault
 
 -- the program that is replayed
-pub record IsReplayProgram (files : FileBytes) (name : Option (List ℕ)) (ring : ℕ) (program : Contents) : Type 0 where
-  pub is : IsProgramOf files name ring program
+pub record IsReplayProgram (files : FileBytes) (name : Option (List ℕ)) (flows ring : ℕ) (program : Contents) : Type 0 where
+  pub is : IsProgramOf files name flows ring program
   pub safe : IsSafeImage program.maps program.code
 
 -- the file was not read, or its bytes are no script
@@ -438,8 +438,8 @@ pub data IsUnmade (before after : FileBytes) (failed : Type 0) (names : ReplayFi
       → IsUnmade before after failed names program script options recording exact updates records fault
 
 -- Of a program that may run and whose maps take the updates, and a script: no capture; one of which a part is replayed, and memory was
--- refused for the script's commands in it; an exact replay of the whole capture that was broken off; until then no file changed; or no
--- replay of the part was made and written down.
+-- refused for the script's commands in it; an exact replay that was broken off; until then no file changed; or no replay of the part was made
+-- and written down.
 pub data IsUnreplayed (files after : FileBytes) (failed : Type 0) (names : ReplayFiles) (program : Contents) (script : List Command)
     (options : Options) (recording : Recording) (exact : Bool) (reading : Reading) (part : Option Part) (updates : List MapUpdate)
     (fault : Fault) : Type 0 where
@@ -448,9 +448,9 @@ pub data IsUnreplayed (files after : FileBytes) (failed : Type 0) (names : Repla
   no_part : (captured : List Sent) (taken : Part) → AreKept files after → IsCaptureOf files reading names.capture.now captured
       → part ≡ Some taken → fault ≡ faults.Memory
       → IsUnreplayed files after failed names program script options recording exact reading part updates fault
-  broken_off : (captured : List Sent) → exact ≡ true → reading ≡ unaltered → part ≡ None → text_of names.report ≡ None
-      → AreKept files after → IsCaptureOf files reading names.capture.now captured → (¬ AreBadOptions program.maps options script)
-      → IsBrokenOff failed fault
+  broken_off : (captured : List Sent) → exact ≡ true → reading ≡ unaltered → text_of names.report ≡ None
+      → AreKept files after → IsCaptureOf files reading names.capture.now captured
+      → (¬ AreBadOptions program.maps options (script_in part captured script)) → IsBrokenOff failed fault
       → IsUnreplayed files after failed names program script options recording exact reading part updates fault
   unmade : (captured : List Sent) → IsCaptureOf files reading names.capture.now captured
       → IsUnmade files after failed names program (script_in part captured script) options recording exact updates (records_in part captured)
@@ -459,22 +459,22 @@ pub data IsUnreplayed (files after : FileBytes) (failed : Type 0) (names : Repla
 
 -- xlb replay: no program that may run; no script; or both, and no replay that was made and written down
 pub data IsReplayRefusal (files after : FileBytes) (failed : Type 0) (names : ReplayFiles) (options : Options) (recording : Recording)
-    (ring : ℕ) (exact : Bool) (reading : Reading) (part : Option Part) (updates : List MapUpdate) (fault : Fault) : Type 0 where
-  no_replay_program : AreKept files after → IsReplayProgramRefusal files failed (text_of names.image) ring fault
-      → IsReplayRefusal files after failed names options recording ring exact reading part updates fault
-  no_replay_script : (program : Contents) → AreKept files after → IsReplayProgram files (text_of names.image) ring program
+    (flows ring : ℕ) (exact : Bool) (reading : Reading) (part : Option Part) (updates : List MapUpdate) (fault : Fault) : Type 0 where
+  no_replay_program : AreKept files after → IsReplayProgramRefusal files failed (text_of names.image) flows ring fault
+      → IsReplayRefusal files after failed names options recording flows ring exact reading part updates fault
+  no_replay_script : (program : Contents) → AreKept files after → IsReplayProgram files (text_of names.image) flows ring program
       → AreFitting program.maps updates → IsScriptRefusal files failed (text_of names.script) fault
-      → IsReplayRefusal files after failed names options recording ring exact reading part updates fault
-  not_replayed : (program : Contents) (script : List Command) → IsReplayProgram files (text_of names.image) ring program
+      → IsReplayRefusal files after failed names options recording flows ring exact reading part updates fault
+  not_replayed : (program : Contents) (script : List Command) → IsReplayProgram files (text_of names.image) flows ring program
       → AreFitting program.maps updates → IsScriptOf files (text_of names.script) script
       → IsUnreplayed files after failed names program script options recording exact reading part updates fault
-      → IsReplayRefusal files after failed names options recording ring exact reading part updates fault
+      → IsReplayRefusal files after failed names options recording flows ring exact reading part updates fault
 
 -- the same of what is asked
 abbrev pub IsReplayRefused : FileBytes → FileBytes → Type 0 → ReplaySettings → Fault → Type 0
 IsReplayRefused before after failed asked fault =
-    IsReplayRefusal before after failed asked.files asked.options (recording_in asked) asked.ring asked.exact (capture_reading asked) asked.part
-    asked.updates.items fault
+    IsReplayRefusal before after failed asked.files asked.options (recording_in asked) asked.flows asked.ring asked.exact
+    (capture_reading asked) asked.part asked.updates.items fault
 
 -- ---- commands
 
@@ -489,7 +489,7 @@ IsRefusedWith before after failed (Audit image journals) fault = IsAuditRefusal 
 IsRefusedWith before after failed (Explain about) fault = fault ≡ faults.Memory
 IsRefusedWith before after failed (Asm text out false) fault = IsAsmRefusal before after failed text.now fault
 IsRefusedWith before after failed (Asm text out true) fault = IsSourceRefusal before after failed text.now fault
-IsRefusedWith before after failed (Shipped out ring) fault = IsShippedFileRefusal before after failed ring fault
+IsRefusedWith before after failed (Shipped out ring flows) fault = IsShippedFileRefusal before after failed flows ring fault
 IsRefusedWith before after failed (Table script ring) fault = IsTableRefusal before failed script.now ring fault
 IsRefusedWith before after failed (Script capture timed) fault = IsTimedRefusal before failed capture.now timed.now fault
 IsRefusedWith before after failed (Compare first second) fault = IsComparisonRefusal failed fault

@@ -18,7 +18,9 @@ use Rattle.verifier.specs.Verified.{Verified}
 use Rattle.byteorder.specs.Endian.{little_bytes}
 use Rattle.wire.specs.CaptureFormat.{IsCaptureFile, capture_bytes, header_bytes}
 use Rattle.wire.specs.declared.records.Sent.{Sent}
-use Rattle.steer.specs.ShippedProgram.{shipped_image}
+use Rattle.maglev.specs.RingSize.{IsRingSize}
+use Rattle.conntrack.specs.SteeringMaps.{IsNoteCount}
+use Rattle.steer.specs.ShippedProgram.{sized_image}
 use Rattle.control.specs.declared.command.Command.{Command}
 use Rattle.control.specs.declared.fault.ControlFault.{ControlFault}
 use Rattle.control.specs.FaultNumber.{control_fault_number}
@@ -55,10 +57,14 @@ use Rattle.xlb_commands.specs.RecordReports.{IsReportFile, runs_shipped}
 
 -- ---- what is read
 
--- the image of the file, or where none is named the shipped one for a lookup table of N slots
-abbrev pub IsProgramOf : FileBytes → Option (List ℕ) → ℕ → Contents → Type 0
-IsProgramOf files (Some name) ring image = IsImageFile files name image
-IsProgramOf files None ring image = image ≡ shipped_image ring
+-- the flow table and the lookup table have sizes that are served
+abbrev pub AreServedSizes : ℕ → ℕ → Type 0
+AreServedSizes flows ring = IsNoteCount flows × IsRingSize ring
+
+-- the image of the file, or where none is named the shipped one for a flow table of so many notes and a lookup table of N slots
+abbrev pub IsProgramOf : FileBytes → Option (List ℕ) → ℕ → ℕ → Contents → Type 0
+IsProgramOf files (Some name) flows ring image = IsImageFile files name image
+IsProgramOf files None flows ring image = image ≡ sized_image flows ring
 
 -- the file's text is that of the script
 pub record IsScriptFile (files : FileBytes) (name : List ℕ) (script : List Command) : Type 0 where
@@ -287,7 +293,7 @@ pub record IsReplayReport (before after : FileBytes) (files : ReplayFiles) (prog
 -- asked for, with the script's commands at their numbers in it
 pub record IsReplayed (before after : FileBytes) (asked : ReplaySettings) (printed : List ℕ) (refused : List Applied) : Type 0 where
   pub program : Contents
-  pub program_is : IsProgramOf before (text_of asked.files.image) asked.ring program
+  pub program_is : IsProgramOf before (text_of asked.files.image) asked.flows asked.ring program
   pub states : List (Option State)
   pub accepted : Accepts program.version program.maps program.code states
   pub safe : IsSafeImage program.maps program.code

@@ -19,8 +19,7 @@ use Rattle.semantics.specs.MachineState.{MachineState, initial_state}
 use Rattle.semantics.specs.Program.{Program}
 use Rattle.semantics.specs.Events.{Exited}
 use Rattle.semantics.specs.System.{Setting, IsInputFrame}
-use Rattle.maglev.specs.RingSize.{IsRingSize}
-use Rattle.steer.specs.ShippedProgram.{shipped_image}
+use Rattle.steer.specs.ShippedProgram.{sized_image}
 use Rattle.runs.specs.SingleRuns.{HasRunAlone}
 use Rattle.guarantees.specs.RunsAlone.{IsAloneInSystem}
 use Rattle.journals.specs.JournalsView.{JournalsView}
@@ -40,7 +39,7 @@ use Rattle.xlb_commands.specs.declared.serving.CommandAnswer.TheVariants as answ
 use Rattle.xlb_commands.specs.Files.{FileBytes, AreKept, AreOthersKept, AreAllButKept, AreAllKeptBut, IsImageFile, IsJudged}
 use Rattle.xlb_commands.specs.declared.replays.ReplayAnswer.{ReplayAnswer}
 use Rattle.xlb_commands.specs.declared.replays.ReplayAnswer.TheVariants as replayed
-use Rattle.xlb_commands.specs.Replays.{AreWritten, IsProgramOf, IsReplayedWhole, IsReplayedInPart}
+use Rattle.xlb_commands.specs.Replays.{AreServedSizes, AreWritten, IsProgramOf, IsReplayedWhole, IsReplayedInPart}
 use Rattle.xlb_commands.specs.Tables.{IsTableShown}
 use Rattle.xlb_commands.specs.Timed.{IsScriptShown}
 use Rattle.xlb_commands.specs.Comparing.{IsComparison, IsUnlikeTold}
@@ -148,10 +147,10 @@ IsRunAnswer before after files now worker updates (Printed text notes) = IsRun b
 IsRunAnswer before after files now worker updates (Mistaken place misfit) = IsMisfitRun before after files updates place misfit
 
 -- the same of a replay
-pub record IsMisfitReplay (before after : FileBytes) (files : ReplayFiles) (ring : ℕ) (updates : List MapUpdate) (place : ℕ)
+pub record IsMisfitReplay (before after : FileBytes) (files : ReplayFiles) (flows ring : ℕ) (updates : List MapUpdate) (place : ℕ)
     (misfit : Misfit) : Type 0 where
   pub program : Contents
-  pub program_is : IsProgramOf before (text_of files.image) ring program
+  pub program_is : IsProgramOf before (text_of files.image) flows ring program
   pub safe : IsSafeImage program.maps program.code
   pub first : IsFirstMisfit program.maps updates place misfit
   pub kept : AreKept before after
@@ -162,7 +161,7 @@ IsReplayAnswer before after asked (replayed.Made report) =
     (report.is_refused ≡ false → IsReplayedWhole before after asked (string_bytes report.text))
     × (report.is_refused ≡ true → IsReplayedInPart before after asked (string_bytes report.text))
 IsReplayAnswer before after asked (replayed.Mistaken place misfit) =
-    IsMisfitReplay before after asked.files asked.ring asked.updates.items place misfit
+    IsMisfitReplay before after asked.files asked.flows asked.ring asked.updates.items place misfit
 
 -- what is printed is the image's text
 pub record IsDisassembled (files : FileBytes) (name : List ℕ) (printed : List ℕ) : Type 0 where
@@ -203,10 +202,10 @@ pub record IsSourceAssembled (before after : FileBytes) (source target : List �
   pub spelled : IsSource text image
   pub written : IsImageFile after target image
 
--- the file has the image of the shipped program for a lookup table of N slots, a size that is served
-pub record IsShippedFile (files : FileBytes) (target : List ℕ) (ring : ℕ) : Type 0 where
-  pub size : IsRingSize ring
-  pub written : IsImageFile files target (shipped_image ring)
+-- the file has the image of the shipped program for a flow table of so many notes and a lookup table of N slots, sizes that are served
+pub record IsShippedFile (files : FileBytes) (target : List ℕ) (flows ring : ℕ) : Type 0 where
+  pub sizes : AreServedSizes flows ring
+  pub written : IsImageFile files target (sized_image flows ring)
 
 -- the command is done over these files, before and after, with this print
 abbrev pub IsDone : FileBytes → FileBytes → Settings → List ℕ → Type 0
@@ -219,7 +218,7 @@ IsDone before after (Audit image journals) printed = IsAudited before image.now 
 IsDone before after (Explain about) printed = printed ≡ explained_text about
 IsDone before after (Asm text out false) printed = IsAssembled before after text.now out.now × (printed ≡ [])
 IsDone before after (Asm text out true) printed = IsSourceAssembled before after text.now out.now × (printed ≡ [])
-IsDone before after (Shipped out ring) printed = IsShippedFile after out.now ring × (printed ≡ [])
+IsDone before after (Shipped out ring flows) printed = IsShippedFile after out.now flows ring × (printed ≡ [])
 IsDone before after (Replay asked) printed = IsReplayedWhole before after asked printed
 IsDone before after (Table script ring) printed = IsTableShown before script.now ring printed false
 IsDone before after (Script capture timed) printed = IsScriptShown before capture.now timed.now printed
@@ -242,7 +241,7 @@ KeepsFiles before after (Disasm image source) = AreKept before after
 KeepsFiles before after (Audit image journals) = AreKept before after
 KeepsFiles before after (Explain about) = AreKept before after
 KeepsFiles before after (Asm text out source) = AreOthersKept before after out.now
-KeepsFiles before after (Shipped out ring) = AreOthersKept before after out.now
+KeepsFiles before after (Shipped out ring flows) = AreOthersKept before after out.now
 KeepsFiles before after (Table script ring) = AreKept before after
 KeepsFiles before after (Script capture timed) = AreKept before after
 KeepsFiles before after (Compare first second) = AreKept before after
@@ -286,7 +285,7 @@ pub record IsReported (before after : FileBytes) (settings : Settings) (out out'
 abbrev pub IsMistake : FileBytes → FileBytes → Settings → ℕ → Misfit → Type 0
 IsMistake before after (Run files now worker updates) place misfit = IsMisfitRun before after files updates.items place misfit
 IsMistake before after (Replay asked) place misfit =
-    IsMisfitReplay before after asked.files asked.ring asked.updates.items place misfit
+    IsMisfitReplay before after asked.files asked.flows asked.ring asked.updates.items place misfit
 IsMistake before after other place misfit = ⊥
 
 -- the command's files cannot be compared, or its report is none, and the text says why; no file changed

@@ -2,6 +2,7 @@
 
 use crate::printable::printable;
 use audit::AuditFault;
+use conntrack::is_note_count;
 use control::ControlFault;
 use ebpf_decode::image::MAGIC;
 use ebpf_decode::{DecodeFault, MapDef};
@@ -9,7 +10,7 @@ use faults::Fields;
 use journals::{FileFault, Journals};
 use maglev::is_ring_size;
 use mistakes::{
-    about_entry, about_frame, about_image, about_journals, about_map, about_map_line,
+    about_entry, about_flows, about_frame, about_image, about_journals, about_map, about_map_line,
     about_options, about_ring, about_script, about_text_as_frame, about_worker,
 };
 use replay::ReplayFault;
@@ -52,6 +53,15 @@ pub(crate) fn of_frame(
 /// Of a frame's bytes that are a text.
 pub(crate) fn of_text_as_frame(alloc: Global, bytes: &[u8]) -> Option<String> {
     about_text_as_frame(alloc, bytes).ok()
+}
+
+/// Of a lookup table of `ring` slots or a flow table of `flows` notes, if there is none of this size.
+pub(crate) fn of_sizes(alloc: Global, flows: u32, ring: u32) -> Result<Option<String>, AllocError> {
+    if is_note_count(flows) {
+        of_ring(alloc, ring)
+    } else {
+        Ok(Some(about_flows(alloc, flows)?))
+    }
 }
 
 /// Of a lookup table of `ring` slots, if there is none of this size.

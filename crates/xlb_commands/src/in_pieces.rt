@@ -26,8 +26,10 @@ ghost use Rattle.actors.specs.declared.outcome.RecordEnd.{RecordEnd as End};
 ghost use Rattle.journals.specs.JournalsView.{JournalsView};
 ghost use Rattle.command_line.specs.Reading.{text_of};
 ghost use Rattle.xlb_commands.specs.Files.{AreAllButKept, AreKept, AreOthersKept};
-ghost use Rattle.xlb_commands.specs.AskedReplays.{IsConsistent, IsAnswered, IsDenied, IsMadeInTurn, LeavesOthers};
-ghost use Rattle.xlb_commands.specs.InPieces.{HasGoneThrough, ReaderHasRoom, HaveRun, IsGoing, IsReplayLeft, IsMadeOf};
+ghost use Rattle.xlb_commands.specs.AskedReplays.{IsConsistent, IsAnswered, IsAnsweredBy, IsDenied, IsDeniedBy, IsMadeInTurn, LeavesOthers};
+ghost use Rattle.xlb_commands.specs.InPieces.{HasGoneThrough, HasNumbers, ReaderHasRoom, HaveRun, IsGoing, IsReplayLeft, IsMadeOf};
+ghost use Rattle.xlb_commands.specs.Parts.{command_frames, records_in, records_next};
+ghost use Rattle.xlb_commands.specs.Shares.{GoesPast, HasPassed, IsAbreast, script_at};
 ghost use Rattle.xlb_commands.specs.Refused.{AreUnfiled, HasFailed, IsBrokenOff, IsGivenUp, IsUnserved, LacksRoom};
 ghost use Rattle.traffic.specs.Readings.{unaltered};
 ghost use Rattle.xlb_commands.specs.Replays.{HasBytes, IsCaptureOf, IsMade, image_of};
@@ -39,8 +41,10 @@ use crate::notes::{Altered, Notes, first_stopped};
 use crate::progress::{Progress, Rounds};
 use crate::replays::{Asked, bytes_of_frames, given_up, readers_send_alike, steered_where_shipped};
 use crate::report::{Report, replayed};
+use crate::share::{Share, before_all, go_past, has_numbers, taken_of};
 use actors::all_are_captured;
 use command_line::ReplayFiles;
+use control::Script;
 use folders::{CaptureReader, Folder, FolderFault};
 use replay::{Outcome, PieceReplay, RecordEnd, ReplayFault};
 use shard_port::Gate;
@@ -51,12 +55,20 @@ use wire::{CAPTURE_HEADER_LEN, Capture, CaptureFault, MemorySink, Sent};
 const PIECE: usize = 1024;
 
 /// A capture that was read once.
-#[derive(Clone, Copy)]
+#[derive(Drop)]
 struct Seen {
-    /// How many records it has.
+    /// How many of its records are taken.
     records: u64,
-    /// How many of them have fewer bytes than the frames that were captured.
+    /// How many of all have fewer bytes than the frames that were captured.
     cut: u64,
+    share: Share,
+}
+
+/// The script of the whole capture, and the numbers that its commands have in the part that is replayed; none where all of it is.
+#[derive(Clone, Copy)]
+struct WholeScript<'a> {
+    script: &'a Script,
+    numbers: &'a [u32],
 }
 
 /// A replay between two pieces.
@@ -161,27 +173,33 @@ fn next_piece<D: Folder>(
 fn look_through<D: Folder>(
     alloc: Global,
     folder: &mut D,
-    name: &str,
+    asked: Asked<'_>,
 ) -> Result<Option<Seen>, Refusal>
     requires { D.failure_count folder.old < 2 ^ 64 - 1 }
-    ensures capture { IfOk result (λ found. IfSome found
-        (λ seen. (records : List Record) × IsCaptureOf (D.holds folder.old) unaltered name.now records × (seen.records ≡ length records))) }
+    ensures capture { IfOk result (λ found. IfSome found (λ seen. (records : List Record)
+        × IsCaptureOf (D.holds folder.old) unaltered asked.entry.files.now.capture.now records
+        × (seen.records ≡ length (records_in asked.entry.part records))
+        × HasPassed asked.entry.part (command_frames asked.entry.script.now) records seen.share)) }
     ensures kept { AreKept (D.holds folder.old) (D.holds folder.new) }
     ensures steady { OnOk result (D.failure_count folder.new ≡ D.failure_count folder.old) }
     ensures refused { IfErr result
         (λ refusal. IsUnserved (HasFailed (D.failure_count folder.old) (D.failure_count folder.new)) refusal.fault) }
 {
+    let name = asked.files.capture;
     let Some(mut reader) = open_reader(alloc, folder, name)? else {
         return Ok(None);
     };
+    let mut share = before_all(alloc, folder, name, asked.part, asked.script)?;
     'pieces: loop {
         let Some(piece) = next_piece(alloc, folder, name, &mut reader)? else {
             return Ok(None);
         };
+        go_past(alloc, folder, name, &mut share, &piece.records)?;
         if piece.records.len() < PIECE {
             return Ok(Some(Seen {
-                records: reader.count(),
+                records: share.count(reader.count()),
                 cut: reader.cut(),
+                share,
             }));
         }
     }
@@ -357,29 +375,33 @@ fn run_piece<D: Folder, G: Gate>(
     }
 }
 
-/// Reads a piece, and runs it.
+/// Reads a piece, and runs those of its records that are taken.
 fn take_piece<D: Folder, G: Gate>(
     alloc: Global,
     folder: &mut D,
     asked: Asked<'_>,
     reader: &mut CaptureReader,
+    share: &mut Share,
     going: &mut Going,
     gate: &G,
 ) -> Result<PieceStep, Refusal>
     requires failures { D.failure_count folder.old < 2 ^ 64 - 1 }
     requires room { ReaderHasRoom (D.most_left folder.old) reader.old }
+    requires abreast { IsAbreast asked.part share.old reader.old }
     requires goes_on { ReplayGoesOn asked.script.now going.old.replay }
     requires maps { going.old.replay.turns.all.maps ≡ asked.verified.now.maps }
     ensures more { IfOk result (λ step. step ≡ PieceStep.More → (records : List Record)
         × ReadsOn D.holds (D.is_left folder.old) (D.is_left folder.new) reader.old reader.new records
+        × GoesPast share.old share.new records
         × HaveRun (program_of asked.entry.verified.now asked.entry.options.shards) asked.entry.script.now
         (recorded asked.entry.recording asked.entry.options) going.old.replay going.new.replay
-        (D.is_begun folder.old) (D.is_begun folder.new) records) }
+        (D.is_begun folder.old) (D.is_begun folder.new) (records_next asked.entry.part reader.old.count records)) }
     ensures last { IfOk result (λ step. step ≡ PieceStep.Last → (records : List Record)
         × ReadsToEnd D.holds (D.is_left folder.old) reader.old records reader.new.cut
+        × GoesPast share.old share.new records
         × HaveRun (program_of asked.entry.verified.now asked.entry.options.shards) asked.entry.script.now
         (recorded asked.entry.recording asked.entry.options) going.old.replay going.new.replay
-        (D.is_begun folder.old) (D.is_begun folder.new) records) }
+        (D.is_begun folder.old) (D.is_begun folder.new) (records_next asked.entry.part reader.old.count records)) }
     ensures room { IfOk result (λ step. step ≢ PieceStep.Changed → ReaderHasRoom (D.most_left folder.new) reader.new) }
     ensures fewer { IfOk result (λ step. step ≡ PieceStep.More →
         length reader.new.unread + D.most_left folder.new < length reader.old.unread + D.most_left folder.old) }
@@ -393,31 +415,36 @@ fn take_piece<D: Folder, G: Gate>(
     let Some(piece) = next_piece(alloc, folder, asked.files.capture, reader)? else {
         return Ok(PieceStep::Changed);
     };
-    if !run_piece(alloc, folder, asked, going, &piece, gate)? {
+    let is_last = piece.records.len() < PIECE;
+    let taken = taken_of(alloc, folder, asked.files.capture, share, piece)?;
+    if !run_piece(alloc, folder, asked, going, &taken, gate)? {
         return Ok(PieceStep::Changed);
     }
-    if piece.records.len() < PIECE {
+    if is_last {
         return Ok(PieceStep::Last);
     }
     Ok(PieceStep::More)
 }
 
-/// Reads the capture once more, and runs all its records. No: it is no capture any more.
+/// Reads the capture once more, and runs those of its records that are taken. No: it is no capture any more, or one in which the commands have
+/// other numbers in the part.
 fn go_through<D: Folder, G: Gate>(
     alloc: Global,
     folder: &mut D,
     asked: Asked<'_>,
+    whole: WholeScript<'_>,
     going: &mut Going,
     gate: &G,
 ) -> Result<bool, Refusal>
     requires failures { D.failure_count folder.old < 2 ^ 64 - 1 }
     requires goes_on { ReplayGoesOn asked.script.now going.old.replay }
     requires maps { going.old.replay.turns.all.maps ≡ asked.verified.now.maps }
-    ensures gone { IfOk result (λ whole. whole ≡ true → HasGoneThrough (D.holds folder.old) asked.entry.files.now.capture.now
+    ensures gone { IfOk result (λ gone. gone ≡ true → HasGoneThrough (D.holds folder.old) asked.entry.files.now.capture.now
+        asked.entry.part whole.entry.script.now whole.entry.numbers.now
         (program_of asked.entry.verified.now asked.entry.options.shards) asked.entry.script.now
         (recorded asked.entry.recording asked.entry.options) going.old.replay going.new.replay
         (D.is_begun folder.old) (D.is_begun folder.new)) }
-    ensures goes_on { IfOk result (λ whole. whole ≡ true → ReplayGoesOn asked.entry.script.now going.new.replay) }
+    ensures goes_on { IfOk result (λ gone. gone ≡ true → ReplayGoesOn asked.entry.script.now going.new.replay) }
     ensures kept { AreKept (D.holds folder.old) (D.holds folder.new) }
     ensures steady { OnOk result (D.failure_count folder.new ≡ D.failure_count folder.old) }
     ensures refused { IfErr result
@@ -426,10 +453,12 @@ fn go_through<D: Folder, G: Gate>(
     let Some(mut reader) = open_reader(alloc, folder, asked.files.capture)? else {
         return Ok(false);
     };
+    let name = asked.files.capture;
+    let mut share = before_all(alloc, folder, name, asked.part, whole.script)?;
     'pieces: loop {
-        match take_piece(alloc, folder, asked, &mut reader, going, gate) {
+        match take_piece(alloc, folder, asked, &mut reader, &mut share, going, gate) {
             Ok(PieceStep::More) => {}
-            Ok(PieceStep::Last) => return Ok(true),
+            Ok(PieceStep::Last) => return has_numbers(alloc, folder, name, share, whole.numbers),
             Ok(PieceStep::Changed) => return Ok(false),
             Err(refusal) => return Err(refusal),
         }
@@ -506,16 +535,18 @@ fn left_in_pieces(
     Ok(LeftInPieces { journals, report })
 }
 
-/// Runs the whole capture, and what it leaves. None where the file is no capture any more.
+/// Runs all that is taken of the capture, and what it leaves. None where the file is not that capture any more.
 fn left_by_pieces<D: Folder, G: Gate>(
     alloc: Global,
     folder: &mut D,
     asked: Asked<'_>,
-    seen: Seen,
+    whole: WholeScript<'_>,
+    cut: u64,
     mut going: Going,
     gate: &G,
 ) -> Result<Option<LeftInPieces>, Refusal>
     requires failures { D.failure_count folder.old < 2 ^ 64 - 1 }
+    requires script { asked.script.now ≡ script_at asked.part whole.numbers.now whole.script.now }
     requires goes_on { ReplayGoesOn asked.script.now going.replay }
     requires maps { going.replay.turns.all.maps ≡ asked.verified.now.maps }
     requires underway { IsUnderway (program_of asked.verified.now asked.options.shards) asked.script.now
@@ -523,7 +554,7 @@ fn left_by_pieces<D: Folder, G: Gate>(
     requires served { KeepsRows asked.options.journal }
     requires consistent { IsConsistent asked }
     ensures left { IfOk result (λ found. IfSome found (λ left. IsReplayLeft (D.holds folder.old) (D.is_begun folder.old) (D.is_begun folder.new)
-        asked.entry.files.now (image_of asked.entry.verified.now)
+        asked.entry.files.now asked.entry.part whole.entry.script.now (image_of asked.entry.verified.now)
         asked.entry.verified.now.states asked.entry.script.now asked.entry.options asked.entry.recording asked.entry.ring
         asked.entry.updates.now
         left.report left.journals.bytes)) }
@@ -531,13 +562,13 @@ fn left_by_pieces<D: Folder, G: Gate>(
     ensures steady { OnOk result (D.failure_count folder.new ≡ D.failure_count folder.old) }
     ensures refused { IfErr result
         (λ refusal. IsBrokenOff (HasFailed (D.failure_count folder.old) (D.failure_count folder.new)) refusal.fault
-        ⊎ IsMadeInTurn (D.holds folder.old) asked.entry × LacksRoom (text_of asked.entry.files.now.journals) refusal.fault) }
+        ⊎ IsMadeInTurn (D.holds folder.old) asked.entry whole.entry.script.now × LacksRoom (text_of asked.entry.files.now.journals) refusal.fault) }
 {
-    if !go_through(alloc, folder, asked, &mut going, gate)? {
+    if !go_through(alloc, folder, asked, whole, &mut going, gate)? {
         return Ok(None);
     }
     let altered = Altered {
-        cut: seen.cut,
+        cut,
         ..Altered::default()
     };
     let left = left_in_pieces(alloc, asked, altered, going)?;
@@ -583,36 +614,38 @@ fn finish_sent<D: Folder>(alloc: Global, folder: &mut D, name: &str) -> Result<(
     }
 }
 
-/// Makes the replay in pieces. None where the folder does not read or make the files so, or where the file is no capture: then no file is
-/// changed.
-pub(crate) fn replay_in_pieces<D: Folder, P: Progress + Sync>(
+/// Makes the replay of a capture that was read once. None where the folder does not read or make the files in pieces, or where the file is not
+/// that capture any more: then no file is changed.
+fn replay_seen<D: Folder, P: Progress + Sync>(
     alloc: Global,
     folder: &mut D,
     asked: Asked<'_>,
+    whole: WholeScript<'_>,
+    records: u64,
+    cut: u64,
     progress: &P,
 ) -> Result<Option<Report>, Refusal>
     requires failures { D.failure_count folder.old < 2 ^ 64 - 1 }
     requires exact { asked.exact ≡ true }
     requires all { asked.reading ≡ unaltered }
-    requires whole { asked.part ≡ None }
     requires no_report { text_of asked.files.now.report ≡ None }
     requires consistent { IsConsistent asked }
-    ensures done { IfOk result (λ found. IfSome found (IsAnswered (D.holds folder.old) (D.holds folder.new) asked.entry)) }
+    requires numbered { HasNumbers (D.holds folder.old) asked.files.now.capture.now asked.part whole.script.now whole.numbers.now }
+    requires script { asked.script.now ≡ script_at asked.part whole.numbers.now whole.script.now }
+    ensures done { IfOk result (λ found. IfSome found
+        (IsAnsweredBy (D.holds folder.old) (D.holds folder.new) asked.entry whole.entry.script.now)) }
     ensures none { IfOk result (λ found. IfNone found (AreKept (D.holds folder.old) (D.holds folder.new))) }
     ensures steady { IfOk result (λ found. IfNone found (D.failure_count folder.new ≡ D.failure_count folder.old)) }
     ensures kept { LeavesOthers (D.holds folder.old) (D.holds folder.new) asked.entry }
-    ensures refused { IfErr result (λ refusal. IsDenied (D.holds folder.old) (D.holds folder.new)
-        (HasFailed (D.failure_count folder.old) (D.failure_count folder.new)) asked.entry refusal.fault) }
+    ensures refused { IfErr result (λ refusal. IsDeniedBy (D.holds folder.old) (D.holds folder.new)
+        (HasFailed (D.failure_count folder.old) (D.failure_count folder.new)) asked.entry whole.entry.script.now refusal.fault) }
 {
-    let Some(seen) = look_through(alloc, folder, asked.files.capture)? else {
-        return Ok(None);
-    };
     let going = opened(alloc, asked)?;
     if !begin_sent(alloc, folder, asked.files.sent)? {
         return Ok(None);
     }
-    let rounds = Rounds::of(progress, asked.verified, &asked.options, true, seen.records);
-    match left_by_pieces(alloc, folder, asked, seen, going, &rounds) {
+    let rounds = Rounds::of(progress, asked.verified, &asked.options, true, records);
+    match left_by_pieces(alloc, folder, asked, whole, cut, going, &rounds) {
         Ok(Some(left)) => {
             write_pieces(alloc, folder, asked.files, &left.journals)?;
             Ok(Some(left.report))
@@ -624,6 +657,57 @@ pub(crate) fn replay_in_pieces<D: Folder, P: Progress + Sync>(
         Err(refusal) => {
             folder.give_up();
             Err(refusal)
+        }
+    }
+}
+
+/// Makes the replay in pieces. None where the folder does not read or make the files so, or where the file is no capture: then no file is
+/// changed.
+pub(crate) fn replay_in_pieces<D: Folder, P: Progress + Sync>(
+    alloc: Global,
+    folder: &mut D,
+    asked: Asked<'_>,
+    progress: &P,
+) -> Result<Option<Report>, Refusal>
+    requires failures { D.failure_count folder.old < 2 ^ 64 - 1 }
+    requires exact { asked.exact ≡ true }
+    requires all { asked.reading ≡ unaltered }
+    requires no_report { text_of asked.files.now.report ≡ None }
+    requires consistent { IsConsistent asked }
+    ensures done { IfOk result (λ found. IfSome found (IsAnswered (D.holds folder.old) (D.holds folder.new) asked.entry)) }
+    ensures none { IfOk result (λ found. IfNone found (AreKept (D.holds folder.old) (D.holds folder.new))) }
+    ensures steady { IfOk result (λ found. IfNone found (D.failure_count folder.new ≡ D.failure_count folder.old)) }
+    ensures kept { LeavesOthers (D.holds folder.old) (D.holds folder.new) asked.entry }
+    ensures refused { IfErr result (λ refusal. IsDenied (D.holds folder.old) (D.holds folder.new)
+        (HasFailed (D.failure_count folder.old) (D.failure_count folder.new)) asked.entry refusal.fault) }
+{
+    let Some(seen) = look_through(alloc, folder, asked)? else {
+        return Ok(None);
+    };
+    let Seen {
+        records,
+        cut,
+        share,
+    } = seen;
+    let numbered = share.numbered(alloc, asked.script)?;
+    match numbered {
+        None => {
+            let whole = WholeScript {
+                script: asked.script,
+                numbers: &[],
+            };
+            replay_seen(alloc, folder, asked, whole, records, cut, progress)
+        }
+        Some(of_part) => {
+            let whole = WholeScript {
+                script: asked.script,
+                numbers: &of_part.numbers,
+            };
+            let asked_of_part = Asked {
+                script: &of_part.script,
+                ..asked
+            };
+            replay_seen(alloc, folder, asked_of_part, whole, records, cut, progress)
         }
     }
 }

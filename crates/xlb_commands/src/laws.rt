@@ -2,7 +2,10 @@
 
 ghost use Rattle.xlb_commands.specs.AcceptedJournals.{AuditsAccept};
 ghost use Rattle.xlb_commands.specs.SameFiles.{ExactReplaysWriteTheSame, JournalsChangeNoBytes};
+ghost use Rattle.xlb_commands.specs.SameFolders.{SameFilesLeaveTheSame};
 
+use control::one_script;
+use ebpf_decode::one_encoding;
 use folders::Folder;
 use replay::laws::{exact_replays_agree, journals_change_nothing};
 
@@ -28,4 +31,15 @@ pub fn journals_change_no_bytes()
     ensures { JournalsChangeNoBytes }
 {
     journals_change_nothing();
+}
+
+/// Two commands `xlb replay --exact` with the same settings, each in a folder of its own, whose files have the same bytes by the same names,
+/// leave files of the same bytes and print the same: the sent frames, the journals and the report, whatever reading or part of the capture
+/// they ask for, unless memory was refused to a command of a script (95).
+pub fn same_files_leave_the_same<D: Folder>()
+    ensures { SameFilesLeaveTheSame D.holds }
+{
+    one_encoding();
+    one_script();
+    exact_replays_write_the_same();
 }

@@ -25,6 +25,7 @@ mod records;
 mod replays;
 mod report;
 mod serving;
+mod share;
 mod shipping;
 mod tables;
 mod timed;

@@ -3,7 +3,7 @@
 use crate::last_table::put_shares;
 use crate::record_report::{is_tx, verdict_in};
 use crate::replays::Asked;
-use command_line::DEFAULT_RING;
+use command_line::{DEFAULT_FLOWS, DEFAULT_RING};
 use control::{Action, ControlFault, Script};
 use journals::Journals;
 use replay::{Applied, Counts, Outcome, RecordEnd};
@@ -43,6 +43,8 @@ pub(crate) struct Notes<'a> {
     pub altered: Altered,
     /// The slots of the shipped program's lookup table.
     pub ring: u32,
+    /// The notes of its flow table.
+    pub flows: u32,
     /// The image's file, if one is named.
     pub image: Option<&'a str>,
     /// Whether the program is one of steering.
@@ -59,6 +61,7 @@ impl<'a> Notes<'a> {
         Notes {
             altered,
             ring: asked.ring,
+            flows: asked.flows,
             image: asked.files.image,
             is_steering: asked.files.is_steering,
             exact: asked.exact,
@@ -96,6 +99,7 @@ impl Notes<'_> {
         self.put_moments(&mut text, script)?;
         put_late(alloc, &mut text, script, records_in(outcome.counts))?;
         self.put_ring(alloc, &mut text)?;
+        self.put_flows(alloc, &mut text)?;
         self.put_uneven(alloc, &mut text, script)?;
         self.put_long(alloc, &mut text)?;
         self.put_padded(alloc, &mut text)?;
@@ -149,6 +153,18 @@ impl Notes<'_> {
         }
         let line = format!(in alloc;
             "--ring {ring} has no effect: it is the size of the shipped program's lookup table\n"
+        )?;
+        text.push_str(line.as_str())
+    }
+
+    /// A size of the flow table that is not used.
+    fn put_flows(&self, alloc: Global, text: &mut String) -> Result<(), AllocError> {
+        let flows = self.flows;
+        if self.image.is_none() || flows == DEFAULT_FLOWS {
+            return Ok(());
+        }
+        let line = format!(in alloc;
+            "--flows {flows} has no effect: it is the size of the shipped program's flow table\n"
         )?;
         text.push_str(line.as_str())
     }

@@ -9,7 +9,7 @@ use std::alloc::{AllocError, Global};
 use wire::Sent;
 
 /// How many records of the capture come before each command.
-fn frames_of(alloc: Global, script: &Script) -> Result<Vec<u32>, AllocError>
+pub(crate) fn frames_of(alloc: Global, script: &Script) -> Result<Vec<u32>, AllocError>
     ensures { IfOk result (λ frames. frames.items ≡ command_frames script.now) }
 {
     script

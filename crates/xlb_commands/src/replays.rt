@@ -83,21 +83,22 @@ fn program_of<D: Folder>(
     alloc: Global,
     folder: &mut D,
     image: Option<&str>,
+    flows: u32,
     ring: u32,
 ) -> Result<Verified, Refusal>
     requires { D.failure_count folder.old < 2 ^ 64 - 1 }
-    ensures program { IfOk result (λ verified. IsProgramOf (D.holds folder.old) (text_of image.entry) ring
+    ensures program { IfOk result (λ verified. IsProgramOf (D.holds folder.old) (text_of image.entry) flows ring
         (record { version = verified.version; maps = verified.maps; code = verified.code })) }
     ensures safe { IfOk result (λ verified. IsSafeImage verified.maps verified.code) }
     ensures size { OnOk result (text_of image.entry ≡ None → IsRingSize ring) }
     ensures kept { AreKept (D.holds folder.old) (D.holds folder.new) }
     ensures steady { OnOk result (D.failure_count folder.new ≡ D.failure_count folder.old) }
     ensures refused { IfErr result (λ refusal. IsReplayProgramRefusal (D.holds folder.old)
-        (HasFailed (D.failure_count folder.old) (D.failure_count folder.new)) (text_of image.entry) ring refusal.fault) }
+        (HasFailed (D.failure_count folder.old) (D.failure_count folder.new)) (text_of image.entry) flows ring refusal.fault) }
 {
     match image {
         Some(name) => judged_of(alloc, folder, name),
-        None => shipped_program(alloc, ring),
+        None => shipped_program(alloc, flows, ring),
     }
 }
 
@@ -356,7 +357,7 @@ pub(crate) fn steered_where_shipped(asked: Asked<'_>)
     flows_stay_in_replays();
     match asked.files.image {
         Some(_) => {}
-        None => shipped_replays_are_steered(asked.verified, asked.ring),
+        None => shipped_replays_are_steered(asked.verified, asked.flows, asked.ring),
     }
 }
 
@@ -487,6 +488,8 @@ pub(crate) struct Asked<'a> {
     pub recording: Recording,
     /// The slots of the shipped program's lookup table.
     pub ring: u32,
+    /// The notes of its flow table.
+    pub flows: u32,
     /// Whether each command takes effect between the frames before and after it.
     pub exact: bool,
     /// Whether the summary of the traffic is printed.
@@ -500,12 +503,9 @@ pub(crate) struct Asked<'a> {
 impl Asked<'_> {
     /// Whether the replay may be made in pieces: it is exact, and nothing is asked for that needs all records.
     fn is_in_pieces(self) -> bool
-        ensures { IsTrue result → (self.entry.exact ≡ true) × (self.entry.reading ≡ unaltered) × (self.entry.part ≡ None)
+        ensures { IsTrue result → (self.entry.exact ≡ true) × (self.entry.reading ≡ unaltered)
             × (text_of self.entry.files.now.report ≡ None) }
     {
-        if self.part.is_some() {
-            return false;
-        }
         self.exact && !self.summary && !self.reading.alters() && self.files.report.is_none()
     }
 }
@@ -644,7 +644,7 @@ pub fn replay_files<R: Threads + Wait + Sync, D: Folder, P: Progress + Sync>(
 {
     let files = &settings.files;
     let updates: &[MapUpdate] = &settings.updates;
-    let verified = program_of(alloc, folder, files.image, settings.ring)?;
+    let verified = program_of(alloc, folder, files.image, settings.flows, settings.ring)?;
     if let Some((place, misfit)) = first_misfit(maps_of(&verified), updates) {
         return Ok(ReplayAnswer::Mistaken { place, misfit });
     }
@@ -657,6 +657,7 @@ pub fn replay_files<R: Threads + Wait + Sync, D: Folder, P: Progress + Sync>(
         options: settings.options,
         recording: recording_of(settings.no_journals, files.journals),
         ring: settings.ring,
+        flows: settings.flows,
         exact: settings.exact,
         summary: settings.summary,
         reading: Reading {

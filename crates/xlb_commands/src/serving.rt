@@ -128,8 +128,8 @@ fn answer<R: Threads + Wait + Sync, D: Folder, P: Progress + Sync>(
                 Ok(CommandAnswer::reported(assemble_file(alloc, folder, text, out)?))
             }
         }
-        Settings::Shipped { out, ring } => {
-            Ok(CommandAnswer::reported(write_shipped(alloc, folder, *ring, out)?))
+        Settings::Shipped { out, ring, flows } => {
+            Ok(CommandAnswer::reported(write_shipped(alloc, folder, *flows, *ring, out)?))
         }
         Settings::Table { script, ring } => {
             Ok(CommandAnswer::Reported(table_file(alloc, folder, script, *ring)?))

@@ -3,9 +3,10 @@
 
 ghost use Rattle.std.specs.Prelude.{◌≡◌};
 
-use super::in_pieces::{CUT_FRAME, compare_file, numbered, refused_file};
+use super::in_pieces::{CUT_FRAME, SERVED, compare_file, numbered, refused_file};
 use super::long_records::HEADER;
-use super::replays::SENDS;
+use super::parts::{put_datagrams, put_tunnelled};
+use super::replays::{IN_A_TUNNEL, IN_THE_OTHER_TUNNEL, SENDS};
 use super::{Wanted, put, with_image};
 use crate::asserting::{holds_of, same_bytes_of, same_status};
 use command_line::settings;
@@ -151,16 +152,18 @@ struct Given {
     files: MemoryFolder,
 }
 
-/// What an exact replay leaves of a capture that becomes these bytes.
+/// What an exact replay with these words leaves of a capture that becomes these bytes.
 fn served<R: Abort + Threads + Wait + Sync>(
     rt: &R,
     alloc: Global,
     files: MemoryFolder,
     later: Vec<u8>,
+    words: &str,
 ) -> Given
     requires { files.failures ≡ 0 }
 {
-    let line = "xlb replay capture sent --image image --exact";
+    let line = format!(in alloc; "xlb replay capture sent --exact {words}");
+    let line = line.expect(rt, "a line");
     let words: Vec<&str> = line.split(' ').collect(alloc).expect(rt, "words");
     let settings = settings(alloc, words.as_slice()).expect(rt, "a command line");
     let mut folder = ChangingFolder {
@@ -198,7 +201,7 @@ fn compare_row<R: Abort + Threads + Wait + Sync>(rt: &R, alloc: Global, row: &Ro
     let folder = with_image(rt, alloc, name, folder, SENDS);
     let wanted = Wanted { status, out, err };
     let again = Vec::from_slice(alloc, &later).expect(rt, "a file");
-    let given = served(rt, alloc, folder, again);
+    let given = served(rt, alloc, folder, again, "--image image");
     compare_given(rt, alloc, name, given, wanted, &later);
 }
 
@@ -229,5 +232,66 @@ fn compare_given<R: Abort>(
 fn a_capture_may_change_before_it_is_run(rt: HostRuntime) {
     for row in &ROWS {
         compare_row(&rt, rt.alloc(), row);
+    }
+}
+
+/// What a row shows; the sources of datagrams that the capture has so often at first, and later; what is printed; how many of those of part 1
+/// are sent to the first backend, before the command behind three records, and then to the second one.
+type PartRow = (
+    &'static str,
+    (&'static [u8], u16),
+    (&'static [u8], u16),
+    &'static str,
+    u16,
+    u16,
+);
+
+/// Of three parts the flow of 1 is in part 1, and that of 2 in part 2.
+#[rattlefmt::skip]
+static OF_A_PART: [PartRow; 4] = [
+    ("the command has its number",  (&[1, 2], 600), (&[1, 2], 3),   "frames 3\nshort 0\nstopped 0\naborted 0\ndrop 0\npass 0\ntx 3\n", 2, 1),
+    ("the command has another one", (&[1, 2], 600), (&[2, 1], 600), "frames 600\nshort 0\nstopped 0\naborted 0\ndrop 0\npass 0\ntx 600\n", 1, 599),
+    ("and in more pieces",          (&[1], 3),      (&[2, 1], 600), "frames 600\nshort 0\nstopped 0\naborted 0\ndrop 0\npass 0\ntx 600\n", 1, 599),
+    ("no record is left",           (&[1], 3),      (&[2], 1100),   "frames 0\nshort 0\nstopped 0\naborted 0\ndrop 0\npass 0\ntx 0\n", 0, 0),
+];
+
+/// A capture of datagrams from these sources, so often.
+fn datagrams<R: Abort>(rt: &R, alloc: Global, sources: (&[u8], u16)) -> Vec<u8> {
+    let mut bytes = Vec::from_slice(alloc, &HEADER).expect(rt, "a header");
+    put_datagrams(rt, alloc, &mut bytes, sources.0, sources.1);
+    bytes
+}
+
+/// The capture of so many frames of the flow of 1 that are sent to the first backend, and behind them to the second one.
+fn sent_of_1<R: Abort>(rt: &R, alloc: Global, first: u16, second: u16) -> Vec<u8> {
+    let mut bytes = Vec::from_slice(alloc, &HEADER).expect(rt, "a header");
+    put_tunnelled(rt, alloc, &mut bytes, IN_A_TUNNEL, &[1], first);
+    put_tunnelled(rt, alloc, &mut bytes, IN_THE_OTHER_TUNNEL, &[1], second);
+    bytes
+}
+
+/// Compares what a replay of a part leaves of a row.
+fn compare_part<R: Abort + Threads + Wait + Sync>(rt: &R, alloc: Global, row: &PartRow) {
+    let (name, early, later, out, first, second) = *row;
+    let script = format!(in alloc; "{SERVED}3 down 0\n3 up 1 192.0.2.2\n").expect(rt, "a script");
+    let capture = datagrams(rt, alloc, early);
+    let later = datagrams(rt, alloc, later);
+    let folder = put(rt, alloc, MemoryFolder::new(alloc), "capture", &capture);
+    let folder = put(rt, alloc, folder, "script", script.as_bytes());
+    let wanted = Wanted {
+        status: 0,
+        out,
+        err: "",
+    };
+    let words = "--script script --ring 7 --part 1/3";
+    let given = served(rt, alloc, folder, later, words);
+    let sent = sent_of_1(rt, alloc, first, second);
+    compare_given(rt, alloc, name, given, wanted, &sent);
+}
+
+#[test]
+fn a_capture_of_a_part_may_change_before_it_is_run(rt: HostRuntime) {
+    for row in &OF_A_PART {
+        compare_part(&rt, rt.alloc(), row);
     }
 }

@@ -22,16 +22,16 @@ const BEFORE: usize = 24;
 
 /// What a replay reads.
 #[derive(Clone, Copy)]
-struct Files<'a> {
+pub(super) struct Files<'a> {
     /// The image's text; none: the shipped program.
-    text: &'a str,
-    script: &'a str,
-    capture: &'a [u8],
+    pub text: &'a str,
+    pub script: &'a str,
+    pub capture: &'a [u8],
 }
 
 /// How a replay is made: the words for it, and what its folder does not do.
 #[derive(Clone, Copy)]
-struct WayRow<'a> {
+pub(super) struct WayRow<'a> {
     name: &'a str,
     words: &'a str,
     opens: bool,
@@ -40,13 +40,13 @@ struct WayRow<'a> {
 
 /// Ways that are to come to the same, up to the last letter.
 #[rattlefmt::skip]
-const WAYS: [WayRow<'static>; 3] = [
+pub(super) const WAYS: [WayRow<'static>; 3] = [
     IN_PIECES,
     WayRow { name: "no file is made in pieces",   words: "--exact", opens: true,  begins: false },
     WayRow { name: "no file is read in pieces",   words: "--exact", opens: false, begins: true },
 ];
 
-const IN_PIECES: WayRow<'static> = WayRow {
+pub(super) const IN_PIECES: WayRow<'static> = WayRow {
     name: "in pieces",
     words: "--exact",
     opens: true,
@@ -183,7 +183,7 @@ fn compare_way<R: Abort + Threads + Wait + Sync>(
 }
 
 /// Compares what replays of these files come to, whichever way they are made.
-fn compare_ways<R: Abort + Threads + Wait + Sync>(
+pub(super) fn compare_ways<R: Abort + Threads + Wait + Sync>(
     rt: &R,
     alloc: Global,
     name: &str,
@@ -273,7 +273,7 @@ fn put_times<R: Abort>(rt: &R, alloc: Global, bytes: &mut Vec<u8>, digits: &str,
 }
 
 /// A service with a backend.
-const SERVED: &str =
+pub(super) const SERVED: &str =
     "0 gateway 10.0.0.9 02:00:00:00:00:0a 02:00:00:00:00:0b\n0 vip 203.0.113.1 80 udp\n0 up 0 192.0.2.1\n";
 
 /// What a row shows; the script behind `SERVED`; how many datagrams of one flow are captured, how many of them go to the first backend,
@@ -653,7 +653,7 @@ const NO_READ: &str = "fault 7 Device\n  capture failed\n";
 /// The whole capture has room in the reader's buffer: it takes one call of `next`, and from record 957 on, where fewer than 2,064 bytes are
 /// unread, one more before each record and one at the end. So the first reading has 70 of these calls.
 #[rattlefmt::skip]
-const FAILING: [Failing; 20] = [
+const FAILING: [Failing; 24] = [
     ("the first reading is not opened",              "--exact", FolderCall::Open,   0,  1, NO_READ, None),
     ("the second one is not",                        "--exact", FolderCall::Open,   1,  1, NO_READ, None),
     ("there is no third one",                        "--exact", FolderCall::Open,   2,  0, "", ALL_SENT),
@@ -674,6 +674,10 @@ const FAILING: [Failing; 20] = [
     ("records that are padded need it",              "--exact --pad-cut", FolderCall::Read, 0, 1, NO_READ, None),
     ("an end that may be cut needs it",              "--exact --allow-cut", FolderCall::Read, 0, 1, NO_READ, None),
     ("and so does a replay with threads",            "--workers 1", FolderCall::Read, 0, 1, NO_READ, None),
+    ("a part is not read whole",                     "--exact --part 0/1", FolderCall::Read, 0, 0, "", ALL_SENT),
+    ("its second reading is not opened",             "--exact --part 0/1", FolderCall::Open, 1, 1, NO_READ, None),
+    ("the frames of its second piece are not added", "--exact --part 0/1", FolderCall::Add, 2, 1, NO_SENT, None),
+    ("a part with threads needs the whole capture",  "--workers 1 --part 0/1", FolderCall::Read, 0, 1, NO_READ, None),
 ];
 
 /// What a replay leaves in a folder with a call that fails.

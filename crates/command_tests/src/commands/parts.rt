@@ -96,38 +96,62 @@ fn put_record<R: Abort>(
     bytes.extend_from_slice(record).expect(rt, "a record");
 }
 
+/// The records of captures of one record, from each of these sources.
+fn records_of<R: Abort>(
+    rt: &R,
+    alloc: Global,
+    digits: &str,
+    place: usize,
+    sources: &[u8],
+) -> Vec<u8> {
+    let mut records = Vec::new(alloc);
+    for source in sources {
+        put_record(rt, alloc, &mut records, digits, place, *source);
+    }
+    records
+}
+
+/// Puts the records of datagrams from these sources at the end of bytes, so often.
+pub(super) fn put_datagrams<R: Abort>(
+    rt: &R,
+    alloc: Global,
+    bytes: &mut Vec<u8>,
+    sources: &[u8],
+    times: u16,
+) {
+    let records = records_of(rt, alloc, DATAGRAM, SOURCE, sources);
+    for _ in 0..times {
+        bytes.extend_from_slice(&records).expect(rt, "records");
+    }
+}
+
+/// Puts the records of such datagrams, in the tunnel to a backend, at the end of bytes, so often.
+pub(super) fn put_tunnelled<R: Abort>(
+    rt: &R,
+    alloc: Global,
+    bytes: &mut Vec<u8>,
+    tunnel: &str,
+    sources: &[u8],
+    times: u16,
+) {
+    let records = records_of(rt, alloc, tunnel, SOURCE_IN_A_TUNNEL, sources);
+    for _ in 0..times {
+        bytes.extend_from_slice(&records).expect(rt, "records");
+    }
+}
+
 /// The capture of a datagram from each of these sources.
 fn captured<R: Abort>(rt: &R, alloc: Global) -> Vec<u8> {
     let mut bytes = Vec::from_slice(alloc, &HEADER).expect(rt, "a header");
-    for source in &SOURCES {
-        put_record(rt, alloc, &mut bytes, DATAGRAM, SOURCE, *source);
-    }
+    put_datagrams(rt, alloc, &mut bytes, &SOURCES, 1);
     bytes
 }
 
 /// The capture of what is sent of a row.
 fn sent_of<R: Abort>(rt: &R, alloc: Global, first: &[u8], second: &[u8]) -> Vec<u8> {
     let mut bytes = Vec::from_slice(alloc, &HEADER).expect(rt, "a header");
-    for source in first {
-        put_record(
-            rt,
-            alloc,
-            &mut bytes,
-            IN_A_TUNNEL,
-            SOURCE_IN_A_TUNNEL,
-            *source,
-        );
-    }
-    for source in second {
-        put_record(
-            rt,
-            alloc,
-            &mut bytes,
-            IN_THE_OTHER_TUNNEL,
-            SOURCE_IN_A_TUNNEL,
-            *source,
-        );
-    }
+    put_tunnelled(rt, alloc, &mut bytes, IN_A_TUNNEL, first, 1);
+    put_tunnelled(rt, alloc, &mut bytes, IN_THE_OTHER_TUNNEL, second, 1);
     bytes
 }
 

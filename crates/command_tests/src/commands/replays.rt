@@ -154,6 +154,10 @@ pub(super) const CUT_TWO: &str =
 const RING_8: &str =
     "  --ring 8 has no effect: it is the size of the shipped program's lookup table\n";
 
+const RING_8_AND_FLOWS: &str =
+    "  --ring 8 has no effect: it is the size of the shipped program's lookup table\n  \
+     --flows 5000 has no effect: it is the size of the shipped program's flow table\n";
+
 /// Commands that may act too early, and behind the last record.
 const LATE_NOT_EXACT: &str =
     "  commands with a number above 0 may take effect up to some 64 frames for each worker too early, or later: --exact makes their moments exact\n  \
@@ -195,10 +199,11 @@ const NO_MAPS: &str = "fault 51 BadOptions
 ";
 
 #[rattlefmt::skip]
-const ROWS: [Row; 18] = [
+const ROWS: [Row; 20] = [
     ("none is",                  SENDS, "", HEAD, "--image image", 0, NO_FRAME, "", HEAD),
     ("eight workers",            SENDS, "", ZEROS_14, "--image image --workers 8 --shards 8", 0, ONE_TX, "", ZEROS_14),
     ("the ring is not read",     SENDS, "", ZEROS_14, "--image image --ring 8", 0, ONE_TX, RING_8, ZEROS_14),
+    ("nor is the flow table",    SENDS, "", ZEROS_14, "--image image --flows 5000 --ring 8", 0, ONE_TX, RING_8_AND_FLOWS, ZEROS_14),
     ("the ring that is the default", SENDS, "", ZEROS_14, "--image image --ring 251", 0, ONE_TX, "", ZEROS_14),
     ("records that were cut",    SENDS, "", CUT_FRAMES, "--image image", 0, THREE_TX, CUT_TWO, THREE_ZEROS),
     ("a full journal",           READS_ONE, "", FIVE_ZEROS, "--image image --journal 16", 0, FIVE, FULL, HEAD),
@@ -223,6 +228,9 @@ const ROWS: [Row; 18] = [
         "fault 35 UnsetRegister slot 0 register 0\n  xlb check --explain IMAGE says why\n", ""),
     ("a ring before a script",   "", "0 up\n", "", "--script script --ring 8", 1, "",
         "fault 73 BadSize\n  --ring 8\n  expected the number of slots of a lookup table: 7, 251, 4093 or 65537\n  the next larger one is 251\n", ""),
+    ("a flow table before a script", "", "0 up\n", "", "--script script --flows 4095 --ring 8", 1, "",
+        "fault 73 BadSize\n  --flows 4095\n  expected the number of notes of a flow table: 4096, 8192, 16384, 32768, 65536 or 131072\n  \
+         the next larger one is 4096\n", ""),
     ("a script before a capture", "", "0 vip 203.0.113.1 80 udp  notrack\n", "", "--script script", 1, "",
         "fault 90 BadLine line 1\n  line 1, column 25: \"  \": two spaces\n  expected one space between words\n  \
          for example: 0 vip 203.0.113.1 80 tcp, with notrack as its last word where flows are not tracked\n", ""),

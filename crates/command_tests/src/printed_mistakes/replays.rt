@@ -2,7 +2,7 @@
 
 use crate::asserting::same_text;
 use ebpf_decode::{MapDef, MapKind};
-use mistakes::{about_entry, about_journals, about_options, about_ring, about_worker};
+use mistakes::{about_entry, about_flows, about_journals, about_options, about_ring, about_worker};
 use semantics::Options;
 use std::alloc::Global;
 use std::process::Abort;
@@ -99,6 +99,26 @@ fn rings_are_said(rt: &impl Abort, alloc: Global, rows: &[RingRow]) {
 #[test]
 fn no_such_ring(rt: HostRuntime) {
     rings_are_said(&rt, rt.alloc(), &RINGS);
+}
+
+#[rattlefmt::skip]
+const NO_NOTES: [RingRow; 3] = [
+    ("no note", 0,
+        "  --flows 0\n  expected the number of notes of a flow table: 4096, 8192, 16384, 32768, 65536 or 131072\n  the next larger one is 4096\n"),
+    ("between two numbers", 100000,
+        "  --flows 100000\n  expected the number of notes of a flow table: 4096, 8192, 16384, 32768, 65536 or 131072\n  \
+         the next larger one is 131072\n"),
+    ("above all", 131073,
+        "  --flows 131073\n  expected the number of notes of a flow table: 4096, 8192, 16384, 32768, 65536 or 131072\n  \
+         the largest one is 131072\n"),
+];
+
+#[test]
+fn no_such_flow_table(rt: HostRuntime) {
+    for (name, notes, wanted) in &NO_NOTES {
+        let said = about_flows(rt.alloc(), *notes).expect(&rt, "a text");
+        same_text(&rt, *name, said.as_str(), *wanted);
+    }
 }
 
 /// What a row shows, the file, the line at which it is refused, and what is said.

@@ -235,7 +235,7 @@ pub(super) fn shipped_for_7<R: Abort>(rt: &R, alloc: Global) -> Verified {
 }
 
 /// How often the journals have an update of a flow: the key of one begins with both addresses.
-fn notes_of(journals: &[u8]) -> usize {
+pub(super) fn notes_of(journals: &[u8]) -> usize {
     let part = b" update c6336407cb007101".as_slice();
     journals
         .windows(24)

@@ -1,26 +1,8 @@
-use Rattle.std.proofs.Common.{rules, List, ap, ◌∙◌}
-use Rattle.ebpf_decode.specs.declared.insn.Insn.{Insn}
-use Rattle.ebpf_decode.specs.declared.map.MapDef.{MapDef}
-use Rattle.ebpf_decode.specs.ImageContents.{Contents}
-use Rattle.ebpf_decode.specs.declared.version.Version.TheVariants.{V1}
-use Rattle.ebpf_decode.specs.ImageFormat.{first_part_fault}
-use Rattle.conntrack.specs.SteeringMaps.{steering_maps}
-use Rattle.steer.proofs.Encodable.{no_fault}
+use Rattle.conntrack.proofs.shared.MapLemmas.{size_decides}
 use Rattle.steer.proofs.image.shipped.Goals as goal
 
-abbrev image_with : List MapDef → List Insn → Contents
-image_with maps code = record { version = V1; maps = maps; code = code }
-
-pub unreachable-requires : goal.unreachable-requires
-unreachable-requires c =
-    let none = ap (λ maps. first_part_fault V1 maps c.in_ok-code.code.items) c.in_ok-maps.ensures.maps
-    ∙ ap (λ code. first_part_fault V1 (steering_maps c.args.size) code) c.in_ok-code.ensures.code
-    ∙ no_fault c.args.size (search rules) in
-    let told = c.in-Err.ensures.fault ∙ none in
-    search rules
-
-pub returns-clause-image : goal.returns-clause-image
-returns-clause-image c =
-    c.in-Ok.ensures.made
-    ∙ ap (λ maps. image_with maps c.in_ok-code.code.items) c.in_ok-maps.ensures.maps
-    ∙ ap (image_with (steering_maps c.args.size)) c.in_ok-code.ensures.code
+pub returns-clause-bad_size : goal.returns-clause-bad_size
+returns-clause-bad_size c =
+    let with = c.shipped_with.ensures.bad_size in
+    let decides = size_decides c.args.size in
+    (λ bad. decides.0 (with.0 bad), λ none. with.1 (decides.1 none))

@@ -1,16 +1,18 @@
-use Rattle.std.proofs.Common.{◌≡◌, ◌⊎◌, inl, inr, ℕ, List, [], Option}
+use Rattle.std.proofs.Common.{◌≡◌, ◌∙◌, ◌⊎◌, inl, inr, ℕ, List, [], Option, sym}
 use Rattle.std.proofs.lemmas.Result.{err_from_is_err_and}
 use Rattle.actors.specs.declared.fault.ReplayFault.TheVariants as replays
 use Rattle.xlb_commands.specs.declared.fault.Fault.{Fault}
 use Rattle.xlb_commands.specs.declared.fault.Fault.TheVariants as faults
+use Rattle.xlb_commands.specs.Parts.{records_in}
 use Rattle.xlb_commands.specs.Refused.{IsBrokenOff, LacksRoom, no_replay_memory}
+use Rattle.xlb_commands.proofs.ShareLemmas.{script_is}
 use Rattle.xlb_commands.proofs.in_pieces.left_by_pieces.Goals as goal
 
 pub left_in_pieces-requires-clause-underway : goal.left_in_pieces-requires-clause-underway
 left_in_pieces-requires-clause-underway g c =
     let gone = c.in_ok-go_through.ensures.gone c.if-not-branch.false in
     record {
-      records = gone.records;
+      records = records_in c.args.asked.part gone.numbered.captured;
       sent = gone.have_run.sent;
       ends = gone.have_run.ends;
       underway = gone.have_run.run c.args.asked.updates.now [] [] [] c.requires.underway;
@@ -34,19 +36,28 @@ returns-in_err-left-clause-refused g c =
     rw (p.1, p.2)
     (not_left _ _ _ _ _
     (λ ended.
-    let made = ended gone.records gone.have_run.sent gone.have_run.ends
+    let captured = gone.numbered.captured in
+    let made = ended (records_in c.args.asked.part captured) gone.have_run.sent gone.have_run.ends
     (gone.have_run.run c.args.asked.updates.now [] [] [] c.requires.underway) in
-    record { records = gone.records; capture = gone.capture; outcome = made.0; made = made.1 })
+    record {
+      captured = captured;
+      capture = gone.numbered.capture;
+      script_is = script_is c.args.asked.part captured c.args.whole.numbers.now c.args.whole.script.now gone.numbered.numbers_are ∙ sym c.requires.script;
+      outcome = made.0;
+      made = made.1;
+    })
     c.in_err-left.ensures.refused)
 
 pub returns-clause-left : goal.returns-clause-left
 returns-clause-left g c =
     let gone = c.in_ok-go_through.ensures.gone c.if-not-branch.false in
+    let captured = gone.numbered.captured in
     record {
-      records = gone.records;
+      captured = captured;
       sent = gone.have_run.sent;
-      capture = gone.capture;
+      capture = gone.numbered.capture;
+      script_is = script_is c.args.asked.part captured c.args.whole.numbers.now c.args.whole.script.now gone.numbered.numbers_are ∙ sym c.requires.script;
       added = gone.have_run.added;
-      made_of = c.in_ok-left.ensures.left gone.records gone.have_run.sent gone.have_run.ends
+      made_of = c.in_ok-left.ensures.left (records_in c.args.asked.part captured) gone.have_run.sent gone.have_run.ends
           (gone.have_run.run c.args.asked.updates.now [] [] [] c.requires.underway) gone.have_run.captured;
     }

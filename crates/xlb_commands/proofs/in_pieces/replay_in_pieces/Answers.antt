@@ -1,161 +1,98 @@
-use Rattle.std.proofs.Common.{◌≡◌, ◌++◌, ◌⊎◌, inl, inr, ℕ, Bool, true, List, Option, None, arith, refl, subst, sym}
-use Rattle.std.proofs.lemmas.Result.{err_from_is_err_and}
-use Rattle.wire.specs.CaptureFormat.{capture_bytes, header_bytes, records_bytes}
-use Rattle.wire.specs.declared.records.Sent.{Sent}
-use Rattle.command_line.specs.Reading.{text_of}
-use Rattle.semantics.specs.ShardPlan.{recorded}
-use Rattle.traffic.specs.Readings.{unaltered}
+use Rattle.std.proofs.Common.{◌∙◌, ℕ, List, ap, subst, sym}
+use Rattle.std.proofs.lemmas.Option.{IfSome_then}
+use Rattle.std.proofs.lemmas.Result.{err_from_is_err_and, IfErr-weaker, IfOk-weaker}
+use Rattle.xlb_commands.specs.Parts.{command_frames}
+use Rattle.xlb_commands.specs.Shares.{AreNumbers, script_at}
 use Rattle.traffic.specs.declared.readings.Reading.{Reading}
-use Rattle.xlb_commands.specs.RecordReports.{IsReportFile, runs_shipped}
-use Rattle.xlb_commands.specs.declared.fault.Fault.{Fault}
-use Rattle.xlb_commands.specs.declared.replays.Asked.{Asked}
-use Rattle.xlb_commands.specs.declared.report.Report.{Report}
-use Rattle.fleet.specs.declared.part.Part.{Part}
-use Rattle.xlb_commands.specs.AskedReplays.{HasBadOptions, IsAnswered, IsAnsweredOf, IsDenied, IsDeniedOf, IsMadeInTurn}
-use Rattle.xlb_commands.specs.Files.{FileBytes, AreKept}
-use Rattle.xlb_commands.specs.Refused.{HasFailed, IsBrokenOff, IsGivenUp, IsUnreplayed, LacksRoom}
-use Rattle.xlb_commands.specs.Refused.{broken_off, given_up, no_piece, not_reported, not_written_down, unmade}
-use Rattle.xlb_commands.specs.Replays.{IsCaptureOf, IsMade, IsReplayReport, image_of, program_of_replay}
-use Rattle.xlb_commands.proofs.Earlier.{all_but_kept, broken_since, capture_before, unfiled_before}
-use Rattle.xlb_commands.proofs.Refusals.{failed_since, kept_twice, unserved_since, written_down}
+use Rattle.xlb_commands.specs.Refused.{no_part}
+use Rattle.xlb_commands.specs.Replays.{IsCaptureOf}
+use Rattle.xlb_commands.proofs.Earlier.{all_but_kept, capture_before, report_before, unreplayed_before}
+use Rattle.xlb_commands.proofs.Refusals.{failed_since, kept_back}
+use Rattle.xlb_commands.proofs.ShareLemmas.{numbers_of_all, script_of_all, script_of_one}
 use Rattle.xlb_commands.proofs.in_pieces.replay_in_pieces.Goals as goal
 
--- what was made of all records is what was made where no part is asked for
-answer_of_whole : (before after : FileBytes) (asked : Asked) (records : List Sent) (report : Report) → asked.part ≡ None
-    → IsCaptureOf before asked.reading asked.files.now.capture.now records → IsAnsweredOf after asked records report
-    → IsAnswered before after asked report
-answer_of_whole before after asked records report whole capture is =
-    subst (λ (part : Option Part). IsReplayReport before after asked.files.now (image_of asked.verified.now) asked.verified.now.states asked.script.now
-    asked.options asked.recording asked.ring asked.exact asked.reading part asked.updates.now report) (sym whole)
-    (record { captured = records; capture = capture; of_part = is })
+pub numbered-requires : goal.numbered-requires
+numbered-requires g c =
+    let seen = rw c.in-Some.is at c.in_ok-seen.ensures.capture in
+    record { part = c.args.asked.part; past = seen.0; passed = seen.3 }
 
--- the same of what was not made
-unmade_of_whole : (before after : FileBytes) (failed : Type 0) (asked : Asked) (records : List Sent) (fault : Fault) → asked.part ≡ None
-    → IsCaptureOf before asked.reading asked.files.now.capture.now records → IsDeniedOf before after failed asked records fault
-    → IsDenied before after failed asked fault
-unmade_of_whole before after failed asked records fault whole capture is =
-    subst (λ (part : Option Part). IsUnreplayed before after failed asked.files.now (image_of asked.verified.now) asked.script.now asked.options
-    asked.recording asked.exact asked.reading part asked.updates.now fault) (sym whole) (unmade records capture is)
-
--- a failure between two calls that had none
-failed_within : (first second third fourth fifth : ℕ) → second ≡ first → third ≡ second → fifth ≡ fourth → HasFailed third fourth → HasFailed first fifth
-failed_within first second third fourth fifth same still after failed = omega arith
-
-pub returns-in_err-write_pieces-in-Ok-Some-clause-kept : goal.returns-in_err-write_pieces-in-Ok-Some-clause-kept
-returns-in_err-write_pieces-in-Ok-Some-clause-kept g c =
-    all_but_kept _ _ _ _ _ _
-    (kept_twice _ _ _ (kept_twice _ _ _ c.look_through.ensures.kept c.begin_sent.ensures.kept) c.left_by_pieces.ensures.kept) c.write_pieces.ensures.others
-
-pub returns-in_ok-write_pieces-in-Ok-Some-clause-kept : goal.returns-in_ok-write_pieces-in-Ok-Some-clause-kept
-returns-in_ok-write_pieces-in-Ok-Some-clause-kept g c =
-    all_but_kept _ _ _ _ _ _
-    (kept_twice _ _ _ (kept_twice _ _ _ c.look_through.ensures.kept c.begin_sent.ensures.kept) c.left_by_pieces.ensures.kept) c.write_pieces.ensures.others
-
-pub returns-in_err-going-clause-refused : goal.returns-in_err-going-clause-refused
-returns-in_err-going-clause-refused g c =
+pub replay_seen-requires-clause-numbered : goal.replay_seen-requires-clause-numbered
+replay_seen-requires-clause-numbered g c κs outlives =
     let asked = c.args.asked in
     let seen = rw c.in-Some.is at c.in_ok-seen.ensures.capture in
-    let why = c.in_err-going.ensures.refused in
-    let p = err_from_is_err_and c.from_residual-in_err-going.result c.from_residual-in_err-going.ensures.1 in
-    rw (p.1, p.2)
-    (unmade_of_whole _ _ _ asked seen.0 _ c.requires.whole
+    let all = (rw c.in-None.is at c.in_ok-numbered.ensures.all) asked.part (command_frames asked.script.now) seen.0 seen.3 in
+    record {
+      captured = seen.0;
+      capture = capture_before _ _ (kept_back _ _ c.look_through.ensures.kept) _ _ seen.0 seen.1;
+      numbers_are = numbers_of_all asked.part _ _ seen.0 all;
+    }
+
+pub replay_seen-requires-clause-script : goal.replay_seen-requires-clause-script
+replay_seen-requires-clause-script g c κs outlives =
+    let asked = c.args.asked in
+    let seen = rw c.in-Some.is at c.in_ok-seen.ensures.capture in
+    script_of_all asked.part _ asked.script.now
+    ((rw c.in-None.is at c.in_ok-numbered.ensures.all) asked.part (command_frames asked.script.now) seen.0 seen.3)
+
+pub replay_seen-requires-in-Some-numbered-clause-numbered : goal.replay_seen-requires-in-Some-numbered-clause-numbered
+replay_seen-requires-in-Some-numbered-clause-numbered g c κs outlives =
+    let asked = c.args.asked in
+    let seen = rw c.in-Some.is at c.in_ok-seen.ensures.capture in
+    let numbers = rw c.in-Some-numbered.is at c.in_ok-numbered.ensures.numbers in
+    record {
+      captured = seen.0;
+      capture = capture_before _ _ (kept_back _ _ c.look_through.ensures.kept) _ _ seen.0 seen.1;
+      numbers_are = subst (λ (them : List ℕ). AreNumbers asked.part (command_frames asked.script.now) seen.0 them) (sym c.deref.ensures.value)
+          (numbers asked.part seen.0 seen.3);
+    }
+
+pub replay_seen-requires-in-Some-numbered-clause-script : goal.replay_seen-requires-in-Some-numbered-clause-script
+replay_seen-requires-in-Some-numbered-clause-script g c κs outlives =
+    let asked = c.args.asked in
+    let seen = rw c.in-Some.is at c.in_ok-seen.ensures.capture in
+    let script = rw c.in-Some-numbered.is at c.in_ok-numbered.ensures.script in
+    let of_part = rw c.in-Some-numbered.is at c.in_ok-numbered.ensures.of_part in
+    script ∙ script_of_one asked.part _ asked.script.now (of_part asked.part (command_frames asked.script.now) seen.0 seen.3)
+    ∙ ap (λ (them : List ℕ). script_at asked.part them asked.script.now) (sym c.deref.ensures.value)
+
+pub returns-in_err-numbered-clause-refused : goal.returns-in_err-numbered-clause-refused
+returns-in_err-numbered-clause-refused g c =
+    let asked = c.args.asked in
+    let seen = rw c.in-Some.is at c.in_ok-seen.ensures.capture in
+    let one = c.in_err-numbered.ensures.refused asked.part (command_frames asked.script.now) seen.0 seen.3 in
+    let p = err_from_is_err_and c.from_residual-in_err-numbered.result c.from_residual-in_err-numbered.ensures.1 in
+    rw p.1 (no_part seen.0 one.0 c.look_through.ensures.kept
     (subst (λ (reading : Reading). IsCaptureOf (g.D.Folder.holds c.args.folder.now) reading asked.files.now.capture.now seen.0) (sym c.requires.all) seen.1)
-    (given_up why.0 c.look_through.ensures.kept
-    (subst (λ (exact : Bool). IsGivenUp exact asked.verified.now.maps asked.updates.now asked.script.now asked.options asked.recording why.0)
-    (sym c.requires.exact) why.2)
-    why.1))
+    one.1 p.2)
 
-pub returns-in_err-write_pieces-in-Ok-Some-clause-refused : goal.returns-in_err-write_pieces-in-Ok-Some-clause-refused
-returns-in_err-write_pieces-in-Ok-Some-clause-refused g c =
-    let asked = c.args.asked in
-    let left = rw c.in-Ok-Some.field-0-is at c.in-Ok-Some.ensures.left in
-    let made_of = left.made_of in
-    let before = kept_twice _ _ _ c.look_through.ensures.kept c.begin_sent.ensures.kept in
-    let begun = left.added asked.files.now.sent.now header_bytes (c.in_ok-begin_sent.ensures.begun c.if-not-branch.false) in
-    let p = err_from_is_err_and c.from_residual-in_err-write_pieces-in-Ok-Some.result c.from_residual-in_err-write_pieces-in-Ok-Some.ensures.1 in
-    rw (p.1, p.2)
-    (unmade_of_whole _ _ _ asked left.records _ c.requires.whole
-    (subst (λ (reading : Reading). IsCaptureOf (g.D.Folder.holds c.args.folder.now) reading asked.files.now.capture.now left.records) (sym c.requires.all)
-    (capture_before _ _ before _ _ left.records left.capture))
-    (not_written_down made_of.whole
-    (subst (λ (exact : Bool). IsMade exact (program_of_replay (image_of asked.verified.now) asked.options) asked.updates.now asked.script.now
-    (recorded asked.recording asked.options) left.records made_of.whole) (sym c.requires.exact) made_of.made)
-    (unfiled_before _ _ _ _ _ _ _ _ _ (kept_twice _ _ _ before c.left_by_pieces.ensures.kept)
-    (λ failed. failed_since _ _ _ c.in_ok-seen.ensures.steady
-    (failed_since _ _ _ c.in_ok-begin_sent.ensures.steady (failed_since _ _ _ c.in-Ok-Some.ensures.steady failed)))
-    (c.in_err-write_pieces-in-Ok-Some.ensures.refused (capture_bytes made_of.whole.sent.items) made_of.whole.journals
-    (subst (λ (sent : List Sent). g.D.Folder.is_begun c.left_by_pieces.new.folder asked.files.now.sent.now (header_bytes ++ records_bytes sent))
-    (sym made_of.sent_are) begun)))))
+pub returns-in-None-clause-done : goal.returns-in-None-clause-done
+returns-in-None-clause-done g c =
+    IfOk-weaker c.replay_seen.result _ _
+    (λ found is. IfSome_then found is (λ report it. report_before _ _ _ _ _ _ _ _ _ _ _ _ _ _ report c.look_through.ensures.kept it))
+    c.replay_seen.ensures.done
 
-pub returns-in_ok-write_pieces-in-Ok-Some-clause-done : goal.returns-in_ok-write_pieces-in-Ok-Some-clause-done
-returns-in_ok-write_pieces-in-Ok-Some-clause-done g c =
-    let asked = c.args.asked in
-    let left = rw c.in-Ok-Some.field-0-is at c.in-Ok-Some.ensures.left in
-    let made_of = left.made_of in
-    let before = kept_twice _ _ _ c.look_through.ensures.kept c.begin_sent.ensures.kept in
-    let begun = left.added asked.files.now.sent.now header_bytes (c.in_ok-begin_sent.ensures.begun c.if-not-branch.false) in
-    answer_of_whole _ _ asked left.records _ c.requires.whole
-    (subst (λ (reading : Reading). IsCaptureOf (g.D.Folder.holds c.args.folder.now) reading asked.files.now.capture.now left.records)
-    (sym c.requires.all) (capture_before _ _ before _ _ left.records left.capture)) (
-      made_of.whole.refused.items,
-      record {
-        outcome = made_of.whole;
-        made = record {
-          updates_are = made_of.made.updates_are;
-          accounted = made_of.made.accounted;
-          in_turn = λ exact. made_of.made.in_turn refl;
-        };
-        headline = made_of.headline;
-        by_rule = made_of.by_rule;
-        readers = made_of.readers;
-        refused_are = refl;
-        sent = λ other third. c.in_ok-write_pieces-in-Ok-Some.ensures.sent (capture_bytes made_of.whole.sent.items)
-            (subst (λ (sent : List Sent). g.D.Folder.is_begun c.left_by_pieces.new.folder asked.files.now.sent.now (header_bytes ++ records_bytes sent))
-            (sym made_of.sent_are) begun) other;
-        journals = λ apart. written_down (g.D.Folder.holds c.write_pieces.new.folder) (text_of asked.files.now.journals) _ made_of.whole.journals
-            made_of.journals_are c.in_ok-write_pieces-in-Ok-Some.ensures.journals;
-        accepted = made_of.accepted;
-        report = subst (λ (name : Option (List ℕ)). IsReportFile (g.D.Folder.holds c.write_pieces.new.folder) name (runs_shipped asked.files.now)
-            asked.script.now left.records made_of.whole) (sym c.requires.no_report) tt;
-        lines = made_of.text;
-      },
-      made_of.none_refused,
-      made_of.all,
-    )
+pub returns-in-None-clause-refused : goal.returns-in-None-clause-refused
+returns-in-None-clause-refused g c =
+    IfErr-weaker c.replay_seen.result _ _
+    (λ refusal is. unreplayed_before _ _ _ _ _ _ _ _ _ _ _ _ _ _ refusal.fault c.look_through.ensures.kept
+    (failed_since _ _ _ c.in_ok-seen.ensures.steady) is)
+    c.replay_seen.ensures.refused
 
--- the replay was broken off, or it was made and memory was refused for what it leaves
-denied : (before after held : FileBytes) (failed since : Type 0) (asked : Asked) (records : List Sent) (fault : Fault) → asked.exact ≡ true
-    → asked.reading ≡ unaltered → asked.part ≡ None → text_of asked.files.now.report ≡ None → AreKept before held → AreKept before after → IsCaptureOf before unaltered asked.files.now.capture.now records
-    → (¬ HasBadOptions asked) → (failed → since)
-    → (IsBrokenOff failed fault ⊎ (IsMadeInTurn held asked × LacksRoom (text_of asked.files.now.journals) fault)) → IsDenied before after since asked fault
-denied before after held failed since asked records fault exact all whole no_report same kept capture good so (inl broken) =
-    broken_off records exact all whole no_report kept
-    (subst (λ (reading : Reading). IsCaptureOf before reading asked.files.now.capture.now records) (sym all) capture) good (broken_since failed since fault so broken)
-denied before after held failed since asked records fault exact all whole no_report same kept capture good so (inr both) =
-    let made = both.0 in
-    unmade_of_whole before after since asked made.records fault whole
-    (subst (λ (reading : Reading). IsCaptureOf before reading asked.files.now.capture.now made.records) (sym all)
-    (capture_before before held same unaltered asked.files.now.capture.now made.records made.capture))
-    (not_reported made.outcome kept
-    (subst (λ (exact : Bool). IsMade exact (program_of_replay (image_of asked.verified.now) asked.options) asked.updates.now asked.script.now
-    (recorded asked.recording asked.options) made.records made.outcome) (sym exact) made.made)
-    both.1)
+pub returns-in-None-clause-kept : goal.returns-in-None-clause-kept
+returns-in-None-clause-kept g c = all_but_kept _ _ _ _ _ _ c.look_through.ensures.kept c.replay_seen.ensures.kept
 
-pub returns-in-Err-clause-refused : goal.returns-in-Err-clause-refused
-returns-in-Err-clause-refused g c =
-    let seen = rw c.in-Some.is at c.in_ok-seen.ensures.capture in
-    let before = kept_twice _ _ _ c.look_through.ensures.kept c.begin_sent.ensures.kept in
-    denied _ _ _ _ _ c.args.asked seen.0 _ c.requires.exact c.requires.all c.requires.whole c.requires.no_report before
-    (kept_twice _ _ _ (kept_twice _ _ _ before c.left_by_pieces.ensures.kept) c.give_up-in-Err.ensures.kept) seen.1 c.in_ok-going.ensures.good
-    (failed_within _ _ _ _ _ c.in_ok-seen.ensures.steady c.in_ok-begin_sent.ensures.steady c.give_up-in-Err.ensures.steady) c.in-Err.ensures.refused
+pub returns-in-Some-numbered-clause-done : goal.returns-in-Some-numbered-clause-done
+returns-in-Some-numbered-clause-done g c =
+    IfOk-weaker c.replay_seen-in-Some-numbered.result _ _
+    (λ found is. IfSome_then found is (λ report it. report_before _ _ _ _ _ _ _ _ _ _ _ _ _ _ report c.look_through.ensures.kept it))
+    c.replay_seen-in-Some-numbered.ensures.done
 
-pub returns-in_err-begin_sent-clause-refused : goal.returns-in_err-begin_sent-clause-refused
-returns-in_err-begin_sent-clause-refused g c =
-    let asked = c.args.asked in
-    let seen = rw c.in-Some.is at c.in_ok-seen.ensures.capture in
-    let p = err_from_is_err_and c.from_residual-in_err-begin_sent.result c.from_residual-in_err-begin_sent.ensures.1 in
-    rw (p.1, p.2)
-    (broken_off seen.0 c.requires.exact c.requires.all c.requires.whole c.requires.no_report (kept_twice _ _ _ c.look_through.ensures.kept c.begin_sent.ensures.kept)
-    (subst (λ (reading : Reading). IsCaptureOf (g.D.Folder.holds c.args.folder.now) reading asked.files.now.capture.now seen.0) (sym c.requires.all) seen.1)
-    c.in_ok-going.ensures.good
-    (no_piece (unserved_since _ _ _ (failed_since _ _ _ c.in_ok-seen.ensures.steady) c.in_err-begin_sent.ensures.refused)))
+pub returns-in-Some-numbered-clause-kept : goal.returns-in-Some-numbered-clause-kept
+returns-in-Some-numbered-clause-kept g c = all_but_kept _ _ _ _ _ _ c.look_through.ensures.kept c.replay_seen-in-Some-numbered.ensures.kept
+
+pub returns-in-Some-numbered-clause-refused : goal.returns-in-Some-numbered-clause-refused
+returns-in-Some-numbered-clause-refused g c =
+    IfErr-weaker c.replay_seen-in-Some-numbered.result _ _
+    (λ refusal is. unreplayed_before _ _ _ _ _ _ _ _ _ _ _ _ _ _ refusal.fault c.look_through.ensures.kept
+    (failed_since _ _ _ c.in_ok-seen.ensures.steady) is)
+    c.replay_seen-in-Some-numbered.ensures.refused

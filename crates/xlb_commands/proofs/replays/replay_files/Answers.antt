@@ -18,7 +18,7 @@ use Rattle.ebpf_decode.specs.ImageContents.{Contents}
 use Rattle.map_updates.specs.Misfits.{AreFitting}
 use Rattle.map_updates.specs.declared.update.MapUpdate.{MapUpdate}
 use Rattle.command_line.specs.Reading.{text_of}
-use Rattle.steer.specs.ShippedProgram.{shipped_image}
+use Rattle.steer.specs.ShippedProgram.{sized_image}
 use Rattle.xlb_commands.specs.Files.{FileBytes}
 use Rattle.xlb_commands.specs.Replays.{IsProgramOf, IsReplayReport, IsReplayedWith, IsScriptOf, counts_text, image_of, capture_reading, recording_in}
 use Rattle.xlb_commands.specs.Replays.{recording_of}
@@ -30,9 +30,9 @@ use Rattle.xlb_commands.proofs.Refusals.{kept_twice, failed_since, script_refusa
 use Rattle.xlb_commands.proofs.replays.replay_files.Goals as goal
 
 -- where no image was named, the program is the shipped one
-shipped_of : (files : FileBytes) (name : Option (List ℕ)) (ring : ℕ) (program : Contents) → IsProgramOf files name ring program →
-    name ≡ None → program ≡ shipped_image ring
-shipped_of files name ring program is none = subst (λ (other : Option (List ℕ)). IsProgramOf files other ring program) none is
+shipped_of : (files : FileBytes) (name : Option (List ℕ)) (flows ring : ℕ) (program : Contents) → IsProgramOf files name flows ring program →
+    name ≡ None → program ≡ sized_image flows ring
+shipped_of files name flows ring program is none = subst (λ (other : Option (List ℕ)). IsProgramOf files other flows ring program) none is
 
 -- where a file is named for the journals, their rows are kept
 rows_where_named : (no_journals : Bool) (name : Option (List ℕ)) (file : List ℕ) → name ≡ Some file → recording_of no_journals name ≡ Rows
@@ -46,8 +46,8 @@ replay_once-requires-clause-consistent g c κs outlives = record {
   rows = λ file is. c.recording_of.ensures
       ∙ rows_where_named c.args.settings.now.no_journals (text_of c.args.settings.now.files.journals) file is;
   size = search rules;
-  shipped = shipped_of (g.D.Folder.holds c.args.folder.now) (text_of c.args.settings.now.files.image) c.args.settings.now.ring
-      (image_of c.in_ok-verified.verified) c.in_ok-verified.ensures.program;
+  shipped = shipped_of (g.D.Folder.holds c.args.folder.now) (text_of c.args.settings.now.files.image) c.args.settings.now.flows
+      c.args.settings.now.ring (image_of c.in_ok-verified.verified) c.in_ok-verified.ensures.program;
 }
 
 -- a command was refused, or the replay is strict
@@ -104,7 +104,7 @@ as_said after asked program states script records printed other refused others t
 
 -- of a program that may run and a script, what is reported of a replay that was made with both: it was done whole, or in part
 answer_is : (before after : FileBytes) (asked : ReplaySettings) (program : Contents) (states : List (Option State)) (script : List Command)
-    (made report : Report) → IsProgramOf before (text_of asked.files.image) asked.ring program
+    (made report : Report) → IsProgramOf before (text_of asked.files.image) asked.flows asked.ring program
     → Accepts program.version program.maps program.code states → IsSafeImage program.maps program.code
     → IsScriptOf before (text_of asked.files.script) script
     → IsReplayReport before after asked.files program states script asked.options (recording_in asked) asked.ring asked.exact

@@ -12,17 +12,17 @@ use Rattle.xlb_commands.specs.declared.serving.CommandAnswer.TheVariants as answ
 use Rattle.xlb_commands.proofs.serving.answer.Goals as goal
 
 -- the shipped program is written whole, and nothing is printed
-shipped_whole : (before after : FileBytes) (settings : Settings) (out : Bor (List ℕ)) (ring : ℕ) (answer : CommandAnswer) (report : Report)
-    → settings ≡ Shipped out ring → answer ≡ answers.Reported report → report.is_refused ≡ false → string_bytes report.text ≡ []
-    → IsShippedFile after out.now ring → IsAnswer before after settings answer
-shipped_whole before after settings out ring answer report same is whole silent done =
+shipped_whole : (before after : FileBytes) (settings : Settings) (out : Bor (List ℕ)) (ring flows : ℕ) (answer : CommandAnswer) (report : Report)
+    → settings ≡ Shipped out ring flows → answer ≡ answers.Reported report → report.is_refused ≡ false → string_bytes report.text ≡ []
+    → IsShippedFile after out.now flows ring → IsAnswer before after settings answer
+shipped_whole before after settings out ring flows answer report same is whole silent done =
     rw (same, is) ((λ _. (done, silent)), (λ refused. true≢false (sym refused ∙ whole)))
 
 pub returns-in_ok-write_shipped-in-Shipped-clause-answered : goal.returns-in_ok-write_shipped-in-Shipped-clause-answered
 returns-in_ok-write_shipped-in-Shipped-clause-answered g c =
     let made = c.reported-in-Shipped.ensures in
-    let same : c.args.settings.now ≡ Shipped c.in-Shipped.out c.in-Shipped.ring = search rules in
-    shipped_whole _ _ c.args.settings.now c.in-Shipped.out c.in-Shipped.ring c.reported-in-Shipped.result made.0 same made.1 made.2
+    let same : c.args.settings.now ≡ Shipped c.in-Shipped.out c.in-Shipped.ring c.in-Shipped.flows = search rules in
+    shipped_whole _ _ c.args.settings.now c.in-Shipped.out c.in-Shipped.ring c.in-Shipped.flows c.reported-in-Shipped.result made.0 same made.1 made.2
     (ap string_bytes made.3 ∙ c.in_ok-write_shipped-in-Shipped.ensures.silent) c.in_ok-write_shipped-in-Shipped.ensures.done
 
 -- tables are printed, of a script with a command that was refused, or with none

@@ -44,3 +44,6 @@ pub returns-in-Ok-clause-safe : goal.returns-in-Ok-clause-safe
 returns-in-Ok-clause-safe c =
     safe_parts c.in-Ok.verified.maps c.in_ok-image.image.maps c.in-Ok.verified.code c.in_ok-image.image.code c.in-Ok.ensures.accepted.0
     c.in-Ok.ensures.accepted.1 c.in-Ok.ensures.safe
+
+pub returns-in-Ok-clause-size : goal.returns-in-Ok-clause-size
+returns-in-Ok-clause-size c = c.in_ok-image.ensures.size.1

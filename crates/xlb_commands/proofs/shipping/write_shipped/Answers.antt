@@ -9,7 +9,7 @@ pub returns-clause-done : goal.returns-clause-done
 returns-clause-done g c =
     on_ok_weaker c.write_image.result
     (λ written. record {
-      size = c.in_ok-image.ensures.size;
+      sizes = c.in_ok-image.ensures.size;
       written = subst (λ (image : Contents). IsImageFile (g.D.Folder.holds c.write_image.new.folder) c.args.out.now image) c.in_ok-image.ensures.image written;
     })
     c.write_image.ensures.written

@@ -1,0 +1,214 @@
+//! What a replay takes of the records of a capture that is read in pieces: all, or those of a part.
+
+ghost use Rattle.std.specs.Prelude.{◌≡◌, [], true, ℕ, List, Option, Some, None, length};
+ghost use Rattle.std.specs.Prelude.{IfErr, IfNone, IfOk, IfSome, OnErr, OnOk};
+ghost use Rattle.wire.specs.declared.records.Sent.{Sent as Record};
+ghost use Rattle.fleet.specs.declared.part.Part.{Part as OnePart};
+ghost use Rattle.control.specs.Renumbering.{at_frames};
+ghost use Rattle.xlb_commands.specs.Parts.{command_frames, records_in};
+ghost use Rattle.xlb_commands.specs.Shares.{AreNumbers, AreRecordsTaken, CanPass, GoesPast, HasPassed, IsBehindSome, IsBehindSomeOf};
+
+use crate::fault::{Fault, Refusal};
+use crate::files::unserved;
+use crate::parts::frames_of;
+use control::{Script, commands_never_fall};
+use fleet::{Numbering, Part};
+use folders::{Folder, FolderFault};
+use std::alloc::{AllocError, Global};
+use wire::{Capture, Sent};
+
+/// What is taken of the records of a capture.
+#[derive(Drop)]
+pub(crate) enum Share {
+    All,
+    /// Those of a part, in which the commands of the script get other numbers.
+    Of {
+        /// The numbers that the commands have in the whole capture.
+        frames: Vec<u32>,
+        numbering: Numbering,
+    },
+}
+
+/// The commands of a script at their numbers in a part.
+#[derive(Drop)]
+pub(crate) struct Numbered {
+    pub numbers: Vec<u32>,
+    pub script: Script,
+}
+
+impl Share {
+    /// Before the first record of a capture with this script. It fails only for lack of memory.
+    pub(crate) fn before_all(
+        alloc: Global,
+        part: Option<Part>,
+        script: &Script,
+    ) -> Result<Share, AllocError>
+        ensures { IfOk result (HasPassed part (command_frames script.now) []) }
+    {
+        match part {
+            None => Ok(Share::All),
+            Some(part) => {
+                commands_never_fall(script);
+                let frames = frames_of(alloc, script)?;
+                let numbering = Numbering::new(alloc, part);
+                Ok(Share::Of { frames, numbering })
+            }
+        }
+    }
+
+    /// Goes past the next records of the capture. It fails only for lack of memory.
+    pub(crate) fn pass(&mut self, records: &[Sent]) -> Result<(), AllocError>
+        requires { CanPass self.old (length records.now) }
+        ensures { OnOk result (GoesPast self.old self.new records.now) }
+    {
+        match self {
+            Share::All => Ok(()),
+            Share::Of { frames, numbering } => numbering.pass(frames, records),
+        }
+    }
+
+    /// Goes past the next records of the capture, and gives those of them that are taken, in order. It fails only for lack of memory.
+    pub(crate) fn take(&mut self, piece: Capture) -> Result<Capture, AllocError>
+        requires { CanPass self.old (length piece.records.items) }
+        ensures past { OnOk result (GoesPast self.old self.new piece.records.items) }
+        ensures taken { IfOk result (λ taken. AreRecordsTaken self.old piece.records.items taken.records.items) }
+    {
+        match self {
+            Share::All => Ok(piece),
+            Share::Of { frames, numbering } => {
+                let before = numbering.passed;
+                numbering.pass(frames, &piece.records)?;
+                Ok(numbering.part.taken_behind(before, piece))
+            }
+        }
+    }
+
+    /// How many of the records are taken, of which it has passed so many.
+    pub(crate) fn count(&self, passed: u64) -> u64
+        ensures { (part : Option OnePart) (frames : List ℕ) (past : List Record) → HasPassed part frames past self.now →
+            passed ≡ length past → result ≡ length (records_in part past) }
+    {
+        match self {
+            Share::All => passed,
+            Share::Of { numbering, .. } => numbering.taken as u64,
+        }
+    }
+
+    /// Behind the last record of the capture: whether the commands have these numbers in the part; yes where all records are taken. It fails
+    /// only for lack of memory.
+    pub(crate) fn has_numbers(self, numbers: &[u32]) -> Result<bool, AllocError>
+        requires { IsBehindSome self }
+        ensures { IfOk result (λ has. has ≡ true → (part : Option OnePart) (frames : List ℕ) (past : List Record) →
+            HasPassed part frames past self → AreNumbers part frames past numbers.now) }
+    {
+        match self {
+            Share::All => Ok(true),
+            Share::Of { frames, numbering } => {
+                let found = numbering.finish(&frames)?;
+                Ok(found.as_slice() == numbers)
+            }
+        }
+    }
+
+    /// Behind the last record of the capture: the script's commands at their numbers in the part; none where all records are taken. It fails
+    /// only for lack of memory.
+    pub(crate) fn numbered(
+        self,
+        alloc: Global,
+        script: &Script,
+    ) -> Result<Option<Numbered>, AllocError>
+        requires { IsBehindSomeOf script.now self }
+        ensures script { IfOk result (λ found. IfSome found (λ it. it.script ≡ at_frames it.numbers.items script.now)) }
+        ensures numbers { IfOk result (λ found. IfSome found (λ it. (part : Option OnePart) (past : List Record) →
+            HasPassed part (command_frames script.now) past self → AreNumbers part (command_frames script.now) past it.numbers.items)) }
+        ensures of_part { IfOk result (λ found. IfSome found (λ it. (part : Option OnePart) (frames : List ℕ) (past : List Record) →
+            HasPassed part frames past self → (one : OnePart) × (part ≡ Some one))) }
+        ensures all { IfOk result (λ found. IfNone found ((part : Option OnePart) (frames : List ℕ) (past : List Record) →
+            HasPassed part frames past self → part ≡ None)) }
+        ensures refused { OnErr result ((part : Option OnePart) (frames : List ℕ) (past : List Record) →
+            HasPassed part frames past self → (one : OnePart) × (part ≡ Some one)) }
+    {
+        match self {
+            Share::All => Ok(None),
+            Share::Of { frames, numbering } => {
+                commands_never_fall(script);
+                let numbers = numbering.finish(&frames)?;
+                let script = script.at_frames(alloc, &numbers)?;
+                Ok(Some(Numbered { numbers, script }))
+            }
+        }
+    }
+}
+
+/// Goes past the records of a piece.
+pub(crate) fn go_past<D: Folder>(
+    alloc: Global,
+    folder: &D,
+    name: &str,
+    share: &mut Share,
+    records: &[Sent],
+) -> Result<(), Refusal>
+    requires { CanPass share.old (length records.now) }
+    ensures past { OnOk result (GoesPast share.old share.new records.now) }
+    ensures refused { IfErr result (λ refusal. refusal.fault ≡ Fault.Folder FolderFault.Memory) }
+{
+    match share.pass(records) {
+        Ok(()) => Ok(()),
+        Err(_) => Err(unserved(alloc, folder, name, FolderFault::Memory)),
+    }
+}
+
+/// Goes past the records of a piece, and gives those of them that are taken.
+pub(crate) fn taken_of<D: Folder>(
+    alloc: Global,
+    folder: &D,
+    name: &str,
+    share: &mut Share,
+    piece: Capture,
+) -> Result<Capture, Refusal>
+    requires { CanPass share.old (length piece.records.items) }
+    ensures past { OnOk result (GoesPast share.old share.new piece.records.items) }
+    ensures taken { IfOk result (λ taken. AreRecordsTaken share.old piece.records.items taken.records.items) }
+    ensures refused { IfErr result (λ refusal. refusal.fault ≡ Fault.Folder FolderFault.Memory) }
+{
+    match share.take(piece) {
+        Ok(taken) => Ok(taken),
+        Err(_) => Err(unserved(alloc, folder, name, FolderFault::Memory)),
+    }
+}
+
+/// What is taken of the records of a capture, before the first of them.
+pub(crate) fn before_all<D: Folder>(
+    alloc: Global,
+    folder: &D,
+    name: &str,
+    part: Option<Part>,
+    script: &Script,
+) -> Result<Share, Refusal>
+    ensures passed { IfOk result (HasPassed part (command_frames script.now) []) }
+    ensures refused { IfErr result (λ refusal. refusal.fault ≡ Fault.Folder FolderFault.Memory) }
+{
+    match Share::before_all(alloc, part, script) {
+        Ok(share) => Ok(share),
+        Err(_) => Err(unserved(alloc, folder, name, FolderFault::Memory)),
+    }
+}
+
+/// Whether the commands have the same numbers in the part as when the capture was read first.
+pub(crate) fn has_numbers<D: Folder>(
+    alloc: Global,
+    folder: &D,
+    name: &str,
+    share: Share,
+    numbers: &[u32],
+) -> Result<bool, Refusal>
+    requires { IsBehindSome share }
+    ensures same { IfOk result (λ same. same ≡ true → (part : Option OnePart) (frames : List ℕ) (past : List Record) →
+        HasPassed part frames past share → AreNumbers part frames past numbers.now) }
+    ensures refused { IfErr result (λ refusal. refusal.fault ≡ Fault.Folder FolderFault.Memory) }
+{
+    match share.has_numbers(numbers) {
+        Ok(same) => Ok(same),
+        Err(_) => Err(unserved(alloc, folder, name, FolderFault::Memory)),
+    }
+}
