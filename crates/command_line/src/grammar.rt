@@ -380,7 +380,7 @@ fn flow_notes<'a>(alloc: Global) -> Arg<'a>
         alloc,
         FLOWS,
         "4096",
-        "The flows that the shipped program keeps: 4096, 8192, 16384 .. 131072",
+        "The flows that the shipped program notes: 4096, 8192, 16384, 32768, 65536, 131072",
     )
 }
 

@@ -110,11 +110,12 @@ in which case the status is 1. A frame is handled by the worker of its flow,
 so that a flow's frames stay in order. --image replays any program, without a
 script; --update, as of run, sets a value in its maps before the first frame.
 --program replays one over the maps of the shipped program, with any size of the
-lookup table and of the flow table, and with a script. The shipped program keeps
-the backends of --flows flows; to note one more it forgets one. The controller works beside the workers: a
-command may take effect up to some 64 frames for each worker too early, because
-a worker's queue holds 64 frames, or later. With --exact it takes effect when
-all frames before it are done, and before a later one is begun. With --summary
+lookup table and of the flow table, and with a script. The shipped program notes
+the backends of --flows flows; to note one more it forgets one. The controller
+works beside the workers: a command may take effect up to some 64 frames for
+each worker too early, because a worker's queue holds 64 frames, or later. With
+--exact it takes effect when all frames before it are done, and before a later
+one is begun. With --summary
 lines on the standard error give the number of frames of each kind in the
 capture, the number sent to each address, how many of these were sent to
 another address than the frame of their flow before, how many are for each

@@ -1,9 +1,9 @@
-//! Captures in memory that are read in pieces of one record. Their bytes are spelt by hand.
+//! Captures in memory that are read record by record. Their bytes are spelt by hand.
 
 ghost use Rattle.std.specs.Prelude.{◌≡◌, ◌≤◌, ◌+◌, ◌-◌, ◌*◌, ◌^◌, length};
 
 use crate::asserting::holds_of;
-use folders::{CaptureReader, Folder, MemoryFolder};
+use folders::{CaptureReader, Folder, MemoryFolder, RecordBuffer};
 use std::alloc::Global;
 use std::process::Abort;
 use wire::{CaptureFault, Sent};
@@ -100,21 +100,47 @@ fn reading_of<R: Abort>(rt: &R, alloc: Global, bytes: &[u8]) -> Reading {
     Reading { reader, folder }
 }
 
-/// The next record, and what is read on.
-fn next_of<R: Abort>(rt: &R, alloc: Global, reading: Reading) -> (Sent, Reading) {
+/// Reads on, and adds the next record to those of a buffer.
+fn next_of<R: Abort>(
+    rt: &R,
+    alloc: Global,
+    reading: Reading,
+    buffer: &mut RecordBuffer,
+) -> Reading {
     let Reading {
         mut reader,
         mut folder,
     } = reading;
-    let mut piece = reader.next(alloc, &mut folder, 1).expect(rt, "no fault");
-    let sent = piece.records.pop().expect(rt, "a record");
-    (sent, Reading { reader, folder })
+    let head = reader
+        .find(&mut folder)
+        .expect(rt, "no fault")
+        .expect(rt, "a record");
+    reader.keep(alloc, head, buffer).expect(rt, "a record kept");
+    Reading { reader, folder }
+}
+
+/// Reads on, and goes past the next record.
+fn passed_of<R: Abort>(rt: &R, reading: Reading) -> Reading {
+    let Reading {
+        mut reader,
+        mut folder,
+    } = reading;
+    let head = reader
+        .find(&mut folder)
+        .expect(rt, "no fault")
+        .expect(rt, "a record");
+    reader.pass(head);
+    Reading { reader, folder }
+}
+
+/// A record of a buffer.
+fn record_at<'a, R: Abort>(rt: &R, buffer: &'a RecordBuffer, place: usize) -> &'a Sent {
+    buffer.capture().records.get(place).expect(rt, "a record")
 }
 
 /// Holds what comes next against what is wanted: `true` at the end of the file, or a fault.
 fn compare_last<R: Abort>(
     rt: &R,
-    alloc: Global,
     name: &str,
     reading: Reading,
     wanted: Result<bool, CaptureFault>,
@@ -123,8 +149,8 @@ fn compare_last<R: Abort>(
         mut reader,
         mut folder,
     } = reading;
-    let found = match reader.next(alloc, &mut folder, 1) {
-        Ok(piece) => Ok(piece.records.is_empty()),
+    let found = match reader.find(&mut folder) {
+        Ok(head) => Ok(head.is_none()),
         Err(fault) => Err(fault),
     };
     holds_of(rt, name, "what comes last", found == wanted);
@@ -134,10 +160,10 @@ fn compare_last<R: Abort>(
 fn compare_row<R: Abort>(rt: &R, alloc: Global, row: &Row) {
     let mut reading = reading_of(rt, alloc, &file_of(rt, alloc, row.1));
     for _ in 0..row.2 {
-        reading = next_of(rt, alloc, reading).1;
+        reading = passed_of(rt, reading);
     }
     holds_of(rt, row.0, "records", reading.reader.count() == row.2);
-    compare_last(rt, alloc, row.0, reading, row.3);
+    compare_last(rt, row.0, reading, row.3);
 }
 
 #[test]
@@ -181,7 +207,10 @@ fn records_have_their_moments_and_bytes(rt: HostRuntime) {
     let alloc = rt.alloc();
     let name = "two records";
     let bytes = file_of(&rt, alloc, TWO_RECORDS);
-    let (first, reading) = next_of(&rt, alloc, reading_of(&rt, alloc, &bytes));
+    let mut buffer = RecordBuffer::new(alloc);
+    let reading = next_of(&rt, alloc, reading_of(&rt, alloc, &bytes), &mut buffer);
+    let _ = next_of(&rt, alloc, reading, &mut buffer);
+    let first = record_at(&rt, &buffer, 0);
     holds_of(&rt, name, "seconds", first.seconds == 16_909_060);
     holds_of(&rt, name, "micros", first.micros == 999_999);
     holds_of(
@@ -190,7 +219,7 @@ fn records_have_their_moments_and_bytes(rt: HostRuntime) {
         "bytes",
         first.bytes.as_slice() == b"abc".as_slice(),
     );
-    let (second, _) = next_of(&rt, alloc, reading);
+    let second = record_at(&rt, &buffer, 1);
     holds_of(&rt, name, "last second", second.seconds == u32::MAX);
     holds_of(&rt, name, "no micros", second.micros == 0);
     holds_of(
@@ -201,15 +230,18 @@ fn records_have_their_moments_and_bytes(rt: HostRuntime) {
     );
 }
 
-/// Reads the first records of a long file.
+/// Reads the first records of a long file, each into a buffer that is cleared before.
 fn compare_long<R: Abort>(rt: &R, alloc: Global, mut reading: Reading, count: u8) -> Reading {
     let name = "a long file";
+    let mut buffer = RecordBuffer::new(alloc);
     for number in 0..count {
-        let (sent, rest) = next_of(rt, alloc, reading);
+        buffer.clear();
+        reading = next_of(rt, alloc, reading, &mut buffer);
+        let sent = record_at(rt, &buffer, 0);
+        holds_of(rt, name, "one record", buffer.len() == 1);
         holds_of(rt, name, "seconds", sent.seconds == u32::from(number));
         let same = sent.bytes.as_slice() == [number; 2048].as_slice();
         holds_of(rt, name, "bytes", same);
-        reading = rest;
     }
     reading
 }
@@ -221,7 +253,7 @@ fn records_lie_over_the_end_of_a_window(rt: HostRuntime) {
     let start = reading_of(&rt, alloc, &long_file_of(&rt, alloc));
     let reading = compare_long(&rt, alloc, start, MANY);
     holds_of(&rt, name, "records", reading.reader.count() == 40);
-    compare_last(&rt, alloc, name, reading, Ok(true));
+    compare_last(&rt, name, reading, Ok(true));
 }
 
 #[test]
@@ -232,37 +264,57 @@ fn a_long_file_lacks_its_last_byte(rt: HostRuntime) {
     let start = reading_of(&rt, alloc, &bytes);
     let reading = compare_long(&rt, alloc, start, MANY - 1);
     let fault = Err(CaptureFault::CutFrame { record: 40 });
-    compare_last(&rt, alloc, "a long file that is cut", reading, fault);
+    compare_last(&rt, "a long file that is cut", reading, fault);
 }
 
 #[test]
-fn pieces_have_as_many_records_as_are_asked_for(rt: HostRuntime) {
+fn a_buffer_is_filled_again_with_fewer_and_shorter_records(rt: HostRuntime) {
     let alloc = rt.alloc();
-    let name = "a long file in pieces of 16";
-    let Reading {
-        mut reader,
-        mut folder,
-    } = reading_of(&rt, alloc, &long_file_of(&rt, alloc));
-    let first = reader.next(alloc, &mut folder, 16).expect(&rt, "a piece");
-    holds_of(&rt, name, "first", first.records.len() == 16);
-    let second = reader.next(alloc, &mut folder, 16).expect(&rt, "a piece");
-    holds_of(&rt, name, "second", second.records.len() == 16);
-    let last = reader.next(alloc, &mut folder, 16).expect(&rt, "a piece");
-    holds_of(&rt, name, "last", last.records.len() == 8);
-    holds_of(&rt, name, "cut", reader.cut() == 0);
+    let name = "two records behind three long ones";
+    let mut buffer = RecordBuffer::new(alloc);
+    let mut long = reading_of(&rt, alloc, &long_file_of(&rt, alloc));
+    for _ in 0..3 {
+        long = next_of(&rt, alloc, long, &mut buffer);
+    }
+    holds_of(&rt, name, "three", buffer.len() == 3);
+    buffer.clear();
+    holds_of(&rt, name, "none", buffer.is_empty());
+    let bytes = file_of(&rt, alloc, TWO_RECORDS);
+    let reading = next_of(&rt, alloc, reading_of(&rt, alloc, &bytes), &mut buffer);
+    let _ = next_of(&rt, alloc, reading, &mut buffer);
+    holds_of(&rt, name, "two", buffer.len() == 2);
+    let first = record_at(&rt, &buffer, 0).bytes.as_slice();
+    holds_of(&rt, name, "three bytes", first == b"abc".as_slice());
+    let second = record_at(&rt, &buffer, 1).bytes.as_slice();
+    holds_of(&rt, name, "one byte", second == b"\xfe".as_slice());
+}
+
+#[test]
+fn a_record_is_kept_behind_one_that_is_passed(rt: HostRuntime) {
+    let alloc = rt.alloc();
+    let name = "the second of two records";
+    let bytes = file_of(&rt, alloc, TWO_RECORDS);
+    let mut buffer = RecordBuffer::new(alloc);
+    let reading = passed_of(&rt, reading_of(&rt, alloc, &bytes));
+    let reading = next_of(&rt, alloc, reading, &mut buffer);
+    holds_of(&rt, name, "one kept", buffer.len() == 1);
+    let kept = record_at(&rt, &buffer, 0).bytes.as_slice();
+    holds_of(&rt, name, "its byte", kept == b"\xfe".as_slice());
+    holds_of(&rt, name, "both counted", reading.reader.count() == 2);
+    compare_last(&rt, name, reading, Ok(true));
 }
 
 #[test]
 fn cut_records_are_counted(rt: HostRuntime) {
     let alloc = rt.alloc();
     let bytes = file_of(&rt, alloc, TWO_RECORDS);
-    let (_, reading) = next_of(&rt, alloc, reading_of(&rt, alloc, &bytes));
+    let reading = passed_of(&rt, reading_of(&rt, alloc, &bytes));
     holds_of(
         &rt,
         "a record of 5 bytes that keeps 3",
         "cut",
         reading.reader.cut() == 1,
     );
-    let (_, reading) = next_of(&rt, alloc, reading);
+    let reading = passed_of(&rt, reading);
     holds_of(&rt, "and a whole one", "cut", reading.reader.cut() == 1);
 }

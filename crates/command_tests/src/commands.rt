@@ -29,6 +29,7 @@ mod replays;
 mod run_journals;
 mod shipped;
 mod sources;
+mod summaries_in_pieces;
 mod tables;
 mod timed;
 mod updates;

@@ -1,5 +1,5 @@
 -- Numbers of commands in a part, while the capture is read.
-use Rattle.std.proofs.Common.{◌≡◌, ℕ, zero, suc, ◌+◌, ◌-◌, ◌<◌, ◌≤◌, List, [], ◌∷◌, ◌++◌, Option, length, take, get_or, map, refl, sym, ap, ◌∙◌, arith, append_assoc, length-append}
+use Rattle.std.proofs.Common.{◌≡◌, ℕ, zero, suc, ◌+◌, ◌-◌, ◌<◌, ◌≤◌, Bool, true, false, cond, List, [], ◌∷◌, ◌++◌, Option, length, take, get_or, map, refl, sym, ap, ◌∙◌, arith, append_assoc, length-append}
 use Rattle.std.specs.Prelude.{slice_index}
 use Rattle.std.specs.List.{AllByRecursion}
 use Rattle.std.proofs.lemmas.List.{get_or-append_right, length-map, map-append, take_at, take_more}
@@ -71,7 +71,7 @@ still_early past more (frame ∷ done) early =
     let first = early.0 in
     (omega (arith, long, first), still_early past more done early.1)
 
-pub gone_past : (frames : List ℕ) (past more : List Sent) (n m : Numbering) → AreNumbered frames past n
+gone_past : (frames : List ℕ) (past more : List Sent) (n m : Numbering) → AreNumbered frames past n
     → (length n.numbers.items < length frames → n.passed + length more ≤ slice_index frames (length n.numbers.items))
     → m.part ≡ n.part → m.numbers.items ≡ n.numbers.items → m.passed ≡ n.passed + length more
     → m.taken ≡ n.taken + length (records_behind n.part.of n.part.lost n.part.number n.passed more) → AreNumbered frames (past ++ more) m
@@ -170,7 +170,24 @@ one_behind of lost number frames past place within late =
     ∙ map-append (number_in_part of lost number past) (take place frames) (slice_index frames place ∷ [])
     ∙ ap (λ k. map (number_in_part of lost number past) (take place frames) ++ k ∷ []) (number_behind of lost number past (slice_index frames place) late)
 
--- the next command is due behind the records that were passed
-pub next_here : (frames these those : List ℕ) (passed went : ℕ) → length these ≡ length those → slice_index frames (length those) ≡ passed
-    → went ≡ passed → slice_index frames (length these) ≡ went
-next_here frames these those passed went many due here = ap (slice_index frames) many ∙ due ∙ sym here
+-- ---- one record more
+
+one_of : (has : Bool) (sent : Sent) → length (cond has (sent ∷ []) []) ≡ cond has 1 0
+one_of true sent = refl
+one_of false sent = refl
+
+none_before : (n : ℕ) → n ≡ 0 + n
+none_before n = omega arith
+
+-- the next record was passed, and counted if it is in the part
+pub gone_past_one : (frames : List ℕ) (past : List Sent) (sent : Sent) (n m : Numbering) (has : Bool) → AreNumbered frames past n
+    → (length n.numbers.items < length frames → n.passed < slice_index frames (length n.numbers.items))
+    → has ≡ is_in_part n.part.of n.part.lost n.part.number n.passed sent
+    → m.part ≡ n.part → m.numbers.items ≡ n.numbers.items → m.passed ≡ n.passed + 1
+    → m.taken ≡ n.taken + cond has 1 0 → AreNumbered frames (past ++ sent ∷ []) m
+gone_past_one frames past sent n m has are late is part numbers passed taken =
+    gone_past frames past (sent ∷ []) n m are (λ some. let behind = late some in omega (arith, behind)) part numbers passed
+    (taken
+    ∙ ap (λ (b : Bool). n.taken + cond b 1 0)
+    (is ∙ ap (λ (k : ℕ). is_in_part n.part.of n.part.lost n.part.number k sent) (none_before n.passed))
+    ∙ ap (λ (k : ℕ). n.taken + k) (sym (one_of (is_in_part n.part.of n.part.lost n.part.number (0 + n.passed) sent) sent)))

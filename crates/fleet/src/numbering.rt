@@ -1,9 +1,9 @@
 //! The numbers that a script's commands have in a part of a capture. The commands' own numbers count the records of the whole capture.
 
-ghost use Rattle.std.specs.Prelude.{◌≡◌, ◌+◌, ◌-◌, ◌≤◌, ◌<◌, ◌^◌, ◌++◌, [], ℕ, List};
-ghost use Rattle.std.specs.Prelude.{IfSome, IfNone, IfOk, OnOk, length, map, slice_index};
+ghost use Rattle.std.specs.Prelude.{◌≡◌, ◌+◌, ◌≤◌, ◌<◌, ◌^◌, ◌++◌, ◌∷◌, [], ℕ, List, true, false};
+ghost use Rattle.std.specs.Prelude.{IfOk, OnOk, length, map, slice_index};
 ghost use Rattle.wire.specs.declared.records.Sent.{Sent as Record};
-ghost use Rattle.fleet.specs.Parts.{number_in_part};
+ghost use Rattle.fleet.specs.Parts.{is_in_part, number_in_part};
 ghost use Rattle.fleet.specs.Numbers.{AreNumbered, IsNumbering, NeverFall};
 
 use crate::part::Part;
@@ -37,36 +37,34 @@ impl Numbering {
         }
     }
 
-    /// How many records come before the next command, where it is due within the next `most` records.
-    fn due_within(&self, frames: &[u32], most: usize) -> Option<usize>
+    /// Whether the next command is due before the next record.
+    fn is_due(&self, frames: &[u32]) -> bool
         requires { IsNumbering frames.now self.now }
-        ensures due { IfSome result (λ count. (count ≤ most) × (length self.now.numbers.items < length frames.now)
-            × (slice_index frames.now (length self.now.numbers.items) ≡ self.now.passed + count) × (self.now.passed + count < 2 ^ 32)) }
-        ensures later { IfNone result (length self.now.numbers.items < length frames.now →
-            self.now.passed + most < slice_index frames.now (length self.now.numbers.items)) }
+        ensures due { result ≡ true → (length self.now.numbers.items < length frames.now)
+            × (slice_index frames.now (length self.now.numbers.items) ≡ self.now.passed) × (self.now.passed < 2 ^ 32) }
+        ensures later { result ≡ false → length self.now.numbers.items < length frames.now →
+            self.now.passed < slice_index frames.now (length self.now.numbers.items) }
     {
         let next = self.numbers.len();
-        if next == frames.len() {
-            return None;
-        }
-        let count = frames[next] as usize - self.passed;
-        if count <= most { Some(count) } else { None }
+        next < frames.len() && frames[next] as usize == self.passed
     }
 
-    /// Goes past records of the capture before which no command is due.
-    fn go_past(&mut self, records: &[Sent])
-        requires fits { self.old.passed + length records.now < 2 ^ 64 }
+    /// Goes past the next record of the capture, before which no command is due, and says whether it is in the part.
+    fn go_past(&mut self, frame: &[u8]) -> bool
+        requires fits { self.old.passed + 1 < 2 ^ 64 }
         requires few { self.old.taken ≤ self.old.passed }
-        ensures past { (frames : List ℕ) (past : List Record) → AreNumbered frames past self.old →
-            (length self.old.numbers.items < length frames →
-            self.old.passed + length records.now ≤ slice_index frames (length self.old.numbers.items)) →
-            AreNumbered frames (past ++ records.now) self.new }
+        ensures past { (frames : List ℕ) (past : List Record) (sent : Record) → sent.bytes.items ≡ frame.now → AreNumbered frames past self.old →
+            (length self.old.numbers.items < length frames → self.old.passed < slice_index frames (length self.old.numbers.items)) →
+            AreNumbered frames (past ++ sent ∷ []) self.new }
+        ensures has { (sent : Record) → sent.bytes.items ≡ frame.now →
+            result ≡ is_in_part self.old.part.of self.old.part.lost self.old.part.number self.old.passed sent }
         ensures part { self.new.part ≡ self.old.part }
-        ensures passed { self.new.passed ≡ self.old.passed + length records.now }
-        ensures numbers { self.new.numbers.items ≡ self.old.numbers.items }
+        ensures passed { self.new.passed ≡ self.old.passed + 1 }
     {
-        self.taken += self.part.count_in(self.passed, records);
-        self.passed += records.len();
+        let has = self.part.has(self.passed, frame);
+        self.taken += usize::from(has);
+        self.passed += 1;
+        has
     }
 
     /// Notes the number of the next command, which is due.
@@ -82,25 +80,24 @@ impl Numbering {
         self.numbers.push(self.taken as u32)?;
         Ok(())
     }
-    /// Goes past the next records of the capture, and notes the numbers of the commands that are due there. `frames` are the commands' own
-    /// numbers, the same in each call. It fails only for lack of memory.
-    pub fn pass(&mut self, frames: &[u32], records: &[Sent]) -> Result<(), AllocError>
-        requires fits { self.old.passed + length records.now < 2 ^ 64 }
+
+    /// Goes past the next record of the capture, of which this is the frame, and notes the numbers of the commands that are due before it.
+    /// Says whether the record is in the part. `frames` are the commands' own numbers, the same in each call. It fails only for lack of
+    /// memory.
+    pub fn pass(&mut self, frames: &[u32], frame: &[u8]) -> Result<bool, AllocError>
+        requires fits { self.old.passed + 1 < 2 ^ 64 }
         requires numbering { IsNumbering frames.now self.old }
-        ensures past { OnOk result ((past : List Record) → AreNumbered frames.now past self.old →
-            AreNumbered frames.now (past ++ records.now) self.new) }
+        ensures past { OnOk result ((past : List Record) (sent : Record) → sent.bytes.items ≡ frame.now → AreNumbered frames.now past self.old →
+            AreNumbered frames.now (past ++ sent ∷ []) self.new) }
+        ensures has { IfOk result (λ has. (sent : Record) → sent.bytes.items ≡ frame.now →
+            has ≡ is_in_part self.old.part.of self.old.part.lost self.old.part.number self.old.passed sent) }
         ensures part { self.new.part ≡ self.old.part }
-        ensures passed { OnOk result (self.new.passed ≡ self.old.passed + length records.now) }
+        ensures passed { OnOk result (self.new.passed ≡ self.old.passed + 1) }
     {
-        let mut rest = records;
-        'commands: while let Some(count) = self.due_within(frames, rest.len()) {
-            let (before, behind) = rest.split_at(count);
-            self.go_past(before);
+        'commands: while self.is_due(frames) {
             self.note()?;
-            rest = behind;
         }
-        self.go_past(rest);
-        Ok(())
+        Ok(self.go_past(frame))
     }
 
     /// The numbers, in the part, of all commands, behind the last record of the capture. It fails only for lack of memory.
@@ -138,6 +135,8 @@ pub fn numbers_in_part(
     ensures { IfOk result (λ numbers. numbers.items ≡ map (number_in_part part.of part.lost part.number records.now) frames.now) }
 {
     let mut numbering = Numbering::new(alloc, part);
-    numbering.pass(frames, records)?;
+    'records: for place in 0..records.len() {
+        numbering.pass(frames, &records[place].bytes)?;
+    }
     numbering.finish(frames)
 }

@@ -1,8 +1,9 @@
 //! Which records are in a part.
 
-ghost use Rattle.std.specs.Prelude.{◌≡◌, ◌+◌, ◌-◌, ◌<◌, ℕ, length};
+ghost use Rattle.std.specs.Prelude.{◌≡◌, ◌+◌, ◌-◌, ◌<◌, ℕ};
+ghost use Rattle.wire.specs.declared.records.Sent.{Sent as Record};
 ghost use Rattle.wire.specs.FlowBytes.{flow_key_bytes};
-ghost use Rattle.fleet.specs.Parts.{heir_of_frame, heir_place, is_in_part, part_behind, part_by, part_of_frame, records_behind, records_left};
+ghost use Rattle.fleet.specs.Parts.{heir_of_frame, heir_place, is_in_part, part_behind, part_by, part_of_frame, records_left};
 ghost use Rattle.fleet.specs.Parts.{records_of_part};
 
 use crate::part::Part;
@@ -82,60 +83,46 @@ impl Part {
         }
     }
 
-    /// Whether a record is in the part, where `left` records, this one too, come before the loss.
-    fn has(self, left: usize, sent: &Sent) -> bool
-        ensures { (place : ℕ) → left ≡ records_left self.lost place → result ≡ is_in_part self.of self.lost self.number place sent.now }
+    /// Whether a record of this frame is in the part, where `left` records, this one too, come before the loss.
+    fn has_before(self, left: usize, frame: &[u8]) -> bool
+        ensures { (place : ℕ) (sent : Record) → left ≡ records_left self.lost place → sent.bytes.items ≡ frame.now →
+            result ≡ is_in_part self.of self.lost self.number place sent }
     {
         let part = match self.lost {
             Some(loss) => if left == 0 {
-                part_behind(&sent.bytes, self.of, loss.part)
+                part_behind(frame, self.of, loss.part)
             } else {
-                part_of(&sent.bytes, self.of)
+                part_of(frame, self.of)
             },
-            None => part_of(&sent.bytes, self.of),
+            None => part_of(frame, self.of),
         };
         part == self.number
     }
 
-    /// How many of the next records of the capture are in the part, behind the first `past`.
-    pub fn count_in(self, past: usize, records: &[Sent]) -> usize
-        ensures count { result ≡ length (records_behind self.of self.lost self.number past records.now) }
+    /// Whether a record of this frame is in the part, behind the first `past` records of the capture.
+    pub fn has(self, past: usize, frame: &[u8]) -> bool
+        ensures { (sent : Record) → sent.bytes.items ≡ frame.now → result ≡ is_in_part self.of self.lost self.number past sent }
     {
-        let mut left = self.left_behind(past);
-        let mut count = 0;
-        'records: for place in 0..records.len() {
-            if self.has(left, &records[place]) {
-                count += 1;
-            }
-            left = left.saturating_sub(1);
-        }
-        count
-    }
-
-    /// Those of the next records of the capture, behind the first `past`, that are in the part, in order.
-    pub fn taken_behind(self, past: usize, piece: Capture) -> Capture
-        ensures { result.records.items ≡ records_behind self.of self.lost self.number past piece.records.items }
-    {
-        let mut records = piece.records;
-        let mut left = self.left_behind(past);
-        records.retain(
-            move |sent: &Sent| -> bool
-                ensures has { (place : ℕ) → left.entry ≡ records_left self.lost place →
-                    result ≡ is_in_part self.of self.lost self.number place sent.now }
-                ensures left { left.exit ≡ left.entry - 1 }
-            {
-                let has = self.has(left, sent);
-                left = left.saturating_sub(1);
-                has
-            },
-        );
-        Capture { records }
+        self.has_before(self.left_behind(past), frame)
     }
 
     /// The part of a capture: its records that are in the part, in order.
     pub fn taken_from(self, capture: Capture) -> Capture
         ensures { result.records.items ≡ records_of_part self.of self.lost self.number capture.records.items }
     {
-        self.taken_behind(0, capture)
+        let mut records = capture.records;
+        let mut left = self.left_behind(0);
+        records.retain(
+            move |sent: &Sent| -> bool
+                ensures has { (place : ℕ) → left.entry ≡ records_left self.lost place →
+                    result ≡ is_in_part self.of self.lost self.number place sent.now }
+                ensures left { left.exit ≡ left.entry - 1 }
+            {
+                let has = self.has_before(left, &sent.bytes);
+                left = left.saturating_sub(1);
+                has
+            },
+        );
+        Capture { records }
     }
 }

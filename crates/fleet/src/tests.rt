@@ -147,3 +147,12 @@ fn commands_come_before_the_same_records_with_a_loss(rt: HostRuntime) -> Result<
     assert!(rt; third.as_slice() == [0, 1, 1, 4, 4].as_slice());
     Ok(())
 }
+
+#[test]
+fn frames_of_a_lost_part_are_of_another_one_from_the_loss_on(rt: HostRuntime) {
+    let frame = query(4, 0);
+    assert!(rt; part_with_loss(1).has(2, &frame));
+    assert!(rt; !part_with_loss(1).has(3, &frame));
+    assert!(rt; !part_with_loss(2).has(2, &frame));
+    assert!(rt; part_with_loss(2).has(3, &frame));
+}

@@ -2,4 +2,5 @@
 pub mod FrontLemmas
 pub mod WindowLemmas
 pub mod CaptureFronts
-pub mod ReadingLemmas
+pub mod RecordFronts
+pub mod shared

@@ -2,7 +2,8 @@
 use Rattle.std.specs.Prelude.{◌≡◌, ℕ, ◌+◌, nat_lt, if◌then◌else◌, List, [], ◌∷◌, ◌++◌, length, drop}
 use Rattle.wire.specs.declared.records.Sent.{Sent}
 use Rattle.wire.specs.declared.capture_fault.CaptureFault.{CaptureFault}
-use Rattle.wire.specs.CaptureFormat.{le32_at, BeginsWithHeader, AreRecords, IsCaptureFile, RefusesCapture}
+use Rattle.wire.specs.CaptureFormat.{le32_at, BeginsWithHeader, BeginsWithRecord, AreRecords, IsCaptureFile, RefusesCapture}
+use Rattle.folders.specs.declared.record_head.RecordHead.{RecordHead}
 
 -- what a contract sees of a reader: the bytes that its folder returned and that are still unread, how many records it read, and how many
 -- of these were cut
@@ -14,6 +15,23 @@ pub record ReaderView : Type 0 where
 -- 1 for a record at the front of the bytes that keeps fewer bytes than its frame had, else 0
 abbrev pub cut_at_front : List ℕ → Sent → ℕ
 cut_at_front bytes sent = if nat_lt (length sent.bytes.items) (le32_at 12 bytes) then 1 else 0
+
+-- the reader behind this record, which is at the front of its unread bytes
+abbrev pub behind_record : ReaderView → Sent → ReaderView
+behind_record reader sent = record {
+  unread = drop (16 + length sent.bytes.items) reader.unread;
+  count = reader.count + 1;
+  cut = reader.cut + cut_at_front reader.unread sent;
+}
+
+-- a whole record is at the front of the bytes, and its head says this
+pub record IsAtFront (bytes : List ℕ) (head : RecordHead) : Type 0 where
+  pub sent : Sent
+  pub begins : BeginsWithRecord bytes sent
+  pub seconds_are : head.seconds ≡ le32_at 0 bytes
+  pub micros_are : head.micros ≡ le32_at 4 bytes
+  pub kept_is : head.kept ≡ le32_at 8 bytes
+  pub cut_is : head.is_cut ≡ nat_lt (le32_at 8 bytes) (le32_at 12 bytes)
 
 -- how many of the records that the bytes begin with keep fewer bytes than their frames had
 abbrev pub cut_record_count : List ℕ → List Sent → ℕ

@@ -1,22 +1,19 @@
 //! Records of a capture file, one after another.
 
 ghost use Rattle.std.specs.Prelude.{◌≡◌, ◌+◌, ◌-◌, ◌*◌, ◌^◌, ◌<◌, ◌≤◌, ◌↔◌, ◌⊎◌, ◌++◌};
-ghost use Rattle.std.specs.Prelude.{ℕ, [], List, length, drop, nat_lt, option_to_list};
+ghost use Rattle.std.specs.Prelude.{ℕ, [], ◌∷◌, List, length};
 ghost use Rattle.std.specs.Prelude.{IfErr, IfNone, IfOk, IfSome, IsErrOf, OnErr, OnOk};
-ghost use Rattle.wire.specs.declared.records.Sent.{Sent};
-ghost use Rattle.wire.specs.CaptureFormat.{le32_at, BeginsWithRecord, RefusesRecord};
-ghost use Rattle.folders.specs.PieceReading.{cut_at_front, IsReadTo, IsReadWhole, IsFileRefused, ReadsOn, ReadsToEnd};
-ghost use Rattle.folders.specs.PieceReading.{RefusesNext};
+ghost use Rattle.wire.specs.declared.records.Sent.{Sent as Record};
+ghost use Rattle.wire.specs.CaptureFormat.{BeginsWithRecord};
+ghost use Rattle.folders.specs.PieceReading.{IsAtFront, IsFileRefused, IsReadTo, ReadsOn, ReadsToEnd, RefusesNext, behind_record};
 
 use crate::folder::{Folder, FolderFault};
+use crate::record_buffer::RecordBuffer;
+use crate::record_head::RecordHead;
 use crate::window::Window;
-use byteorder::{ByteOrder, LittleEndian};
-use std::alloc::Global;
+use std::alloc::{AllocError, Global};
 use std::marker::Model;
-use wire::{
-    CAPTURE_HEADER_LEN, Capture, CaptureFault, RECORD_HEAD_LEN, Sent, check_capture_header,
-    record_of,
-};
+use wire::{CAPTURE_HEADER_LEN, CaptureFault, RECORD_HEAD_LEN, check_capture_header};
 
 /// Reads a capture file (pcap 2.4, little-endian, microseconds, Ethernet) record by record. It has a buffer of 64 KiB and what it counts;
 /// the file is the one that its folder reads in pieces.
@@ -36,14 +33,6 @@ impl Model for CaptureReader {
     ghost view = { λ reader. record { unread = reader.window; count = reader.count; cut = reader.cut } };
 
     ghost invariant = { λ reader. reader.cut ≤ reader.count };
-}
-
-/// Whether the record at the front of the bytes keeps fewer bytes than its frame had: the head's fourth number says how many those were.
-fn is_cut(bytes: &[u8], kept: usize) -> bool
-    requires { 16 ≤ length bytes.now }
-    ensures { result ≡ nat_lt kept (le32_at 12 bytes.now) }
-{
-    kept < LittleEndian::read_u32(&bytes[12..]) as usize
 }
 
 impl CaptureReader {
@@ -107,43 +96,19 @@ impl CaptureReader {
         self.cut
     }
 
-    /// Reads the record at the front of the unread bytes.
-    fn record_at_front(&mut self, alloc: Global) -> Result<Sent, CaptureFault>
-        requires some { 0 < length self.old.unread }
-        requires room { self.old.count < 2 ^ 64 - 1 }
-        ensures sent { IfOk result (BeginsWithRecord self.old.unread) }
-        ensures after { IfOk result (λ sent. self.new ≡ record {
-          unread = drop (16 + length sent.bytes.items) self.old.unread;
-          count = self.old.count + 1;
-          cut = self.old.cut + cut_at_front self.old.unread sent;
-        }) }
-        ensures fault { IfErr result (RefusesRecord self.old.unread (self.old.count + 1)) }
-    {
-        let unread = self.window.unread();
-        let sent = record_of(alloc, unread, self.count + 1)?;
-        if is_cut(unread, sent.bytes.len()) {
-            self.cut += 1;
-        }
-        self.count += 1;
-        self.window.skip(RECORD_HEAD_LEN + sent.bytes.len());
-        Ok(sent)
-    }
-
-    /// The next record; none at the end of the file.
-    fn next_record<D: Folder>(
-        &mut self,
-        alloc: Global,
-        folder: &mut D,
-    ) -> Result<Option<Sent>, CaptureFault>
+    /// Looks for the next record, and reads on for that where need be: what its head says; none at the end of the file. It goes past no
+    /// record.
+    ///
+    /// Refused with 4 and 5 where the file ends in the record, with 6 where it keeps more than 2048 bytes, and with 7 where the file cannot be
+    /// read on. After a fault the reader is of no more use.
+    pub fn find<D: Folder>(&mut self, folder: &mut D) -> Result<Option<RecordHead>, CaptureFault>
         requires failures { D.failure_count folder.old < 2 ^ 64 - 1 }
         requires room { 16 * self.old.count + length self.old.unread + D.most_left folder.old ≤ 2 ^ 40 }
-        ensures read { IfOk result (λ found.
-            ReadsOn D.holds (D.is_left folder.old) (D.is_left folder.new) self.old self.new (option_to_list found)) }
+        ensures read { OnOk result (ReadsOn D.holds (D.is_left folder.old) (D.is_left folder.new) self.old self.new []) }
+        ensures front { IfOk result (λ found. IfSome found (IsAtFront self.new.unread)) }
         ensures whole { IfOk result (λ found. IfNone found (ReadsToEnd D.holds (D.is_left folder.old) self.old [] self.new.cut)) }
-        ensures short { IfOk result (λ found. IfSome found (λ sent. length sent.bytes.items ≤ 2048)) }
-        ensures count { IfOk result (λ found. self.new.count ≡ self.old.count + length (option_to_list found)) }
-        ensures fewer { IfOk result (λ found. length self.new.unread + D.most_left folder.new + 16 * length (option_to_list found)
-            ≤ length self.old.unread + D.most_left folder.old) }
+        ensures count { OnOk result (self.new.count ≡ self.old.count) }
+        ensures fewer { OnOk result (length self.new.unread + D.most_left folder.new ≤ length self.old.unread + D.most_left folder.old) }
         ensures fault { IfErr result (λ fault. fault ≡ CaptureFault.Device ⊎ RefusesNext D.holds (D.is_left folder.old) self.old fault) }
         ensures kept { (other held : List ℕ) → (D.holds folder.old other held ↔ D.holds folder.new other held) }
         ensures begun_kept { (other held : List ℕ) → (D.is_begun folder.old other held ↔ D.is_begun folder.new other held) }
@@ -157,50 +122,52 @@ impl CaptureReader {
         if self.window.unread().is_empty() {
             return Ok(None);
         }
-        match self.record_at_front(alloc) {
-            Ok(sent) => Ok(Some(sent)),
+        match self.window.head(self.count + 1) {
+            Ok(head) => Ok(Some(head)),
             Err(fault) => Err(fault),
         }
     }
 
-    /// The next records, at most `most`. Fewer come only at the end of the file, and then these and those before them are all of its
-    /// records.
-    ///
-    /// Refused with 4 and 5 where the file ends in a record, with 6 where one keeps more than 2048 bytes, with 7 where the file cannot be
-    /// read on, and with 8 for lack of memory. After a fault the reader is of no more use.
-    pub fn next<D: Folder>(
+    /// The bytes of the frame that the record at the front keeps.
+    pub fn frame(&self, head: RecordHead) -> &[u8]
+        requires { IsAtFront self.now.unread head }
+        ensures { (sent : Record) → BeginsWithRecord self.now.unread sent → result.now ≡ sent.bytes.items }
+    {
+        &self.window.unread()[RECORD_HEAD_LEN..RECORD_HEAD_LEN + head.kept]
+    }
+
+    /// Goes past the record at the front.
+    pub fn pass(&mut self, head: RecordHead)
+        requires front { IsAtFront self.old.unread head }
+        requires room { self.old.count < 2 ^ 64 - 1 }
+        ensures behind { (sent : Record) → BeginsWithRecord self.old.unread sent → self.new ≡ behind_record self.old sent }
+        ensures count { self.new.count ≡ self.old.count + 1 }
+        ensures fewer { length self.new.unread + 16 ≤ length self.old.unread }
+    {
+        self.window.skip(RECORD_HEAD_LEN + head.kept);
+        self.count += 1;
+        if head.is_cut {
+            self.cut += 1;
+        }
+    }
+
+    /// Goes past the record at the front, and adds it to those of a buffer. It fails only for lack of memory; then nothing is changed.
+    pub fn keep(
         &mut self,
         alloc: Global,
-        folder: &mut D,
-        most: usize,
-    ) -> Result<Capture, CaptureFault>
-        requires failures { D.failure_count folder.old < 2 ^ 64 - 1 }
-        requires room { 16 * self.old.count + length self.old.unread + D.most_left folder.old ≤ 2 ^ 40 }
-        ensures read { IfOk result (λ piece.
-            ReadsOn D.holds (D.is_left folder.old) (D.is_left folder.new) self.old self.new piece.records.items) }
-        ensures whole { IfOk result (λ piece. length piece.records.items < most →
-            ReadsToEnd D.holds (D.is_left folder.old) self.old piece.records.items self.new.cut) }
-        ensures few { IfOk result (λ piece. length piece.records.items ≤ most) }
-        ensures count { IfOk result (λ piece. self.new.count ≡ self.old.count + length piece.records.items) }
-        ensures fewer { IfOk result (λ piece. length self.new.unread + D.most_left folder.new + 16 * length piece.records.items
-            ≤ length self.old.unread + D.most_left folder.old) }
-        ensures fault { IfErr result (λ fault. fault ≡ CaptureFault.Device ⊎ RefusesNext D.holds (D.is_left folder.old) self.old fault) }
-        ensures kept { (other held : List ℕ) → (D.holds folder.old other held ↔ D.holds folder.new other held) }
-        ensures begun_kept { (other held : List ℕ) → (D.is_begun folder.old other held ↔ D.is_begun folder.new other held) }
-        ensures device { IsErrOf result CaptureFault.Device ↔ (D.failure_count folder.new ≡ D.failure_count folder.old + 1) }
-        ensures steady { IsErrOf result CaptureFault.Device ⊎ (D.failure_count folder.new ≡ D.failure_count folder.old) }
+        head: RecordHead,
+        buffer: &mut RecordBuffer,
+    ) -> Result<(), AllocError>
+        requires front { IsAtFront self.old.unread head }
+        requires room { self.old.count < 2 ^ 64 - 1 }
+        ensures added { OnOk result ((sent : Record) × BeginsWithRecord self.old.unread sent × (self.new ≡ behind_record self.old sent)
+            × (buffer.new ≡ buffer.old ++ sent ∷ [])) }
+        ensures count { OnOk result (self.new.count ≡ self.old.count + 1) }
+        ensures fewer { OnOk result (length self.new.unread + 16 ≤ length self.old.unread) }
+        ensures refused { OnErr result ((self.new ≡ self.old) × (buffer.new ≡ buffer.old)) }
     {
-        let mut records = Vec::new(alloc);
-        'records: while records.len() < most {
-            match self.next_record(alloc, folder) {
-                Ok(Some(sent)) => match records.push(sent) {
-                    Ok(()) => {}
-                    Err(_) => return Err(CaptureFault::Memory),
-                },
-                Ok(None) => return Ok(Capture { records }),
-                Err(fault) => return Err(fault),
-            }
-        }
-        Ok(Capture { records })
+        buffer.push(alloc, head.seconds, head.micros, self.frame(head))?;
+        self.pass(head);
+        Ok(())
     }
 }

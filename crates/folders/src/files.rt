@@ -6,7 +6,7 @@ ghost use Rattle.folders.specs.Fronts.{IsShortFront};
 use crate::failure::{Failure, Step, Trouble, failed};
 use crate::folder::{Folder, FolderFault, Front};
 use crate::links::is_one_file;
-use crate::making::{Making, begun, make, not_begun, put_all};
+use crate::making::{Making, begun, is_in_the_way, make, not_begun, put_all};
 use std::alloc::{Alloc, AllocError, Global};
 use std::fs::{File, OpenFile};
 use std::io::{ErrorKind, Read, Write};
@@ -437,7 +437,7 @@ impl<R: Files<File = File> + Alloc, I: Read, O: Write> Folder for FileFolder<'_,
     }
 
     fn is_same(&self, name: &str, other: &str) -> bool {
-        name == other || is_one_file(self.rt, name, other)
+        name == other || is_one_file(self.rt, name, other) || is_in_the_way(self.rt, other, name)
     }
 
     fn has(&self, name: &str) -> bool {

@@ -182,7 +182,8 @@ pub trait Folder {
         ensures most_kept { most_left self.new ≡ most_left self.old }
         ensures steady { failure_count self.new ≡ failure_count self.old };
 
-    /// Whether two names are those of one file: one name twice, or two names that the folder knows to be one file's.
+    /// Whether two names are those of one file: one name twice, or two names that the folder knows to be one file's. The name that a file has
+    /// while it is made under the first name counts as its own.
     fn is_same(&self, name: &str, other: &str) -> bool
         ensures one { IsTrue result → are_one self.now name.now other.now }
         ensures itself { name.now ≡ other.now → IsTrue result };

@@ -8,9 +8,13 @@ mod folder;
 mod links;
 mod making;
 mod memory_folder;
+mod record_buffer;
+mod record_head;
 mod window;
 
 pub use capture_reader::CaptureReader;
 pub use files::{FileFolder, STANDARD_INPUT, STANDARD_OUTPUT};
 pub use folder::{Folder, FolderFault, Front};
 pub use memory_folder::MemoryFolder;
+pub use record_buffer::RecordBuffer;
+pub use record_head::RecordHead;

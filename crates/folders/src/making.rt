@@ -1,13 +1,14 @@
 //! Files that get their name when all of their bytes are there.
 //!
 //! A file is made beside its name (`NAME.unfinished`) and then renamed, so a file of that name has all bytes. A command that is ended
-//! leaves the unfinished file; the next one that makes a file of this name takes it over, unless the other one still runs: a lock on the
-//! open file, which ends with its command, says so. Devices, pipes and the standard output alone are written in place.
+//! leaves the unfinished file; the next one that makes a file of this name removes it and makes its own, unless the other one still runs: a
+//! lock on the open file, which ends with its command, says so. An unfinished file that is not the command's own any more is neither renamed
+//! nor removed. Devices, pipes and the standard output alone are written in place.
 
 ghost use Rattle.std.specs.Prelude.{◌≡◌};
 
 use crate::failure::{Failure, Step, Trouble};
-use crate::links::{end_of, is_link, is_one_node, parts_of};
+use crate::links::{end_of, is_link, is_one_file, is_one_node, parts_of};
 use std::alloc::{Alloc, Global};
 use std::fs::{File, OpenOptions};
 use std::io::{ErrorKind, Write};
@@ -34,6 +35,8 @@ const READ_ONLY: &str = "it may not be written";
 const IN_USE: &str = "another command is making it: its .unfinished is in use";
 
 const NO_FILE: &str = "its .unfinished is no ordinary file";
+
+const REPLACED: &str = "its .unfinished was removed or replaced meanwhile";
 
 /// A file that could not be made.
 fn not_made(error: io::Error) -> Failure {
@@ -114,22 +117,33 @@ fn take_permissions<R: Files>(rt: &R, unfinished: &str, name: &str) -> io::Resul
     }
 }
 
+/// Removes an unfinished file, unless another file has its name now.
+fn remove_own<R: Files>(rt: &R, file: &File, unfinished: &str) {
+    if has_name(rt, file, unfinished) {
+        let _ = fs::remove_file(rt, unfinished);
+    }
+}
+
 /// What was done with an unfinished file, which is removed where it failed.
 fn removed_where_failed<R: Files>(
     rt: &R,
+    file: &File,
     unfinished: &str,
     done: Result<(), Failure>,
 ) -> Result<(), Failure>
     ensures { result ≡ done }
 {
     if done.is_err() {
-        let _ = fs::remove_file(rt, unfinished);
+        remove_own(rt, file, unfinished);
     }
     done
 }
 
-/// Gives a file another name, in place of a file that has it.
-fn named<R: Files>(rt: &R, unfinished: &str, name: &str) -> Result<(), Failure> {
+/// Gives an unfinished file another name, in place of a file that has it. Refused where another file has its own name now.
+fn named<R: Files>(rt: &R, file: &File, unfinished: &str, name: &str) -> Result<(), Failure> {
+    if !has_name(rt, file, unfinished) {
+        return Err(refused(ErrorKind::ResourceBusy, REPLACED));
+    }
     let done = match take_permissions(rt, unfinished, name) {
         Ok(()) => fs::rename(rt, unfinished, name),
         Err(error) => Err(error),
@@ -164,8 +178,8 @@ fn has_name<R: Files>(rt: &R, file: &File, name: &str) -> bool {
     }
 }
 
-/// A file that a command left unfinished, without its bytes. Refused where another command has it open: that it is locked, or was renamed
-/// or removed before it could be locked here, shows that.
+/// A new file in place of one that a command left unfinished: that one is removed, and what else it may be the name of keeps its bytes.
+/// Refused where another command has it open: that it is locked, or was renamed or removed before it could be locked here, shows that.
 fn taken_over<R: Files<File = File>>(rt: &R, unfinished: &str) -> Result<File, Failure> {
     match fs::symlink_metadata(rt, unfinished) {
         Ok(found) if !found.is_file() => return Err(refused(ErrorKind::AlreadyExists, NO_FILE)),
@@ -179,8 +193,15 @@ fn taken_over<R: Files<File = File>>(rt: &R, unfinished: &str) -> Result<File, F
     if file.try_lock().is_err() || !has_name(rt, &file, unfinished) {
         return Err(refused(ErrorKind::ResourceBusy, IN_USE));
     }
-    match file.set_len(0) {
-        Ok(()) => Ok(file),
+    match fs::remove_file(rt, unfinished) {
+        Ok(()) => {}
+        Err(error) => return Err(not_made(error)),
+    }
+    match File::create_new(rt, unfinished) {
+        Ok(file) => locked(file),
+        Err(error) if error.kind() == ErrorKind::AlreadyExists => {
+            Err(refused(ErrorKind::ResourceBusy, IN_USE))
+        }
         Err(error) => Err(not_made(error)),
     }
 }
@@ -212,20 +233,21 @@ fn beside<'a, R: Files<File = File>>(
 /// Writes the bytes to an unfinished file, and then renames it.
 fn fill<R: Files>(
     rt: &R,
-    mut file: File,
+    file: &mut File,
     unfinished: &str,
     name: &str,
     bytes: &[u8],
 ) -> Result<(), Failure> {
-    put_all(&mut file, bytes)?;
-    named(rt, unfinished, name)
+    put_all(file, bytes)?;
+    named(rt, file, unfinished, name)
 }
 
 /// Makes a file of the bytes beside its name, which is no link's.
 fn make_beside<R: Files<File = File>>(rt: &R, name: &str, bytes: &[u8]) -> Result<(), Failure> {
     let mut room = [0; LONGEST_NAME];
-    let (file, unfinished) = beside(rt, &mut room, name)?;
-    removed_where_failed(rt, unfinished, fill(rt, file, unfinished, name, bytes))
+    let (mut file, unfinished) = beside(rt, &mut room, name)?;
+    let done = fill(rt, &mut file, unfinished, name, bytes);
+    removed_where_failed(rt, &file, unfinished, done)
 }
 
 /// Makes a file of the bytes, so that a file of its name has all bytes; a link stays, and what it leads to is made. A device or a pipe
@@ -247,6 +269,29 @@ pub(crate) fn make<R: Files<File = File> + Alloc>(
         Ok(()) => Ok(()),
         Err(failure) => Err(Trouble::Device(failure)),
     }
+}
+
+/// Whether a name is the one that a file has, beside this other name, until it is finished.
+fn is_unfinished_of<R: Files + Alloc>(rt: &R, name: &str, made: &str) -> bool {
+    let mut room = [0; LONGEST_NAME];
+    match unfinished_name(&mut room, made) {
+        Ok(unfinished) => unfinished == name || is_one_file(rt, unfinished, name),
+        Err(_) => false,
+    }
+}
+
+/// Whether making a file of the name `made` would write over the file of this name before it is finished.
+pub(crate) fn is_in_the_way<R: Files + Alloc>(rt: &R, name: &str, made: &str) -> bool {
+    if is_device(rt, made) {
+        return false;
+    }
+    if is_link(rt, made) {
+        return match end_of(rt, made) {
+            Ok(end) => is_unfinished_of(rt, name, end.as_str()),
+            Err(_) => false,
+        };
+    }
+    is_unfinished_of(rt, name, made)
 }
 
 /// A file that is made in pieces. Until it is finished it has a name of its own.
@@ -302,18 +347,18 @@ impl Making {
     /// Puts bytes at the end. Where that fails the file is removed.
     pub(crate) fn add<R: Files>(&mut self, rt: &R, bytes: &[u8]) -> Result<(), Failure> {
         let done = put_all(&mut self.file, bytes);
-        removed_where_failed(rt, self.unfinished.as_str(), done)
+        removed_where_failed(rt, &self.file, self.unfinished.as_str(), done)
     }
 
     /// Renames the file to its name. If that fails it is removed.
     pub(crate) fn finish<R: Files>(self, rt: &R) -> Result<(), Failure> {
         let unfinished = self.unfinished.as_str();
-        let done = named(rt, unfinished, self.name.as_str());
-        removed_where_failed(rt, unfinished, done)
+        let done = named(rt, &self.file, unfinished, self.name.as_str());
+        removed_where_failed(rt, &self.file, unfinished, done)
     }
 
     /// Removes the file.
     pub(crate) fn give_up<R: Files>(self, rt: &R) {
-        let _ = fs::remove_file(rt, self.unfinished.as_str());
+        remove_own(rt, &self.file, self.unfinished.as_str());
     }
 }

@@ -2,12 +2,16 @@
 
 ghost use Rattle.std.specs.Prelude.{◌≡◌, ◌+◌, ◌-◌, ◌^◌, ◌<◌, ◌≤◌, ◌↔◌, ◌⊎◌, ℕ, [], List, length, take, drop};
 ghost use Rattle.std.specs.Prelude.{IfErr, IfOk, OnErr, OnOk};
+ghost use Rattle.wire.specs.CaptureFormat.{le32_at, RefusesRecord};
 ghost use Rattle.folders.specs.Filling.{IsFilled};
+ghost use Rattle.folders.specs.PieceReading.{IsAtFront};
 
 use crate::folder::{Folder, FolderFault};
+use crate::record_head::RecordHead;
+use byteorder::{ByteOrder, LittleEndian};
 use std::alloc::{AllocError, Global};
 use std::marker::Model;
-use wire::{MAX_FRAME, RECORD_HEAD_LEN};
+use wire::{CaptureFault, MAX_FRAME, RECORD_HEAD_LEN};
 
 /// How many bytes a window has room for.
 const ROOM: usize = 1 << 16;
@@ -62,6 +66,14 @@ fn read_on<D: Folder>(folder: &mut D, bytes: &mut [u8], end: usize) -> Result<us
     Ok(all)
 }
 
+/// The 32-bit number at an index, low byte first.
+fn le32_at(bytes: &[u8], at: usize) -> u32
+    requires { at + 4 ≤ length bytes.now }
+    ensures { result ≡ le32_at at bytes.now }
+{
+    LittleEndian::read_u32(&bytes[at..])
+}
+
 impl Window {
     /// A window with no bytes.
     pub(crate) fn new(alloc: Global) -> Result<Window, AllocError>
@@ -80,6 +92,38 @@ impl Window {
         ensures { result.now ≡ self.now }
     {
         &self.bytes[self.at..self.end]
+    }
+
+    /// What the head of the record at the front of the unread bytes says. The record has this number, counted from 1.
+    ///
+    /// Refused with 4 where the bytes end in the head; with 6 where the record keeps more than 2048 bytes; with 5 where they end in what it
+    /// keeps.
+    pub(crate) fn head(&self, number: u64) -> Result<RecordHead, CaptureFault>
+        requires { 0 < length self.now }
+        ensures front { IfOk result (IsAtFront self.now) }
+        ensures fault { IfErr result (RefusesRecord self.now number) }
+    {
+        let _ = &self.bytes;
+        let bytes = self.unread();
+        if bytes.len() < RECORD_HEAD_LEN {
+            return Err(CaptureFault::CutHead { record: number });
+        }
+        let seconds = le32_at(bytes, 0);
+        let micros = le32_at(bytes, 4);
+        let kept = le32_at(bytes, 8);
+        let had = le32_at(bytes, 12);
+        if kept as usize > MAX_FRAME {
+            return Err(CaptureFault::FrameTooLong { record: number });
+        }
+        if bytes.len() < RECORD_HEAD_LEN + kept as usize {
+            return Err(CaptureFault::CutFrame { record: number });
+        }
+        Ok(RecordHead {
+            seconds,
+            micros,
+            kept: kept as usize,
+            is_cut: kept < had,
+        })
     }
 
     /// Goes past this many of the unread bytes.

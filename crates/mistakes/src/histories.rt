@@ -201,7 +201,7 @@ fn about_other_map(
         alloc,
         entry,
         why.as_str(),
-        "expected the image that was run: xlb shipped --ring N OUT writes the shipped program for a lookup table of N slots",
+        "expected the image that was run: xlb shipped --ring N --flows N OUT writes the shipped program for the sizes of the replay",
     )
 }
 

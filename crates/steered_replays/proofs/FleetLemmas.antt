@@ -196,7 +196,7 @@ found_one P test (one ∷ up) server found all = by (λ same. found_one P test u
 no_owner_back : (ring_of (ring_bytes (record { owner = None }))).owner ≡ None
 no_owner_back = refl
 
-owner_back : (n : ℕ) → n + 1 < 2 ^ 32 → (ring_of (ring_bytes (record { owner = Some n }))).owner ≡ Some n
+pub owner_back : (n : ℕ) → n + 1 < 2 ^ 32 → (ring_of (ring_bytes (record { owner = Some n }))).owner ≡ Some n
 owner_back n small =
     let word : number_of_bytes (take 4 (drop 0 (ring_bytes (record { owner = Some n })))) ≡ n + 1 = omega (arith, small) in
     ap owner_of word ∙ by
@@ -256,7 +256,7 @@ module _ (size : ℕ) (done : List Action) (now : MapsAt) (tables : AreTablesAtE
       ∙ ap (sent_to vip) (sym has.found)
       ∙ ap (λ (o : Option ℕ). sent_to vip (server_of (first ∷ up) o)) (sym has.owner_is)
 
-flow_slot : (size : ℕ) (frame : List ℕ) → 0 < size → slot_of_flow size frame < size
+pub flow_slot : (size : ℕ) (frame : List ℕ) → 0 < size → slot_of_flow size frame < size
 flow_slot size frame some = mod-lt (fnv1a64_of (flow_bytes_of frame)) some
 
 pub owners_are_sent_to : OwnersAreSentTo
@@ -315,15 +315,15 @@ left_both up [] action = refl
 left_both up (first ∷ done) action = left_both (up_after up first) done action
 
 -- an owner and who it is among those that are up
-record IsOwned (up : List Server) (owner : Option ℕ) (found : Option Server) : Type 0 where
-  empty : owner ≡ None → found ≡ None
-  known : (number : ℕ) → owner ≡ Some number → (server : Server) × (found ≡ Some server) × (server.number ≡ number)
+pub record IsOwned (up : List Server) (owner : Option ℕ) (found : Option Server) : Type 0 where
+  pub empty : owner ≡ None → found ≡ None
+  pub known : (number : ℕ) → owner ≡ Some number → (server : Server) × (found ≡ Some server) × (server.number ≡ number)
 
 all_servers : (up : List Server) → AllByRecursion (λ (server : Server). Unit {0}) up
 all_servers [] = tt
 all_servers (server ∷ up) = (tt, all_servers up)
 
-is_owned : (size : ℕ) (up : List Server) (owners : List ℕ) → IsTable size up owners → (slot : ℕ) → slot < size →
+pub is_owned : (size : ℕ) (up : List Server) (owners : List ℕ) → IsTable size up owners → (slot : ℕ) → slot < size →
     IsOwned up (slice_get owners slot) (server_of up (slice_get owners slot))
 is_owned size [] owners table slot within =
     let owner : slice_get owners slot ≡ None = ap (λ (l : List ℕ). slice_get l slot) table in
@@ -371,7 +371,7 @@ module _ (vip : VipRecord) where
   sent_number : (one other : Server) → sent_to vip (Some one) ≡ sent_to vip (Some other) → one.number ≡ other.number
   sent_number one other same = cc same
 
-  same_owner : (up left : List Server) (owner later : Option ℕ) → IsOwned up owner (server_of up owner) → IsOwned left later (server_of left later) →
+  pub same_owner : (up left : List Server) (owner later : Option ℕ) → IsOwned up owner (server_of up owner) → IsOwned left later (server_of left later) →
       sent_to vip (server_of left later) ≡ sent_to vip (server_of up owner) → later ≡ owner
   same_owner up left None None owned its same = refl
   same_owner up left (Some number) None owned its same =
@@ -384,7 +384,7 @@ module _ (vip : VipRecord) where
       let numbers : two.0.number ≡ one.0.number = sent_number two.0 one.0 (sym (ap (sent_to vip) two.1) ∙ same ∙ ap (sent_to vip) one.1) in
       ap Some (sym two.2 ∙ numbers ∙ one.2)
 
-  same_server : (up : List Server) (gone : ℕ) (owner : Option ℕ) → IsOwned up owner (server_of up owner) →
+  pub same_server : (up : List Server) (gone : ℕ) (owner : Option ℕ) → IsOwned up owner (server_of up owner) →
       IsOwned (without_backend up gone) owner (server_of (without_backend up gone) owner) → server_of (without_backend up gone) owner ≡ server_of up owner
   same_server up gone None owned its = refl
   same_server up gone (Some number) owned its =

@@ -28,5 +28,7 @@ mod WordTables
 mod NoteLemmas
 mod StickyRuns
 mod StickyReplays
+mod StrangerRuns
 mod StandingRuns
 mod StickyRow
+mod StrangerRow

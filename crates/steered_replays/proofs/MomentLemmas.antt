@@ -1,6 +1,7 @@
 -- Behind each number of commands a replay has a moment: the history of each shard is cut behind the last update of these commands.
 use Rattle.std.proofs.Common.{◌≡◌, ℕ, ◌<◌, ◌==◌, zero, suc, Bool, true, false, List, [], ◌∷◌, ◌++◌, length, refl, sym, ◌∙◌, ap, append_assoc}
 use Rattle.std.specs.Prelude.{if◌then◌else◌, take, drop}
+use Rattle.std.proofs.lemmas.Bool.{eqb-true}
 use Rattle.ebpf_decode.specs.declared.map.MapDef.{MapDef}
 use Rattle.wire.specs.declared.records.Sent.{Sent}
 use Rattle.semantics.specs.declared.call.Caller.TheVariants.{Controller}
@@ -15,6 +16,7 @@ use Rattle.actors.specs.Commands.{AnsweredUpdate, CommandDone, all_set, made_in,
 use Rattle.actors.specs.SharedUpdates.{shard_of}
 use Rattle.actors.proofs.shared.Moving.{with_updates_more}
 use Rattle.steered_replays.specs.TablesAtEnd.{last_histories, IsPlainReplay, IsMoment, MomentsExist}
+use Rattle.steered_replays.specs.StrangerRuns.{MomentsLieAnywhere}
 
 -- ---- a history without its newest entries
 
@@ -116,3 +118,24 @@ module _ (notes size : ℕ) (script : List Command) (options : Options) (records
 pub moments_exist : MomentsExist
 moments_exist notes size script options records outcome plain commands =
     (histories notes size script options records outcome plain commands, is_moment notes size script options records outcome plain commands)
+
+-- ---- a moment at another place of one shard
+
+pub moments_lie_anywhere : MomentsLieAnywhere
+moments_lie_anywhere notes size script options records outcome plain commands histories moment number newer older is own = record {
+  newer = λ shard. if shard == number then newer else moment.newer shard;
+  oldest = λ shard within. oldest shard (shard == number) refl within;
+  controlled = λ shard within. controlled shard (shard == number) refl within;
+}
+  where
+    oldest : (shard : ℕ) (here : Bool) → (shard == number) ≡ here → shard < plain.accounted.count →
+        last_histories outcome.journals shard ≡ (if here then newer else moment.newer shard) ++ (if here then older else histories shard)
+    oldest shard true same within = ap (last_histories outcome.journals) (eqb-true shard number same) ∙ is
+    oldest shard false same within = moment.oldest shard within
+
+    controlled : (shard : ℕ) (here : Bool) → (shard == number) ≡ here → shard < plain.accounted.count →
+        own_entries Controller (if here then older else histories shard)
+        ≡ with_updates (sized_maps notes size) options shard (made_in (take commands plain.accounted.commands.done)) []
+    controlled shard true same within =
+        own ∙ ap (λ (n : ℕ). with_updates (sized_maps notes size) options n (made_in (take commands plain.accounted.commands.done)) []) (sym (eqb-true shard number same))
+    controlled shard false same within = moment.controlled shard within

@@ -13,11 +13,11 @@ use Rattle.steered_replays.specs.TablesAtEnd.{MapsAt, AreTablesAtEnd, TablesFoll
 use Rattle.steered_replays.specs.Fleets.{StrangersMove, StrangersMoveInReplays}
 use Rattle.steered_replays.proofs.FleetLemmas.{left_both}
 
-from_zero : (n : ℕ) → 0 + n ≡ n
+pub from_zero : (n : ℕ) → 0 + n ≡ n
 from_zero n = omega arith
 
 -- one command more that was carried out
-one_more : (refused : List Applied) (first : ℕ) (script : List Command) (count : ℕ) (command : Command) → slice_get script count ≡ Some command →
+pub one_more : (refused : List Applied) (first : ℕ) (script : List Command) (count : ℕ) (command : Command) → slice_get script count ≡ Some command →
     is_refused refused (first + count) ≡ false →
     carried_out refused first (take (suc count) script) ≡ carried_out refused first (take count script) ++ command.action ∷ []
 one_more refused first [] count command known kept = absurd cc
@@ -42,7 +42,7 @@ one_more refused first (one ∷ later) (suc count) command known kept =
     by true rest = refl
     by false rest = refl
 
-some_slots : (size : ℕ) → IsRingSize size → 0 < size
+pub some_slots : (size : ℕ) → IsRingSize size → 0 < size
 some_slots size is =
     All-contains (λ n. 0 < n) ring_sizes size (All-from_recursion (λ n. 0 < n) ring_sizes (omega arith, (omega arith, (omega arith, (omega arith, tt))))) is
 

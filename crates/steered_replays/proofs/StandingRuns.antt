@@ -77,7 +77,6 @@ module _ (plan : ℕ → ShardPlan) (count : ℕ) (setting : SteeringSizes) (wor
       let newer = oldest number within in
       record {
         newer = newer.0;
-        older = own_at before number;
         own_are = newer.1 ∙ ap (λ (own : List Entry). newer.0 ++ own) (run.sessions.written number within);
       }
 

@@ -21,7 +21,7 @@ use Rattle.steered_replays.specs.SteeredRuns.{IsSteeredRun, RunInPlace, runs_in_
 use Rattle.steered_replays.specs.StickyFlows.{NotedFlowsStick}
 use Rattle.steered_replays.specs.StickyReplays.{FlowsStayInReplays, StaysWithBackend}
 
-told_as : (captured : Sent) (verdict other : Verdict) (frame left : FrameView) (end : RunEnd) → verdict ≡ other → frame ≡ left
+pub told_as : (captured : Sent) (verdict other : Verdict) (frame left : FrameView) (end : RunEnd) → verdict ≡ other → frame ≡ left
     → IsTold captured verdict frame end → IsTold captured other left end
 told_as captured verdict other frame left end same equal told =
     subst (λ (its : FrameView). IsTold captured other its end) equal (subst (λ (its : Verdict). IsTold captured its frame end) same told)

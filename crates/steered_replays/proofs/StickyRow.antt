@@ -25,7 +25,7 @@ flows = sticky_plan Flows 16 4096
 abbrev backends : ShardPlan
 backends = sticky_plan Backends 4 256
 
-row_has_flow : HasFlow row_frame.bytes
+pub row_has_flow : HasFlow row_frame.bytes
 row_has_flow = record {
   plain = record {
     long = omega arith;

@@ -40,7 +40,7 @@ use Rattle.steered_replays.proofs.NoteLemmas.{legal_before, notes_are_found}
 
 -- ---- outcomes
 
-abbrev done : List Call → PlanEnding → RunOutcome
+abbrev pub done : List Call → PlanEnding → RunOutcome
 done calls at_end = record { calls = calls; ending = at_end }
 
 rest_of : (call first : Call) (calls : List Call) (outcome : RunOutcome) (at_end : PlanEnding) →
@@ -49,7 +49,7 @@ rest_of : (call first : Call) (calls : List Call) (outcome : RunOutcome) (at_end
 rest_of call first calls outcome at_end is = ap (λ (o : RunOutcome). record { calls = drop 1 o.calls; ending = o.ending }) is
 
 -- after its first exchanges a plan goes on with what is left of it
-goes_on : (plan : Plan) (asked later : List Exchange) (at_end : PlanEnding) →
+pub goes_on : (plan : Plan) (asked later : List Exchange) (at_end : PlanEnding) →
     plan_outcome plan (replies_in (asked ++ later)) ≡ done (calls_in (asked ++ later)) at_end →
     plan_outcome (plan_after plan (replies_in asked)) (replies_in later) ≡ done (calls_in later) at_end
 goes_on plan [] later at_end is = is
@@ -60,7 +60,7 @@ goes_on (Asks call onward) (one ∷ asked) later at_end is =
     (rest_of call one.call (calls_in (asked ++ later)) (plan_outcome (onward one.reply) (replies_in (asked ++ later))) at_end is)
 
 -- the exchange is of the plan's call
-first_call : (call : Call) (onward : Reply → Plan) (one : Exchange) (later : List Exchange) (at_end : PlanEnding) →
+pub first_call : (call : Call) (onward : Reply → Plan) (one : Exchange) (later : List Exchange) (at_end : PlanEnding) →
     plan_outcome (Asks call onward) (replies_in (one ∷ later)) ≡ done (calls_in (one ∷ later)) at_end → one.call ≡ call
 first_call call onward one later at_end is =
     let calls : call ∷ (plan_outcome (onward one.reply) (replies_in later)).calls ≡ one.call ∷ calls_in later = ap (λ (o : RunOutcome). o.calls) is in
@@ -71,50 +71,50 @@ replies_joined [] ys = refl
 replies_joined (x ∷ xs) ys = ap (λ rest. x.reply ∷ rest) (replies_joined xs ys)
 
 -- a counted verdict ends with it
-counted_ends : (setting : SteeringSizes) (sent left : FrameView) (verdict : Verdict) (last : List Exchange) →
-    plan_outcome (counted_end setting V.Tx sent) (replies_in last) ≡ done (calls_in last) (Ended verdict left) →
-    (verdict ≡ V.Tx) × (left ≡ sent)
-counted_ends setting sent left verdict [] is = (let ends : Waiting ≡ Ended verdict left = ap (λ (o : RunOutcome). o.ending) is in absurd cc ends)
-counted_ends setting sent left verdict (one ∷ rest) is = by one.reply (replies_in rest) (ap (λ (o : RunOutcome). o.ending) is)
+pub counted_ends : (setting : SteeringSizes) (counted : Verdict) (sent left : FrameView) (verdict : Verdict) (last : List Exchange) →
+    plan_outcome (counted_end setting counted sent) (replies_in last) ≡ done (calls_in last) (Ended verdict left) →
+    (verdict ≡ counted) × (left ≡ sent)
+counted_ends setting counted sent left verdict [] is = (let ends : Waiting ≡ Ended verdict left = ap (λ (o : RunOutcome). o.ending) is in absurd cc ends)
+counted_ends setting counted sent left verdict (one ∷ rest) is = by one.reply (replies_in rest) (ap (λ (o : RunOutcome). o.ending) is)
   where
-    ended : Ended V.Tx sent ≡ Ended verdict left → (verdict ≡ V.Tx) × (left ≡ sent)
+    ended : Ended counted sent ≡ Ended verdict left → (verdict ≡ counted) × (left ≡ sent)
     ended is = (cc is, cc is)
 
     by : (reply : Reply) (replies : List Reply) →
-        (plan_outcome (found_or (λ cell. Asks (count_call cell) (λ reply. Ends V.Tx sent)) (Ends V.Tx sent) reply) replies).ending ≡ Ended verdict left →
-        (verdict ≡ V.Tx) × (left ≡ sent)
+        (plan_outcome (found_or (λ cell. Asks (count_call cell) (λ reply. Ends counted sent)) (Ends counted sent) reply) replies).ending ≡ Ended verdict left →
+        (verdict ≡ counted) × (left ≡ sent)
     by (Cell cell) [] is = absurd cc is
     by (Cell cell) (reply ∷ replies) is = ended is
     by _ replies is = ended is
 
 -- ---- a test that is known
 
-on_left : (test : Bool) (one other : Plan) (replies : List Reply) → test ≡ true → plan_after (either test one other) replies ≡ plan_after one replies
+pub on_left : (test : Bool) (one other : Plan) (replies : List Reply) → test ≡ true → plan_after (either test one other) replies ≡ plan_after one replies
 on_left test one other replies is = ap (λ t. plan_after (either t one other) replies) is
 
-on_right : (test : Bool) (one other : Plan) (replies : List Reply) → test ≡ false → plan_after (either test one other) replies ≡ plan_after other replies
+pub on_right : (test : Bool) (one other : Plan) (replies : List Reply) → test ≡ false → plan_after (either test one other) replies ≡ plan_after other replies
 on_right test one other replies is = ap (λ t. plan_after (either t one other) replies) is
 
-abbrev records_of : VipRecord → TunnelRecord → Option Assigned → Records
+abbrev pub records_of : VipRecord → TunnelRecord → Option Assigned → Records
 records_of vip tunnel tracked = record { vip = Some vip; tunnel = Some tunnel; tracked = tracked; slot = None }
 
-abbrev on_state : SteeringSizes → FrameView → VipRecord → CellRef → ℕ → Plan
+abbrev pub on_state : SteeringSizes → FrameView → VipRecord → CellRef → ℕ → Plan
 on_state setting frame vip cell state =
     read cell 0 8 (λ source. read cell 8 8 (λ macs.
     read_note setting frame vip (records_of vip (tunnel_of (bytes_of_number 8 source ++ (bytes_of_number 8 macs ++ bytes_of_number 8 state))) None)))
 
-abbrev on_assigned : SteeringSizes → FrameView → VipRecord → TunnelRecord → Assigned → Plan
+abbrev pub on_assigned : SteeringSizes → FrameView → VipRecord → TunnelRecord → Assigned → Plan
 on_assigned setting frame vip tunnel assigned =
     unless_tracked setting frame (records_of vip tunnel (Some assigned)) (tracked_choice vip (records_of vip tunnel (Some assigned)))
 
-abbrev on_backend : SteeringSizes → FrameView → VipRecord → TunnelRecord → ℕ → ℕ → Plan
+abbrev pub on_backend : SteeringSizes → FrameView → VipRecord → TunnelRecord → ℕ → ℕ → Plan
 on_backend setting frame vip tunnel number word =
     on_assigned setting frame vip tunnel (record { number = number; «record» = Some (backend_of (bytes_of_number 8 word)) })
 
-abbrev on_word : SteeringSizes → FrameView → VipRecord → TunnelRecord → ℕ → Plan
+abbrev pub on_word : SteeringSizes → FrameView → VipRecord → TunnelRecord → ℕ → Plan
 on_word setting frame vip tunnel word = read_backend setting (flow_record_of (bytes_of_number 8 word)).backend (on_assigned setting frame vip tunnel)
 
-abbrev on_note : SteeringSizes → FrameView → VipRecord → TunnelRecord → Plan
+abbrev pub on_note : SteeringSizes → FrameView → VipRecord → TunnelRecord → Plan
 on_note setting frame vip tunnel =
     record_of setting Flows (flow_bytes_of frame.bytes) (on_word setting frame vip tunnel) (read_slot setting frame (records_of vip tunnel None))
 
@@ -334,7 +334,7 @@ module _ (sticks : FlowsStick) (setting : SteeringSizes) (frame : FrameView) (tu
 
   ended : (verdict ≡ V.Tx) × (left ≡ frame_after (Some tunnel) (Tx number backend.address false) frame)
   ended =
-      counted_ends setting (frame_after (Some tunnel) (Tx number backend.address false) frame) left verdict last
+      counted_ends setting V.Tx (frame_after (Some tunnel) (Tx number backend.address false) frame) left verdict last
       (subst (λ (p : Plan). plan_outcome p (replies_in last) ≡ done (calls_in last) (Ended verdict left)) chosen
       (goes_on (steering setting frame) asked last (Ended verdict left)
       (subst (λ (xs : List Exchange). plan_outcome (steering setting frame) (replies_in xs) ≡ done (calls_in xs) (Ended verdict left)) all_asked ends.plan)))

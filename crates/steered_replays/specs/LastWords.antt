@@ -1,5 +1,5 @@
--- The numbers with which the values of the lookup table and of the backends begin at the end of a replay, as its journals tell them: for each
--- place the one of its last Update that was done.
+-- The numbers that the last Updates which were done put at the front of the values of the lookup table and of the backends, as a replay's
+-- journals have them. Stores are not looked at.
 use Rattle.std.specs.Prelude.{◌≡◌, ℕ, zero, suc, ◌+◌, ◌*◌, ◌<◌, nat_lt, List, [], ◌∷◌, Some, length, replicate, set, slice_get}
 use Rattle.std.specs.Prelude.{slice_index, if◌then◌else◌}
 use Rattle.wire.specs.declared.records.Sent.{Sent}

@@ -7,4 +7,6 @@ pub mod LastWords
 pub mod Fleets
 pub mod StickyFlows
 pub mod StickyReplays
+pub mod StrangerRuns
 pub mod StickyRow
+pub mod StrangerRow

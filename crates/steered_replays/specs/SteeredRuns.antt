@@ -25,7 +25,7 @@ use Rattle.conntrack.specs.Results.{IsResult}
 use Rattle.steer.specs.SteeringLaws.{of_size, shipped_program}
 use Rattle.journals.specs.JournalsView.{JournalsView, entries_at}
 use Rattle.shards.specs.declared.deeds.Deed.{Deed}
-use Rattle.shards.specs.Passes.{PassView}
+use Rattle.shards.specs.Passes.{PassView, own_at}
 use Rattle.shard_port.specs.PassSessions.{HasSessions, HasRefusedSessions, session_at}
 use Rattle.runs.specs.FrameRuns.{HasRun, WasRefused}
 use Rattle.control.specs.declared.command.Command.{Command}
@@ -131,24 +131,23 @@ pub record IsSteeredReplay (size : ℕ) (program : Program) (script : List Comma
 
 -- ---- the runs stand in the journals
 
--- of a worker's own entries in a shard's journal, newest first: those of its later runs, those of this run's session there, and those of its
--- earlier runs
-pub record StandsAmong (worker number : ℕ) (exchanges : List Exchange) (own : List Entry) : Type 0 where
+-- of a worker's own entries in a shard's journal, newest first: some newer ones, those of this run's session there, and those that the worker
+-- had there when the run began
+pub record StandsAmong (worker number : ℕ) (exchanges : List Exchange) (older own : List Entry) : Type 0 where
   pub newer : List Entry
-  pub older : List Entry
   pub own_are : own ≡ newer ++ (reverse (session_at worker number exchanges) ++ older)
 
-abbrev pub StandsInJournals : ℕ → ℕ → List Exchange → JournalsView → Type 0
-StandsInJournals count worker exchanges journals =
+abbrev pub StandsInJournals : ℕ → ℕ → List Exchange → PassView → JournalsView → Type 0
+StandsInJournals count worker exchanges before journals =
     (number : ℕ) → number < count →
-    StandsAmong worker number exchanges (own_entries (Worker worker) (reverse (entries_at journals number)))
+    StandsAmong worker number exchanges (own_at before number) (own_entries (Worker worker) (reverse (entries_at journals number)))
 
 -- so it is of a run that ended
 abbrev pub StandsIfEnded : (plan : ℕ → ShardPlan) (count : ℕ) (setting : SteeringSizes) (worker : ℕ) (journals : JournalsView)
     (captured : Sent) (before : PassView) (end : RunEnd) (after : PassView)
     → IsSteeredRun plan count setting worker captured before end after → Type 0
 StandsIfEnded plan count setting worker journals captured before Stopped after run = Unit {0}
-StandsIfEnded plan count setting worker journals captured before end after run = StandsInJournals count worker run.exchanges journals
+StandsIfEnded plan count setting worker journals captured before end after run = StandsInJournals count worker run.exchanges before journals
 
 abbrev pub FateStands : (plan : ℕ → ShardPlan) (count : ℕ) (setting : SteeringSizes) (records : List Sent) (worker : ℕ)
     (journals : JournalsView) (runs : List (RunInPlace (IsRunAt (IsSteeredRun plan count setting worker) records))) (place number : ℕ)

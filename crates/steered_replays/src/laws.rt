@@ -23,6 +23,8 @@ ghost use Rattle.steered_replays.specs.TablesAtEnd.{MomentsExist, TablesFollow, 
 ghost use Rattle.steered_replays.specs.TablesAtEnd.{MetNoFullJournal, AreServices, AreTablesAtEnd, carried_out, maps_at_end};
 ghost use Rattle.steered_replays.specs.Fleets.{SameTables, OwnersAreSentTo, SomeAreSentTo, FramesAreSent, StrangersAgree, StrangersMove};
 ghost use Rattle.steered_replays.specs.Fleets.{StrangersMoveInReplays};
+ghost use Rattle.steered_replays.specs.StrangerRuns.{MomentsLieAnywhere, StrangersAreSent, StrangersMoveBetweenRuns};
+ghost use Rattle.steered_replays.specs.StrangerRow.{StrangerRow};
 ghost use Rattle.steered_replays.specs.Totals.{AreTotals, TotalsAreExact};
 
 use conntrack::laws::{finished_runs_are_results, flows_stick};
@@ -54,8 +56,8 @@ pub fn replays_are_steered()
     steers();
 }
 
-/// What such a run asked and was answered, by which its record is counted and sent or not, is in the journals: in each shard's its session is
-/// one part of its worker's entries, behind those of the worker's earlier runs and before those of later ones.
+/// What such a run asked and was answered, if no full journal stopped it, is in the journals: in each shard's its session is one part of its
+/// worker's entries, right behind those that the worker had there when the run began.
 pub fn fates_stand_in_journals()
     ensures { FatesStand }
 {}
@@ -134,6 +136,20 @@ pub fn strangers_move_in_replays()
     strangers_move();
 }
 
+/// So it is of the runs of a replay. At each moment of it, whenever the run of a record comes past its flow's note (its service is not tracked,
+/// its Lookup of the flow finds none, or the noted backend is down), and reads its flow's slot and then the owner's record right behind that
+/// moment's histories, the record's frame is sent through the tunnel to the owner of the slot by the population of the backends that the
+/// commands so far have left up; where none is up, it is dropped. Two such runs of a flow, before a `down` that was carried out and behind
+/// it, send to the same backend exactly if the slot has the same owner. A moment may lie behind each Load between two commands.
+pub fn strangers_go_to_owners()
+    ensures runs { StrangersAreSent }
+    ensures moved { StrangersMoveBetweenRuns }
+    ensures anywhere { MomentsLieAnywhere }
+{
+    tables_follow();
+    strangers_agree();
+}
+
 /// What the laws on replays above say of every replay of an image that is the shipped one for a lookup table of `size` slots and a flow
 /// table of `notes` notes, however it was made.
 pub fn shipped_replays_are_steered(verified: &Verified, notes: u32, size: u32)
@@ -179,9 +195,9 @@ pub fn noted_flows_stick()
     flows_stick();
 }
 
-/// So flows stay in every replay of the shipped program. Whenever the run of a record got past the guards of a tracked service, its Lookup of
-/// the flow stands in the journal of the replay's shard of flows while a backend is noted there, and the backend's record says that it is up
-/// when the run reads it, the record's frame is sent through the tunnel to this backend.
+/// So flows stay in every replay of the shipped program. Whenever the run of a record, which no full journal stopped, got past the guards of
+/// a tracked service, its Lookup of the flow stands in the journal of the replay's shard of flows while a backend is noted there, and the
+/// backend's record says that it is up when the run reads it, the record's frame is sent through the tunnel to this backend.
 pub fn flows_stay_in_replays()
     ensures { FlowsStayInReplays }
 {
@@ -191,6 +207,13 @@ pub fn flows_stay_in_replays()
 /// One such run, computed, with the histories of both shards.
 pub fn a_noted_flow_sticks()
     ensures { StickyRow }
+{
+    finished_runs_are_results();
+}
+
+/// One run without a note, computed, with the histories of both shards.
+pub fn a_stranger_goes_to_its_owner()
+    ensures { StrangerRow }
 {
     finished_runs_are_results();
 }

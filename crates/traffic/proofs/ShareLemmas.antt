@@ -9,10 +9,10 @@ use Rattle.maglev.specs.Population.{share_of}
 use Rattle.traffic.specs.Shares.{AreShares, share_counted, entry_gains, gains_below, share_at}
 
 -- 1 where the slot has the word
-abbrev ones : ℕ → ℕ → ℕ
+abbrev pub ones : ℕ → ℕ → ℕ
 ones word slot = cond (eqb slot word) 1 0
 
-share_more : (word : ℕ) (table : List ℕ) (i : ℕ) → i < length table
+pub share_more : (word : ℕ) (table : List ℕ) (i : ℕ) → i < length table
     → share_of word (take (i + 1) table) ≡ share_of word (take i table) + ones word (get_or table i 0)
 share_more word table i below = sum_by_more (ones word) table i 0 below
 

@@ -6,10 +6,12 @@ pub mod Readings
 pub mod SummaryText
 pub mod RecordLines
 pub mod NotSent
+pub mod Tallies
 pub mod Holders
 pub mod WrittenMaps
 pub mod MapLaws
 pub mod Shares
 pub mod TableText
+pub mod Leaving
 pub mod LastShares
 pub mod Applied

@@ -3,13 +3,17 @@
 
 mod applying;
 mod backends;
+mod counts;
 mod flow_columns;
+mod frame_tally;
 mod kind;
+pub mod laws;
 mod moves;
 mod not_sent;
 mod printing;
 mod readings;
 mod record_line;
+mod record_tally;
 mod share_lines;
 mod shares;
 mod tables;
@@ -18,12 +22,13 @@ mod written_maps;
 
 pub use applying::words_after;
 pub use backends::Backends;
+pub use frame_tally::{FrameTally, summary};
 pub use kind::FrameKind;
-pub use moves::{moved_places, moves_in};
-pub use not_sent::{NotSent, by_program, is_for, services};
-pub use printing::summary;
+pub use moves::moved_places;
+pub use not_sent::{NotSent, is_for};
 pub use readings::{AlteredCapture, Reading, altered_capture};
 pub use record_line::{LineVerdict, RecordLine, ReportForm, case_word};
+pub use record_tally::{RecordTally, by_program, services};
 pub use share_lines::last_shares;
 pub use shares::{least_moves, moved_slots, share_of, shares_of};
 pub use tables::{Refused, Tables, tables_of};

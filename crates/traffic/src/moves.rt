@@ -1,9 +1,11 @@
 //! Flows that are sent to another backend than before.
 
 ghost use Rattle.std.specs.Prelude.{◌≡◌, ◌+◌, ◌^◌, ◌<◌, ◌≤◌, ◌∷◌, ◌++◌, [], ℕ};
-ghost use Rattle.std.specs.Prelude.{None, IfOk, OnOk, length, if◌then◌else◌};
+ghost use Rattle.std.specs.Prelude.{None, IfOk, OnOk, List, length, if◌then◌else◌};
+ghost use Rattle.wire.specs.declared.records.Sent.{Sent as Frame};
 ghost use Rattle.traffic.specs.Counting.{address_at, one_if};
-ghost use Rattle.traffic.specs.Moving.{inner_flow, last_after, last_in, moved_places, moves_by, moves_in, passage_of};
+ghost use Rattle.traffic.specs.Moving.{inner_flow, last_after, last_in, moved_places, moves_by, passage_of};
+ghost use Rattle.traffic.specs.Tallies.{AreLast, AreMoves};
 
 use crate::tunnels::target_of;
 use std::alloc::{AllocError, Global};
@@ -81,18 +83,29 @@ impl LastTargets {
             }
         }
     }
-}
 
-/// How many of the frames, in their order, went through a tunnel to another address than the last frame of their flow before them.
-pub fn moves_in(alloc: Global, frames: &[Sent]) -> Result<u64, AllocError>
-    ensures { IfOk result (λ count. count ≡ moves_in frames.now) }
-{
-    let mut table = LastTargets::none(alloc);
-    let mut count = 0;
-    'frames: for sent in frames {
-        count += one_if(table.note(&sent.bytes)?);
+    /// Notes where the next frames go, of which the first has this place, and returns the places of those whose flow's last frame went
+    /// elsewhere.
+    fn note_all(
+        &mut self,
+        alloc: Global,
+        frames: &[Sent],
+        first: usize,
+    ) -> Result<Vec<usize>, AllocError>
+        requires room { first + length frames.now < 2 ^ 64 }
+        ensures last { OnOk result ((past : List Frame) → AreLast past self.old → AreLast (past ++ frames.now) self.new) }
+        ensures places { IfOk result (λ places. (past : List Frame) → AreLast past self.old → first ≡ length past →
+            moved_places (past ++ frames.now) ≡ moved_places past ++ places.items) }
+    {
+        let mut places = Vec::new(alloc);
+        let mut place = first;
+        'frames: for sent in frames {
+            let is_moved = self.note(&sent.bytes)?;
+            put_place(&mut places, is_moved, place)?;
+            place += 1;
+        }
+        Ok(places)
     }
-    Ok(count)
 }
 
 /// Appends a place, if its frame is moved.
@@ -105,18 +118,62 @@ fn put_place(places: &mut Vec<usize>, is_moved: bool, place: usize) -> Result<()
     Ok(())
 }
 
+/// How many of the frames that were noted so far, in their order, went through a tunnel to another address than the last frame of their flow
+/// before them.
+#[derive(Drop)]
+pub(crate) struct Moves {
+    table: LastTargets,
+    /// How many frames were noted.
+    passed: usize,
+    count: u64,
+}
+
+impl Moves {
+    /// No frame was noted.
+    pub(crate) fn none(alloc: Global) -> Moves
+        ensures { AreMoves [] result }
+    {
+        Moves {
+            table: LastTargets::none(alloc),
+            passed: 0,
+            count: 0,
+        }
+    }
+
+    /// How many went elsewhere.
+    pub(crate) fn count(&self) -> u64
+        ensures { result ≡ self.now.count }
+    {
+        self.count
+    }
+
+    /// Notes the next frames, and returns the places of those that went elsewhere, counted from 0 from the first frame on that was ever noted.
+    /// It fails for lack of memory, and where there would be 2^64 frames.
+    pub(crate) fn note(&mut self, alloc: Global, frames: &[Sent]) -> Result<Vec<usize>, AllocError>
+        ensures moves { OnOk result ((past : List Frame) → AreMoves past self.old → AreMoves (past ++ frames.now) self.new) }
+        ensures places { IfOk result (λ places. (past : List Frame) → AreMoves past self.old →
+            moved_places (past ++ frames.now) ≡ moved_places past ++ places.items) }
+    {
+        let first = self.passed;
+        let Some(passed) = first.checked_add(frames.len()) else {
+            return Err(AllocError);
+        };
+        let places = self.table.note_all(alloc, frames, first)?;
+        let Some(count) = self.count.checked_add(places.len() as u64) else {
+            return Err(AllocError);
+        };
+        self.passed = passed;
+        self.count = count;
+        Ok(places)
+    }
+}
+
 /// The places, counted from 0, of the frames that went through a tunnel to another address than the last frame of their flow before them.
 /// It fails only for lack of memory.
 pub fn moved_places(alloc: Global, frames: &[Sent]) -> Result<Vec<usize>, AllocError>
     ensures { IfOk result (λ places. places.items ≡ moved_places frames.now) }
 {
-    let mut table = LastTargets::none(alloc);
-    let mut places = Vec::new(alloc);
-    let mut place = 0;
-    'frames: for sent in frames {
-        let is_moved = table.note(&sent.bytes)?;
-        put_place(&mut places, is_moved, place)?;
-        place += 1;
-    }
+    let mut moves = Moves::none(alloc);
+    let places = moves.note(alloc, frames)?;
     Ok(places)
 }

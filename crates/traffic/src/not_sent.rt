@@ -1,19 +1,18 @@
 //! Which services the frames are for, and why frames of flows were not sent; of another program than the shipped one, what became of them.
 
 ghost use Rattle.std.specs.Prelude.{◌≡◌, ◌++◌, ◌≤◌, IfOk, OnOk, length, slice_get, string_bytes};
-ghost use Rattle.traffic.specs.NotSent.{how_many_for, is_for, is_not_sent, is_record_not_sent, is_to, line_of_command, not_sent_below};
-ghost use Rattle.traffic.specs.NotSent.{not_sent_line};
-ghost use Rattle.traffic.specs.NotSent.{reason_lines, reason_phrase, service_line, service_lines, service_named, service_phrase};
-ghost use Rattle.traffic.specs.NotSent.{services_text};
-ghost use Rattle.traffic.specs.NotSent.{words_of_service};
-ghost use Rattle.traffic.specs.NotSent.{by_program_text, end_line, end_lines_text, end_phrase, how_many_ended, is_end};
+ghost use Rattle.traffic.specs.NotSent.{end_phrase, how_many_ended, how_many_for, is_end, is_for, is_not_sent, is_record_not_sent, is_to};
+ghost use Rattle.traffic.specs.NotSent.{not_sent_below, reason_phrase, service_named, service_phrase, words_of_service};
+ghost use Rattle.traffic.specs.Tallies.{counted_end, counted_ends, counted_line, counted_lines, counted_reasons, place_of_end, place_of_reason};
+ghost use Rattle.traffic.specs.Tallies.{reason_line};
 
+use crate::counts::count_at;
 use crate::kind::FrameKind;
 use crate::moves::one_if;
 use crate::printing::{dotted, put_line};
 use crate::record_line::LineVerdict;
 use conntrack::Service;
-use control::{Action, Command, Script, transport_text};
+use control::{Action, Command, transport_text};
 use std::alloc::{AllocError, Global};
 use wire::{Sent, word_at};
 
@@ -32,7 +31,7 @@ pub enum NotSent {
 }
 
 /// The reasons, in the order in which they are printed.
-const REASONS: [NotSent; 4] = [
+pub(crate) const REASONS: [NotSent; 4] = [
     NotSent::NoService,
     NotSent::Expired,
     NotSent::Large,
@@ -84,8 +83,20 @@ impl NotSent {
         self.applies(FrameKind::of(&sent.bytes), *verdict)
     }
 
+    /// The place of the reason in their order, from 0.
+    fn place(self) -> usize
+        ensures { result ≡ place_of_reason self }
+    {
+        match self {
+            NotSent::NoService => 0,
+            NotSent::Expired => 1,
+            NotSent::Large => 2,
+            NotSent::NoBackend => 3,
+        }
+    }
+
     /// How many records were not sent for this reason.
-    fn count(self, frames: &[Sent], verdicts: &[LineVerdict]) -> u64
+    pub(crate) fn count(self, frames: &[Sent], verdicts: &[LineVerdict]) -> u64
         ensures { result ≡ not_sent_below self frames.now verdicts.now (length frames.now) }
     {
         let mut count = 0;
@@ -96,18 +107,34 @@ impl NotSent {
     }
 }
 
-/// Appends a line for each reason for which a record was not sent.
-fn put_reasons(
+/// Appends the line of a reason, if a record was not sent for it.
+fn put_reason(
+    alloc: Global,
+    text: &mut String,
+    reason: NotSent,
+    counts: &[u64],
+) -> Result<(), AllocError>
+    ensures { OnOk result (string_bytes text.new ≡ string_bytes text.old ++ reason_line counts.now reason) }
+{
+    put_line(
+        alloc,
+        text,
+        count_at(counts, reason.place()),
+        reason.phrase(),
+    )
+}
+
+/// Appends a line for each of these reasons for which a record was not sent, by the counts of all reasons in their order.
+pub(crate) fn put_reasons(
     alloc: Global,
     text: &mut String,
     reasons: &[NotSent],
-    frames: &[Sent],
-    verdicts: &[LineVerdict],
+    counts: &[u64],
 ) -> Result<(), AllocError>
-    ensures { OnOk result (string_bytes text.new ≡ string_bytes text.old ++ reason_lines frames.now verdicts.now reasons.now) }
+    ensures { OnOk result (string_bytes text.new ≡ string_bytes text.old ++ counted_reasons counts.now reasons.now) }
 {
     'reasons: for reason in reasons {
-        put_line(alloc, text, reason.count(frames, verdicts), reason.phrase())?;
+        put_reason(alloc, text, *reason, counts)?;
     }
     Ok(())
 }
@@ -135,7 +162,7 @@ pub fn is_for(service: &Service, frame: &[u8]) -> bool
 }
 
 /// How many of the frames have.
-fn count_for(service: &Service, frames: &[Sent]) -> usize
+pub(crate) fn count_for(service: &Service, frames: &[Sent]) -> usize
     ensures { result ≡ how_many_for service.now frames.now }
 {
     frames
@@ -171,72 +198,44 @@ fn phrase_of(alloc: Global, address: &str, port: u16, transport: &str) -> Result
     format!(in alloc; "for {address} port {port} {transport}")
 }
 
-/// Appends the line of a service, if a frame is for it.
-fn put_service(
-    alloc: Global,
-    text: &mut String,
-    service: &Service,
-    frames: &[Sent],
-) -> Result<(), AllocError>
-    ensures { OnOk result (string_bytes text.new ≡ string_bytes text.old ++ service_line frames.now service.now) }
-{
-    let phrase = service_phrase(alloc, service)?;
-    put_line(
-        alloc,
-        text,
-        count_for(service, frames) as u64,
-        phrase.as_str(),
-    )
-}
-
-/// Appends the line of the service that a command names.
+/// Appends the line of the service that a command names, if so many frames are for it and there are some.
 fn put_command(
     alloc: Global,
     text: &mut String,
     command: &Command,
-    frames: &[Sent],
+    count: u64,
 ) -> Result<(), AllocError>
-    ensures { OnOk result (string_bytes text.new ≡ string_bytes text.old ++ line_of_command frames.now (service_named command.now.action)) }
+    ensures { OnOk result (string_bytes text.new ≡ string_bytes text.old ++ counted_line count (service_named command.now.action)) }
 {
     match command.action {
-        Action::Vip { service, .. } => put_service(alloc, text, &service, frames),
+        Action::Vip { service, .. } => {
+            let phrase = service_phrase(alloc, &service)?;
+            put_line(alloc, text, count, phrase.as_str())
+        }
         _ => Ok(()),
     }
 }
 
-/// Appends the lines of all services of a script.
-fn put_services(
+/// Appends the lines of all services of a script, where these are the counts of their frames, one for each command.
+pub(crate) fn put_services(
     alloc: Global,
     text: &mut String,
     script: &[Command],
-    frames: &[Sent],
+    counts: &[u64],
 ) -> Result<(), AllocError>
-    ensures { OnOk result (string_bytes text.new ≡ string_bytes text.old ++ service_lines frames.now script.now) }
+    ensures { OnOk result (length counts.now ≡ length script.now →
+        string_bytes text.new ≡ string_bytes text.old ++ counted_lines script.now counts.now) }
 {
+    let mut place = 0;
     'commands: for command in script {
-        put_command(alloc, text, command, frames)?;
+        put_command(alloc, text, command, count_at(counts, place))?;
+        place += 1;
     }
     Ok(())
 }
 
-/// How many of the captured frames are for each service of the script, in its order, and how many frames of flows were not sent for which
-/// reason, by the verdicts of their records: a line for each service and each reason that has a frame. It fails only for lack of memory.
-pub fn services(
-    alloc: Global,
-    frames: &[Sent],
-    script: &Script,
-    verdicts: &[LineVerdict],
-) -> Result<String, AllocError>
-    ensures { IfOk result (λ text. string_bytes text ≡ services_text frames.now script.now verdicts.now) }
-{
-    let mut text = String::new(alloc);
-    put_services(alloc, &mut text, script.commands(), frames)?;
-    put_reasons(alloc, &mut text, &REASONS, frames, verdicts)?;
-    Ok(text)
-}
-
 /// The ends of runs that have lines of their own, in the order in which they are printed.
-const ENDS: [LineVerdict; 4] = [
+pub(crate) const ENDS: [LineVerdict; 4] = [
     LineVerdict::Pass,
     LineVerdict::Drop,
     LineVerdict::Aborted,
@@ -258,7 +257,7 @@ fn is_end(end: LineVerdict, verdict: LineVerdict) -> bool
 }
 
 /// How many of the records ended so.
-fn count_ended(end: LineVerdict, verdicts: &[LineVerdict]) -> usize
+pub(crate) fn count_ended(end: LineVerdict, verdicts: &[LineVerdict]) -> usize
     ensures { result ≡ how_many_ended end verdicts.now }
 {
     verdicts
@@ -281,36 +280,48 @@ fn end_phrase(end: LineVerdict) -> &'static str
     }
 }
 
-/// Appends a line for each of these ends that a record has.
-fn put_ends(
+/// The place of an end in the order of those that have lines, from 0; the others come behind.
+fn place_of_end(end: LineVerdict) -> usize
+    ensures { result ≡ place_of_end end }
+{
+    match end {
+        LineVerdict::Pass => 0,
+        LineVerdict::Drop => 1,
+        LineVerdict::Aborted => 2,
+        LineVerdict::Tx => 3,
+        LineVerdict::Short => 4,
+        LineVerdict::Stopped => 5,
+    }
+}
+
+/// Appends the line of an end, if a record has it.
+fn put_end(
+    alloc: Global,
+    text: &mut String,
+    end: LineVerdict,
+    counts: &[u64],
+) -> Result<(), AllocError>
+    ensures { OnOk result (string_bytes text.new ≡ string_bytes text.old ++ counted_end counts.now end) }
+{
+    put_line(
+        alloc,
+        text,
+        count_at(counts, place_of_end(end)),
+        end_phrase(end),
+    )
+}
+
+/// Appends a line for each of these ends that a record has, by the counts of those that have lines in their order.
+pub(crate) fn put_ends(
     alloc: Global,
     text: &mut String,
     ends: &[LineVerdict],
-    verdicts: &[LineVerdict],
+    counts: &[u64],
 ) -> Result<(), AllocError>
-    ensures { OnOk result (string_bytes text.new ≡ string_bytes text.old ++ end_lines_text verdicts.now ends.now) }
+    ensures { OnOk result (string_bytes text.new ≡ string_bytes text.old ++ counted_ends counts.now ends.now) }
 {
     'ends: for end in ends {
-        let count = count_ended(*end, verdicts) as u64;
-        put_line(alloc, text, count, end_phrase(*end))?;
+        put_end(alloc, text, *end, counts)?;
     }
     Ok(())
-}
-
-/// The same of another program than the shipped one, whose reasons nobody knows: how many of the captured frames are for each service of
-/// the script, in its order, and how many frames the program passed, dropped, aborted and sent: a line for each that there is. It fails only
-/// for lack of memory.
-pub fn by_program(
-    alloc: Global,
-    frames: &[Sent],
-    script: &Script,
-    verdicts: &[LineVerdict],
-) -> Result<String, AllocError>
-    ensures { IfOk result (λ text. string_bytes text ≡ by_program_text frames.now script.now verdicts.now) }
-{
-    let commands = script.commands();
-    let mut text = String::new(alloc);
-    put_services(alloc, &mut text, commands, frames)?;
-    put_ends(alloc, &mut text, &ENDS, verdicts)?;
-    Ok(text)
 }

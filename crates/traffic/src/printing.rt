@@ -1,18 +1,20 @@
-//! The summary of a replay's traffic, for people.
+//! The lines of a replay's traffic, for people.
 
-ghost use Rattle.std.specs.Prelude.{◌≡◌, ◌++◌, ◌<◌, ◌^◌, IfOk, OnOk, string_bytes};
-ghost use Rattle.traffic.specs.SummaryText.{address_number_text, count_line, dotted, frames_word, IsSummary, IsSummaryOfSent, line_about, line_in};
-ghost use Rattle.traffic.specs.SummaryText.{target_line};
-ghost use Rattle.traffic.specs.SummaryText.{lines_in, phrase_of, target_phrase, targets_text};
+ghost use Rattle.std.specs.Prelude.{◌≡◌, ◌++◌, ◌<◌, ◌^◌, ℕ, IfOk, OnOk, List, string_bytes};
+ghost use Rattle.wire.specs.declared.records.Sent.{Sent as Frame};
+ghost use Rattle.traffic.specs.Counting.{count_to, how_many_to};
+ghost use Rattle.traffic.specs.Moving.{moves_in};
+ghost use Rattle.traffic.specs.SummaryText.{address_number_text, count_line, dotted, frames_word, IsSummaryOfSent, line_about};
+ghost use Rattle.traffic.specs.SummaryText.{phrase_of, target_line, target_phrase, targets_text};
+ghost use Rattle.traffic.specs.Tallies.{kind_line, kind_lines};
 
+use crate::counts::count_at;
 use crate::kind::FrameKind;
-use crate::moves::moves_in;
 use crate::tunnels::Targets;
 use std::alloc::{AllocError, Global};
-use wire::Sent;
 
 /// The kinds, in the order in which they are printed.
-const KINDS: [FrameKind; 13] = [
+pub(crate) const KINDS: [FrameKind; 13] = [
     FrameKind::Short,
     FrameKind::Ipv6,
     FrameKind::Arp,
@@ -86,24 +88,24 @@ fn put_kind(
     alloc: Global,
     text: &mut String,
     kind: FrameKind,
-    frames: &[Sent],
+    counts: &[u64],
 ) -> Result<(), AllocError>
-    ensures { OnOk result (string_bytes text.new ≡ string_bytes text.old ++ line_in frames.now kind) }
+    ensures { OnOk result (string_bytes text.new ≡ string_bytes text.old ++ kind_line counts.now kind) }
 {
-    put_line(alloc, text, kind.count_in(frames) as u64, phrase_of(kind))
+    put_line(alloc, text, count_at(counts, kind.place()), phrase_of(kind))
 }
 
-/// Appends a line for each of the kinds that has a frame.
-fn put_kinds(
+/// Appends a line for each of the kinds that has a frame, by the counts of all kinds in their order.
+pub(crate) fn put_kinds(
     alloc: Global,
     text: &mut String,
     kinds: &[FrameKind],
-    frames: &[Sent],
+    counts: &[u64],
 ) -> Result<(), AllocError>
-    ensures { OnOk result (string_bytes text.new ≡ string_bytes text.old ++ lines_in frames.now kinds.now) }
+    ensures { OnOk result (string_bytes text.new ≡ string_bytes text.old ++ kind_lines counts.now kinds.now) }
 {
     'kinds: for kind in kinds {
-        put_kind(alloc, text, *kind, frames)?;
+        put_kind(alloc, text, *kind, counts)?;
     }
     Ok(())
 }
@@ -160,24 +162,18 @@ fn put_targets(alloc: Global, text: &mut String, targets: &[(u32, u64)]) -> Resu
     Ok(())
 }
 
-/// Appends what is said of sent frames.
-fn put_sent(alloc: Global, text: &mut String, sent: &[Sent]) -> Result<(), AllocError>
-    ensures { OnOk result (IsSummaryOfSent sent.now (string_bytes text.old) (string_bytes text.new)) }
+/// Appends what is said of sent frames, of which so many go where, and so many went elsewhere than the frame of their flow before.
+pub(crate) fn put_sent(
+    alloc: Global,
+    text: &mut String,
+    counts: &Targets,
+    moves: u64,
+) -> Result<(), AllocError>
+    ensures { OnOk result ((sent : List Frame) → ((address : ℕ) → count_to counts.now address ≡ how_many_to address sent) →
+        moves ≡ moves_in sent → IsSummaryOfSent sent (string_bytes text.old) (string_bytes text.new)) }
 {
-    let counts = Targets::of(alloc, sent)?;
     let targets = counts.list(alloc)?;
     put_targets(alloc, text, &targets)?;
-    put_line(alloc, text, moves_in(alloc, sent)?, MOVED)?;
+    put_line(alloc, text, moves, MOVED)?;
     Ok(())
-}
-
-/// What a replay's traffic was: a line for each kind of frame that the capture has; a line for each address to which frames were sent, by
-/// rising address; and a line for those that went elsewhere than the frame of their flow before.
-pub fn summary(alloc: Global, captured: &[Sent], sent: &[Sent]) -> Result<String, AllocError>
-    ensures { IfOk result (λ text. IsSummary captured.now sent.now (string_bytes text)) }
-{
-    let mut text = String::new(alloc);
-    put_kinds(alloc, &mut text, &KINDS, captured)?;
-    put_sent(alloc, &mut text, sent)?;
-    Ok(text)
 }

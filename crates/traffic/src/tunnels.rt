@@ -1,6 +1,6 @@
 //! Where sent frames go: the addresses of their tunnels, and how many go to each.
 
-ghost use Rattle.std.specs.Prelude.{◌≡◌, ◌+◌, ◌^◌, ◌<◌, ℕ, IfOk, OnOk};
+ghost use Rattle.std.specs.Prelude.{◌≡◌, ◌+◌, ℕ, IfOk, OnOk};
 ghost use Rattle.std.specs.Ordering.{nat_cmp};
 ghost use Rattle.std.specs.List.Sorted.{IsStrictlySortedBy};
 ghost use Rattle.std.specs.Map.{keys_of};
@@ -29,7 +29,7 @@ pub struct Targets {
 
 impl Targets {
     /// No frame was counted.
-    fn none(alloc: Global) -> Targets
+    pub(crate) fn none(alloc: Global) -> Targets
         ensures { (address : ℕ) → count_to result address ≡ 0 }
     {
         Targets {
@@ -55,19 +55,19 @@ impl Targets {
             .collect(alloc)
     }
 
-    /// Counts one frame more.
+    /// Counts one frame more. It fails for lack of memory, and where the count would reach 2^64.
     fn add(&mut self, address: u32) -> Result<(), AllocError>
-        requires room { count_to self.old address + 1 < 2 ^ 64 }
         ensures { OnOk result (HasOneMoreFor self.old self.new address) }
     {
-        let count = self.count(address) + 1;
+        let Some(count) = self.count(address).checked_add(1) else {
+            return Err(AllocError);
+        };
         self.counts.insert(address, count)?;
         Ok(())
     }
 
     /// Counts a frame, if it goes through a tunnel.
     fn note(&mut self, frame: &[u8]) -> Result<(), AllocError>
-        requires room { (address : ℕ) → count_to self.old address + 1 < 2 ^ 64 }
         ensures { OnOk result
             ((address : ℕ) → count_to self.new address ≡ count_to self.old address + one_if (is_target_address address (target_of frame.now))) }
     {
@@ -77,14 +77,13 @@ impl Targets {
         }
     }
 
-    /// How many of the frames go where.
-    pub fn of(alloc: Global, frames: &[Sent]) -> Result<Targets, AllocError>
-        ensures counts { IfOk result (λ targets. (address : ℕ) → count_to targets address ≡ how_many_to address frames.now) }
+    /// Counts these frames too.
+    pub(crate) fn note_all(&mut self, frames: &[Sent]) -> Result<(), AllocError>
+        ensures { OnOk result ((address : ℕ) → count_to self.new address ≡ count_to self.old address + how_many_to address frames.now) }
     {
-        let mut targets = Targets::none(alloc);
         'frames: for sent in frames {
-            targets.note(&sent.bytes)?;
+            self.note(&sent.bytes)?;
         }
-        Ok(targets)
+        Ok(())
     }
 }

@@ -1,15 +1,16 @@
 -- What is taken of a capture, one piece after another.
-use Rattle.std.proofs.Common.{◌≡◌, ◌∙◌, ◌++◌, ℕ, List, [], Option, Some, None, ap, length, map, refl, subst, sym}
+use Rattle.std.proofs.Common.{◌≡◌, ◌∙◌, ◌+◌, ◌++◌, ◌∷◌, ℕ, Bool, cond, List, [], Option, Some, None, ap, append_assoc, append-nil, arith, length, length-append, map, refl, subst, sym}
 use Rattle.wire.specs.declared.records.Sent.{Sent}
 use Rattle.control.specs.declared.command.Command.{Command}
 use Rattle.control.specs.Renumbering.{at_frames}
 use Rattle.fleet.specs.declared.numbering.Numbering.{Numbering}
 use Rattle.fleet.specs.declared.part.Part.{Part}
 use Rattle.fleet.specs.Numbers.{AreNumbered}
-use Rattle.fleet.specs.Parts.{number_in_part}
-use Rattle.fleet.proofs.shared.PartLemmas.{part_of_pieces}
+use Rattle.fleet.specs.Parts.{filter_at, is_in_part, number_in_part}
+use Rattle.fleet.proofs.shared.PartLemmas.{of_pieces, part_of_pieces}
 use Rattle.xlb_commands.specs.Parts.{command_frames, records_in, records_next, script_in}
-use Rattle.xlb_commands.specs.Shares.{AreNumbers, IsPartway, script_at}
+use Rattle.xlb_commands.specs.declared.share.Share.{Share}
+use Rattle.xlb_commands.specs.Shares.{AreNumbers, AreRecordsTaken, GoesPast, HasPassed, IsPartway, script_at}
 
 pub none_taken : (part : Option Part) → records_in part [] ≡ []
 none_taken None = refl
@@ -22,6 +23,55 @@ taken_both None xs ys count counted = refl
 taken_both (Some part) xs ys count counted =
     part_of_pieces part.of part.lost part.number xs ys
     ∙ ap (λ (n : ℕ). records_in (Some part) xs ++ records_next (Some part) n ys) (sym counted)
+
+further : (place more past : ℕ) → place + more + past ≡ place + (past + more)
+further place more past = omega arith
+
+-- and so of the next records behind so many
+next_both : (part : Option Part) (past : ℕ) (xs ys : List Sent)
+    → records_next part past (xs ++ ys) ≡ records_next part past xs ++ records_next part (past + length xs) ys
+next_both None past xs ys = refl
+next_both (Some part) past xs ys =
+    of_pieces (λ place. is_in_part part.of part.lost part.number (place + past)) xs ys
+    ∙ ap (λ (test : ℕ → Sent → Bool). records_next (Some part) past xs ++ filter_at test ys)
+    (λ i place. is_in_part part.of part.lost part.number (further place (length xs) past i))
+
+-- ---- records that are passed, one after another
+
+pub past_none : (share : Share) → GoesPast share share []
+past_none share = λ part frames past passed. subst (λ (them : List Sent). HasPassed part frames them share) (sym (append-nil past)) passed
+
+pub past_both : (before between after : Share) (xs ys : List Sent) → GoesPast before between xs → GoesPast between after ys
+    → GoesPast before after (xs ++ ys)
+past_both before between after xs ys first second = λ part frames past passed.
+    subst (λ (them : List Sent). HasPassed part frames them after) (append_assoc past xs ys) (second part frames (past ++ xs) (first part frames past passed))
+
+pub taken_none : (share : Share) → AreRecordsTaken share [] []
+taken_none share = λ part frames past passed. none_next part (length past)
+  where
+    none_next : (part : Option Part) (past : ℕ) → [] ≡ records_next part past []
+    none_next None past = refl
+    none_next (Some part) past = refl
+
+pub taken_of_both : (before between : Share) (xs ys these those : List Sent) → GoesPast before between xs → AreRecordsTaken before xs these
+    → AreRecordsTaken between ys those → AreRecordsTaken before (xs ++ ys) (these ++ those)
+taken_of_both before between xs ys these those gone first second = λ part frames past passed.
+    let later = second part frames (past ++ xs) (gone part frames past passed) in
+    ap (λ (them : List Sent). them ++ those) (first part frames past passed)
+    ∙ ap (λ (them : List Sent). records_next part (length past) xs ++ them) (later ∙ ap (λ (n : ℕ). records_next part n ys) (length-append past xs))
+    ∙ sym (next_both part (length past) xs ys)
+
+none_before : (n : ℕ) → n ≡ 0 + n
+none_before n = omega arith
+
+-- the next record is taken if it is in the part
+pub one_taken : (part : Option Part) (frames own : List ℕ) (past : List Sent) (n : Numbering) (taken : Bool) (sent : Sent)
+    → taken ≡ is_in_part n.part.of n.part.lost n.part.number n.passed sent → IsPartway part frames past own n
+    → cond taken (sent ∷ []) [] ≡ records_next part (length past) (sent ∷ [])
+one_taken part frames own past n taken sent is way =
+    ap (λ (b : Bool). cond b (sent ∷ []) [])
+    (is ∙ ap (λ (k : ℕ). is_in_part n.part.of n.part.lost n.part.number k sent) (way.numbered.passed ∙ none_before (length past)))
+    ∙ ap (λ (it : Option Part). records_next it (length past) (sent ∷ [])) (sym way.part_is)
 
 -- ---- the numbers of commands, behind some records of which a part is taken
 

@@ -294,6 +294,8 @@ pub record IsReplayReport (before after : FileBytes) (files : ReplayFiles) (prog
 pub record IsReplayed (before after : FileBytes) (asked : ReplaySettings) (printed : List ℕ) (refused : List Applied) : Type 0 where
   pub program : Contents
   pub program_is : IsProgramOf before (text_of asked.files.image) asked.flows asked.ring program
+  -- where it is the shipped one, its lookup table and its flow table have sizes that are served
+  pub sizes : text_of asked.files.image ≡ None → AreServedSizes asked.flows asked.ring
   pub states : List (Option State)
   pub accepted : Accepts program.version program.maps program.code states
   pub safe : IsSafeImage program.maps program.code

@@ -47,10 +47,10 @@ pub record IsBehindSomeOf (script : List Command) (share : Share) : Type 0 where
   pub past : List Sent
   pub passed : HasPassed part (command_frames script) past share
 
--- it can pass so many records more
-pub record CanPass (share : Share) (more : ℕ) : Type 0 where
+-- it can pass one record more
+pub record CanPass (share : Share) : Type 0 where
   pub behind : IsBehindSome share
-  pub few : length behind.past + more < 2 ^ 64
+  pub few : length behind.past + 1 < 2 ^ 64
 
 -- of this part it is behind as many records as were read
 pub record IsAbreast (part : Option Part) (share : Share) (reader : ReaderView) : Type 0 where

@@ -5,7 +5,7 @@
 //! read in pieces, or the file of the sent frames cannot be made in pieces, or the capture is none or was changed in between, nothing was
 //! written, and the replay is made with the whole capture in memory, which also says what is wrong with it.
 
-ghost use Rattle.std.specs.Prelude.{◌≡◌, ◌≢◌, ◌↔◌, ◌⊎◌, ◌+◌, ◌*◌, ◌++◌, ◌-◌, ◌<◌, ◌≤◌, ◌^◌};
+ghost use Rattle.std.specs.Prelude.{◌≡◌, ◌≢◌, ◌↔◌, ◌⊎◌, ◌+◌, ◌++◌, ◌-◌, ◌<◌, ◌^◌};
 ghost use Rattle.std.specs.Prelude.{ℕ, [], true, false};
 ghost use Rattle.std.specs.Prelude.{List, Some, None, IfErr, IfOk, IfSome, IfNone, OnOk, length};
 ghost use Rattle.std.specs.List.{AllByRecursion};
@@ -37,22 +37,21 @@ ghost use Rattle.xlb_commands.specs.Replays.{HasBytes, IsCaptureOf, IsMade, imag
 use crate::fault::{Fault, Refusal};
 use crate::files::{journal_bytes, unserved, write_journals_to};
 use crate::left_out::is_left_out;
+use crate::next_records::{PieceStep, fill_piece, unserved_capture};
 use crate::notes::{Altered, Notes, first_stopped};
 use crate::progress::{Progress, Rounds};
 use crate::replays::{Asked, bytes_of_frames, given_up, readers_send_alike, steered_where_shipped};
 use crate::report::{Report, replayed};
-use crate::share::{Share, before_all, go_past, has_numbers, taken_of};
-use actors::all_are_captured;
+use crate::share::{Share, before_all, go_past, has_numbers};
+use crate::summing::Summing;
+use actors::{PieceOutcome, all_are_captured};
 use command_line::ReplayFiles;
 use control::Script;
-use folders::{CaptureReader, Folder, FolderFault};
-use replay::{Outcome, PieceReplay, RecordEnd, ReplayFault};
+use folders::{CaptureReader, Folder, FolderFault, RecordBuffer};
+use replay::{Outcome, PieceReplay, ReplayFault};
 use shard_port::Gate;
 use std::alloc::Global;
-use wire::{CAPTURE_HEADER_LEN, Capture, CaptureFault, MemorySink, Sent};
-
-/// The most records of a piece.
-const PIECE: usize = 1024;
+use wire::{CAPTURE_HEADER_LEN, Capture, MemorySink, Sent};
 
 /// A capture that was read once.
 #[derive(Drop)]
@@ -77,15 +76,8 @@ struct Going {
     replay: PieceReplay,
     /// The first record, counted from 0, whose run was stopped.
     stopped: Option<usize>,
-}
-
-/// What came of a piece.
-#[derive(Clone, Copy, Debug, PartialEq, Eq)]
-enum PieceStep {
-    More,
-    Last,
-    /// The rest of the file is no capture any more.
-    Changed,
+    /// What the summary counts.
+    summing: Summing,
 }
 
 /// What a replay leaves besides the sent frames, in memory.
@@ -93,24 +85,6 @@ enum PieceStep {
 struct LeftInPieces {
     journals: MemorySink,
     report: Report,
-}
-
-/// The refusal for a device that failed, or for lack of memory, while a capture was read; none where its bytes are wrong.
-fn unserved_capture<D: Folder>(
-    alloc: Global,
-    folder: &D,
-    name: &str,
-    fault: CaptureFault,
-) -> Option<Refusal>
-    ensures some { IfSome result (λ refusal. (fault ≡ CaptureFault.Device) × (refusal.fault ≡ Fault.Folder FolderFault.Device)
-        ⊎ (fault ≡ CaptureFault.Memory) × (refusal.fault ≡ Fault.Folder FolderFault.Memory)) }
-    ensures none { IfNone result (fault ≢ CaptureFault.Device) }
-{
-    match fault {
-        CaptureFault::Device => Some(unserved(alloc, folder, name, FolderFault::Device)),
-        CaptureFault::Memory => Some(unserved(alloc, folder, name, FolderFault::Memory)),
-        _ => None,
-    }
 }
 
 /// Opens a capture, if it can be read in pieces and has a header.
@@ -130,38 +104,6 @@ fn open_reader<D: Folder>(
 {
     match CaptureReader::open(alloc, folder, name) {
         Ok(found) => Ok(found),
-        Err(fault) => match unserved_capture(alloc, folder, name, fault) {
-            Some(refusal) => Err(refusal),
-            None => Ok(None),
-        },
-    }
-}
-
-/// The next records of a capture, at most `PIECE`, and fewer only at its end. None where the rest of the file is no capture.
-fn next_piece<D: Folder>(
-    alloc: Global,
-    folder: &mut D,
-    name: &str,
-    reader: &mut CaptureReader,
-) -> Result<Option<Capture>, Refusal>
-    requires failures { D.failure_count folder.old < 2 ^ 64 - 1 }
-    requires room { ReaderHasRoom (D.most_left folder.old) reader.old }
-    ensures read { IfOk result (λ found. IfSome found (λ piece.
-        ReadsOn D.holds (D.is_left folder.old) (D.is_left folder.new) reader.old reader.new piece.records.items)) }
-    ensures whole { IfOk result (λ found. IfSome found (λ piece. length piece.records.items < 1024 →
-        ReadsToEnd D.holds (D.is_left folder.old) reader.old piece.records.items reader.new.cut)) }
-    ensures count { IfOk result (λ found. IfSome found (λ piece. reader.new.count ≡ reader.old.count + length piece.records.items)) }
-    ensures fewer { IfOk result (λ found. IfSome found (λ piece. length reader.new.unread + D.most_left folder.new
-        + 16 * length piece.records.items ≤ length reader.old.unread + D.most_left folder.old)) }
-    ensures room { IfOk result (λ found. IfSome found (λ _. ReaderHasRoom (D.most_left folder.new) reader.new)) }
-    ensures kept { AreKept (D.holds folder.old) (D.holds folder.new) }
-    ensures made { AreKept (D.is_begun folder.old) (D.is_begun folder.new) }
-    ensures steady { OnOk result (D.failure_count folder.new ≡ D.failure_count folder.old) }
-    ensures refused { IfErr result
-        (λ refusal. IsUnserved (HasFailed (D.failure_count folder.old) (D.failure_count folder.new)) refusal.fault) }
-{
-    match reader.next(alloc, folder, PIECE) {
-        Ok(piece) => Ok(Some(piece)),
         Err(fault) => match unserved_capture(alloc, folder, name, fault) {
             Some(refusal) => Err(refusal),
             None => Ok(None),
@@ -190,17 +132,21 @@ fn look_through<D: Folder>(
         return Ok(None);
     };
     let mut share = before_all(alloc, folder, name, asked.part, asked.script)?;
-    'pieces: loop {
-        let Some(piece) = next_piece(alloc, folder, name, &mut reader)? else {
-            return Ok(None);
-        };
-        go_past(alloc, folder, name, &mut share, &piece.records)?;
-        if piece.records.len() < PIECE {
-            return Ok(Some(Seen {
+    'records: loop {
+        match reader.find(folder) {
+            Ok(Some(head)) => {
+                let _taken = go_past(alloc, folder, name, &mut share, reader.frame(head))?;
+                reader.pass(head);
+            }
+            Ok(None) => return Ok(Some(Seen {
                 records: share.count(reader.count()),
                 cut: reader.cut(),
                 share,
-            }));
+            })),
+            Err(fault) => return match unserved_capture(alloc, folder, name, fault) {
+                Some(refusal) => Err(refusal),
+                None => Ok(None),
+            },
         }
     }
 }
@@ -290,14 +236,23 @@ fn add_header<D: Folder>(alloc: Global, folder: &mut D, name: &str) -> Result<()
 }
 
 impl Going {
-    /// Notes the first record whose run was stopped, among these that come behind `before` others.
-    fn note(&mut self, before: usize, ends: &[RecordEnd])
+    /// Notes the records of a piece that come behind `before` others: the first whose run was stopped, and what the summary counts.
+    fn note(
+        &mut self,
+        alloc: Global,
+        script: &Script,
+        before: usize,
+        piece: &Capture,
+        done: &PieceOutcome,
+    )
         ensures { self.new.replay ≡ self.old.replay }
     {
+        self.summing
+            .note(alloc, script, &piece.records, &done.sent, &done.ends);
         if self.stopped.is_some() {
             return;
         }
-        if let Some(place) = first_stopped(ends) {
+        if let Some(place) = first_stopped(&done.ends) {
             self.stopped = Some(before.saturating_add(place));
         }
     }
@@ -328,6 +283,7 @@ fn opened(alloc: Global, asked: Asked<'_>) -> Result<Going, Refusal>
         Ok(replay) => Ok(Going {
             replay,
             stopped: None,
+            summing: Summing::new(alloc, asked.summary, asked.script),
         }),
         Err(fault) => Err(given_up(alloc, asked.options, asked.verified, fault)),
     }
@@ -368,20 +324,21 @@ fn run_piece<D: Folder, G: Gate>(
     {
         Ok(done) => {
             add_frames(alloc, folder, asked.files.sent, &done.sent)?;
-            going.note(before, &done.ends);
+            going.note(alloc, asked.script, before, piece, &done);
             Ok(true)
         }
         Err(_) => Err(given_up(alloc, asked.options, asked.verified, ReplayFault::Memory)),
     }
 }
 
-/// Reads a piece, and runs those of its records that are taken.
+/// Reads a piece, and runs those of its records that are taken. They are in a buffer, whose memory the next piece uses again.
 fn take_piece<D: Folder, G: Gate>(
     alloc: Global,
     folder: &mut D,
     asked: Asked<'_>,
     reader: &mut CaptureReader,
     share: &mut Share,
+    buffer: &mut RecordBuffer,
     going: &mut Going,
     gate: &G,
 ) -> Result<PieceStep, Refusal>
@@ -412,18 +369,14 @@ fn take_piece<D: Folder, G: Gate>(
     ensures refused { IfErr result
         (λ refusal. IsBrokenOff (HasFailed (D.failure_count folder.old) (D.failure_count folder.new)) refusal.fault) }
 {
-    let Some(piece) = next_piece(alloc, folder, asked.files.capture, reader)? else {
-        return Ok(PieceStep::Changed);
-    };
-    let is_last = piece.records.len() < PIECE;
-    let taken = taken_of(alloc, folder, asked.files.capture, share, piece)?;
-    if !run_piece(alloc, folder, asked, going, &taken, gate)? {
+    let step = fill_piece(alloc, folder, asked.files.capture, reader, share, buffer)?;
+    if step == PieceStep::Changed {
+        return Ok(step);
+    }
+    if !run_piece(alloc, folder, asked, going, buffer.capture(), gate)? {
         return Ok(PieceStep::Changed);
     }
-    if is_last {
-        return Ok(PieceStep::Last);
-    }
-    Ok(PieceStep::More)
+    Ok(step)
 }
 
 /// Reads the capture once more, and runs those of its records that are taken. No: it is no capture any more, or one in which the commands have
@@ -455,8 +408,18 @@ fn go_through<D: Folder, G: Gate>(
     };
     let name = asked.files.capture;
     let mut share = before_all(alloc, folder, name, asked.part, whole.script)?;
+    let mut buffer = RecordBuffer::new(alloc);
     'pieces: loop {
-        match take_piece(alloc, folder, asked, &mut reader, &mut share, going, gate) {
+        match take_piece(
+            alloc,
+            folder,
+            asked,
+            &mut reader,
+            &mut share,
+            &mut buffer,
+            going,
+            gate,
+        ) {
             Ok(PieceStep::More) => {}
             Ok(PieceStep::Last) => return has_numbers(alloc, folder, name, share, whole.numbers),
             Ok(PieceStep::Changed) => return Ok(false),
@@ -518,10 +481,11 @@ fn left_in_pieces(
     steered_where_shipped(asked);
     let frames = going.replay.taken();
     let stopped = going.stopped;
+    let summing = going.summing;
     let outcome = ended(alloc, asked, going.replay)?;
     let journals = journal_bytes(alloc, asked.files.journals, &outcome.journals)?;
     let notes = Notes::of(asked, altered)
-        .lines(alloc, asked.script, &outcome, stopped)
+        .text_of_pieces(alloc, asked.script, &outcome, stopped, &summing)
         .ok();
     let left_out = is_left_out(altered, asked.script, frames);
     let report = replayed(

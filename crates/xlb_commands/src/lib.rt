@@ -14,6 +14,7 @@ mod last_table;
 pub mod laws;
 mod left_out;
 mod looking_back;
+mod next_records;
 mod notes;
 mod one_run;
 mod parts;
@@ -27,6 +28,7 @@ mod report;
 mod serving;
 mod share;
 mod shipping;
+mod summing;
 mod tables;
 mod timed;
 

@@ -1,15 +1,15 @@
 //! Lines for people below the report of a replay.
 
 use crate::last_table::put_shares;
-use crate::record_report::{is_tx, verdict_in};
 use crate::replays::Asked;
+use crate::summing::{Moved, Summing, Sums};
 use command_line::{DEFAULT_FLOWS, DEFAULT_RING};
 use control::{Action, ControlFault, Script};
 use journals::Journals;
 use replay::{Applied, Counts, Outcome, RecordEnd};
 use std::alloc::{AllocError, Global};
 use text_lines::cut;
-use traffic::{LineVerdict, Refused, by_program, moved_places, services};
+use traffic::Refused;
 use wire::Capture;
 
 /// The room that a full journal may still have: no run enters a shard without room for its Leave.
@@ -79,15 +79,41 @@ impl Notes<'_> {
         script: &Script,
         outcome: &Outcome,
     ) -> Result<String, AllocError> {
-        let mut text = self.lines(alloc, script, outcome, first_stopped(&outcome.ends))?;
-        if self.summary {
-            self.put_summary(alloc, &mut text, capture, script, outcome)?;
+        let mut summing = Summing::new(alloc, self.summary, script);
+        summing.note(
+            alloc,
+            script,
+            &capture.records,
+            &outcome.sent,
+            &outcome.ends,
+        );
+        let stopped = first_stopped(&outcome.ends);
+        self.text_of_pieces(alloc, script, outcome, stopped, &summing)
+    }
+
+    /// The lines of a replay whose records came in pieces, so that the outcome may have no sent frames and no ends. `stopped` is the first
+    /// record, counted from 0, whose run was stopped.
+    pub(crate) fn text_of_pieces(
+        &self,
+        alloc: Global,
+        script: &Script,
+        outcome: &Outcome,
+        stopped: Option<usize>,
+        summing: &Summing,
+    ) -> Result<String, AllocError> {
+        let mut text = self.lines(alloc, script, outcome, stopped)?;
+        match summing {
+            Summing::Unasked => {}
+            Summing::Counted(sums) => {
+                self.put_summary(alloc, &mut text, sums, script, &outcome.journals)?;
+            }
+            Summing::Lost => return Err(AllocError),
         }
         Ok(text)
     }
 
-    /// The lines that need no capture. `stopped` is the first record, counted from 0, whose run was stopped.
-    pub(crate) fn lines(
+    /// The lines that need no records.
+    fn lines(
         &self,
         alloc: Global,
         script: &Script,
@@ -118,21 +144,20 @@ impl Notes<'_> {
         &self,
         alloc: Global,
         text: &mut String,
-        capture: &Capture,
+        sums: &Sums,
         script: &Script,
-        outcome: &Outcome,
+        journals: &Journals,
     ) -> Result<(), AllocError> {
-        text.push_str(&traffic::summary(alloc, &capture.records, &outcome.sent)?)?;
-        let verdicts = verdicts_of(alloc, &outcome.ends)?;
+        text.push_str(&sums.frames.text(alloc)?)?;
         let lines = match self.image {
-            None => services(alloc, &capture.records, script, &verdicts)?,
-            Some(_) => by_program(alloc, &capture.records, script, &verdicts)?,
+            None => sums.records.services(alloc, script)?,
+            Some(_) => sums.records.by_program(alloc, script)?,
         };
         text.push_str(lines.as_str())?;
         if self.is_steering {
-            put_shares(alloc, text, &outcome.journals)?;
+            put_shares(alloc, text, journals)?;
         }
-        put_moved(alloc, text, outcome)
+        put_moved(alloc, text, &sums.moved)
     }
 
     /// Commands behind the first frame, whose moments are not exact.
@@ -439,26 +464,12 @@ fn put_shard(
     text.push_str(line.as_str())
 }
 
-/// The verdict of each record.
-fn verdicts_of(alloc: Global, ends: &[RecordEnd]) -> Result<Vec<LineVerdict>, AllocError> {
-    ends.iter().map(|end| verdict_in(*end)).collect(alloc)
-}
-
 /// The records whose frames went elsewhere than the frame of their flow before: the first ten.
-fn put_moved(alloc: Global, text: &mut String, outcome: &Outcome) -> Result<(), AllocError> {
-    let moved = moved_places(alloc, &outcome.sent)?;
-    let mut next: usize = 0;
-    let mut sent: usize = 0;
-    for number in 0..outcome.ends.len() {
-        if is_tx(verdict_in(outcome.ends[number])) {
-            if next < MOST_LINES && moved.get(next).copied() == Some(sent) {
-                next = next.saturating_add(1);
-                put_record(alloc, text, number)?;
-            }
-            sent = sent.saturating_add(1);
-        }
+fn put_moved(alloc: Global, text: &mut String, moved: &Moved) -> Result<(), AllocError> {
+    for record in &moved.first {
+        put_record(alloc, text, *record)?;
     }
-    put_more(alloc, text, moved.len().saturating_sub(next))
+    put_more(alloc, text, moved.more)
 }
 
 /// How many such records have no line.

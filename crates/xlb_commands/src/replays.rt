@@ -15,7 +15,6 @@ ghost use Rattle.verifier.specs.Readers.{IsReader};
 ghost use Rattle.actors.specs.Accounted.{IsAccounted};
 ghost use Rattle.machine.specs.Running.{program_of as program_with};
 ghost use Rattle.guarantees.specs.ReaderReplays.{SendsAsAtOpening};
-ghost use Rattle.maglev.specs.RingSize.{IsRingSize};
 ghost use Rattle.wire.specs.CaptureFormat.{IsCaptureFile, capture_bytes};
 ghost use Rattle.control.specs.ScriptText.{IsScriptText};
 ghost use Rattle.control.specs.ScriptReading.{ExplainsScript};
@@ -42,7 +41,7 @@ ghost use Rattle.xlb_commands.specs.Refused.{IsNoCapture, IsNoCaptureIn, IsCaptu
 ghost use Rattle.xlb_commands.specs.Replays.{LeavesNothingOut};
 ghost use Rattle.traffic.specs.Readings.{alters, unaltered};
 ghost use Rattle.xlb_commands.specs.Replays.{IsProgramOf, IsScriptOf, IsScriptFile, IsCaptureIn, IsCaptureOf, HasBytes};
-ghost use Rattle.xlb_commands.specs.Replays.{recording_of, counts_text, refusals_text, AreWritten};
+ghost use Rattle.xlb_commands.specs.Replays.{recording_of, counts_text, refusals_text, AreServedSizes, AreWritten};
 ghost use Rattle.xlb_commands.specs.RecordReports.{form_of, report_text, runs_shipped};
 
 use crate::commands::judged_of;
@@ -90,7 +89,7 @@ fn program_of<D: Folder>(
     ensures program { IfOk result (λ verified. IsProgramOf (D.holds folder.old) (text_of image.entry) flows ring
         (record { version = verified.version; maps = verified.maps; code = verified.code })) }
     ensures safe { IfOk result (λ verified. IsSafeImage verified.maps verified.code) }
-    ensures size { OnOk result (text_of image.entry ≡ None → IsRingSize ring) }
+    ensures size { OnOk result (text_of image.entry ≡ None → AreServedSizes flows ring) }
     ensures kept { AreKept (D.holds folder.old) (D.holds folder.new) }
     ensures steady { OnOk result (D.failure_count folder.new ≡ D.failure_count folder.old) }
     ensures refused { IfErr result (λ refusal. IsReplayProgramRefusal (D.holds folder.old)
@@ -506,7 +505,7 @@ impl Asked<'_> {
         ensures { IsTrue result → (self.entry.exact ≡ true) × (self.entry.reading ≡ unaltered)
             × (text_of self.entry.files.now.report ≡ None) }
     {
-        self.exact && !self.summary && !self.reading.alters() && self.files.report.is_none()
+        self.exact && !self.reading.alters() && self.files.report.is_none()
     }
 }
 

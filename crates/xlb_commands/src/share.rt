@@ -1,6 +1,6 @@
 //! What a replay takes of the records of a capture that is read in pieces: all, or those of a part.
 
-ghost use Rattle.std.specs.Prelude.{◌≡◌, [], true, ℕ, List, Option, Some, None, length};
+ghost use Rattle.std.specs.Prelude.{◌≡◌, ◌∷◌, [], true, ℕ, List, Option, Some, None, if◌then◌else◌, length};
 ghost use Rattle.std.specs.Prelude.{IfErr, IfNone, IfOk, IfSome, OnErr, OnOk};
 ghost use Rattle.wire.specs.declared.records.Sent.{Sent as Record};
 ghost use Rattle.fleet.specs.declared.part.Part.{Part as OnePart};
@@ -15,7 +15,6 @@ use control::{Script, commands_never_fall};
 use fleet::{Numbering, Part};
 use folders::{Folder, FolderFault};
 use std::alloc::{AllocError, Global};
-use wire::{Capture, Sent};
 
 /// What is taken of the records of a capture.
 #[derive(Drop)]
@@ -56,30 +55,16 @@ impl Share {
         }
     }
 
-    /// Goes past the next records of the capture. It fails only for lack of memory.
-    pub(crate) fn pass(&mut self, records: &[Sent]) -> Result<(), AllocError>
-        requires { CanPass self.old (length records.now) }
-        ensures { OnOk result (GoesPast self.old self.new records.now) }
+    /// Goes past the next record of the capture, of which this is the frame, and says whether it is taken. It fails only for lack of memory.
+    pub(crate) fn pass(&mut self, frame: &[u8]) -> Result<bool, AllocError>
+        requires { CanPass self.old }
+        ensures past { OnOk result ((sent : Record) → sent.bytes.items ≡ frame.now → GoesPast self.old self.new (sent ∷ [])) }
+        ensures taken { IfOk result (λ taken. (sent : Record) → sent.bytes.items ≡ frame.now →
+            AreRecordsTaken self.old (sent ∷ []) (if taken then sent ∷ [] else [])) }
     {
         match self {
-            Share::All => Ok(()),
-            Share::Of { frames, numbering } => numbering.pass(frames, records),
-        }
-    }
-
-    /// Goes past the next records of the capture, and gives those of them that are taken, in order. It fails only for lack of memory.
-    pub(crate) fn take(&mut self, piece: Capture) -> Result<Capture, AllocError>
-        requires { CanPass self.old (length piece.records.items) }
-        ensures past { OnOk result (GoesPast self.old self.new piece.records.items) }
-        ensures taken { IfOk result (λ taken. AreRecordsTaken self.old piece.records.items taken.records.items) }
-    {
-        match self {
-            Share::All => Ok(piece),
-            Share::Of { frames, numbering } => {
-                let before = numbering.passed;
-                numbering.pass(frames, &piece.records)?;
-                Ok(numbering.part.taken_behind(before, piece))
-            }
+            Share::All => Ok(true),
+            Share::Of { frames, numbering } => numbering.pass(frames, frame),
         }
     }
 
@@ -140,38 +125,21 @@ impl Share {
     }
 }
 
-/// Goes past the records of a piece.
+/// Goes past the next record of a capture, of which this is the frame, and says whether it is taken.
 pub(crate) fn go_past<D: Folder>(
     alloc: Global,
     folder: &D,
     name: &str,
     share: &mut Share,
-    records: &[Sent],
-) -> Result<(), Refusal>
-    requires { CanPass share.old (length records.now) }
-    ensures past { OnOk result (GoesPast share.old share.new records.now) }
+    frame: &[u8],
+) -> Result<bool, Refusal>
+    requires { CanPass share.old }
+    ensures past { OnOk result ((sent : Record) → sent.bytes.items ≡ frame.now → GoesPast share.old share.new (sent ∷ [])) }
+    ensures taken { IfOk result (λ taken. (sent : Record) → sent.bytes.items ≡ frame.now →
+        AreRecordsTaken share.old (sent ∷ []) (if taken then sent ∷ [] else [])) }
     ensures refused { IfErr result (λ refusal. refusal.fault ≡ Fault.Folder FolderFault.Memory) }
 {
-    match share.pass(records) {
-        Ok(()) => Ok(()),
-        Err(_) => Err(unserved(alloc, folder, name, FolderFault::Memory)),
-    }
-}
-
-/// Goes past the records of a piece, and gives those of them that are taken.
-pub(crate) fn taken_of<D: Folder>(
-    alloc: Global,
-    folder: &D,
-    name: &str,
-    share: &mut Share,
-    piece: Capture,
-) -> Result<Capture, Refusal>
-    requires { CanPass share.old (length piece.records.items) }
-    ensures past { OnOk result (GoesPast share.old share.new piece.records.items) }
-    ensures taken { IfOk result (λ taken. AreRecordsTaken share.old piece.records.items taken.records.items) }
-    ensures refused { IfErr result (λ refusal. refusal.fault ≡ Fault.Folder FolderFault.Memory) }
-{
-    match share.take(piece) {
+    match share.pass(frame) {
         Ok(taken) => Ok(taken),
         Err(_) => Err(unserved(alloc, folder, name, FolderFault::Memory)),
     }

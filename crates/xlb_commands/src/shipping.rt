@@ -1,7 +1,6 @@
 //! The shipped program: made for a replay, or written to a file.
 
 ghost use Rattle.std.specs.Prelude.{◌≡◌, ◌-◌, ◌<◌, ◌^◌, [], IfErr, IfOk, OnOk, string_bytes};
-ghost use Rattle.maglev.specs.RingSize.{IsRingSize};
 ghost use Rattle.semantics.specs.Safety.{IsSafeImage};
 ghost use Rattle.steer.specs.ShippedProgram.{sized_image};
 ghost use Rattle.xlb_commands.specs.Files.{AreOthersKept};
@@ -37,7 +36,7 @@ pub(crate) fn shipped_program(alloc: Global, flows: u32, ring: u32) -> Result<Ve
     ensures image { IfOk result
         (λ verified. record { version = verified.version; maps = verified.maps; code = verified.code } ≡ sized_image flows ring) }
     ensures safe { IfOk result (λ verified. IsSafeImage verified.maps verified.code) }
-    ensures size { OnOk result (IsRingSize ring) }
+    ensures size { OnOk result (AreServedSizes flows ring) }
     ensures refused { IfErr result (λ refusal. IsShippedRefusal flows ring refusal.fault) }
 {
     let image = made(alloc, flows, ring)?;

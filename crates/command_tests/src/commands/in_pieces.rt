@@ -54,10 +54,18 @@ pub(super) const IN_PIECES: WayRow<'static> = WayRow {
 };
 
 /// A way whose notes have a summary more.
-const SUMMARY: WayRow<'static> = WayRow {
+pub(super) const SUMMARY: WayRow<'static> = WayRow {
     name: "with a summary",
     words: "--exact --summary",
     opens: true,
+    begins: true,
+};
+
+/// The same with the capture in memory.
+pub(super) const WHOLE_SUMMARY: WayRow<'static> = WayRow {
+    name: "with a summary of the whole capture",
+    words: "--exact --summary",
+    opens: false,
     begins: true,
 };
 
@@ -166,7 +174,7 @@ fn compare_printed<R: Abort>(
 }
 
 /// Compares what a replay of these files comes to that is made this way.
-fn compare_way<R: Abort + Threads + Wait + Sync>(
+pub(super) fn compare_way<R: Abort + Threads + Wait + Sync>(
     rt: &R,
     alloc: Global,
     name: &str,
@@ -180,6 +188,26 @@ fn compare_way<R: Abort + Threads + Wait + Sync>(
     let title = format!(in alloc; "{name}, {by}").expect(rt, "a title");
     let left = left_by(rt, alloc, &title, files, words, way);
     compare_left(rt, alloc, &title, left, wanted, sent);
+}
+
+/// Compares what replays of these files come to that count a summary, in pieces and with the capture in memory: both print the same, behind
+/// the notes of a replay without one.
+fn compare_summaries<R: Abort + Threads + Wait + Sync>(
+    rt: &R,
+    alloc: Global,
+    name: &str,
+    files: Files<'_>,
+    words: &str,
+    wanted: Wanted<'_>,
+    sent: Option<&[u8]>,
+) {
+    let whole = left_by(rt, alloc, name, files, words, WHOLE_SUMMARY);
+    let pieces = left_by(rt, alloc, name, files, words, SUMMARY);
+    same_bytes_of(rt, name, "summary", &pieces.err.taken, &whole.err.taken);
+    let notes = wanted.err.as_bytes();
+    holds_of(rt, name, "notes", pieces.err.taken.starts_with(notes));
+    compare_printed(rt, alloc, name, whole, wanted, sent);
+    compare_printed(rt, alloc, name, pieces, wanted, sent);
 }
 
 /// Compares what replays of these files come to, whichever way they are made.
@@ -196,8 +224,7 @@ pub(super) fn compare_ways<R: Abort + Threads + Wait + Sync>(
     for way in ways {
         compare_way(rt, alloc, name, files, words, wanted, sent, *way);
     }
-    let left = left_by(rt, alloc, name, files, words, SUMMARY);
-    compare_printed(rt, alloc, name, left, wanted, sent);
+    compare_summaries(rt, alloc, name, files, words, wanted, sent);
 }
 
 /// A capture of this many records. Each has a frame of 14 bytes, which ends in the record's number, that many microseconds after 1 second.
@@ -256,7 +283,12 @@ fn all_records_are_sent(rt: HostRuntime) {
 }
 
 /// A capture of `HEADER`, and so often the record of a capture of one record, and then so often that of another one.
-fn repeated<R: Abort>(rt: &R, alloc: Global, first: (&str, u32), second: (&str, u32)) -> Vec<u8> {
+pub(super) fn repeated<R: Abort>(
+    rt: &R,
+    alloc: Global,
+    first: (&str, u32),
+    second: (&str, u32),
+) -> Vec<u8> {
     let mut bytes = Vec::from_slice(alloc, &HEADER).expect(rt, "a header");
     put_times(rt, alloc, &mut bytes, first.0, first.1);
     put_times(rt, alloc, &mut bytes, second.0, second.1);
@@ -349,16 +381,19 @@ fn compare_steered<R: Abort + Threads + Wait + Sync>(
         (status, "--script script --ring 7")
     };
     let wanted = Wanted { status, out, err };
-    compare_ways(
-        rt,
-        alloc,
-        name,
-        files,
-        words,
-        wanted,
-        Some(&sent),
-        &[IN_PIECES],
-    );
+    compare_summaries(rt, alloc, name, files, words, wanted, Some(&sent));
+    if !strict {
+        compare_way(
+            rt,
+            alloc,
+            name,
+            files,
+            words,
+            wanted,
+            Some(&sent),
+            IN_PIECES,
+        );
+    }
 }
 
 #[test]
@@ -620,7 +655,7 @@ fn compare_steered_journals<R: Abort + Threads + Wait + Sync>(
         capture: &capture,
     };
     let words = "--script script --ring 7 --journals journals";
-    let wanted = journals_by(rt, alloc, name, files, words, SUMMARY);
+    let wanted = journals_by(rt, alloc, name, files, words, WHOLE_SUMMARY);
     compare_journals(rt, alloc, name, files, words, &wanted, &[IN_PIECES]);
 }
 
@@ -648,12 +683,15 @@ const ALL_SENT: Option<usize> = Some(30774);
 
 const NO_SENT: &str = "fault 7 Device\n  sent failed\n";
 
+/// The summary of frames whose Ethernet types are the numbers below 1,025.
+const SUMMED: &str = "  1025 frames of another Ethernet type\n  1025 frames sent, by the program\n";
+
 const NO_READ: &str = "fault 7 Device\n  capture failed\n";
 
 /// The whole capture has room in the reader's buffer: it takes one call of `next`, and from record 957 on, where fewer than 2,064 bytes are
 /// unread, one more before each record and one at the end. So the first reading has 70 of these calls.
 #[rattlefmt::skip]
-const FAILING: [Failing; 24] = [
+const FAILING: [Failing; 25] = [
     ("the first reading is not opened",              "--exact", FolderCall::Open,   0,  1, NO_READ, None),
     ("the second one is not",                        "--exact", FolderCall::Open,   1,  1, NO_READ, None),
     ("there is no third one",                        "--exact", FolderCall::Open,   2,  0, "", ALL_SENT),
@@ -669,6 +707,7 @@ const FAILING: [Failing; 24] = [
     ("they are not finished",                        "--exact", FolderCall::Finish, 0,  1, NO_SENT, None),
     ("no capture is read whole",                     "--exact", FolderCall::Read,   0,  0, "", ALL_SENT),
     ("no file is written whole",                     "--exact", FolderCall::Write,  0,  0, "", ALL_SENT),
+    ("a summary is counted in pieces",               "--exact --summary", FolderCall::Read, 0, 0, SUMMED, ALL_SENT),
     ("a report needs the whole capture",             "--exact --report lines", FolderCall::Read, 0, 1, NO_READ, None),
     ("records that are skipped need it",             "--exact --skip-long", FolderCall::Read, 0, 1, NO_READ, None),
     ("records that are padded need it",              "--exact --pad-cut", FolderCall::Read, 0, 1, NO_READ, None),

@@ -2,7 +2,7 @@
 //! worked out. The parts of the flows were worked out elsewhere.
 
 use super::Wanted;
-use super::in_pieces::{Files, IN_PIECES, SERVED, WAYS, compare_ways, numbered};
+use super::in_pieces::{Files, SERVED, WAYS, compare_ways, numbered};
 use super::long_records::HEADER;
 use super::parts::{put_datagrams, put_tunnelled};
 use super::replays::{IN_A_TUNNEL, IN_THE_OTHER_TUNNEL, SENDS};
@@ -82,7 +82,7 @@ fn records_without_a_flow_are_in_one_part(rt: HostRuntime) {
 }
 
 /// Sources of datagrams, and how often they come one after another.
-type Sources = (&'static [u8], u16);
+pub(super) type Sources = (&'static [u8], u16);
 
 /// What a row shows; the number of the commands by which the first backend goes down and the second one comes up; the words of the part; what
 /// is printed on the error stream; how many frames are sent; the sources of those to the first backend, and of those to the second one.
@@ -127,14 +127,19 @@ fn put_sent<R: Abort>(rt: &R, alloc: Global, bytes: &mut Vec<u8>, tunnel: &str, 
 }
 
 /// The capture of what is sent of a row.
-fn sent_of<R: Abort>(rt: &R, alloc: Global, first: &[Sources], second: &[Sources]) -> Vec<u8> {
+pub(super) fn sent_of<R: Abort>(
+    rt: &R,
+    alloc: Global,
+    first: &[Sources],
+    second: &[Sources],
+) -> Vec<u8> {
     let mut bytes = Vec::from_slice(alloc, &HEADER).expect(rt, "a header");
     put_sent(rt, alloc, &mut bytes, IN_A_TUNNEL, first);
     put_sent(rt, alloc, &mut bytes, IN_THE_OTHER_TUNNEL, second);
     bytes
 }
 
-/// Compares what the replay of a row comes to, in pieces and with a summary.
+/// Compares what the replay of a row comes to, with a summary that is counted in pieces, and of the whole capture.
 fn compare_steered<R: Abort + Threads + Wait + Sync>(rt: &R, alloc: Global, row: &Steered) {
     let (name, number, part, err, count, first, second) = *row;
     let script = format!(in alloc; "{SERVED}{number} down 0\n{number} up 1 192.0.2.2\n");
@@ -154,16 +159,7 @@ fn compare_steered<R: Abort + Threads + Wait + Sync>(rt: &R, alloc: Global, row:
         out: &out,
         err,
     };
-    compare_ways(
-        rt,
-        alloc,
-        name,
-        files,
-        &words,
-        wanted,
-        Some(&sent),
-        &[IN_PIECES],
-    );
+    compare_ways(rt, alloc, name, files, &words, wanted, Some(&sent), &[]);
 }
 
 #[test]

@@ -57,6 +57,24 @@ const OF_255: &str =
 const WHY_NOT_256: &str =
     "  line 1 of the script, 0 up 256 192.0.2.1: no such backend is up, or there is no such number: numbers are below 256 and below the ring's size\n";
 
+/// Of three backends the last one goes down: its two slots change hands, and a third leaves a backend that stays.
+const LAST_DOWN: &str = "0 up 0 192.0.2.1\n0 up 1 192.0.2.2\n0 up 2 192.0.2.3\n20 down 2\n";
+
+const OF_LAST_DOWN: &str = "\
+command 1 frame 0 moved 7 least 7
+backend 0 address 192.0.2.1 slots 7 percent 100.00
+command 2 frame 0 moved 3 least 3
+backend 0 address 192.0.2.1 slots 4 percent 57.14
+backend 1 address 192.0.2.2 slots 3 percent 42.86
+command 3 frame 0 moved 3 least 2
+backend 0 address 192.0.2.1 slots 3 percent 42.86
+backend 1 address 192.0.2.2 slots 2 percent 28.57
+backend 2 address 192.0.2.3 slots 2 percent 28.57
+command 4 frame 20 moved 3 least 2
+backend 0 address 192.0.2.1 slots 4 percent 57.14
+backend 1 address 192.0.2.2 slots 3 percent 42.86
+";
+
 /// What a row shows; the script; the words behind it; the status, and what is printed on both streams.
 type Row = (
     &'static str,
@@ -68,10 +86,11 @@ type Row = (
 );
 
 #[rattlefmt::skip]
-const ROWS: [Row; 6] = [
+const ROWS: [Row; 7] = [
     ("seven slots",        SCRIPT,  " --ring 7", 0, OF_7,       ""),
     ("as a replay has it", SCRIPT,  "",          0, OF_251,     ""),
     ("refused commands",   REFUSED, " --ring 7", 1, OF_REFUSED, WHY_REFUSED),
+    ("a slot leaves a backend that stays", LAST_DOWN, " --ring 7", 0, OF_LAST_DOWN, ""),
     ("no command",         "",      "",          0, "",         ""),
     ("the largest number", "0 up 255 192.0.2.1\n", " --ring 4093", 0, OF_255,                   ""),
     ("a number of 256",    "0 up 256 192.0.2.1\n", " --ring 4093", 1, "command 1 refused 91\n", WHY_NOT_256),

@@ -194,11 +194,11 @@ const ENTRIES: [JournalEntryRow; 10] = [
     ("the element behind the last one", b"1 c update 06000000 0100000000000000 0 answer 0\n", 1, 1,
         "  line 1: \"1 c update 06000000 0100000000000000 0 a...\"\n  \
          the entry is of element 6, and map 1 of this image has 6 elements: the journals are not those of its maps\n  \
-         expected the image that was run: xlb shipped --ring N OUT writes the shipped program for a lookup table of N slots\n"),
+         expected the image that was run: xlb shipped --ring N --flows N OUT writes the shipped program for the sizes of the replay\n"),
     ("an element of four bytes", b"1 w0 lookup fedcba98 cell 1\n", 1, 1,
         "  line 1: \"1 w0 lookup fedcba98 cell 1\"\n  \
          the entry is of element 2562383102, and map 1 of this image has 6 elements: the journals are not those of its maps\n  \
-         expected the image that was run: xlb shipped --ring N OUT writes the shipped program for a lookup table of N slots\n"),
+         expected the image that was run: xlb shipped --ring N --flows N OUT writes the shipped program for the sizes of the replay\n"),
     ("the last element", b"1 w0 lookup 05000000 null\n", 1, 1,
         "  line 1: \"1 w0 lookup 05000000 null\"\n  \
          after the entries above it the journal is full, a map on one thread returns another reply, or this caller may not make this call\n"),

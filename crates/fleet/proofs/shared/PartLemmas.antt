@@ -124,11 +124,6 @@ pub part_of_pieces : (of : ℕ) (lost : Option Loss) (number : ℕ) (first then 
     → records_of_part of lost number (first ++ then) ≡ records_of_part of lost number first ++ records_behind of lost number (length first) then
 part_of_pieces of lost number first then = of_pieces (is_in_part of lost number) first then
 
--- behind no records, the part of the next ones is their part
-pub behind_none : (of : ℕ) (lost : Option Loss) (number : ℕ) (records : List Sent)
-    → records_behind of lost number 0 records ≡ records_of_part of lost number records
-behind_none of lost number records = ap (λ (q : ℕ → Sent → Bool). filter_at q records) (λ i n. is_in_part of lost number (add-zero n i))
-
 -- a number within the first piece does not depend on what follows
 pub number_before : (of : ℕ) (lost : Option Loss) (number : ℕ) (first then : List Sent) (frame : ℕ) → frame ≤ length first
     → number_in_part of lost number (first ++ then) frame ≡ number_in_part of lost number first frame

@@ -6,7 +6,7 @@ use Rattle.wire.specs.declared.records.Sent.{Sent}
 use Rattle.xlb_commands.specs.InPieces.{HaveRun}
 use Rattle.xlb_commands.specs.Parts.{command_frames, records_in}
 use Rattle.xlb_commands.specs.Refused.{lacks_memory, no_piece}
-use Rattle.xlb_commands.specs.declared.in_pieces.PieceStep.TheVariants.{More, Last, Changed}
+use Rattle.xlb_commands.specs.declared.next_records.PieceStep.TheVariants.{More, Last, Changed}
 use Rattle.xlb_commands.proofs.Earlier.{broken_since}
 use Rattle.xlb_commands.proofs.PieceLemmas.{capture_is, none_run, run_on}
 use Rattle.xlb_commands.proofs.Refusals.{failed_since, kept_twice}

@@ -1,35 +1,29 @@
-use Rattle.std.proofs.Common.{◌∙◌, ◌+◌, ◌<◌, ◌++◌, List, arith, ap, length, length-append, subst, sym}
+use Rattle.std.proofs.Common.{◌∙◌, ◌++◌, ◌∷◌, [], List, append-nil, arith, rules, subst, sym}
+use Rattle.folders.specs.PieceReading.{IsReadWhole}
+use Rattle.folders.proofs.shared.ReadingLemmas.{sent_on}
 use Rattle.wire.specs.declared.records.Sent.{Sent}
 use Rattle.xlb_commands.specs.Parts.{command_frames}
-use Rattle.xlb_commands.specs.Shares.{HasPassed}
 use Rattle.xlb_commands.proofs.PieceLemmas.{capture_is}
 use Rattle.xlb_commands.proofs.Refusals.{kept_twice}
 use Rattle.xlb_commands.proofs.in_pieces.look_through.Goals as goal
 
-pub returns-then-len-lt-PIECE-clause-capture : goal.returns-then-len-lt-PIECE-clause-capture
-returns-then-len-lt-PIECE-clause-capture g c =
-    let so_far = c.pieces.invariant in
-    let piece = c.in-Some-2.piece.records.items in
-    let whole = rw c.in-Some-2.is at c.in_ok-piece.ensures.whole in
-    let count = rw c.in-Some-2.is at c.in_ok-piece.ensures.count in
-    let few : length piece < 1024 = (let n = c.len.ensures in let lt = c.if-len-lt-PIECE.true in omega (arith, n, lt)) in
-    let passed = subst (λ (them : List Sent). HasPassed c.args.asked.part (command_frames c.args.asked.script.now) (so_far.records ++ them) c.go_past.new.share)
-    c.deref.ensures.value
-    (c.in_ok-go_past.ensures.past c.args.asked.part (command_frames c.args.asked.script.now) so_far.records so_far.passed) in (
-      so_far.records ++ piece,
-      capture_is (g.D.Folder.holds c.args.folder.now) c.args.asked.files.now.capture.now (so_far.records ++ piece) _
-          (whole few c.args.folder.now c.args.asked.files.now.capture.now so_far.records so_far.read),
-      c.count-then-len-lt-PIECE.ensures c.args.asked.part (command_frames c.args.asked.script.now) (so_far.records ++ piece) passed
-          (c.count.ensures ∙ (count ∙ (ap (λ n. n + length piece) so_far.read.counted ∙ sym (length-append so_far.records piece)))),
-      passed,
+pub returns-in-Ok-None-clause-capture : goal.returns-in-Ok-None-clause-capture
+returns-in-Ok-None-clause-capture g c =
+    let so_far = c.records.invariant in
+    let end = rw c.in-Ok-None.field-0-is at c.in-Ok-None.ensures.whole in
+    let whole = subst (λ (them : List Sent). IsReadWhole (g.D.Folder.holds c.args.folder.now c.args.asked.files.now.capture.now) them c.find.new.self.cut)
+    (append-nil so_far.records) (end c.args.folder.now c.args.asked.files.now.capture.now so_far.records so_far.read) in (
+      so_far.records,
+      capture_is (g.D.Folder.holds c.args.folder.now) c.args.asked.files.now.capture.now so_far.records _ whole,
+      c.count-in-Ok-None.ensures c.args.asked.part (command_frames c.args.asked.script.now) so_far.records so_far.passed
+          (c.count.ensures ∙ (c.in-Ok-None.ensures.count ∙ so_far.read.counted)),
+      so_far.passed,
     )
 
 pub go_past-requires : goal.go_past-requires
 go_past-requires g c =
-    let so_far = c.pieces.invariant in
-    let count = rw c.in-Some-2.is at c.in_ok-piece.ensures.count in
-    let room = rw c.in-Some-2.is at c.in_ok-piece.ensures.room in
-    let here = ap length c.deref.ensures.value in
+    let so_far = c.records.invariant in
+    let room = so_far.room in
     let counted = so_far.read.counted in
     record {
       behind = record {
@@ -38,20 +32,29 @@ go_past-requires g c =
         past = so_far.records;
         passed = so_far.passed;
       };
-      few = omega (arith, count, room, here, counted);
+      few = omega (arith, room, counted);
     }
 
-pub pieces-preserved : goal.pieces-preserved
-pieces-preserved g c =
-    let so_far = c.pieces.invariant in
-    let read = rw c.in-Some-2.is at c.in_ok-piece.ensures.read in
+pub frame-requires : goal.frame-requires
+frame-requires g c = rw c.in-Ok-Some.field-0-is at c.in-Ok-Some.ensures.front
+
+pub records-preserved : goal.records-preserved
+records-preserved g c =
+    let so_far = c.records.invariant in
+    let found = c.in-Ok-Some.ensures in
+    let front = rw c.in-Ok-Some.field-0-is at found.front in
+    let found_count = found.count in
+    let count = c.pass.ensures.count in
+    let room = so_far.room in
+    let less = found.fewer in
+    let fewer = c.pass.ensures.fewer in
     record {
-      records = so_far.records ++ c.in-Some-2.piece.records.items;
-      read = read c.args.folder.now c.args.asked.files.now.capture.now so_far.records so_far.read;
-      passed = subst (λ (them : List Sent). HasPassed c.args.asked.part (command_frames c.args.asked.script.now) (so_far.records ++ them) c.go_past.new.share)
-          c.deref.ensures.value
-          (c.in_ok-go_past.ensures.past c.args.asked.part (command_frames c.args.asked.script.now) so_far.records so_far.passed);
-      room = rw c.in-Some-2.is at c.in_ok-piece.ensures.room;
-      kept = kept_twice _ _ _ so_far.kept c.next_piece.ensures.kept;
-      steady = c.in_ok-piece.ensures.steady ∙ so_far.steady;
+      records = so_far.records ++ front.sent ∷ [];
+      read = sent_on _ _ _ _ _ _ front.sent found.read front.begins (c.pass.ensures.behind front.sent front.begins)
+          c.args.folder.now c.args.asked.files.now.capture.now so_far.records so_far.read;
+      passed = c.in_ok-_taken-in-Ok-Some.ensures.past front.sent (sym (c.frame.ensures front.sent front.begins)) c.args.asked.part
+          (command_frames c.args.asked.script.now) so_far.records so_far.passed;
+      room = omega (arith, room, found_count, count, less, fewer);
+      kept = kept_twice _ _ _ so_far.kept c.find.ensures.kept;
+      steady = search rules;
     }

@@ -8,7 +8,7 @@ use Rattle.xlb_commands.specs.Shares.{HasPassed}
 use Rattle.xlb_commands.proofs.in_pieces.look_through.Given as goal
 
 -- the records so far
-pub record Looked (g : goal.Over) (l : goal.Live-pieces g) : Type 0 where
+pub record Looked (g : goal.Over) (l : goal.Live-records g) : Type 0 where
   pub records : List Sent
   pub read : IsReadTo (g.D.Folder.holds l.fn.folder l.fn.asked.files.now.capture.now) (g.D.Folder.is_left l.folder) records l.reader
   pub passed : HasPassed l.fn.asked.part (command_frames l.fn.asked.script.now) records l.share
@@ -16,8 +16,8 @@ pub record Looked (g : goal.Over) (l : goal.Live-pieces g) : Type 0 where
   pub kept : AreKept (g.D.Folder.holds l.fn.folder) (g.D.Folder.holds l.folder)
   pub steady : g.D.Folder.failure_count l.folder ≡ g.D.Folder.failure_count l.fn.folder
 
-abbrev pub invariant-pieces : goal.invariant-pieces
-invariant-pieces g l = Looked g l
+abbrev pub invariant-records : goal.invariant-records
+invariant-records g l = Looked g l
 
-abbrev pub decreases-pieces : goal.decreases-pieces
-decreases-pieces g l = length l.reader.unread + g.D.Folder.most_left l.folder
+abbrev pub decreases-records : goal.decreases-records
+decreases-records g l = length l.reader.unread + g.D.Folder.most_left l.folder

@@ -20,7 +20,7 @@ use Rattle.map_updates.specs.declared.update.MapUpdate.{MapUpdate}
 use Rattle.command_line.specs.Reading.{text_of}
 use Rattle.steer.specs.ShippedProgram.{sized_image}
 use Rattle.xlb_commands.specs.Files.{FileBytes}
-use Rattle.xlb_commands.specs.Replays.{IsProgramOf, IsReplayReport, IsReplayedWith, IsScriptOf, counts_text, image_of, capture_reading, recording_in}
+use Rattle.xlb_commands.specs.Replays.{AreServedSizes, IsProgramOf, IsReplayReport, IsReplayedWith, IsScriptOf, counts_text, image_of, capture_reading, recording_in}
 use Rattle.xlb_commands.specs.Replays.{recording_of}
 use Rattle.xlb_commands.specs.Replays.{refusals_text}
 use Rattle.xlb_commands.specs.declared.fault.Fault.{Fault}
@@ -45,7 +45,7 @@ replay_once-requires-clause-consistent g c κs outlives = record {
   fit = search rules;
   rows = λ file is. c.recording_of.ensures
       ∙ rows_where_named c.args.settings.now.no_journals (text_of c.args.settings.now.files.journals) file is;
-  size = search rules;
+  size = λ none. (c.in_ok-verified.ensures.size none).1;
   shipped = shipped_of (g.D.Folder.holds c.args.folder.now) (text_of c.args.settings.now.files.image) c.args.settings.now.flows
       c.args.settings.now.ring (image_of c.in_ok-verified.verified) c.in_ok-verified.ensures.program;
 }
@@ -105,6 +105,7 @@ as_said after asked program states script records printed other refused others t
 -- of a program that may run and a script, what is reported of a replay that was made with both: it was done whole, or in part
 answer_is : (before after : FileBytes) (asked : ReplaySettings) (program : Contents) (states : List (Option State)) (script : List Command)
     (made report : Report) → IsProgramOf before (text_of asked.files.image) asked.flows asked.ring program
+    → (text_of asked.files.image ≡ None → AreServedSizes asked.flows asked.ring)
     → Accepts program.version program.maps program.code states → IsSafeImage program.maps program.code
     → IsScriptOf before (text_of asked.files.script) script
     → IsReplayReport before after asked.files program states script asked.options (recording_in asked) asked.ring asked.exact
@@ -114,11 +115,12 @@ answer_is : (before after : FileBytes) (asked : ReplaySettings) (program : Conte
     → (report.is_refused ≡ true → (made.is_refused ≡ true) ⊎ (asked.strict ≡ true))
     → IsReplayAnswer before after asked (replayed.Made report)
 unfolding as_said
-answer_is before after asked program states script made report program_is accepted safe script_is is text whole part = (
+answer_is before after asked program states script made report program_is sizes accepted safe script_is is text whole part = (
   (λ done. record {
     replayed = record {
       program = program;
       program_is = program_is;
+      sizes = sizes;
       states = states;
       accepted = accepted;
       safe = safe;
@@ -136,6 +138,7 @@ answer_is before after asked program states script made report program_is accept
     replayed = record {
       program = program;
       program_is = program_is;
+      sizes = sizes;
       states = states;
       accepted = accepted;
       safe = safe;
@@ -158,7 +161,7 @@ returns-clause-done g c =
     let made = report_before _ _ _ _ _ _ _ _ _ _ _ _ _ _ report
     (kept_twice _ _ _ c.program_of.ensures.kept c.script_of.ensures.kept) c.in_ok-report.ensures.done in
     answer_is (g.D.Folder.holds c.args.folder.now) (g.D.Folder.holds c.replay_once.new.folder) settings program states script report
-    c.of_strict.result c.in_ok-verified.ensures.program c.maps_of.ensures.accepted c.in_ok-verified.ensures.safe
+    c.of_strict.result c.in_ok-verified.ensures.program c.in_ok-verified.ensures.size c.maps_of.ensures.accepted c.in_ok-verified.ensures.safe
     (script_before _ _ c.program_of.ensures.kept _ _ c.in_ok-script.ensures.script)
     (as_asked (g.D.Folder.holds c.args.folder.now) (g.D.Folder.holds c.replay_once.new.folder) settings program states script _ _ report
     c.recording_of.ensures c.deref-updates.ensures.value made)

@@ -46,4 +46,4 @@ returns-in-Ok-clause-safe c =
     c.in-Ok.ensures.accepted.1 c.in-Ok.ensures.safe
 
 pub returns-in-Ok-clause-size : goal.returns-in-Ok-clause-size
-returns-in-Ok-clause-size c = c.in_ok-image.ensures.size.1
+returns-in-Ok-clause-size c = c.in_ok-image.ensures.size

@@ -1,18 +1,13 @@
-use Rattle.std.proofs.Common.{refl, arith, ap, ◌+◌}
-use Rattle.fleet.specs.Parts.{is_in_part}
-use Rattle.fleet.proofs.NumberLemmas.{gone_past}
-use Rattle.fleet.proofs.shared.PartLemmas.{fewer}
+use Rattle.std.proofs.Common.{◌≡◌, ◌∙◌, ◌+◌, ℕ, Bool, true, false, ap, cond, refl}
+use mir.Val.{bool_byte}
+use Rattle.fleet.proofs.NumberLemmas.{gone_past_one}
 use Rattle.fleet.proofs.numbering.Numbering.go_past.Goals as goal
 
-pub overflow_add-self : goal.overflow_add-self
-overflow_add-self c =
-    let self = c.args.self.now in
-    let few = fewer (λ place. is_in_part self.part.of self.part.lost self.part.number (place + self.passed)) c.args.records.now in
-    let count = c.count_in.ensures.count in
-    let fits = c.requires.fits in
-    let before = c.requires.few in
-    omega (arith, few, count, fits, before)
+one_or_none : (has : Bool) → bool_byte has ≡ cond has 1 0
+one_or_none true = refl
+one_or_none false = refl
 
 pub returns-clause-past : goal.returns-clause-past
-returns-clause-past c = λ frames past are late.
-    gone_past frames past c.args.records.now c.args.self.now _ are late refl refl refl (ap (λ k. c.args.self.now.taken + k) c.count_in.ensures.count)
+returns-clause-past c = λ frames past sent same are late.
+    gone_past_one frames past sent c.args.self.now _ c.has-has.result are late (c.has-has.ensures sent same) refl refl refl
+    (ap (λ (n : ℕ). c.args.self.now.taken + n) (c.from.ensures ∙ one_or_none c.has-has.result))

@@ -1,15 +1,13 @@
-use Rattle.std.proofs.Common.{◌≡◌, ◌+◌, ◌-◌, ◌++◌, List, length}
+use Rattle.std.proofs.Common.{◌≡◌, ◌-◌, List, length}
 use Rattle.wire.specs.declared.records.Sent.{Sent}
 use Rattle.fleet.specs.Numbers.{AreNumbered}
 use Rattle.fleet.proofs.numbering.Numbering.pass.Given as goal
 
 abbrev pub invariant-commands : goal.invariant-commands
 invariant-commands l = record {
-  gone : List Sent;
-  parts : l.records ≡ gone ++ l.rest;
-  each : (past : List Sent) → AreNumbered l.frames past l.fn.self → AreNumbered l.frames (past ++ gone) l.self;
+  each : (past : List Sent) → AreNumbered l.frames past l.fn.self → AreNumbered l.frames past l.self;
   part : l.self.part ≡ l.fn.self.part;
-  passed : l.self.passed + length l.rest ≡ l.fn.self.passed + length l.records;
+  passed : l.self.passed ≡ l.fn.self.passed;
 }
 
 abbrev pub decreases-commands : goal.decreases-commands

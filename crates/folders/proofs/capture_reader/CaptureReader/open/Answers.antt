@@ -3,7 +3,7 @@ use Rattle.folders.specs.Pieces.{IsOpened}
 use Rattle.wire.specs.CaptureFormat.{BeginsWithHeader, IsHeaderFault}
 use Rattle.folders.specs.Filling.{IsFilled}
 use Rattle.folders.specs.PieceReading.{IsReadTo}
-use Rattle.folders.proofs.ReadingLemmas.{opened_read, opened_refused}
+use Rattle.folders.proofs.shared.ReadingLemmas.{opened_read, opened_refused}
 use Rattle.folders.proofs.capture_reader.CaptureReader.open.Goals as goal
 
 pub returns-in-Err-check_capture_header-clause-fault : goal.returns-in-Err-check_capture_header-clause-fault

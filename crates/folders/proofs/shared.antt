@@ -1,0 +1,2 @@
+-- The lemmas that proofs of other crates use, too.
+pub mod ReadingLemmas
