@@ -20,6 +20,7 @@ use Rattle.actors.specs.Shares.{frames_of, share}
 use Rattle.control.specs.declared.command.Command.{Command}
 use Rattle.actors.specs.declared.outcome.Outcome.{Outcome}
 use Rattle.actors.specs.Parts.{IsScriptAccounted, AreRoundsAccounted, round_count, first_commands, first_deeds}
+use Rattle.actors.specs.Rounds.{EndsWithRound}
 use Rattle.actors.specs.RunsOverShards.{IsNewPass, IsRunIn}
 
 -- a worker ran its records, in order, from a pass that had seen nothing; in each journal its entries are those of its runs, one after the
@@ -70,3 +71,5 @@ pub record IsAccounted (program : Program) (script : List Command) (options : Op
       AreFirst (first_deeds program.maps options outcome.updates.items (take (first_commands script) commands.done)) order
   -- the reclaimer's rounds
   pub rounds : AreRoundsAccounted plan count (round_count (length records)) outcome.journals order
+  -- the order ends with the last of them: nobody does anything behind it
+  pub closes : EndsWithRound plan count order

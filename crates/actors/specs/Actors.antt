@@ -24,9 +24,9 @@ commands_from first count = map (λ (number : ℕ). Command number) (numbers_fro
 abbrev pub OfCommandsFrom : ℕ → List ℕ → (List Job → Type 0) → Type 0
 OfCommandsFrom first starts is = (count : ℕ) → first + count ≡ length starts → is (commands_from first count)
 
--- a round is asked for after every 64 records and once more after them, and then the end comes
+-- a round is asked for after every 64 records, and then the end comes
 abbrev pub round_jobs : ℕ → List Job
-round_jobs records = replicate (records / 64 + 1) Note ++ End ∷ []
+round_jobs records = replicate (records / 64) Note ++ End ∷ []
 
 -- the last job is the end
 pub record HasEndLast (jobs : List Job) : Type 0 where

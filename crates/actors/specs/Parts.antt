@@ -24,11 +24,11 @@ use Rattle.actors.specs.declared.outcome.Applied.{Applied}
 use Rattle.actors.specs.SharedUpdates.{shard_of, controller_update}
 use Rattle.actors.specs.Commands.{CommanderView, CommandDone, AreNotedOf, AreDone, IsScriptAccountBehind, HasAccount, ServesScript}
 use Rattle.actors.specs.Commands.{all_set, made_in, with_updates, made_deeds, commands_deeds}
-use Rattle.actors.specs.ActorJobs.{AreCommandsTaken, AreRoundsMade, IsActorAccounted as IsControllersAccount}
+use Rattle.actors.specs.ActorJobs.{AreCommandsTaken, IsActorAccounted as IsControllersAccount}
 use Rattle.actors.specs.Rounds.{IsReclaimedBy, AreRoundsDone}
 use Rattle.actors.specs.Actors.{numbers_from, due_to}
 
--- ---- what the threads hand back for their jobs
+-- ---- what the controller's thread hands back for its jobs
 
 -- the controller applied the commands of its jobs, each once and in order, and its pass has their entries
 pub record HasCommanded (plan : ℕ → ShardPlan) (start : CommanderView) (jobs : List Job) (noted : List Applied)
@@ -36,11 +36,6 @@ pub record HasCommanded (plan : ℕ → ShardPlan) (start : CommanderView) (jobs
   pub taken : AreCommandsTaken start.noted noted jobs
   pub account : IsControllersAccount plan start noted pass
   pub who : pass.who ≡ Controller
-
--- the reclaimer made a round for each note
-pub record HasReclaimed (plan : ℕ → ShardPlan) (count : ℕ) (jobs : List Job) (pass : PassView) : Type 0 where
-  pub rounds : AreRoundsMade plan count jobs pass
-  pub who : pass.who ≡ Reclaimer
 
 -- ---- the script
 
@@ -136,7 +131,7 @@ pub record IsScriptAccounted (plan : ℕ → ShardPlan) (maps : List MapDef) (op
   pub did : deeds_of (ByCaller Controller) order ≡ reverse (made_deeds maps options (all_set updates) ++ commands_deeds maps options done)
   pub refused_are : refused ≡ refused_of noted
 
--- the rounds of a replay: one after every 64 records, and one after the last
+-- the rounds of a replay: one after every 64 records, and one behind all that the others do
 abbrev pub round_count : ℕ → ℕ
 round_count records = records / 64 + 1
 

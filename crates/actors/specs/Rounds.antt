@@ -73,6 +73,18 @@ AreRoundsDone plan count (suc rounds) deeds =
     (first : List Deed) × (later : List Deed) × (deeds ≡ first ++ later) × IsRoundDone plan count first ×
     AreRoundsDone plan count rounds later
 
+-- one round more: what was done, newest first, is its deeds on top of these
+pub record HasMadeRound (plan : ℕ → ShardPlan) (count : ℕ) (before after : List Deed) : Type 0 where
+  -- the oldest deed first
+  pub made : List Deed
+  pub round : IsRoundDone plan count made
+  pub deeds_are : after ≡ reverse made ++ before
+
+-- the deeds of one round come behind all others
+pub record EndsWithRound (plan : ℕ → ShardPlan) (count : ℕ) (order : List Deed) : Type 0 where
+  pub others : List Deed
+  pub last : HasMadeRound plan count others order
+
 -- N rounds: what they left in each of N shards, and all that the reclaimer did over them
 pub record AreReclaimed (plan : ℕ → ShardPlan) (count rounds : ℕ) (pass : PassView) : Type 0 where
   pub each : (number : ℕ) → number < count → IsReclaimedAt plan rounds pass number

@@ -15,6 +15,7 @@ use std::mem;
 use wire::{Capture, Sent};
 
 /// Puts a frame behind those that are sent, if it is sent.
+#[inline(always)]
 pub fn send(all: &mut Vec<Sent>, fate: Option<RunEnd>) -> Result<(), AllocError>
     ensures { OnOk result (sent_frames all.new.items ≡ sent_frames all.old.items ++ sent_by fate) }
 {

@@ -15,12 +15,17 @@ use wire::{Capture, MIN_FRAME, Sent, flow_of};
 /// After how many records of the capture the reclaimer makes a round: behind the 64th, the 128th and so on.
 pub const ROUND_EVERY: usize = 64;
 
-/// The worker that handles a frame: the one of its flow, and worker 0 where it has none.
+/// The worker that handles a frame: the one of its flow, and worker 0 where it has none. A single worker handles all, so no flow is looked
+/// for then.
+#[tactic(auto, using(crate::proofs::shared::PutLemmas::worker_below))]
 pub fn worker_of(frame: &[u8], workers: usize) -> usize
     requires { 0 < workers }
     ensures worker { result ≡ worker_of_frame frame.now workers }
     ensures below { result < workers }
 {
+    if workers == 1 {
+        return 0;
+    }
     match flow_of(frame) {
         Some(key) => spread(Some(&key), workers),
         None => spread(None, workers),
@@ -91,7 +96,7 @@ fn hand_commands<R: Wait>(rt: &R, queues: &Queues, put: &mut PutPass, next: usiz
 }
 
 /// Asks the reclaimer for a round. Waits while its queue is full.
-pub fn ask_round<R: Wait>(rt: &R, queues: &Queues, put: &mut PutPass)
+fn ask_round<R: Wait>(rt: &R, queues: &Queues, put: &mut PutPass)
     requires pass { IsPutPassOf queues.now put.old }
     ensures pass { IsPutPassOf queues.now put.new }
     ensures put { ArePutAt (workers_of queues.now + 1) (Note ∷ []) (jobs_put put.old) (jobs_put put.new) }

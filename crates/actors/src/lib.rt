@@ -13,7 +13,8 @@
 //! The dispatcher (`dispatch`) goes over the records in the capture's order. Before each record it hands over the commands that are due,
 //! then the record, and after every 64 records a note. No command is handed over before as many records as its number were, and none is
 //! left whose number has gone by: the methods that hand over require this of what was put before (`AreInTime`), so an order that breaks it
-//! is refused where it is written. Behind the last record come the commands that are left.
+//! is refused where it is written. Behind the last record come the commands that are left; the reclaimer's last round is made without a note,
+//! when all threads have ended (`Reclaiming::last_round`).
 //!
 //! Who calls a shard, and who puts or takes a job, needs a pass. It can't be copied, and knows what was done through it. An actor promises,
 //! before its thread starts, that it takes its jobs to the end, and that it did each, unless memory was refused. A worker's runs are a

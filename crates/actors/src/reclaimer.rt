@@ -1,12 +1,14 @@
-//! The reclaimer of a replay: a round of Reclaims for each note of its queue until the end.
+//! The reclaimer of a replay: a round of Reclaims for each note of its queue until the end, and the last one behind all that the others do.
 
 ghost use Rattle.std.specs.Prelude.{◌≡◌, ◌<◌, ◌+◌, ◌∷◌, ◌++◌, [], ℕ};
 ghost use Rattle.rx_queues.specs.Passes.{IsTakePassOf, jobs_taken, place_taken_from, workers_of};
 ghost use Rattle.semantics.specs.declared.call.Caller.TheVariants.{Reclaimer};
 ghost use Rattle.shards.specs.Passes.{IsElsewhereSame};
+ghost use Rattle.shards.specs.Deeds.{deeds_of, AreFirst};
+ghost use Rattle.shards.specs.declared.deeds.OrderPart.TheVariants.{ByCaller};
 ghost use Rattle.actors.specs.ActorJobs.{AreRoundsMade, round_job};
 ghost use Rattle.actors.specs.Actors.{HasEndLast, IsUnused};
-ghost use Rattle.actors.specs.Rounds.{AreReclaimed, IsReclaimedAt, IsReclaimAsked, HasAsked, HasTurned};
+ghost use Rattle.actors.specs.Rounds.{AreReclaimed, HasMadeRound, IsReclaimedAt, IsReclaimAsked, HasAsked, HasTurned};
 ghost use Rattle.semantics.specs.Replay.{is_keyed};
 
 use crate::actor::{Actor, ActorEnded};
@@ -14,7 +16,7 @@ use ebpf_decode::MapKind;
 use rx_queues::{Job, Queues, TakePass};
 use semantics::Caller;
 use shard_port::{Gate, Tally};
-use shards::{Naming, Pass, Shards};
+use shards::{First, Naming, Pass, Shards};
 use std::alloc::Global;
 use std::marker::Model;
 use std::sync::Wait;
@@ -69,9 +71,23 @@ impl<'a, B: Naming, W: Wait, G: Gate> Reclaiming<'a, B, W, G> {
         pass
     }
 
+    /// The last round, behind all that was done so far, with which the one order of all deeds begins; this begins with what was known to come
+    /// first. Gives the pass back.
+    pub fn last_round(mut self, earlier: First<B>) -> (First<B>, Pass<B>)
+        ensures later { AreFirst earlier result.0 }
+        ensures last { HasMadeRound B.plan B.count (deeds_of (ByCaller Reclaimer) result.0) result.1.deeds }
+        ensures rounds { (rounds : ℕ) → AreReclaimed B.plan B.count rounds self.entry → AreReclaimed B.plan B.count (rounds + 1) result.1 }
+        ensures who { result.1.who ≡ Reclaimer }
+    {
+        let so_far = self.shards.so_far(&mut self.pass, earlier);
+        self.round();
+        (so_far, self.finish())
+    }
+
     /// One round, from the lowest shard up: each hash and LRU shard is asked once. A Reclaim that a full journal refuses is passed over.
     pub fn round(&mut self)
-        ensures { (rounds : ℕ) → AreReclaimed B.plan B.count rounds self.old → AreReclaimed B.plan B.count (rounds + 1) self.new }
+        ensures rounds { (rounds : ℕ) → AreReclaimed B.plan B.count rounds self.old → AreReclaimed B.plan B.count (rounds + 1) self.new }
+        ensures did { HasMadeRound B.plan B.count self.old.deeds self.new.deeds }
     {
         'shards: for number in 0..self.shards.count() as u32 {
             self.turn(number);
@@ -125,15 +141,15 @@ pub fn is_keyed(kind: MapKind) -> bool
     }
 }
 
-impl<'a, B: Naming, W: Wait, G: Gate> Actor<Pass<B>> for Reclaiming<'a, B, W, G> {
+impl<'a, B: Naming, W: Wait, G: Gate> Actor<Reclaiming<'a, B, W, G>> for Reclaiming<'a, B, W, G> {
     ghost use Rattle.std.specs.Prelude.{◌≡◌, ◌+◌};
     ghost use Rattle.rx_queues.specs.Passes.{workers_of};
     ghost use Rattle.actors.specs.Actors.{IsUnused};
-    ghost use Rattle.actors.specs.Parts.{HasReclaimed};
+    ghost use Rattle.actors.specs.ActorJobs.{AreRoundsMade};
 
     ghost is_ready = { λ actor queues place. IsUnused actor × (place ≡ workers_of queues + 1) };
 
-    ghost gives = { λ actor jobs given. HasReclaimed B.plan B.count jobs given };
+    ghost gives = { λ actor jobs given. AreRoundsMade B.plan B.count jobs given };
 
     fn until_end<R: Wait>(
         self,
@@ -141,26 +157,25 @@ impl<'a, B: Naming, W: Wait, G: Gate> Actor<Pass<B>> for Reclaiming<'a, B, W, G>
         alloc: Global,
         queues: &Queues,
         take: TakePass,
-    ) -> ActorEnded<Pass<B>> {
+    ) -> ActorEnded<Reclaiming<'a, B, W, G>> {
         let _ = alloc;
         rounds_until_end(rt, queues, take, self)
     }
 }
 
 /// Makes a round for each note that the reclaimer is handed, until the end. Waits while the queue is empty.
-fn rounds_until_end<B: Naming, W: Wait, G: Gate, R: Wait>(
+fn rounds_until_end<'a, B: Naming, W: Wait, G: Gate, R: Wait>(
     rt: &R,
     queues: &Queues,
     mut take: TakePass,
-    mut reclaiming: Reclaiming<'_, B, W, G>,
-) -> ActorEnded<Pass<B>>
+    mut reclaiming: Reclaiming<'a, B, W, G>,
+) -> ActorEnded<Reclaiming<'a, B, W, G>>
     requires take { IsTakePassOf queues.now take × (jobs_taken take ≡ []) }
     requires unused { IsUnused reclaiming }
     requires notes { place_taken_from take ≡ workers_of queues.now + 1 }
     ensures take { IsTakePassOf queues.now result.take × (place_taken_from result.take ≡ place_taken_from take) }
     ensures ended { HasEndLast (jobs_taken result.take) }
     ensures rounds { AreRoundsMade B.plan B.count (jobs_taken result.take) result.given }
-    ensures who { result.given.who ≡ Reclaimer }
 {
     'jobs: for _ in rt.forever() {
         if !next_note(rt, queues, &mut take) {
@@ -170,7 +185,7 @@ fn rounds_until_end<B: Naming, W: Wait, G: Gate, R: Wait>(
     }
     ActorEnded {
         take,
-        given: reclaiming.finish(),
+        given: reclaiming,
         is_refused: false,
     }
 }

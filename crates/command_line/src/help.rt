@@ -175,15 +175,17 @@ pub fn after_flows<'a>() -> &'a str {
     "\
 REPORT was written by replay --exact --report, of the shipped program and of a
 whole capture, not of --part, and SCRIPT is the script of that replay. Prints a
-line for each flow with a sent frame: when it was seen, how many frames it had,
+line for each flow: when it was seen, how many frames it had, how many of them
+were sent, how many dropped, how many of these for want of a backend that was up,
 and its backends in order, each with the reason of the change: down (the backend
 before was not up), untracked (the service keeps no notes, or kept none at the
 frame before), readdressed (the backend before has another address), evicted (it
 was still up, and the flow's note was gone), unknown (the number of the backend
 before is not known). On the standard error it says how many flows moved, how
-many frames were moved for each reason, and which ten flows moved most often. The
-status is 2 where REPORT is no report of CSV, or the record of one of its rows
-does not follow that of the row before."
+many lost frames (one was dropped behind a sent one), how many frames were moved
+for each reason, and which ten flows moved most often. The status is 2 where
+REPORT is no report of CSV, or the record of one of its rows does not follow that
+of the row before."
 }
 
 pub fn after_page<'a>() -> &'a str {

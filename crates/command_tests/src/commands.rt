@@ -14,6 +14,7 @@ mod cut_captures;
 mod devices;
 mod explained;
 mod failing_devices;
+mod failing_pieces;
 mod fault_texts;
 mod first_path;
 mod images;

@@ -3,7 +3,7 @@ use Rattle.std.specs.Prelude.{◌≡◌, ℕ, ◌+◌, ◌<◌, ◌⊎◌, not, 
 use Rattle.comparison.specs.declared.fault.Unlike.{Unlike}
 use Rattle.comparison.specs.declared.fault.Unlike.TheVariants as unlikes
 use Rattle.comparison.specs.declared.fault.NoRows.{NoRows}
-use Rattle.comparison.specs.declared.fault.NoRows.TheVariants.{JsonLines, Memory, NoReport}
+use Rattle.comparison.specs.declared.fault.NoRows.TheVariants.{JsonLines, Memory, NoReport, WrongField}
 use Rattle.comparison.specs.declared.fault.Which.{Which}
 use Rattle.comparison.specs.declared.fault.Which.TheVariants.{First, Second}
 use Rattle.std.specs.declared.alloc.Global.{Global}
@@ -47,6 +47,7 @@ pub record AreCompared (first second text : List ℕ) (differs : Bool) : Type 0 
 abbrev pub unlike_of : Which → NoRows → Unlike
 unlike_of which JsonLines = unlikes.JsonLines which
 unlike_of which (NoReport line) = unlikes.NoReport which line
+unlike_of which (WrongField line column) = unlikes.WrongField which line column
 unlike_of which Memory = unlikes.Memory
 
 -- why two files are not compared, whose this one has these bytes: it was not read

@@ -1,4 +1,5 @@
 -- The definitions that the contracts of this crate cite, in reading order.
+pub mod Columns
 pub mod Rows
 pub mod Changes
 pub mod Kinds

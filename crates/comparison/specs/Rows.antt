@@ -1,10 +1,11 @@
 -- The rows of a report of CSV (RFC 4180): a head, and a line for each record, with its fields between commas.
-use Rattle.std.specs.Prelude.{◌≡◌, ◌≢◌, ℕ, zero, suc, ◌+◌, ◌-◌, ◌<◌, ◌≤◌, ◌==◌, ◌++◌, ◌⊎◌, ◌∷◌, Bool, true, false, List, [], codes, count_by}
-use Rattle.std.specs.Prelude.{length, slice_index_or, take}
+use Rattle.std.specs.Prelude.{◌≡◌, ◌≢◌, ℕ, zero, suc, ◌+◌, ◌-◌, ◌<◌, ◌≤◌, ◌==◌, ◌++◌, ◌⊎◌, ◌∷◌, ◌&&◌, Bool, true, false, List, [], codes, count_by}
+use Rattle.std.specs.Prelude.{if◌then◌else◌, length, slice_index_or, take}
 use Rattle.std.specs.List.{after_first, before_first, slice_split}
 use Rattle.text_lines.specs.NoText.{IsNoText}
+use Rattle.comparison.specs.Columns.{is_field}
 use Rattle.comparison.specs.declared.fault.NoRows.{NoRows}
-use Rattle.comparison.specs.declared.fault.NoRows.TheVariants.{JsonLines, Memory, NoReport}
+use Rattle.comparison.specs.declared.fault.NoRows.TheVariants.{JsonLines, Memory, NoReport, WrongField}
 
 -- ---- lines
 
@@ -29,9 +30,9 @@ last_line lines = slice_index_or lines (length lines - 1) []
 
 -- ---- fields
 
--- a line has the thirteen fields of a record: twelve commas are between them
-abbrev pub is_row : List ℕ → Bool
-is_row line = count_by (λ b. b == 44) line == 12
+-- a line has thirteen fields: twelve commas are between them
+abbrev pub has_fields : List ℕ → Bool
+has_fields line = count_by (λ b. b == 44) line == 12
 
 -- what is before the first comma, or all; and what comes after it
 abbrev pub first_field : List ℕ → List ℕ
@@ -47,6 +48,19 @@ fields_from (suc place) line = later_fields (fields_from place line)
 
 abbrev pub field : ℕ → List ℕ → List ℕ
 field place line = first_field (fields_from place line)
+
+-- one field more, where so many from the first one on are what their columns say
+abbrev pub with_field : ℕ → ℕ → List ℕ → ℕ
+with_field count place text = if count == place && is_field place text then place + 1 else count
+
+-- how many of the first N fields, from the first one on, are what their columns say
+unfoldable pub right_fields : List ℕ → ℕ → ℕ
+right_fields line zero = 0
+right_fields line (suc place) = with_field (right_fields line place) place (field place line)
+
+-- a line has the thirteen fields of a record
+abbrev pub is_row : List ℕ → Bool
+is_row line = has_fields line && right_fields line 13 == 13
 
 -- ---- reports
 
@@ -72,13 +86,18 @@ pub record IsRowCount (lines : List (List ℕ)) (count : ℕ) : Type 0 where
   pub are_rows : AreRows lines count
   pub next : (count ≡ length lines) ⊎ (is_row (row_at lines count) ≡ false)
 
--- The bytes are no report, and this is the first line that shows it, counted from 1: they are no text from there on; they do not begin with
--- the head; or the line has not the fields of a record, or lacks its line feed.
-pub data IsNoReport (bytes : List ℕ) (line : ℕ) : Type 0 where
-  no_text : IsNoText bytes line → IsNoReport bytes line
-  no_head : ((rest : List ℕ) → bytes ≢ head_line ++ rest) → line ≡ 1 → IsNoReport bytes line
+-- why a line, counted from 1, is no row: it has not thirteen fields, or this one is not what its column says, the first such
+abbrev pub why_no_row : List ℕ → ℕ → NoRows
+why_no_row row line = if has_fields row then WrongField line (right_fields row 13) else NoReport line
+
+-- The bytes are no report, and why, with the first line that shows it, counted from 1: they are no text from there on; they do not begin with
+-- the head; or the line is no row, or lacks its line feed.
+pub data IsNoReport (bytes : List ℕ) (none : NoRows) : Type 0 where
+  no_text : (line : ℕ) → IsNoText bytes line → none ≡ NoReport line → IsNoReport bytes none
+  no_head : ((rest : List ℕ) → bytes ≢ head_line ++ rest) → none ≡ NoReport 1 → IsNoReport bytes none
   no_row : (rest : List ℕ) (count : ℕ) → bytes ≡ head_line ++ rest → IsRowCount (ended_lines (lines_of rest)) count
-      → (count ≡ length (ended_lines (lines_of rest)) → length (last_line (lines_of rest)) ≢ 0) → line ≡ 2 + count → IsNoReport bytes line
+      → (count ≡ length (ended_lines (lines_of rest)) → length (last_line (lines_of rest)) ≢ 0)
+      → none ≡ why_no_row (row_at (ended_lines (lines_of rest)) count) (2 + count) → IsNoReport bytes none
 
 -- the bytes begin as JSON lines do
 abbrev pub BeginsAsJson : List ℕ → Type 0
@@ -87,5 +106,5 @@ BeginsAsJson bytes = (rest : List ℕ) × (bytes ≡ 123 ∷ rest)
 -- why the rows of a file were not read: it has JSON lines; it is no report; or memory was refused
 pub data IsUnread (bytes : List ℕ) (none : NoRows) : Type 0 where
   is_json : BeginsAsJson bytes → none ≡ JsonLines → IsUnread bytes none
-  is_no_report : (line : ℕ) → ¬ BeginsAsJson bytes → IsNoReport bytes line → none ≡ NoReport line → IsUnread bytes none
+  is_no_report : ¬ BeginsAsJson bytes → IsNoReport bytes none → IsUnread bytes none
   no_memory : none ≡ Memory → IsUnread bytes none

@@ -9,6 +9,8 @@ pub enum NoRows {
     JsonLines,
     /// The file is no report of CSV; the first line that shows it, counted from 1.
     NoReport { line: usize },
+    /// The file is no report of CSV: on this line, counted from 1, the field in this column, counted from 0, is not what the column says.
+    WrongField { line: usize, column: usize },
     /// Memory was refused.
     Memory,
 }
@@ -35,11 +37,24 @@ pub enum Which {
 #[derive(Clone, Copy, Debug, PartialEq, Eq)]
 pub enum Unlike {
     /// The file has JSON lines, or anything else that begins with a brace.
-    JsonLines { which: Which },
+    JsonLines {
+        which: Which,
+    },
     /// The file is no report of CSV; the first line that shows it, counted from 1.
-    NoReport { which: Which, line: usize },
+    NoReport {
+        which: Which,
+        line: usize,
+    },
+    /// The file is no report of CSV: on this line, counted from 1, the field in this column, counted from 0, is not what the column says.
+    WrongField {
+        which: Which,
+        line: usize,
+        column: usize,
+    },
     /// The reports are of other records, which first shows at this one, counted from 1.
-    OtherRecords { number: usize },
+    OtherRecords {
+        number: usize,
+    },
     /// Memory was refused.
     Memory,
 }
@@ -66,6 +81,11 @@ impl NoRows {
         match self {
             NoRows::JsonLines => Unlike::JsonLines { which },
             NoRows::NoReport { line } => Unlike::NoReport { which, line },
+            NoRows::WrongField { line, column } => Unlike::WrongField {
+                which,
+                line,
+                column,
+            },
             NoRows::Memory => Unlike::Memory,
         }
     }

@@ -2,6 +2,7 @@
 #![tactic(auto)]
 
 mod changes;
+mod columns;
 mod comparing;
 mod fault;
 mod kinds;
@@ -11,6 +12,6 @@ mod rows;
 
 pub use comparing::{Comparison, compare};
 pub use fault::{NoRows, Unlike, Which};
-pub use mistakes::{json_text, no_report_text};
+pub use mistakes::{json_text, no_report_text, wrong_field_text};
 pub use printing::{flow_phrase, flow_pieces};
 pub use rows::{field, fields_from, parts_at, row_at, rows_in};

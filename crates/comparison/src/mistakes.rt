@@ -1,8 +1,9 @@
 //! What is printed where two files are not compared.
 
 ghost use Rattle.std.specs.Prelude.{◌≡◌, IfOk, string_bytes};
-ghost use Rattle.comparison.specs.Mistakes.{json_text, name_of, no_report_text, no_rows_text, others_text, unlike_text};
+ghost use Rattle.comparison.specs.Mistakes.{json_text, name_of, named_field_text, no_report_text, no_rows_text, others_text, unlike_text, wrong_field_text};
 
+use crate::columns::column_name;
 use crate::fault::{NoRows, Unlike, Which};
 use std::alloc::{AllocError, Global};
 
@@ -30,6 +31,30 @@ pub fn no_report_text(alloc: Global, name: &str, line: usize) -> Result<String, 
     format!(in alloc; "error: {name} is no report of CSV: line {line}\n")
 }
 
+fn named_field_text(
+    alloc: Global,
+    name: &str,
+    line: usize,
+    column: &str,
+) -> Result<String, AllocError>
+    ensures { IfOk result (λ text. string_bytes text ≡ named_field_text name.now line column.now) }
+{
+    format!(in alloc; "error: {name} is no report of CSV: line {line}, column {column}\n")
+}
+
+/// The line that says that a file is no report of CSV, and which field, by its line from 1 and its column from 0, shows it. It fails only for
+/// lack of memory.
+pub fn wrong_field_text(
+    alloc: Global,
+    name: &str,
+    line: usize,
+    column: usize,
+) -> Result<String, AllocError>
+    ensures { IfOk result (λ text. string_bytes text ≡ wrong_field_text name.now line column) }
+{
+    named_field_text(alloc, name, line, column_name(column))
+}
+
 fn others_text(
     alloc: Global,
     first: &str,
@@ -51,6 +76,7 @@ impl NoRows {
         match self {
             NoRows::JsonLines => json_text(alloc, name),
             NoRows::NoReport { line } => no_report_text(alloc, name, line),
+            NoRows::WrongField { line, column } => wrong_field_text(alloc, name, line, column),
             NoRows::Memory => String::from_str(alloc, "fault 8 Memory\n"),
         }
     }
@@ -66,6 +92,11 @@ impl Unlike {
             Unlike::NoReport { which, line } => {
                 no_report_text(alloc, name_of(which, first, second), line)
             }
+            Unlike::WrongField {
+                which,
+                line,
+                column,
+            } => wrong_field_text(alloc, name_of(which, first, second), line, column),
             Unlike::OtherRecords { number } => others_text(alloc, first, second, number),
             Unlike::Memory => String::from_str(alloc, "fault 8 Memory\n"),
         }

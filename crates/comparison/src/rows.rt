@@ -1,9 +1,11 @@
 //! The rows of a report.
 
-ghost use Rattle.std.specs.Prelude.{◌≡◌, ◌≢◌, ◌<◌, ◌++◌, ℕ, List, IfErr, IfNone, IfOk, IfSome, false, map, true};
+ghost use Rattle.std.specs.Prelude.{◌≡◌, ◌≢◌, ◌<◌, ◌^◌, ◌++◌, ℕ, List, IfErr, IfNone, IfOk, IfSome, false, map, true};
 ghost use Rattle.comparison.specs.Rows.{BeginsAsJson, IsReport, IsRowCount, IsUnread, field, fields_from, first_field, head_line, is_row};
-ghost use Rattle.comparison.specs.Rows.{ended_lines, last_line, later_fields, parts_between, row_at};
+ghost use Rattle.comparison.specs.Rows.{ended_lines, has_fields, last_line, later_fields, parts_between, right_fields, row_at, why_no_row};
+ghost use Rattle.comparison.specs.Rows.{with_field};
 
+use crate::columns::is_field;
 use crate::fault::NoRows;
 use std::alloc::{AllocError, Global};
 use text_lines::text_or_line;
@@ -12,11 +14,62 @@ use text_lines::text_or_line;
 const HEAD: &str =
     "number,moment,worker,verdict,steps,case,backend,address,source,source_port,destination,destination_port,protocol\n";
 
+/// So many fields a line has.
+const COLUMNS: usize = 13;
+
+/// Whether a line has thirteen fields.
+fn has_fields(line: &str) -> bool
+    ensures { result ≡ has_fields line.now }
+{
+    line.as_bytes().iter().filter(|byte| **byte == b',').count() == 12
+}
+
+/// One field more, where so many from the first one on are what their columns say.
+fn with_field(count: usize, place: usize, text: &str) -> usize
+    requires { place < 2 ^ 32 }
+    ensures { result ≡ with_field count place text.now }
+{
+    if count == place && is_field(place, text) {
+        place + 1
+    } else {
+        count
+    }
+}
+
+/// How many of so many fields of a line, from the first one on, are what their columns say.
+#[tactic(auto, unfolding(crate::specs::Rows::right_fields))]
+fn right_fields(line: &str, most: usize) -> usize
+    requires { most < 2 ^ 32 }
+    ensures { result ≡ right_fields line.now most }
+{
+    let mut rest = line;
+    let mut count = 0;
+    'columns: for place in 0..most {
+        count = with_field(count, place, first_field(rest));
+        rest = later_fields(rest);
+    }
+    count
+}
+
 /// Whether a line has the fields of a record.
 fn is_row(line: &str) -> bool
     ensures { result ≡ is_row line.now }
 {
-    line.as_bytes().iter().filter(|byte| **byte == b',').count() == 12
+    has_fields(line) && right_fields(line, COLUMNS) == COLUMNS
+}
+
+/// Why a line is no row.
+fn why_no_row(row: &str, line: usize) -> NoRows
+    ensures { result ≡ why_no_row row.now line }
+{
+    if has_fields(row) {
+        NoRows::WrongField {
+            line,
+            column: right_fields(row, COLUMNS),
+        }
+    } else {
+        NoRows::NoReport { line }
+    }
 }
 
 /// What is before the first comma, or all.
@@ -112,7 +165,7 @@ fn rows_of(alloc: Global, rest: &str) -> Result<Vec<&str>, NoRows>
     if behind == 0 && count == lines.len() {
         Ok(lines)
     } else {
-        Err(NoRows::NoReport { line: 2 + count })
+        Err(why_no_row(row_at(&lines, count), 2 + count))
     }
 }
 
@@ -132,7 +185,8 @@ fn begins_as_json(bytes: &[u8]) -> bool
     !bytes.is_empty() && bytes[0] == b'{'
 }
 
-/// The rows of a report. Refused where the bytes are none, with the first line that shows it, and where memory is refused.
+/// The rows of a report. Refused where the bytes are none, with the first line that shows it, and the column where a field does, and where
+/// memory is refused.
 pub fn rows_in(alloc: Global, bytes: &[u8]) -> Result<Vec<&str>, NoRows>
     ensures rows { IfOk result (λ rows. IsReport bytes.now (map (λ row. row.now) rows.items)) }
     ensures refused { IfErr result (λ none. IsUnread bytes.now none) }

@@ -6,7 +6,8 @@ use thiserror::Error;
 /// Why no steering maps were made. docs/FAULTS.md says when each comes, in which order, and what it leaves.
 #[derive(Clone, Copy, Debug, PartialEq, Eq, Error)]
 pub enum SteerFault {
-    /// 73: the lookup table has none of the sizes 7, 251, 4093 and 65537.
+    /// 73: the lookup table has none of the sizes 7, 251, 4093 and 65537, or the flow table none of 4096, 8192, 16384, 32768, 65536
+    /// and 131072.
     #[error("fault 73 BadSize")]
     BadSize,
     /// 74: memory was refused.

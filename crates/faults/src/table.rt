@@ -519,9 +519,9 @@ pub(crate) fn rings(number: u8) -> Explanation
             number: 73,
             name: "BadSize",
             fields: FieldNames::Empty,
-            meaning: "A ring has another size than it may.",
-            causes: "A ring has 7, 251, 4093 or 65537 slots.",
-            example: "A ring of 256 slots.",
+            meaning: "A lookup table or a flow table has another size than it may.",
+            causes: "A lookup table has 7, 251, 4093 or 65537 slots, a flow table 4096, 8192, 16384, 32768, 65536 or 131072 notes.",
+            example: "A lookup table of 256 slots.",
         },
         _ => Explanation {
             number: 74,

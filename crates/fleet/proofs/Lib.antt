@@ -1,5 +1,4 @@
 pub mod shared
-mod KeyLemmas
 mod LossLemmas
 mod Totals
 mod NumberLemmas

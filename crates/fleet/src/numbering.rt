@@ -38,6 +38,7 @@ impl Numbering {
     }
 
     /// Whether the next command is due before the next record.
+    #[inline(always)]
     fn is_due(&self, frames: &[u32]) -> bool
         requires { IsNumbering frames.now self.now }
         ensures due { result ≡ true → (length self.now.numbers.items < length frames.now)
@@ -50,6 +51,7 @@ impl Numbering {
     }
 
     /// Goes past the next record of the capture, before which no command is due, and says whether it is in the part.
+    #[inline(always)]
     fn go_past(&mut self, frame: &[u8]) -> bool
         requires fits { self.old.passed + 1 < 2 ^ 64 }
         requires few { self.old.taken ≤ self.old.passed }
@@ -81,9 +83,26 @@ impl Numbering {
         Ok(())
     }
 
+    /// Notes the numbers of all commands that are due before the next record. It is called for few records, so it stands apart from the others.
+    #[inline(never)]
+    fn note_due(&mut self, frames: &[u32]) -> Result<(), AllocError>
+        requires { IsNumbering frames.now self.old }
+        ensures noted { OnOk result ((past : List Record) → AreNumbered frames.now past self.old → AreNumbered frames.now past self.new) }
+        ensures later { OnOk result (length self.new.numbers.items < length frames.now →
+            self.new.passed < slice_index frames.now (length self.new.numbers.items)) }
+        ensures part { self.new.part ≡ self.old.part }
+        ensures passed { self.new.passed ≡ self.old.passed }
+    {
+        'commands: while self.is_due(frames) {
+            self.note()?;
+        }
+        Ok(())
+    }
+
     /// Goes past the next record of the capture, of which this is the frame, and notes the numbers of the commands that are due before it.
     /// Says whether the record is in the part. `frames` are the commands' own numbers, the same in each call. It fails only for lack of
     /// memory.
+    #[inline(always)]
     pub fn pass(&mut self, frames: &[u32], frame: &[u8]) -> Result<bool, AllocError>
         requires fits { self.old.passed + 1 < 2 ^ 64 }
         requires numbering { IsNumbering frames.now self.old }
@@ -94,8 +113,8 @@ impl Numbering {
         ensures part { self.new.part ≡ self.old.part }
         ensures passed { OnOk result (self.new.passed ≡ self.old.passed + 1) }
     {
-        'commands: while self.is_due(frames) {
-            self.note()?;
+        if self.is_due(frames) {
+            self.note_due(frames)?;
         }
         Ok(self.go_past(frame))
     }

@@ -1,13 +1,14 @@
 //! Which records are in a part.
 
-ghost use Rattle.std.specs.Prelude.{◌≡◌, ◌+◌, ◌-◌, ◌<◌, ℕ};
+ghost use Rattle.std.specs.Prelude.{◌≡◌, ◌+◌, ◌-◌, ◌<◌, ◌≤◌, ◌++◌, ◌∷◌, [], ℕ, length, slice_index, IsTrue};
 ghost use Rattle.wire.specs.declared.records.Sent.{Sent as Record};
-ghost use Rattle.wire.specs.FlowBytes.{flow_key_bytes};
-ghost use Rattle.fleet.specs.Parts.{heir_of_frame, heir_place, is_in_part, part_behind, part_by, part_of_frame, records_left};
-ghost use Rattle.fleet.specs.Parts.{records_of_part};
+ghost use Rattle.wire.specs.FlowForm.{flow_bytes_of};
+ghost use Rattle.wire.specs.Fnv.{fnv1a64_next, fnv1a64_of};
+ghost use Rattle.fleet.specs.Parts.{has_flow_key, heir_of_frame, heir_place, is_in_part, part_behind, part_by, part_of_frame};
+ghost use Rattle.fleet.specs.Parts.{records_left, records_of_part};
 
 use crate::part::Part;
-use wire::{Capture, FlowKey, Sent, flow_of, fnv1a64};
+use wire::{Capture, Sent, word_at};
 
 /// The byte behind a flow's key, in what is hashed.
 const SALT: u8 = 0x70;
@@ -15,25 +16,85 @@ const SALT: u8 = 0x70;
 /// The one in its place, where the flow's part is lost.
 const SECOND_SALT: u8 = 0x6c;
 
-/// A part of so many, by the hash of a flow's key and one byte more.
-fn part_by(key: &FlowKey, byte: u8, of: u32) -> u32
-    requires { 0 < of }
-    ensures { result ≡ part_by byte of (flow_key_bytes key.now) }
+/// The offset basis of 64-bit FNV-1a.
+const OFFSET_BASIS: u64 = 0xcbf29ce484222325;
+
+/// The prime of 64-bit FNV-1a.
+const PRIME: u64 = 0x100000001b3;
+
+/// Whether a frame has a flow. It is read where it is: a record of another part is given no key of its own.
+#[inline(always)]
+fn has_flow(frame: &[u8]) -> bool
+    ensures has { result ≡ has_flow_key frame.now }
+    ensures long { IsTrue result → 42 ≤ length frame.now }
 {
-    let [a, b, c, d, e, f, g, h, i, j, k, l, m, n, o, p] = key.bytes();
-    let hash = fnv1a64(&[a, b, c, d, e, f, g, h, i, j, k, l, m, n, o, p, byte]);
+    if frame.len() < 42 || frame[12] != 0x08 || frame[13] != 0x00 || frame[14] != 0x45 {
+        return false;
+    }
+    let total_length = word_at(frame, 16);
+    if total_length < 28 || frame.len() < 14 + usize::from(total_length) {
+        return false;
+    }
+    word_at(frame, 20) & 0x3fff == 0 && (frame[23] == 6 || frame[23] == 17)
+}
+
+/// The hash after one more byte.
+#[inline(always)]
+fn after_byte(hash: u64, byte: u8) -> u64
+    ensures { result ≡ fnv1a64_next hash byte }
+{
+    (hash ^ u64::from(byte)).wrapping_mul(PRIME)
+}
+
+/// The hash after the four bytes at an index.
+#[inline(always)]
+fn after_four(hash: u64, bytes: &[u8], at: usize) -> u64
+    requires { at + 3 < length bytes.now }
+    ensures { result ≡ fnv1a64_next (fnv1a64_next (fnv1a64_next (fnv1a64_next hash (slice_index bytes.now at))
+        (slice_index bytes.now (at + 1))) (slice_index bytes.now (at + 2))) (slice_index bytes.now (at + 3)) }
+{
+    let first = after_byte(hash, bytes[at]);
+    let second = after_byte(first, bytes[at + 1]);
+    let third = after_byte(second, bytes[at + 2]);
+    after_byte(third, bytes[at + 3])
+}
+
+/// The hash of the key of a frame that has a flow, and of one byte more.
+#[inline(always)]
+fn hash_of_flow(frame: &[u8], byte: u8) -> u64
+    requires { 42 ≤ length frame.now }
+    ensures { result ≡ fnv1a64_of (flow_bytes_of frame.now ++ byte ∷ []) }
+{
+    let source = after_four(OFFSET_BASIS, frame, 26);
+    let addresses = after_four(source, frame, 30);
+    let ports = after_four(addresses, frame, 34);
+    let protocol = after_byte(ports, frame[23]);
+    let key = after_byte(after_byte(after_byte(protocol, 0), 0), 0);
+    after_byte(key, byte)
+}
+
+/// A part of so many, by the hash of the key of a frame that has a flow, and of one byte more.
+#[inline(always)]
+fn part_by(frame: &[u8], byte: u8, of: u32) -> u32
+    requires some { 0 < of }
+    requires long { 42 ≤ length frame.now }
+    ensures { result ≡ part_by byte of (flow_bytes_of frame.now) }
+{
+    let hash = hash_of_flow(frame, byte);
     (hash >> 32) as u32 % of
 }
 
 /// Which of `of` parts, counted from 0, a frame is in: the one of its flow, by a hash of the flow's key; the first one where it has no flow.
+#[inline(always)]
 pub fn part_of(frame: &[u8], of: u32) -> u32
     requires { 0 < of }
     ensures part { result ≡ part_of_frame of frame.now }
     ensures below { result < of }
 {
-    match flow_of(frame) {
-        Some(key) => part_by(&key, SALT, of),
-        None => 0,
+    if has_flow(frame) {
+        part_by(frame, SALT, of)
+    } else {
+        0
     }
 }
 
@@ -43,14 +104,16 @@ fn heir_place(frame: &[u8], others: u32) -> u32
     ensures place { result ≡ heir_place others frame.now }
     ensures below { result < others }
 {
-    match flow_of(frame) {
-        Some(key) => part_by(&key, SECOND_SALT, others),
-        None => 0,
+    if has_flow(frame) {
+        part_by(frame, SECOND_SALT, others)
+    } else {
+        0
     }
 }
 
 /// Which part a frame is in that was in part `lost`: another one, by a second hash of the flow's key; the first of the others where it has
 /// no flow.
+#[inline(never)]
 fn heir_of(frame: &[u8], of: u32, lost: u32) -> u32
     requires { 1 < of }
     ensures { result ≡ heir_of_frame of lost frame.now }
@@ -74,6 +137,7 @@ pub fn part_behind(frame: &[u8], of: u32, lost: u32) -> u32
 
 impl Part {
     /// How many records of the capture come before the loss, behind the first `past`; none where there is no loss.
+    #[inline(always)]
     fn left_behind(self, past: usize) -> usize
         ensures { result ≡ records_left self.lost past }
     {
@@ -84,22 +148,22 @@ impl Part {
     }
 
     /// Whether a record of this frame is in the part, where `left` records, this one too, come before the loss.
+    #[inline(always)]
     fn has_before(self, left: usize, frame: &[u8]) -> bool
         ensures { (place : ℕ) (sent : Record) → left ≡ records_left self.lost place → sent.bytes.items ≡ frame.now →
             result ≡ is_in_part self.of self.lost self.number place sent }
     {
-        let part = match self.lost {
-            Some(loss) => if left == 0 {
-                part_behind(frame, self.of, loss.part)
-            } else {
-                part_of(frame, self.of)
-            },
-            None => part_of(frame, self.of),
-        };
-        part == self.number
+        let part = part_of(frame, self.of);
+        match self.lost {
+            Some(loss) if left == 0 && part == loss.part => {
+                heir_of(frame, self.of, loss.part) == self.number
+            }
+            _ => part == self.number,
+        }
     }
 
     /// Whether a record of this frame is in the part, behind the first `past` records of the capture.
+    #[inline(always)]
     pub fn has(self, past: usize, frame: &[u8]) -> bool
         ensures { (sent : Record) → sent.bytes.items ≡ frame.now → result ≡ is_in_part self.of self.lost self.number past sent }
     {

@@ -10,5 +10,5 @@ use Rattle.flows.specs.Reports.AreFlowsRefused.{is_json as json_refused, is_no_r
 pub refused_as : (bytes : List ℕ) (none : NoRows) (refusal : NoFlows) → IsUnread bytes none → refusal ≡ refusal_of none
     → AreFlowsRefused bytes refusal
 refused_as bytes none refusal (is_json begins is) same = json_refused begins (same ∙ ap refusal_of is)
-refused_as bytes none refusal (is_no_report line not_json no_report is) same = no_report_refused line not_json no_report (same ∙ ap refusal_of is)
+refused_as bytes none refusal (is_no_report not_json no_report) same = no_report_refused none not_json no_report same
 refused_as bytes none refusal (no_memory is) same = memory_refused (same ∙ ap refusal_of is)

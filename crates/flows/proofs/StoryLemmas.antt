@@ -17,7 +17,7 @@ use Rattle.flows.specs.declared.flow.Flow.{Flow}
 use Rattle.flows.specs.FlowRecords.{HasRoomForFrame, story_of}
 use Rattle.flows.specs.Settings.{before, is_untracked}
 use Rattle.flows.specs.Stories.{Story, after, after_sent, after_unsent, story_begun, flow_of_row, row_has_flow, is_sent_row, move_by, one_if_some}
-use Rattle.flows.specs.Stories.{service_of_row}
+use Rattle.flows.specs.Stories.{has_no_backend, is_dropped_row, one_if, service_of_row}
 use Rattle.flows.specs.Telling.{Moved, address_in, address_of_story, is_story_of, move_in, move_of, moved_at, moves_at_row, moves_until}
 use Rattle.flows.specs.Telling.{stories_with, stories_until, stories_after}
 
@@ -196,10 +196,16 @@ one_at_most : (move : Option Reason) → one_if_some move ≤ 1
 one_at_most None = omega arith
 one_at_most (Some reason) = omega arith
 
+at_most_one : (is : Bool) → one_if is ≤ 1
+at_most_one true = omega arith
+at_most_one false = omega arith
+
 -- no number is above this one
 pub record IsSmall (most : ℕ) (story : Story) : Type 0 where
   pub frames : story.frames ≤ most
   pub sent : story.sent ≤ most
+  pub dropped : story.dropped ≤ most
+  pub no_backend : story.no_backend ≤ most
   pub changes : story.changes ≤ most
 
 small_sent : (most : ℕ) (story : Story) (row : List ℕ) (untracked : Bool) (move : Option Reason) → IsSmall most story
@@ -209,15 +215,22 @@ small_sent most story row untracked move small =
     record {
       frames = omega (arith, small.frames);
       sent = omega (arith, small.sent);
+      dropped = omega (arith, small.dropped);
+      no_backend = omega (arith, small.no_backend);
       changes = omega (arith, small.changes, one);
     }
 
 small_unsent : (most : ℕ) (story : Story) (row : List ℕ) → IsSmall most story → IsSmall (most + 1) (after_unsent story row)
-small_unsent most story row small = record {
-  frames = omega (arith, small.frames);
-  sent = omega (arith, small.sent);
-  changes = omega (arith, small.changes);
-}
+small_unsent most story row small =
+    let dropped = at_most_one (is_dropped_row row) in
+    let no_backend = at_most_one (has_no_backend row) in
+    record {
+      frames = omega (arith, small.frames);
+      sent = omega (arith, small.sent);
+      dropped = omega (arith, small.dropped, dropped);
+      no_backend = omega (arith, small.no_backend, no_backend);
+      changes = omega (arith, small.changes);
+    }
 
 small_if : (most : ℕ) (test : Bool) (one other : Story) → IsSmall most one → IsSmall most other → IsSmall most (cond test one other)
 small_if most true one other first second = first
@@ -236,6 +249,8 @@ small_later most (story ∷ others) all = (
   record {
     frames = omega (arith, all.0.frames);
     sent = omega (arith, all.0.sent);
+    dropped = omega (arith, all.0.dropped);
+    no_backend = omega (arith, all.0.no_backend);
     changes = omega (arith, all.0.changes);
   },
   small_later most others all.1,
@@ -244,7 +259,7 @@ small_later most (story ∷ others) all = (
 small_noted : (most : ℕ) (row : List ℕ) (commands : List Command) (stories : List Story) → AllByRecursion (IsSmall most) stories
     → AllByRecursion (IsSmall (most + 1)) (stories_with row commands stories)
 small_noted most row commands [] all =
-    (small_after most (story_begun row) row commands (record { frames = omega arith; sent = omega arith; changes = omega arith }), tt)
+    (small_after most (story_begun row) row commands (record { frames = omega arith; sent = omega arith; dropped = omega arith; no_backend = omega arith; changes = omega arith }), tt)
 small_noted most row commands (story ∷ others) all =
     by_test (is_story_of (flow_of_row row) story) refl (small_noted most row commands others all.1)
   where
@@ -276,6 +291,8 @@ room_in most (story ∷ others) below all = (
   record {
     frames = omega (arith, below, all.0.frames);
     sent = omega (arith, below, all.0.sent);
+    dropped = omega (arith, below, all.0.dropped);
+    no_backend = omega (arith, below, all.0.no_backend);
     changes = omega (arith, below, all.0.changes);
   },
   room_in most others below all.1,

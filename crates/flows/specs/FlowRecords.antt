@@ -18,6 +18,9 @@ story_of flow = record {
   last = flow.last.now;
   frames = flow.frames;
   sent = flow.sent;
+  dropped = flow.dropped;
+  no_backend = flow.no_backend;
+  lost = flow.lost;
   changes = flow.changes;
   backend = flow.backend.now;
   address = flow.address.now;
@@ -33,6 +36,8 @@ moved_of move = record { place = move.place; from = move.from.now; reason = move
 pub record HasRoomForFrame (story : Story) : Type 0 where
   pub frames : story.frames + 1 < 2 ^ 64
   pub sent : story.sent + 1 < 2 ^ 64
+  pub dropped : story.dropped + 1 < 2 ^ 64
+  pub no_backend : story.no_backend + 1 < 2 ^ 64
   pub changes : story.changes + 1 < 2 ^ 64
 
 -- the stories of a list of flows

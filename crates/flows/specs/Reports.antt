@@ -5,7 +5,7 @@ use Rattle.comparison.specs.Rows.{BeginsAsJson, IsNoReport, IsReport, field, row
 use Rattle.comparison.specs.declared.fault.NoRows.{NoRows}
 use Rattle.comparison.specs.declared.fault.NoRows.TheVariants as unread
 use Rattle.flows.specs.declared.fault.NoFlows.{NoFlows}
-use Rattle.flows.specs.declared.fault.NoFlows.TheVariants.{JsonLines, LeftOut, Memory, NoReport}
+use Rattle.flows.specs.declared.fault.NoFlows.TheVariants.{JsonLines, LeftOut, Memory, NoReport, WrongField}
 
 -- the row at this place, counted from 0, is that of the record with this place: records are counted from 1
 abbrev pub is_in_place : List (List ℕ) → ℕ → Bool
@@ -31,13 +31,13 @@ pub record IsGapless (bytes : List ℕ) (rows : List (List ℕ)) : Type 0 where
 abbrev pub refusal_of : NoRows → NoFlows
 refusal_of unread.JsonLines = JsonLines
 refusal_of (unread.NoReport line) = NoReport line
+refusal_of (unread.WrongField line column) = WrongField line column
 refusal_of unread.Memory = Memory
 
--- Why the flows of a report are not told: the bytes begin as JSON lines do; they are no report of CSV, which this line shows first, counted
--- from 1; they are one, but the row on this line is not that of the next record; or memory was refused.
+-- Why the flows of a report are not told: the bytes begin as JSON lines do; they are no report of CSV, as a line shows; they are one, but the row on this line is not that of the next record; or memory was refused.
 pub data AreFlowsRefused (bytes : List ℕ) (refusal : NoFlows) : Type 0 where
   is_json : BeginsAsJson bytes → refusal ≡ JsonLines → AreFlowsRefused bytes refusal
-  is_no_report : (line : ℕ) → ¬ BeginsAsJson bytes → IsNoReport bytes line → refusal ≡ NoReport line → AreFlowsRefused bytes refusal
+  is_no_report : (none : NoRows) → ¬ BeginsAsJson bytes → IsNoReport bytes none → refusal ≡ refusal_of none → AreFlowsRefused bytes refusal
   is_left_out : (rows : List (List ℕ)) (count : ℕ) → IsReport bytes rows → IsCountInPlace rows count → count < length rows
       → refusal ≡ LeftOut (2 + count) → AreFlowsRefused bytes refusal
   no_memory : refusal ≡ Memory → AreFlowsRefused bytes refusal

@@ -26,6 +26,17 @@ moment_of_row row = field 1 row
 abbrev pub is_sent_row : List ℕ → Bool
 is_sent_row row = bytes_eq (field 3 row) (codes "TX")
 
+-- the frame was dropped; and for want of a backend that is up, as its case says
+abbrev pub is_dropped_row : List ℕ → Bool
+is_dropped_row row = bytes_eq (field 3 row) (codes "DROP")
+
+abbrev pub has_no_backend : List ℕ → Bool
+has_no_backend row = is_dropped_row row && bytes_eq (field 5 row) (codes "no-backend")
+
+-- a full journal stopped the run of the frame
+abbrev pub is_stopped_row : List ℕ → Bool
+is_stopped_row row = bytes_eq (field 3 row) (codes "STOPPED")
+
 -- the number of the backend, and the address to which the frame was sent; what is not known is empty
 abbrev pub backend_of_row : List ℕ → List ℕ
 backend_of_row row = field 6 row
@@ -44,15 +55,19 @@ backend_name row = or_else (backend_of_row row) (or_else (address_of row) (codes
 
 -- ---- stories
 
--- a flow, the moments of its first and last frame, how many frames it has, how many of them were sent, and how many of these went to
--- another address than the sent one before; of the last sent frame its backend, its address, and whether the flow's service was without
--- tracking then; and the backends in words
+-- A flow, the moments of its first and last frame, how many frames it has, how many of them were sent, how many dropped, and how many of
+-- these for want of a backend that is up; whether one was dropped behind a sent one; how many sent ones went to another address than the
+-- sent one before; of the last sent frame its backend, its address, and whether the flow's service was without tracking then; and the
+-- backends in words.
 pub record Story : Type 0 where
   pub flow : List ℕ
   pub first : List ℕ
   pub last : List ℕ
   pub frames : ℕ
   pub sent : ℕ
+  pub dropped : ℕ
+  pub no_backend : ℕ
+  pub lost : Bool
   pub changes : ℕ
   pub backend : List ℕ
   pub address : List ℕ
@@ -67,6 +82,9 @@ story_begun row = record {
   last = moment_of_row row;
   frames = 0;
   sent = 0;
+  dropped = 0;
+  no_backend = 0;
+  lost = false;
   changes = 0;
   backend = [];
   address = [];
@@ -114,6 +132,9 @@ abbrev pub one_if_some : Option Reason → ℕ
 one_if_some None = 0
 one_if_some (Some reason) = 1
 
+abbrev pub one_if : Bool → ℕ
+one_if is = if is then 1 else 0
+
 -- ---- a frame more
 
 -- after a frame that is not sent
@@ -124,6 +145,9 @@ after_unsent story row = record {
   last = moment_of_row row;
   frames = story.frames + 1;
   sent = story.sent;
+  dropped = story.dropped + one_if (is_dropped_row row);
+  no_backend = story.no_backend + one_if (has_no_backend row);
+  lost = story.lost || (is_dropped_row row && not (story.sent == 0));
   changes = story.changes;
   backend = story.backend;
   address = story.address;
@@ -139,6 +163,9 @@ after_sent story row untracked move = record {
   last = moment_of_row row;
   frames = story.frames + 1;
   sent = story.sent + 1;
+  dropped = story.dropped;
+  no_backend = story.no_backend;
+  lost = story.lost;
   changes = story.changes + one_if_some move;
   backend = backend_of_row row;
   address = address_of row;

@@ -17,6 +17,19 @@ was_moved story = not (story.changes == 0)
 abbrev pub flows_line : ℕ → ℕ → List ℕ
 flows_line sent moved = decimal sent ++ (codes " flows with a sent frame, " ++ (decimal moved ++ codes " of them moved\n"))
 
+-- a frame of the flow was dropped behind a sent one
+abbrev pub has_lost : Story → Bool
+has_lost story = story.lost
+
+abbrev pub lost_line : ℕ → List ℕ
+lost_line lost = decimal lost ++ codes " flows lost frames\n"
+
+-- how many frames were stopped, if any were: what else would have become of them is not known
+abbrev pub stopped_line : ℕ → List ℕ
+stopped_line stopped =
+    if stopped == 0 then []
+    else decimal stopped ++ codes " frames were stopped by full journals: what is said of flows is incomplete\n"
+
 abbrev pub moved_words : ℕ → List ℕ
 moved_words moved = decimal moved ++ codes " frames moved: "
 
@@ -63,9 +76,14 @@ ranked_line story = ranked_pieces story.changes (flow_in_words story.flow) story
 
 -- ---- all
 
--- how many flows have a sent frame and how many of them moved; how many frames were moved, for which reason; and the ten flows with the
--- most changes
-abbrev pub summary_text : List Story → List Moved → List ℕ
-summary_text stories moves =
-    (flows_line (count_by was_sent stories) (count_by was_moved stories) ++ moves_by_reason moves)
-    ++ flat_map ranked_line (take 10 (ranked stories))
+-- of flows: how many have a sent frame, how many of these moved, and how many lost frames
+abbrev pub flow_counts : List Story → List ℕ
+flow_counts stories = flows_line (count_by was_sent stories) (count_by was_moved stories) ++ lost_line (count_by has_lost stories)
+
+-- of frames: how many were moved, for which reason, and how many were stopped
+abbrev pub frame_counts : List Moved → ℕ → List ℕ
+frame_counts moves stopped = moves_by_reason moves ++ stopped_line stopped
+
+-- the numbers of flows and of frames, and the ten flows with the most changes
+abbrev pub summary_text : List Story → List Moved → ℕ → List ℕ
+summary_text stories moves stopped = (flow_counts stories ++ frame_counts moves stopped) ++ flat_map ranked_line (take 10 (ranked stories))

@@ -3,7 +3,7 @@
 ghost use Rattle.std.specs.Prelude.{◌≡◌, IfOk, string_bytes};
 ghost use Rattle.flows.specs.Mistakes.{left_out_text, refusal_text};
 
-use comparison::{NoRows, json_text, no_report_text};
+use comparison::{NoRows, json_text, no_report_text, wrong_field_text};
 use std::alloc::{AllocError, Global};
 
 /// Why the flows of a file are not told.
@@ -13,6 +13,8 @@ pub enum NoFlows {
     JsonLines,
     /// The file is no report of CSV; the first line that shows it, counted from 1.
     NoReport { line: usize },
+    /// The file is no report of CSV: on this line, counted from 1, the field in this column, counted from 0, is not what the column says.
+    WrongField { line: usize, column: usize },
     /// The row on this line, counted from 1, is not that of the record after the one before it; the first row is that of record 1.
     LeftOut { line: usize },
     /// Memory was refused.
@@ -40,6 +42,7 @@ impl From<NoRows> for NoFlows {
         match none {
             NoRows::JsonLines => NoFlows::JsonLines,
             NoRows::NoReport { line } => NoFlows::NoReport { line },
+            NoRows::WrongField { line, column } => NoFlows::WrongField { line, column },
             NoRows::Memory => NoFlows::Memory,
         }
     }
@@ -59,6 +62,7 @@ impl NoFlows {
         match self {
             NoFlows::JsonLines => json_text(alloc, name),
             NoFlows::NoReport { line } => no_report_text(alloc, name, line),
+            NoFlows::WrongField { line, column } => wrong_field_text(alloc, name, line, column),
             NoFlows::LeftOut { line } => left_out_text(alloc, name, line),
             NoFlows::Memory => String::from_str(alloc, "fault 8 Memory\n"),
         }

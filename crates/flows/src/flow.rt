@@ -4,7 +4,7 @@ ghost use Rattle.std.specs.Prelude.{◌≡◌, ◌<◌, ◌+◌, ◌^◌, ◌++�
 ghost use Rattle.std.specs.Option.{MatchOption};
 ghost use Rattle.flows.specs.FlowRecords.{HasRoomForFrame, story_of};
 ghost use Rattle.flows.specs.Stories.{after, after_sent, after_unsent, backend_name, story_begun, change_with_reason, flow_of_row, row_has_flow, is_moved_row};
-ghost use Rattle.flows.specs.Stories.{is_sent_row};
+ghost use Rattle.flows.specs.Stories.{has_no_backend, is_dropped_row, is_sent_row, one_if};
 ghost use Rattle.flows.specs.Stories.{moment_of_row, move_by, one_if_some, or_else, reason_of_move, service_of_row, step_text, backend_of_row, address_of};
 ghost use Rattle.flows.specs.Walking.{KnowsSettings, applied};
 
@@ -32,6 +32,27 @@ fn is_sent(row: &str) -> bool
     ensures { result ≡ is_sent_row row.now }
 {
     field(row, 3) == "TX"
+}
+
+/// Whether a row's frame was dropped.
+fn is_dropped(row: &str) -> bool
+    ensures { result ≡ is_dropped_row row.now }
+{
+    field(row, 3) == "DROP"
+}
+
+/// Whether it was dropped for want of a backend that is up.
+fn has_no_backend(row: &str) -> bool
+    ensures { result ≡ has_no_backend row.now }
+{
+    is_dropped(row) && field(row, 5) == "no-backend"
+}
+
+/// 1 where this is so.
+fn one_if(is: bool) -> usize
+    ensures { result ≡ one_if is }
+{
+    if is { 1 } else { 0 }
 }
 
 /// A word, or another one where it is empty.
@@ -66,9 +87,14 @@ pub(crate) struct Flow<'a> {
     /// The moments of its first and last frame.
     pub(crate) first: &'a str,
     pub(crate) last: &'a str,
-    /// How many frames it has, how many of them were sent, and how many of these to another address than the sent one before.
+    /// How many frames it has, how many of them were sent, how many dropped, and how many of these for want of a backend that is up.
     pub(crate) frames: usize,
     pub(crate) sent: usize,
+    pub(crate) dropped: usize,
+    pub(crate) no_backend: usize,
+    /// Whether a frame was dropped behind a sent one.
+    pub(crate) lost: bool,
+    /// How many sent frames went to another address than the sent one before.
     pub(crate) changes: usize,
     /// The number of the backend and the address of the last sent frame.
     pub(crate) backend: &'a str,
@@ -91,6 +117,9 @@ impl<'a> Flow<'a> {
             last: moment,
             frames: 0,
             sent: 0,
+            dropped: 0,
+            no_backend: 0,
+            lost: false,
             changes: 0,
             backend: "",
             address: "",
@@ -157,8 +186,12 @@ impl<'a> Flow<'a> {
         requires { HasRoomForFrame (story_of self.old) }
         ensures { story_of self.new ≡ after_unsent (story_of self.old) row.now }
     {
+        let dropped = is_dropped(row);
         self.last = field(row, 1);
         self.frames += 1;
+        self.dropped += one_if(dropped);
+        self.no_backend += one_if(has_no_backend(row));
+        self.lost = self.lost || (dropped && self.sent != 0);
     }
 
     /// Notes a sent frame, which is moved for this reason, or not.

@@ -4,8 +4,9 @@ ghost use Rattle.std.specs.Prelude.{◌≡◌, ◌<◌, ◌≤◌, ◌++◌, IfO
 ghost use Rattle.std.specs.List.{flat_map, insert, position};
 ghost use Rattle.flows.specs.FlowRecords.{moved_of, story_of};
 ghost use Rattle.flows.specs.Ranking.{line_view, place_for, ranked_view};
-ghost use Rattle.flows.specs.SummaryText.{comma_before, count_in_words, flow_in_words, flows_line, moved_words, moves_by_reason, ranked};
-ghost use Rattle.flows.specs.SummaryText.{ranked_line, ranked_pieces, reason_counts, summary_text, was_moved, was_sent};
+ghost use Rattle.flows.specs.SummaryText.{comma_before, count_in_words, flow_counts, flow_in_words, flows_line, frame_counts, has_lost};
+ghost use Rattle.flows.specs.SummaryText.{lost_line, moved_words, moves_by_reason, ranked, ranked_line, ranked_pieces, reason_counts};
+ghost use Rattle.flows.specs.SummaryText.{stopped_line, summary_text, was_moved, was_sent};
 
 use crate::flow::Flow;
 use crate::moves::{Move, how_many};
@@ -37,6 +38,31 @@ fn moved_count(flows: &[Flow]) -> usize
     ensures { result ≡ count_by was_moved (map story_of flows.now) }
 {
     flows.iter().filter(|flow| flow.changes != 0).count()
+}
+
+/// How many flows had a frame dropped behind a sent one.
+fn lost_count(flows: &[Flow]) -> usize
+    ensures { result ≡ count_by has_lost (map story_of flows.now) }
+{
+    flows.iter().filter(|flow| flow.lost).count()
+}
+
+fn lost_line(alloc: Global, lost: usize) -> Result<String, AllocError>
+    ensures { IfOk result (λ text. string_bytes text ≡ lost_line lost) }
+{
+    format!(in alloc; "{lost} flows lost frames\n")
+}
+
+/// The line that says that so many frames were stopped, if any were.
+fn stopped_line(alloc: Global, stopped: usize) -> Result<String, AllocError>
+    ensures { IfOk result (λ text. string_bytes text ≡ stopped_line stopped) }
+{
+    if stopped == 0 {
+        return Ok(String::new(alloc));
+    }
+    format!(in alloc;
+        "{stopped} frames were stopped by full journals: what is said of flows is incomplete\n"
+    )
 }
 
 fn moved_words(alloc: Global, moved: usize) -> Result<String, AllocError>
@@ -177,26 +203,53 @@ fn put_ranked_lines(text: &mut String, best: &[(usize, String)]) -> Result<(), A
     Ok(())
 }
 
-/// How many flows have a sent frame and moved, and how many frames were moved and why.
-fn counts(alloc: Global, flows: &[Flow], moves: &[Move]) -> Result<String, AllocError>
-    ensures { IfOk result (λ text. string_bytes text ≡
-        flows_line (count_by was_sent (map story_of flows.now)) (count_by was_moved (map story_of flows.now)) ++ moves_by_reason (map moved_of moves.now)) }
+/// How many flows have a sent frame, how many of them moved, and how many lost frames.
+fn flow_counts(alloc: Global, flows: &[Flow]) -> Result<String, AllocError>
+    ensures { IfOk result (λ text. string_bytes text ≡ flow_counts (map story_of flows.now)) }
 {
     let mut text = flows_line(alloc, sent_count(flows), moved_count(flows))?;
-    let moves = moves_line(alloc, moves)?;
-    text.push_str(moves.as_str())?;
+    let lost = lost_line(alloc, lost_count(flows))?;
+    text.push_str(lost.as_str())?;
     Ok(text)
 }
 
-/// How many flows were sent and moved, how many frames were moved and why, and the ten flows with the most changes.
+/// How many frames were moved, why, and how many were stopped.
+fn frame_counts(alloc: Global, moves: &[Move], stopped: usize) -> Result<String, AllocError>
+    ensures { IfOk result (λ text. string_bytes text ≡ frame_counts (map moved_of moves.now) stopped) }
+{
+    let mut text = moves_line(alloc, moves)?;
+    let line = stopped_line(alloc, stopped)?;
+    text.push_str(line.as_str())?;
+    Ok(text)
+}
+
+/// The numbers of flows and of frames.
+fn counts(
+    alloc: Global,
+    flows: &[Flow],
+    moves: &[Move],
+    stopped: usize,
+) -> Result<String, AllocError>
+    ensures { IfOk result (λ text. string_bytes text ≡
+        flow_counts (map story_of flows.now) ++ frame_counts (map moved_of moves.now) stopped) }
+{
+    let mut text = flow_counts(alloc, flows)?;
+    let frames = frame_counts(alloc, moves, stopped)?;
+    text.push_str(frames.as_str())?;
+    Ok(text)
+}
+
+/// How many flows were sent, moved and lost frames, how many frames were moved, why, and how many stopped, and the ten flows with the most
+/// changes.
 pub(crate) fn summary_text(
     alloc: Global,
     flows: &[Flow],
     moves: &[Move],
+    stopped: usize,
 ) -> Result<String, AllocError>
-    ensures { IfOk result (λ text. string_bytes text ≡ summary_text (map story_of flows.now) (map moved_of moves.now)) }
+    ensures { IfOk result (λ text. string_bytes text ≡ summary_text (map story_of flows.now) (map moved_of moves.now) stopped) }
 {
-    let mut text = counts(alloc, flows, moves)?;
+    let mut text = counts(alloc, flows, moves, stopped)?;
     let best = most_moved(alloc, flows)?;
     put_ranked_lines(&mut text, &best)?;
     Ok(text)

@@ -1,9 +1,10 @@
 //! The flows of a report.
 
-ghost use Rattle.std.specs.Prelude.{◌≡◌, IfErr, IfOk, length, map, string_bytes};
+ghost use Rattle.std.specs.Prelude.{◌≡◌, IfErr, IfOk, count_by, length, map, string_bytes};
 ghost use Rattle.flows.specs.FlowRecords.{moved_of, stories_in};
 ghost use Rattle.flows.specs.FlowTexts.{AreFlows};
 ghost use Rattle.flows.specs.Reports.{AreFlowsRefused};
+ghost use Rattle.flows.specs.Stories.{is_stopped_row};
 ghost use Rattle.flows.specs.Telling.{moves_until, stories_until};
 
 use crate::fault::NoFlows;
@@ -13,16 +14,17 @@ use crate::printing::table_text;
 use crate::reading::whole_report;
 use crate::settings::Settings;
 use crate::summary::summary_text;
-use comparison::row_at;
+use comparison::{field, row_at};
 use control::{Command, Script};
 use std::alloc::{AllocError, Global};
 
 /// The flows of a report.
 #[derive(Drop)]
 pub struct Flows {
-    /// As CSV: a head, and a line for each flow with a sent frame.
+    /// As CSV: a head, and a line for each flow.
     pub table: String,
-    /// Lines for people: how many flows and frames moved and why, and the ten flows with the most changes.
+    /// Lines for people: how many flows moved and lost frames, how many frames moved, why, and how many were stopped, and the ten flows with
+    /// the most changes.
     pub summary: String,
 }
 
@@ -64,8 +66,22 @@ pub fn moved_frames<'a>(
     Ok(moves)
 }
 
-/// The flows of the report of a replay with this script: of each flow that has a sent frame its frames, and the backends that got them, each
-/// change with its reason. The report is one of CSV, whose rows are those of records 1, 2, 3 and so on without a gap; a part that is cut off
+/// Whether a full journal stopped the run of a row's frame.
+fn is_stopped(row: &str) -> bool
+    ensures { result ≡ is_stopped_row row.now }
+{
+    field(row, 3) == "STOPPED"
+}
+
+/// How many of the rows' frames were stopped.
+fn stopped_count(rows: &[&str]) -> usize
+    ensures { result ≡ count_by is_stopped_row (map (λ row. row.now) rows.now) }
+{
+    rows.iter().filter(|row| is_stopped(**row)).count()
+}
+
+/// The flows of the report of a replay with this script: of each flow its frames, and the backends that got them, each change with its
+/// reason. The report is one of CSV, whose rows are those of records 1, 2, 3 and so on without a gap; a part that is cut off
 /// behind does not show.
 ///
 /// The reasons are those of an exact replay by the shipped program whose commands were all carried out; on threads a command and a frame may
@@ -79,6 +95,6 @@ pub fn flows_in(alloc: Global, report: &[u8], script: &Script) -> Result<Flows, 
     let rows = whole_report(alloc, report)?;
     let (list, moves) = told(alloc, &rows, script.commands())?;
     let table = table_text(alloc, &list.flows)?;
-    let summary = summary_text(alloc, &list.flows, &moves)?;
+    let summary = summary_text(alloc, &list.flows, &moves, stopped_count(&rows))?;
     Ok(Flows { table, summary })
 }

@@ -15,7 +15,7 @@ use std::alloc::{AllocError, Global};
 use std::marker::Model;
 use wire::{CAPTURE_HEADER_LEN, CaptureFault, RECORD_HEAD_LEN, check_capture_header};
 
-/// Reads a capture file (pcap 2.4, little-endian, microseconds, Ethernet) record by record. It has a buffer of 64 KiB and what it counts;
+/// Reads a capture file (pcap 2.4, little-endian, microseconds, Ethernet) record by record. It has a buffer of 256 KiB and what it counts;
 /// the file is the one that its folder reads in pieces.
 #[derive(Drop)]
 pub struct CaptureReader {
@@ -101,6 +101,7 @@ impl CaptureReader {
     ///
     /// Refused with 4 and 5 where the file ends in the record, with 6 where it keeps more than 2048 bytes, and with 7 where the file cannot be
     /// read on. After a fault the reader is of no more use.
+    #[inline(always)]
     pub fn find<D: Folder>(&mut self, folder: &mut D) -> Result<Option<RecordHead>, CaptureFault>
         requires failures { D.failure_count folder.old < 2 ^ 64 - 1 }
         requires room { 16 * self.old.count + length self.old.unread + D.most_left folder.old ≤ 2 ^ 40 }
@@ -129,6 +130,7 @@ impl CaptureReader {
     }
 
     /// The bytes of the frame that the record at the front keeps.
+    #[inline(always)]
     pub fn frame(&self, head: RecordHead) -> &[u8]
         requires { IsAtFront self.now.unread head }
         ensures { (sent : Record) → BeginsWithRecord self.now.unread sent → result.now ≡ sent.bytes.items }
@@ -137,6 +139,7 @@ impl CaptureReader {
     }
 
     /// Goes past the record at the front.
+    #[inline(always)]
     pub fn pass(&mut self, head: RecordHead)
         requires front { IsAtFront self.old.unread head }
         requires room { self.old.count < 2 ^ 64 - 1 }

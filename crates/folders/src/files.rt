@@ -1,6 +1,6 @@
 //! The system's files.
 
-ghost use Rattle.std.specs.Prelude.{◌≡◌, ◌+◌, ◌-◌, ◌<◌, ◌≤◌, ◌^◌, IfOk, OnOk, length};
+ghost use Rattle.std.specs.Prelude.{◌≡◌, ◌+◌, ◌-◌, ◌<◌, ◌≤◌, ◌^◌, IfOk, IfSome, OnOk, length};
 ghost use Rattle.folders.specs.Fronts.{IsShortFront};
 
 use crate::failure::{Failure, Step, Trouble, failed};
@@ -57,8 +57,8 @@ pub struct FileFolder<'a, R: Files, I, O> {
     reading: Option<R::File>,
     /// How many bytes were read of it.
     given: u64,
-    /// The file that is made in pieces.
-    making: Option<Making>,
+    /// The files that are made in pieces.
+    making: Vec<Making>,
     failures: u64,
     /// The last call that failed.
     last: Option<Failure>,
@@ -67,7 +67,7 @@ pub struct FileFolder<'a, R: Files, I, O> {
 
 impl<'a, R: Files, I, O> FileFolder<'a, R, I, O> {
     /// The files of this runtime, with its standard input and standard output, and no failures.
-    pub fn new(rt: &'a R, input: I, output: O) -> FileFolder<'a, R, I, O>
+    pub fn new(rt: &'a R, alloc: Global, input: I, output: O) -> FileFolder<'a, R, I, O>
         ensures { result.failures ≡ 0 }
     {
         FileFolder {
@@ -77,7 +77,7 @@ impl<'a, R: Files, I, O> FileFolder<'a, R, I, O> {
             stream: None,
             reading: None,
             given: 0,
-            making: None,
+            making: Vec::new(alloc),
             failures: 0,
             last: None,
         }
@@ -291,29 +291,65 @@ impl<R: Files<File = File> + Alloc, I: Read, O: Write> FileFolder<'_, R, I, O> {
         Ok(count)
     }
 
-    /// Begins a file, after one that was begun before was removed.
+    /// The place of the file that is made in pieces under this name.
+    fn place_of(&self, name: &str) -> Option<usize>
+        ensures { IfSome result (λ place. place < length self.now.making.items) }
+    {
+        self.making.iter().position(|making| making.is_under(name))
+    }
+
+    /// Whether a file that is made in pieces has the name that one of this name would have until it is finished.
+    fn has_beside(&self, name: &str) -> bool {
+        self.making
+            .iter()
+            .any(|making| making.is_beside(self.rt, name))
+    }
+
+    /// Takes out the file that is made in pieces under this name.
+    fn taken_out(&mut self, name: &str) -> Option<Making>
+        ensures steady { self.new.failures ≡ self.old.failures }
+        ensures given { self.new.given ≡ self.old.given }
+    {
+        match self.place_of(name) {
+            Some(place) => Some(self.making.swap_remove(place)),
+            None => None,
+        }
+    }
+
+    /// Begins a file, after one that was begun under this name before was removed.
     fn make_begun(&mut self, alloc: Global, name: &str) -> Result<bool, Trouble>
         ensures steady { self.new.failures ≡ self.old.failures }
         ensures given { self.new.given ≡ self.old.given }
     {
-        if name == STANDARD_OUTPUT {
+        if let Some(making) = self.taken_out(name) {
+            making.give_up(self.rt);
+        }
+        if name == STANDARD_OUTPUT || self.has_beside(name) {
             return Ok(false);
         }
-        self.making = begun(self.rt, alloc, name)?;
-        Ok(self.making.is_some())
+        self.making.reserve(1)?;
+        match begun(self.rt, alloc, name)? {
+            Some(making) => {
+                self.making.push_reserved(making);
+                Ok(true)
+            }
+            None => Ok(false),
+        }
     }
 
-    /// Puts bytes at the end of the file that is begun.
-    fn put_on(&mut self, bytes: &[u8]) -> Result<(), Failure>
+    /// Puts bytes at the end of the file that is begun under this name.
+    fn put_on(&mut self, name: &str, bytes: &[u8]) -> Result<(), Failure>
         ensures steady { self.new.failures ≡ self.old.failures }
         ensures given { self.new.given ≡ self.old.given }
     {
-        let Some(mut making) = self.making.take() else {
+        let Some(place) = self.place_of(name) else {
             return Err(not_begun());
         };
-        making.add(self.rt, bytes)?;
-        self.making = Some(making);
-        Ok(())
+        let done = self.making[place].add(self.rt, bytes);
+        if done.is_err() {
+            let _ = self.making.swap_remove(place);
+        }
+        done
     }
 
     /// Makes a file of the bytes, or writes them to the standard output.
@@ -404,7 +440,6 @@ impl<R: Files<File = File> + Alloc, I: Read, O: Write> Folder for FileFolder<'_,
     }
 
     fn begin(&mut self, alloc: Global, name: &str) -> Result<bool, FolderFault> {
-        self.give_up();
         match self.make_begun(alloc, name) {
             Ok(in_pieces) => Ok(in_pieces),
             Err(Trouble::Device(failure)) => Err(self.fail(failure)),
@@ -412,15 +447,15 @@ impl<R: Files<File = File> + Alloc, I: Read, O: Write> Folder for FileFolder<'_,
         }
     }
 
-    fn add(&mut self, bytes: &[u8]) -> Result<(), FolderFault> {
-        match self.put_on(bytes) {
+    fn add(&mut self, name: &str, bytes: &[u8]) -> Result<(), FolderFault> {
+        match self.put_on(name, bytes) {
             Ok(()) => Ok(()),
             Err(failure) => Err(self.fail(failure)),
         }
     }
 
-    fn finish(&mut self) -> Result<(), FolderFault> {
-        let done = match self.making.take() {
+    fn finish(&mut self, name: &str) -> Result<(), FolderFault> {
+        let done = match self.taken_out(name) {
             Some(making) => making.finish(self.rt),
             None => Err(not_begun()),
         };
@@ -431,8 +466,10 @@ impl<R: Files<File = File> + Alloc, I: Read, O: Write> Folder for FileFolder<'_,
     }
 
     fn give_up(&mut self) {
-        if let Some(making) = self.making.take() {
-            making.give_up(self.rt);
+        'making: for _ in 0..self.making.len() {
+            if let Some(making) = self.making.pop() {
+                making.give_up(self.rt);
+            }
         }
     }
 

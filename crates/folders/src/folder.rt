@@ -57,7 +57,7 @@ impl Front {
 /// Files by their names: in memory, or the system's.
 ///
 /// A file is read and written whole, or in pieces: `open` and then `next` until nothing more comes; `begin`, `add` and then `finish`,
-/// before which no file of the name is changed. At most one file is read in pieces at a time, and one made.
+/// before which no file of the name is changed. At most one file is read in pieces at a time, and one of each name made.
 pub trait Folder {
     /// The file of a name has these bytes; anything may where the type does not say it.
     ghost holds: { Self → List ℕ → List ℕ → Type 0 };
@@ -74,7 +74,7 @@ pub trait Folder {
     /// No more bytes than these are still to come of the file that is read in pieces.
     ghost most_left: { Self → ℕ };
 
-    /// The file that is made in pieces will have this name, and has these bytes so far; any may where the type does not say.
+    /// The file that is made in pieces under this name has these bytes so far; any may where the type does not say.
     ghost is_begun: { Self → List ℕ → List ℕ → Type 0 };
 
     /// How many calls failed.
@@ -105,6 +105,7 @@ pub trait Folder {
         requires { failure_count self.old < 2 ^ 64 - 1 }
         ensures written { OnOk result (holds self.new name.now bytes.now) }
         ensures others { (other bytes : List ℕ) → other ≢ name.now → (holds self.old other bytes ↔ holds self.new other bytes) }
+        ensures begun_kept { (other bytes : List ℕ) → (is_begun self.old other bytes ↔ is_begun self.new other bytes) }
         ensures steady { OnOk result (failure_count self.new ≡ failure_count self.old) }
         ensures device { IsErrOf result FolderFault.Device ↔ (failure_count self.new ≡ failure_count self.old + 1) }
         ensures no_device { IsErrOf result FolderFault.Memory → failure_count self.new ≡ failure_count self.old };
@@ -137,11 +138,12 @@ pub trait Folder {
         ensures only_device { IfErr result (λ fault. fault ≡ FolderFault.Device) }
         ensures counted { OnErr result (failure_count self.new ≡ failure_count self.old + 1) };
 
-    /// Begins to make a file in pieces, in place of one that was begun before, which is removed. `false` where it can only be written
-    /// whole: a device, a pipe, the standard output, and wherever the type needs to. Then, and after a fault, no file is begun.
+    /// Begins to make a file in pieces, in place of one that was begun under this name before, which is removed. `false` where it can only be
+    /// written whole: a device, a pipe, the standard output, and wherever the type needs to. Then, and after a fault, none is begun under it.
     fn begin(&mut self, alloc: Global, name: &str) -> Result<bool, FolderFault>
         requires { failure_count self.old < 2 ^ 64 - 1 }
         ensures begun { IfOk result (λ in_pieces. IsTrue in_pieces → is_begun self.new name.now []) }
+        ensures others_begun { (other bytes : List ℕ) → other ≢ name.now → (is_begun self.old other bytes ↔ is_begun self.new other bytes) }
         ensures kept { (other bytes : List ℕ) → (holds self.old other bytes ↔ holds self.new other bytes) }
         ensures left_kept { (bytes : List ℕ) → (is_left self.old bytes ↔ is_left self.new bytes) }
         ensures most_kept { most_left self.new ≡ most_left self.old }
@@ -149,11 +151,13 @@ pub trait Folder {
         ensures device { IsErrOf result FolderFault.Device ↔ (failure_count self.new ≡ failure_count self.old + 1) }
         ensures no_device { IsErrOf result FolderFault.Memory → failure_count self.new ≡ failure_count self.old };
 
-    /// Puts bytes at the end of the file that is made in pieces. After a fault it is removed. Refused with 7 where no file is begun.
-    fn add(&mut self, bytes: &[u8]) -> Result<(), FolderFault>
+    /// Puts bytes at the end of the file that is made in pieces under this name. After a fault it is removed. Refused with 7 where none is
+    /// begun.
+    fn add(&mut self, name: &str, bytes: &[u8]) -> Result<(), FolderFault>
         requires { failure_count self.old < 2 ^ 64 - 1 }
-        ensures added { OnOk result
-            ((name before : List ℕ) → is_begun self.old name before → is_begun self.new name (before ++ bytes.now)) }
+        ensures added { OnOk result ((before : List ℕ) → is_begun self.old name.now before →
+            is_begun self.new name.now (before ++ bytes.now)) }
+        ensures others_begun { (other bytes : List ℕ) → other ≢ name.now → (is_begun self.old other bytes ↔ is_begun self.new other bytes) }
         ensures kept { (other bytes : List ℕ) → (holds self.old other bytes ↔ holds self.new other bytes) }
         ensures left_kept { (bytes : List ℕ) → (is_left self.old bytes ↔ is_left self.new bytes) }
         ensures most_kept { most_left self.new ≡ most_left self.old }
@@ -161,13 +165,13 @@ pub trait Folder {
         ensures device { IsErrOf result FolderFault.Device ↔ (failure_count self.new ≡ failure_count self.old + 1) }
         ensures no_device { IsErrOf result FolderFault.Memory → failure_count self.new ≡ failure_count self.old };
 
-    /// Renames the file that is made in pieces to its name, in place of a file that has the name already. After a fault it is removed, and
-    /// that file is as it was. Refused with 7 where no file is begun.
-    fn finish(&mut self) -> Result<(), FolderFault>
+    /// Renames the file that is made in pieces under this name to it, in place of a file that has the name already. After a fault it is
+    /// removed, and that file is as it was. Refused with 7 where none is begun.
+    fn finish(&mut self, name: &str) -> Result<(), FolderFault>
         requires { failure_count self.old < 2 ^ 64 - 1 }
-        ensures written { OnOk result ((name bytes : List ℕ) → is_begun self.old name bytes → holds self.new name bytes) }
-        ensures others { (name begun other bytes : List ℕ) → is_begun self.old name begun → other ≢ name →
-            (holds self.old other bytes ↔ holds self.new other bytes) }
+        ensures written { OnOk result ((bytes : List ℕ) → is_begun self.old name.now bytes → holds self.new name.now bytes) }
+        ensures others_begun { (other bytes : List ℕ) → other ≢ name.now → (is_begun self.old other bytes ↔ is_begun self.new other bytes) }
+        ensures others { (other bytes : List ℕ) → other ≢ name.now → (holds self.old other bytes ↔ holds self.new other bytes) }
         ensures refused_unchanged { OnErr result ((other bytes : List ℕ) → (holds self.old other bytes ↔ holds self.new other bytes)) }
         ensures left_kept { (bytes : List ℕ) → (is_left self.old bytes ↔ is_left self.new bytes) }
         ensures most_kept { most_left self.new ≡ most_left self.old }
@@ -175,7 +179,7 @@ pub trait Folder {
         ensures device { IsErrOf result FolderFault.Device ↔ (failure_count self.new ≡ failure_count self.old + 1) }
         ensures no_device { IsErrOf result FolderFault.Memory → failure_count self.new ≡ failure_count self.old };
 
-    /// Removes the file that is made in pieces, if one is begun: no file of its name was changed.
+    /// Removes all files that are made in pieces: no file of their names was changed.
     fn give_up(&mut self)
         ensures kept { (other bytes : List ℕ) → (holds self.old other bytes ↔ holds self.new other bytes) }
         ensures left_kept { (bytes : List ℕ) → (is_left self.old bytes ↔ is_left self.new bytes) }

@@ -56,22 +56,24 @@ fn no_end() -> Trouble {
     failed(Step::Making, io::Error::new(ErrorKind::Other, NO_END))
 }
 
-/// The name that is no link to which links lead from this one.
-fn behind_links<R: Files + Alloc>(rt: &R, name: &str) -> Result<String<R::A>, Trouble> {
+/// The name that is no link to which links lead from this one; none where there are more of them than the system follows.
+fn behind_links<R: Files + Alloc>(rt: &R, name: &str) -> Result<Option<String<R::A>>, Trouble> {
     let mut end = format!(in rt.alloc(); "{name}")?;
-    'links: for _ in 0..MOST_LINKS {
+    'links: for _ in 0..MOST_LINKS + 1 {
         if !is_link(rt, end.as_str()) {
-            return Ok(end);
+            return Ok(Some(end));
         }
         end = behind_link(rt, end.as_str())?;
     }
-    Err(no_end())
+    Ok(None)
 }
 
 /// The name under which a file is found that is written through this link. What the link leads to has to have that name: a file that has
 /// none any more, which the system still shows by a link, has not.
 pub(crate) fn end_of<R: Files + Alloc>(rt: &R, link: &str) -> Result<String<R::A>, Trouble> {
-    let end = behind_links(rt, link)?;
+    let Some(end) = behind_links(rt, link)? else {
+        return Err(no_end());
+    };
     if let Ok(found) = fs::metadata(rt, link) {
         return match fs::metadata(rt, end.as_str()) {
             Ok(other) if is_one_node(&found, &other) => Ok(end),
@@ -81,13 +83,17 @@ pub(crate) fn end_of<R: Files + Alloc>(rt: &R, link: &str) -> Result<String<R::A
     Ok(end)
 }
 
-/// Whether two names that lead to nothing would be those of one file. Where a link's end is not found they are taken for one.
+/// Whether two names that lead to nothing would be those of one file. Where a link's end cannot be read they are taken for one. Links without
+/// an end are no file's: the system neither reads nor makes one through them.
 fn may_be_one_place<R: Files + Alloc>(rt: &R, name: &str, other: &str) -> bool {
     if !is_link(rt, name) && !is_link(rt, other) {
         return is_one_place(rt, name, other);
     }
     match (behind_links(rt, name), behind_links(rt, other)) {
-        (Ok(end), Ok(other_end)) => is_one_place(rt, end.as_str(), other_end.as_str()),
+        (Ok(Some(end)), Ok(Some(other_end))) => {
+            is_one_place(rt, end.as_str(), other_end.as_str())
+        }
+        (Ok(_), Ok(_)) => false,
         _ => true,
     }
 }

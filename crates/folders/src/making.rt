@@ -298,16 +298,20 @@ pub(crate) fn is_in_the_way<R: Files + Alloc>(rt: &R, name: &str, made: &str) ->
 #[derive(Drop)]
 pub(crate) struct Making {
     file: File,
+    /// The name under which it was begun, which may be a link's.
+    under: String,
     name: String,
     unfinished: String,
 }
 
-/// Begins a file beside its name, which is no link's.
+/// Begins a file beside its name, which is no link's, for the one under which it is asked for.
 fn begun_beside<R: Files<File = File>>(
     rt: &R,
     alloc: Global,
+    under: &str,
     name: &str,
 ) -> Result<Making, Trouble> {
+    let under = String::from_str(alloc, under)?;
     let own = String::from_str(alloc, name)?;
     let mut room = [0; LONGEST_NAME];
     let (file, unfinished) = match beside(rt, &mut room, name) {
@@ -317,6 +321,7 @@ fn begun_beside<R: Files<File = File>>(
     match String::from_str(alloc, unfinished) {
         Ok(unfinished) => Ok(Making {
             file,
+            under,
             name: own,
             unfinished,
         }),
@@ -338,12 +343,22 @@ pub(crate) fn begun<R: Files<File = File> + Alloc>(
     }
     if is_link(rt, name) {
         let end = end_of(rt, name)?;
-        return Ok(Some(begun_beside(rt, alloc, end.as_str())?));
+        return Ok(Some(begun_beside(rt, alloc, name, end.as_str())?));
     }
-    Ok(Some(begun_beside(rt, alloc, name)?))
+    Ok(Some(begun_beside(rt, alloc, name, name)?))
 }
 
 impl Making {
+    /// Whether it was begun under this name.
+    pub(crate) fn is_under(&self, name: &str) -> bool {
+        self.under.as_str() == name
+    }
+
+    /// Whether a file that is made under this name would have the same name until it is finished: so it is where two long names begin alike.
+    pub(crate) fn is_beside<R: Files + Alloc>(&self, rt: &R, name: &str) -> bool {
+        is_in_the_way(rt, self.unfinished.as_str(), name)
+    }
+
     /// Puts bytes at the end. Where that fails the file is removed.
     pub(crate) fn add<R: Files>(&mut self, rt: &R, bytes: &[u8]) -> Result<(), Failure> {
         let done = put_all(&mut self.file, bytes);

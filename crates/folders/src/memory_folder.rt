@@ -1,6 +1,6 @@
 //! Files in memory, whose bytes contracts know.
 
-ghost use Rattle.std.specs.Prelude.{◌≡◌, ◌-◌, ◌≤◌, ℕ, List, Some, None, IsSomeAnd, is_some, option_map, take, drop, length, string_bytes};
+ghost use Rattle.std.specs.Prelude.{◌≡◌, ◌-◌, ◌≤◌, ℕ, List, Some, None, is_some, option_map, take, drop, length};
 ghost use Rattle.std.specs.BTreeMap.{get_by_text};
 
 use crate::folder::{Folder, FolderFault, Front};
@@ -8,23 +8,18 @@ use std::alloc::{AllocError, Global};
 use std::collections::BTreeMap;
 use wire::MOST_GIVEN;
 
-/// A file that is made in pieces.
-#[derive(Drop)]
-struct Making {
-    name: String,
-    bytes: Vec<u8>,
-}
-
 /// Files in memory. A file that is not there counts as a failure of the device.
 #[derive(Drop)]
 pub struct MemoryFolder {
+    alloc: Global,
     files: BTreeMap<String, Vec<u8>>,
     failures: u64,
     /// The bytes of the file that is read in pieces, as they were when it was opened.
     opened: Vec<u8>,
     /// How many of these were read.
     given: usize,
-    making: Option<Making>,
+    /// The files that are made in pieces.
+    begun: BTreeMap<String, Vec<u8>>,
     ghost within: { given ≤ length opened.items },
 }
 
@@ -35,11 +30,12 @@ impl MemoryFolder {
         ensures no_failures { result.failures ≡ 0 }
     {
         MemoryFolder {
+            alloc,
             files: BTreeMap::new(alloc),
             failures: 0,
             opened: Vec::new(alloc),
             given: 0,
-            making: None,
+            begun: BTreeMap::new(alloc),
         }
     }
 }
@@ -55,8 +51,7 @@ impl Folder for MemoryFolder {
 
     ghost most_left = { λ folder. length folder.opened.items - folder.given };
 
-    ghost is_begun = { λ folder name bytes.
-        IsSomeAnd folder.making (λ made. (string_bytes made.name ≡ name) × (made.bytes.items ≡ bytes)) };
+    ghost is_begun = { λ folder name bytes. option_map (λ v. v.items) (get_by_text folder.begun name) ≡ Some bytes };
 
     ghost failure_count = { λ folder. folder.failures };
 
@@ -125,35 +120,40 @@ impl Folder for MemoryFolder {
     }
 
     fn begin(&mut self, alloc: Global, name: &str) -> Result<bool, FolderFault> {
-        self.making = None;
-        match String::from_str(alloc, name) {
-            Ok(name) => {
-                let bytes = Vec::new(alloc);
-                self.making = Some(Making { name, bytes });
-                Ok(true)
-            }
+        let _ = self.begun.remove(name);
+        let Ok(name) = String::from_str(alloc, name) else {
+            return Err(FolderFault::Memory);
+        };
+        match self.begun.insert(name, Vec::new(alloc)) {
+            Ok(_) => Ok(true),
             Err(_) => Err(FolderFault::Memory),
         }
     }
 
-    fn add(&mut self, bytes: &[u8]) -> Result<(), FolderFault> {
-        let Some(mut making) = self.making.take() else {
+    fn add(&mut self, name: &str, bytes: &[u8]) -> Result<(), FolderFault> {
+        let Some(mut begun) = self.begun.remove(name) else {
             self.failures += 1;
             return Err(FolderFault::Device);
         };
-        match making.bytes.extend_from_slice(bytes) {
-            Ok(()) => {
-                self.making = Some(making);
-                Ok(())
-            }
+        let Ok(name) = String::from_str(self.alloc, name) else {
+            return Err(FolderFault::Memory);
+        };
+        if begun.extend_from_slice(bytes).is_err() {
+            return Err(FolderFault::Memory);
+        }
+        match self.begun.insert(name, begun) {
+            Ok(_) => Ok(()),
             Err(_) => Err(FolderFault::Memory),
         }
     }
 
-    fn finish(&mut self) -> Result<(), FolderFault> {
-        let Some(Making { name, bytes }) = self.making.take() else {
+    fn finish(&mut self, name: &str) -> Result<(), FolderFault> {
+        let Some(bytes) = self.begun.remove(name) else {
             self.failures += 1;
             return Err(FolderFault::Device);
+        };
+        let Ok(name) = String::from_str(self.alloc, name) else {
+            return Err(FolderFault::Memory);
         };
         match self.files.insert(name, bytes) {
             Ok(_) => Ok(()),
@@ -162,7 +162,7 @@ impl Folder for MemoryFolder {
     }
 
     fn give_up(&mut self) {
-        self.making = None;
+        self.begun.clear();
     }
 
     fn is_same(&self, name: &str, other: &str) -> bool {

@@ -14,7 +14,7 @@ use std::marker::Model;
 use wire::{CaptureFault, MAX_FRAME, RECORD_HEAD_LEN};
 
 /// How many bytes a window has room for.
-const ROOM: usize = 1 << 16;
+const ROOM: usize = 1 << 18;
 
 /// The most bytes of a record: those of its head, and those that it keeps.
 const MOST_OF_RECORD: usize = RECORD_HEAD_LEN + MAX_FRAME;
@@ -67,6 +67,7 @@ fn read_on<D: Folder>(folder: &mut D, bytes: &mut [u8], end: usize) -> Result<us
 }
 
 /// The 32-bit number at an index, low byte first.
+#[inline(always)]
 fn le32_at(bytes: &[u8], at: usize) -> u32
     requires { at + 4 ≤ length bytes.now }
     ensures { result ≡ le32_at at bytes.now }
@@ -88,6 +89,7 @@ impl Window {
     }
 
     /// The unread bytes.
+    #[inline(always)]
     pub(crate) fn unread(&self) -> &[u8]
         ensures { result.now ≡ self.now }
     {
@@ -98,6 +100,7 @@ impl Window {
     ///
     /// Refused with 4 where the bytes end in the head; with 6 where the record keeps more than 2048 bytes; with 5 where they end in what it
     /// keeps.
+    #[inline(always)]
     pub(crate) fn head(&self, number: u64) -> Result<RecordHead, CaptureFault>
         requires { 0 < length self.now }
         ensures front { IfOk result (IsAtFront self.now) }
@@ -127,6 +130,7 @@ impl Window {
     }
 
     /// Goes past this many of the unread bytes.
+    #[inline(always)]
     pub(crate) fn skip(&mut self, count: usize)
         requires { count ≤ length self.old }
         ensures { self.new ≡ drop count self.old }
@@ -134,8 +138,9 @@ impl Window {
         self.at += count;
     }
 
-    /// Reads on, until a whole record must be unread or the file has ended. After a fault it is not known what is unread.
-    pub(crate) fn fill<D: Folder>(&mut self, folder: &mut D) -> Result<(), FolderFault>
+    /// Moves the unread bytes to the front of the buffer, and reads on behind them, until a whole record must be unread or the file has ended.
+    #[inline(never)]
+    fn read_more<D: Folder>(&mut self, folder: &mut D) -> Result<(), FolderFault>
         requires { D.failure_count folder.old < 2 ^ 64 - 1 }
         ensures filled { OnOk result (IsFilled (D.is_left folder.old) (D.is_left folder.new) self.old self.new) }
         ensures enough { OnOk result ((2064 ≤ length self.new) ⊎ D.is_left folder.new []) }
@@ -146,13 +151,28 @@ impl Window {
         ensures counted { OnErr result (D.failure_count folder.new ≡ D.failure_count folder.old + 1) }
     {
         let unread = self.end - self.at;
-        if unread >= MOST_OF_RECORD {
-            return Ok(());
-        }
         self.bytes.copy_within(self.at..self.end, 0);
         self.at = 0;
         self.end = unread;
         self.end = read_on(folder, &mut self.bytes, unread)?;
         Ok(())
+    }
+
+    /// Reads on, until a whole record must be unread or the file has ended. After a fault it is not known what is unread.
+    #[inline(always)]
+    pub(crate) fn fill<D: Folder>(&mut self, folder: &mut D) -> Result<(), FolderFault>
+        requires { D.failure_count folder.old < 2 ^ 64 - 1 }
+        ensures filled { OnOk result (IsFilled (D.is_left folder.old) (D.is_left folder.new) self.old self.new) }
+        ensures enough { OnOk result ((2064 ≤ length self.new) ⊎ D.is_left folder.new []) }
+        ensures fewer { OnOk result (length self.new + D.most_left folder.new ≤ length self.old + D.most_left folder.old) }
+        ensures kept { (name held : List ℕ) → (D.holds folder.old name held ↔ D.holds folder.new name held) }
+        ensures begun_kept { (name held : List ℕ) → (D.is_begun folder.old name held ↔ D.is_begun folder.new name held) }
+        ensures steady { OnOk result (D.failure_count folder.new ≡ D.failure_count folder.old) }
+        ensures counted { OnErr result (D.failure_count folder.new ≡ D.failure_count folder.old + 1) }
+    {
+        if self.end - self.at >= MOST_OF_RECORD {
+            return Ok(());
+        }
+        self.read_more(folder)
     }
 }

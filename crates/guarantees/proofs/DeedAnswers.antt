@@ -22,6 +22,7 @@ use Rattle.actors.specs.Commands.{AnsweredUpdate, CommandDone, made_deeds, stop_
 use Rattle.actors.specs.Rounds.{keyed_below, IsReclaimDeed, AreReclaimDeeds, AreRoundsDone}
 use Rattle.semantics.specs.Replay.{is_keyed, is_of_keyed, keyed_shards, rounds_over}
 use Rattle.guarantees.specs.ReplayOf.{call_of_shared_update, calls_made, stopped_call, command_calls, answers_made, stopped_answer, command_answers}
+use Rattle.guarantees.specs.InParts.{IsOfCaller}
 use Rattle.guarantees.proofs.DeedLemmas.{chosen_reversed}
 use Rattle.guarantees.proofs.EveryEntry.{all_both}
 use Rattle.guarantees.proofs.Merge.{is_askable, heard, call_of_deed, answer_of_deed}
@@ -82,7 +83,7 @@ module _ (plan : ℕ → ShardPlan) (maps : List MapDef) (options : Options) whe
       (made_askable made) (commands_askable done all)
 
 module _ (maps : List MapDef) (options : Options) where
-  made_calls : (made : List AnsweredUpdate) → map call_of_deed (made_deeds maps options made) ≡ calls_made maps options made
+  pub made_calls : (made : List AnsweredUpdate) → map call_of_deed (made_deeds maps options made) ≡ calls_made maps options made
   made_calls [] = refl
   made_calls (one ∷ made) = ap (λ (list : List Call). call_of_shared_update maps options one.update ∷ list) (made_calls made)
 
@@ -108,6 +109,12 @@ module _ (maps : List MapDef) (options : Options) where
       ∙ ap (λ (list : List A). list ++ map of (commands_deeds maps options done)) (are one)
       ∙ ap (λ (list : List A). each one ++ list) (commands_are of each are done)
 
+  pub command_calls_are : (one : CommandDone) → map call_of_deed (command_deeds maps options one) ≡ command_calls maps options one
+  command_calls_are one =
+      map-append call_of_deed (made_deeds maps options one.made) (stop_deeds maps options one.stopped)
+      ∙ ap (λ (list : List Call). list ++ map call_of_deed (stop_deeds maps options one.stopped)) (made_calls one.made)
+      ∙ ap (λ (list : List Call). calls_made maps options one.made ++ list) (stop_calls one.stopped)
+
   pub calls_are : (made : List AnsweredUpdate) (done : List CommandDone) →
       map call_of_deed (made_deeds maps options made ++ commands_deeds maps options done)
       ≡ calls_made maps options made ++ flat_map (λ list. list) (map (command_calls maps options) done)
@@ -115,10 +122,7 @@ module _ (maps : List MapDef) (options : Options) where
       map-append call_of_deed (made_deeds maps options made) (commands_deeds maps options done)
       ∙ ap (λ (list : List Call). list ++ map call_of_deed (commands_deeds maps options done)) (made_calls made)
       ∙ ap (λ (list : List Call). calls_made maps options made ++ list)
-      (commands_are call_of_deed (command_calls maps options)
-      (λ one. map-append call_of_deed (made_deeds maps options one.made) (stop_deeds maps options one.stopped)
-      ∙ ap (λ (list : List Call). list ++ map call_of_deed (stop_deeds maps options one.stopped)) (made_calls one.made)
-      ∙ ap (λ (list : List Call). calls_made maps options one.made ++ list) (stop_calls one.stopped)) done)
+      (commands_are call_of_deed (command_calls maps options) command_calls_are done)
 
   pub answers_are : (made : List AnsweredUpdate) (done : List CommandDone) →
       map answer_of_deed (made_deeds maps options made ++ commands_deeds maps options done)
@@ -171,7 +175,7 @@ module _ (setting : Setting) (plan : ℕ → ShardPlan) (all : ℕ) (plans : (nu
       ∙ ap (λ (list : List ℕ). if is_of_keyed (plan_at setting.maps setting.options count) then list ++ count ∷ [] else list)
       (keyed_are count (omega (arith, within)))
 
-  keyed_within : (count : ℕ) → count ≤ all → AllByRecursion (λ (number : ℕ). number < all) (keyed_below plan count)
+  pub keyed_within : (count : ℕ) → count ≤ all → AllByRecursion (λ (number : ℕ). number < all) (keyed_below plan count)
   keyed_within zero within = tt
   keyed_within (suc count) within =
       by_test (is_keyed (plan count).definition.kind) (keyed_within count (omega (arith, within))) (number_below count within)
@@ -198,7 +202,7 @@ module _ (setting : Setting) (plan : ℕ → ShardPlan) (all : ℕ) (plans : (nu
         ap shard_of_deed met,
       ))
 
-  round_is : (numbers : List ℕ) (deeds : List Deed) → AllByRecursion (λ (number : ℕ). number < all) numbers → AreReclaimDeeds numbers deeds →
+  pub round_is : (numbers : List ℕ) (deeds : List Deed) → AllByRecursion (λ (number : ℕ). number < all) numbers → AreReclaimDeeds numbers deeds →
       AreRound deeds numbers
   round_is [] [] within are = record { may = tt; shards_are = refl }
   round_is (number ∷ numbers) (deed ∷ deeds) within are =
@@ -210,6 +214,19 @@ module _ (setting : Setting) (plan : ℕ → ShardPlan) (all : ℕ) (plans : (nu
       }
   round_is [] (deed ∷ deeds) within are = absurd are
   round_is (number ∷ numbers) [] within are = absurd are
+
+  -- and each is the reclaimer's, who may make it
+  deed_own : (number : ℕ) (deed : Deed) → number < all → IsReclaimDeed number deed → IsOfCaller plan Reclaimer deed
+  deed_own number deed below = ⊎_elim
+      (λ wrote. subst (IsOfCaller plan Reclaimer) (sym wrote.1) refl)
+      (λ met. subst (IsOfCaller plan Reclaimer) (sym met) (refl, ap (λ (test : Bool). test && true) (own_number number below)))
+
+  pub round_own : (numbers : List ℕ) (deeds : List Deed) → AllByRecursion (λ (number : ℕ). number < all) numbers → AreReclaimDeeds numbers deeds →
+      AllByRecursion (IsOfCaller plan Reclaimer) deeds
+  round_own [] [] within are = tt
+  round_own (number ∷ numbers) (deed ∷ deeds) within are = (deed_own number deed within.0 are.0, round_own numbers deeds within.1 are.1)
+  round_own [] (deed ∷ deeds) within are = absurd are
+  round_own (number ∷ numbers) [] within are = absurd are
 
   pub rounds_are : (count rounds : ℕ) (deeds : List Deed) → count ≤ all → AreRoundsDone plan count rounds deeds →
       AreRound deeds (rounds_over (keyed_below plan count) rounds)

@@ -33,7 +33,7 @@ chosen_reversed {A = A} test (x ∷ xs) =
 
 -- ---- the entries of deeds
 
-entries_append : (first second : List Deed) → entries_made (first ++ second) ≡ entries_made first ++ entries_made second
+pub entries_append : (first second : List Deed) → entries_made (first ++ second) ≡ entries_made first ++ entries_made second
 entries_append [] second = refl
 entries_append (Wrote entry ∷ first) second = ap (λ (list : List Entry). entry ∷ list) (entries_append first second)
 entries_append (MetFull who call ∷ first) second = entries_append first second

@@ -39,6 +39,7 @@ use Rattle.guarantees.specs.SystemRuns.{setting_of}
 use Rattle.guarantees.specs.Merging.{IsOrderOfMoves, IsOneList}
 use Rattle.guarantees.specs.ReplayMoves.{HasMoves}
 use Rattle.guarantees.specs.RunsInList.{moment_of, IsRunOfImage, IsStopOfImage, IsEitherOfImage, AreOfRuns, AreOfAccounted}
+use Rattle.guarantees.specs.TurnByTurn.{TurnDeeds, AreDeedsOfRuns}
 use Rattle.guarantees.proofs.DeedLemmas.{is_deed_by, chosen_reversed, made_reversed}
 use Rattle.guarantees.proofs.EveryEntry.{all_both, all_reverse}
 use Rattle.guarantees.proofs.LegalEntries.{entry_is_step}
@@ -76,6 +77,18 @@ same_chain : (One Other : PassView → Ran → PassView → Type 0) (P : Ran →
 same_chain One Other P turns [] all before after chain = chain
 same_chain One Other P turns (ran ∷ later) all before after chain =
     (chain.0, turns before ran chain.0 all.0 chain.1, same_chain One Other P turns later all.1 chain.0 after chain.2)
+
+-- what was done in each run is the same
+same_deeds : (One Other : PassView → Ran → PassView → Type 0) (P : Ran → Type 0) →
+    (turns : (before : PassView) (ran : Ran) (after : PassView) → P ran → One before ran after → Other before ran after) → (runs : List Ran) →
+    (all : AllByRecursion P runs) → (before after : PassView) → (chain : IsChainOfRuns One before runs after) → (done : List TurnDeeds) →
+    AreDeedsOfRuns One before runs after chain done → AreDeedsOfRuns Other before runs after (same_chain One Other P turns runs all before after chain) done
+unfolding same_chain
+same_deeds One Other P turns [] all before after chain [] are = tt
+same_deeds One Other P turns [] all before after chain (one ∷ done) are = absurd are
+same_deeds One Other P turns (ran ∷ later) all before after chain [] are = absurd are
+same_deeds One Other P turns (ran ∷ later) all before after chain (one ∷ done) are =
+    (are.0, are.1, same_deeds One Other P turns later all.1 chain.0 after chain.2 done are.2)
 
 -- ---- one run
 
@@ -194,6 +207,16 @@ module _ (ran : RunsAreOfTheSystem) (stopped : StoppedRunsAreOfTheSystem) (verif
       (share (frames_of records) options.workers worker (length records)) worker (runs_at accounted.runs worker) accounted.count outcome.journals accounted.order
   work worker below = work_of ran stopped verified options fit.at_most_eight accounted.plan accounted.count worker below outcome.journals accounted.order records
       captured (runs_at accounted.runs worker) (accounted.work worker below)
+
+  pub work_deeds : (worker : ℕ) → (below : worker < options.workers) → (done : List TurnDeeds) →
+      AreDeedsOfRuns (IsRunAt (IsRunIn accounted.plan accounted.count (program_of verified options.shards) worker outcome.journals) records)
+      (accounted.work worker below).handled.before (runs_at accounted.runs worker) (accounted.work worker below).after
+      (accounted.work worker below).handled.chain done →
+      AreDeedsOfRuns (IsRunAt (IsEitherOfImage verified options accounted.plan accounted.count worker) records) (work worker below).handled.before
+      (runs_at accounted.runs worker) (work worker below).after (work worker below).handled.chain done
+  unfolding work work_of
+  work_deeds worker below done are = same_deeds _ _ _ _ (runs_at accounted.runs worker) _ (accounted.work worker below).handled.before
+      (accounted.work worker below).after (accounted.work worker below).handled.chain done are
 
   pub moves : HasMoves (setting_of verified options) accounted.count accounted.runs outcome.journals accounted.order
   moves = has_moves verified options accounted.plan accounted.count records accounted.runs outcome.journals accounted.order work

@@ -38,7 +38,12 @@ pub mod RunEnds
 pub mod RecordEnds
 pub mod SizedUpdates
 pub mod DeedAnswers
+pub mod LastRound
 pub mod OneReplay
 pub mod MergeCalls
+pub mod PartEvents
+pub mod PartLists
+pub mod PlacedRuns
+pub mod TurnEvents
 pub mod RunsAlone
 pub mod AskedAlone

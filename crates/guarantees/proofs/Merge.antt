@@ -28,6 +28,7 @@ use Rattle.semantics.specs.Events.{Ending, controlled, reclaimed, answers_of_eve
 use Rattle.guarantees.specs.Steps.{AskedOfShard, Nothing, Writes, Refused, Move, AreSteps, entries_asked, deeds_asked, deeds_in}
 use Rattle.guarantees.specs.Moves.{IsAskedSo, after_asked, is_event_of}
 use Rattle.guarantees.specs.Merging.{IsOrderOfMoves, IsWrittenNext, AreWrittenInOrder, events_of, IsOneList, OneOrderIsOneList}
+pub use Rattle.guarantees.specs.InParts.{call_of_deed}
 use Rattle.guarantees.proofs.EndLemmas.{ends_in, Walk, no_end}
 use Rattle.guarantees.proofs.AnswerLemmas.{then_ended, then_answered, then_controlled, then_reclaimed, none_ended, none_answered, none_controlled, none_reclaimed}
 use Rattle.guarantees.proofs.LegalEntries.{entry_is_legal}
@@ -38,15 +39,15 @@ use Rattle.guarantees.proofs.MergeCalls.{IsAtPlace, worker_at, answers_at, contr
 
 -- ---- what is left to do, by worker
 
-abbrev put : {A : Type 0} → ℕ → A → (ℕ → A) → ℕ → A
+abbrev pub put : {A : Type 0} → ℕ → A → (ℕ → A) → ℕ → A
 put worker own rest other = if other == worker then own else rest other
 
-put_there : {A : Type 0} (worker : ℕ) (own : A) (rest : ℕ → A) → put worker own rest worker ≡ own
+pub put_there : {A : Type 0} (worker : ℕ) (own : A) (rest : ℕ → A) → put worker own rest worker ≡ own
 put_there worker own rest =
     let same : (worker == worker) ≡ true = grind (arith, nat_tests) in
     ap (λ (test : Bool). cond test own (rest worker)) same
 
-put_other : {A : Type 0} (worker other : ℕ) (own : A) (rest : ℕ → A) → other ≢ worker → put worker own rest other ≡ rest other
+pub put_other : {A : Type 0} (worker other : ℕ) (own : A) (rest : ℕ → A) → other ≢ worker → put worker own rest other ≡ rest other
 put_other worker other own rest apart = ap (λ (test : Bool). cond test own (rest other)) (ne_eqb other worker apart)
 
 -- ---- the deeds of the controller and the reclaimer that are events: what they wrote, and the looks that they may make
@@ -60,10 +61,6 @@ is_heard plan who deed = is_deed_of (ByCaller who) deed && is_askable plan who d
 
 abbrev pub heard : (ℕ → ShardPlan) → Caller → List Deed → List Deed
 heard plan who deeds = filter (is_heard plan who) deeds
-
-abbrev pub call_of_deed : Deed → Call
-call_of_deed (Wrote entry) = entry.call
-call_of_deed (MetFull who call) = call
 
 abbrev pub answer_of_deed : Deed → Option Reply
 answer_of_deed (Wrote entry) = Some entry.reply
@@ -287,10 +284,10 @@ made_elsewhere : (entry : Entry) (number : ℕ) → number ≢ shard_of_call ent
 made_elsewhere entry number apart =
     ap (λ (test : Bool). cond test (entry ∷ []) []) (ne_eqb (shard_of_call entry.call) number (λ same. apart (sym same)))
 
-abbrev HaveHistories : ℕ → List Deed → SystemState → Type 0
+abbrev pub HaveHistories : ℕ → List Deed → SystemState → Type 0
 HaveHistories count deeds system = (number : ℕ) → number < count → history_of system number ≡ reverse (made_on number deeds)
 
-after_entry : (count : ℕ) (earlier : List Deed) (system after : SystemState) (entry : Entry) → length system.histories ≡ count →
+pub after_entry : (count : ℕ) (earlier : List Deed) (system after : SystemState) (entry : Entry) → length system.histories ≡ count →
     shard_of_call entry.call < count → HaveHistories count earlier system →
     after.histories ≡ (with_entry system (shard_of_call entry.call) entry).histories → HaveHistories count (earlier ++ Wrote entry ∷ []) after
 after_entry count earlier system after entry shards within histories same number below =
@@ -309,7 +306,7 @@ after_entry count earlier system after entry shards within histories same number
     ∙ sym (made_append number earlier (Wrote entry ∷ []))))
     (cases_eq number shard)
 
-after_look : (count : ℕ) (earlier : List Deed) (system after : SystemState) (who : Caller) (call : Call) → HaveHistories count earlier system →
+pub after_look : (count : ℕ) (earlier : List Deed) (system after : SystemState) (who : Caller) (call : Call) → HaveHistories count earlier system →
     after.histories ≡ system.histories → HaveHistories count (earlier ++ MetFull who call ∷ []) after
 after_look count earlier system after who call histories same number below =
     ap (λ list. slice_index_or list number []) same ∙ histories number below
@@ -317,7 +314,7 @@ after_look count earlier system after who call histories same number below =
 
 -- ---- a worker's deed
 
-asked_shards : (system : SystemState) (asked : AskedOfShard) → length (after_asked system asked).histories ≡ length system.histories
+pub asked_shards : (system : SystemState) (asked : AskedOfShard) → length (after_asked system asked).histories ≡ length system.histories
 asked_shards system Nothing = refl
 asked_shards system (Writes entry) =
     length-set system.histories (shard_of_call entry.call) (entry ∷ history_of system (shard_of_call entry.call))

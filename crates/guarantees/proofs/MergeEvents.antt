@@ -60,7 +60,7 @@ then_written setting before after (event ∷ done) later entries more happen wri
 )
 
 -- what is asked of a shard is what is written
-asked_written : (before after : SystemState) (asked : AskedOfShard) → after.histories ≡ (after_asked before asked).histories →
+pub asked_written : (before after : SystemState) (asked : AskedOfShard) → after.histories ≡ (after_asked before asked).histories →
     IsWrittenNext before (entries_asked asked) after
 asked_written before after Nothing same = same
 asked_written before after (Writes entry) same = same

@@ -47,8 +47,9 @@ use Rattle.guarantees.specs.RunsInList.{moment_of, IsRunOfImage, IsEitherOfImage
 use Rattle.guarantees.specs.Headline.{AreOfScript, Headline}
 use Rattle.guarantees.specs.Merging.{events_of}
 use Rattle.guarantees.specs.HeadlineOf.{HeadlineOf, ReplaysKeepHeadline}
+use Rattle.guarantees.proofs.LastRound.{ends_with_round}
 use Rattle.actors.specs.Captured.{IsCaptured}
-use Rattle.semantics.specs.Replay.{Captured, RecordEnd, IsReplay, input_of, is_run_by, runner_of, keyed_shards, rounds_over, shard_count, frames_sent}
+use Rattle.semantics.specs.Replay.{Captured, RecordEnd, IsReplay, first_calls, input_of, is_run_by, runner_of, keyed_shards, rounds_over, shard_count, frames_sent}
 use Rattle.guarantees.specs.ReplayOf.{captured_of, calls_made, command_calls, asked_of, totals_in, result_of}
 use Rattle.guarantees.specs.Steps.{Move}
 use Rattle.guarantees.specs.SystemLaws.{RunsAreOfTheSystem, StoppedRunsAreOfTheSystem}
@@ -201,42 +202,42 @@ take_map f zero done = refl
 take_map f (suc n) [] = refl
 take_map f (suc n) (one ∷ done) = ap (λ (list : List (List Call)). f one ∷ list) (take_map f n done)
 
-map_both : (deeds : List Deed) → map (λ (call : Call). Controls call) (map call_of_deed deeds) ≡ map (λ (deed : Deed). Controls (call_of_deed deed)) deeds
+pub map_both : (deeds : List Deed) → map (λ (call : Call). Controls call) (map call_of_deed deeds) ≡ map (λ (deed : Deed). Controls (call_of_deed deed)) deeds
 map_both [] = refl
 map_both (deed ∷ deeds) = ap (λ (list : List SystemEvent). Controls (call_of_deed deed) ∷ list) (map_both deeds)
 
 -- ---- the whole replay
 
-less : (worker workers : ℕ) → nat_lt worker workers ≡ true → worker < workers
+pub less : (worker workers : ℕ) → nat_lt worker workers ≡ true → worker < workers
 less worker workers is = grind (arith, nat_tests, is)
 
 module _ (ran : RunsAreOfTheSystem) (stopped : StoppedRunsAreOfTheSystem) (verified : Verified) (safe : IsSafeImage verified.maps verified.code)
     (script : List Command) (options : Options) (records : List Sent) (outcome : Outcome) (fit : AreOptions verified.maps options)
     (captured : AllByRecursion IsCaptured records) (sized : AllByRecursion CommandFits script)
     (accounted : IsAccounted (program_of verified options.shards) script options records outcome) where
-  abbrev setting : Setting
+  abbrev pub setting : Setting
   setting = setting_of verified options
 
-  abbrev worked : (worker : ℕ) → worker < options.workers →
+  abbrev pub worked : (worker : ℕ) → worker < options.workers →
       IsWorkOf (IsRunAt (IsEitherOfImage verified options accounted.plan accounted.count worker) records)
       (share (frames_of records) options.workers worker (length records)) worker (runs_at accounted.runs worker) accounted.count outcome.journals accounted.order
   worked = work ran stopped verified safe script options records outcome fit captured accounted
 
-  abbrev moved : ℕ → List Move
+  abbrev pub moved : ℕ → List Move
   moved = (moves ran stopped verified safe script options records outcome fit captured accounted).moves
 
-  abbrev own_below : (worker : ℕ) → nat_lt worker options.workers ≡ true → worker < options.workers
+  abbrev pub own_below : (worker : ℕ) → nat_lt worker options.workers ≡ true → worker < options.workers
   own_below worker is =
       (moves_of_work ran stopped verified safe script options records outcome fit captured accounted worker (less worker options.workers is)).below
 
   -- how the runs of a worker ended
-  ends_if : (worker : ℕ) (test : Bool) → nat_lt worker options.workers ≡ test → List Ending
+  unfoldable pub ends_if : (worker : ℕ) (test : Bool) → nat_lt worker options.workers ≡ test → List Ending
   ends_if worker true is =
       let did = worked worker (own_below worker is) in
       endings_of verified options accounted.plan accounted.count worker records did.handled.before (runs_at accounted.runs worker) did.after did.handled.chain
   ends_if worker false is = []
 
-  ends : ℕ → List Ending
+  unfoldable pub ends : ℕ → List Ending
   ends worker = ends_if worker (nat_lt worker options.workers) refl
 
   each_if : (worker : ℕ) (test : Bool) → (is : nat_lt worker options.workers ≡ test) → worker < options.workers → (place number : ℕ) →
@@ -260,7 +261,7 @@ module _ (ran : RunsAreOfTheSystem) (stopped : StoppedRunsAreOfTheSystem) (verif
       let past : options.workers ≤ worker = grind (arith, nat_tests, is) in
       ap length (sym (no_share (frames_of records) options.workers worker (length records) fit.some_worker past))
 
-  are_ended : AreRunsEnded records options.workers accounted.runs ends
+  pub are_ended : AreRunsEnded records options.workers accounted.runs ends
   unfolding ends
   are_ended = record {
     some = fit.some_worker;
@@ -319,23 +320,23 @@ module _ (ran : RunsAreOfTheSystem) (stopped : StoppedRunsAreOfTheSystem) (verif
 
   -- ---- the statement
 
-  abbrev record_ends : List RecordEnd
+  abbrev pub record_ends : List RecordEnd
   record_ends = all_ends (frames_of records) options.workers ends (length records)
 
   sent_both : (list : List Sent) → map captured_of list ≡ map of_sent (sent_frames list)
   sent_both [] = refl
   sent_both (one ∷ list) = ap (λ (more : List Captured). captured_of one ∷ more) (sent_both list)
 
-  abbrev done : List CommandDone
+  abbrev pub done : List CommandDone
   done = accounted.commands.done
 
-  abbrev made : List AnsweredUpdate
+  abbrev pub made : List AnsweredUpdate
   made = all_set outcome.updates.items
 
-  abbrev controller_deeds : List Deed
+  abbrev pub controller_deeds : List Deed
   controller_deeds = made_deeds verified.maps options made ++ commands_deeds verified.maps options done
 
-  heard_controller : heard accounted.plan Controller (reverse accounted.order) ≡ controller_deeds
+  pub heard_controller : heard accounted.plan Controller (reverse accounted.order) ≡ controller_deeds
   heard_controller = heard_is accounted.plan Controller accounted.order controller_deeds accounted.commands.did
       (all_askable accounted.plan verified.maps options made done
       (commands_may_look accounted.plan verified.maps options accounted.count accounted.commands.size accounted.plans fit script sized
@@ -363,8 +364,14 @@ module _ (ran : RunsAreOfTheSystem) (stopped : StoppedRunsAreOfTheSystem) (verif
   list_first = one_list_first setting accounted.plan accounted.count (λ number. entries_at outcome.journals number) moved ends first (reverse accounted.begins.0)
       (reverse accounted.order) first_heard order_begins (order_is ran stopped verified safe script options records outcome fit captured accounted) walks
 
-  abbrev with_ends : IsListWithEnds setting accounted.plan accounted.count (λ number. entries_at outcome.journals number) moved ends (reverse accounted.order)
-  with_ends = list_first.whole
+  -- a list of events of these moves, these ends and this order
+  abbrev pub IsListed : Type 0
+  IsListed = IsListWithEnds setting accounted.plan accounted.count (λ number. entries_at outcome.journals number) moved ends (reverse accounted.order)
+
+  abbrev pub AreFirstCalls : List SystemEvent → Type 0
+  AreFirstCalls events =
+      (later : List SystemEvent) ×
+      (events ≡ map (λ (call : Call). Controls call) (first_calls (asked_of verified script options records outcome done)) ++ later)
 
   abbrev reclaimer_deeds : List Deed
   reclaimer_deeds = reverse (deeds_of (ByCaller Reclaimer) accounted.order)
@@ -379,19 +386,26 @@ module _ (ran : RunsAreOfTheSystem) (stopped : StoppedRunsAreOfTheSystem) (verif
       (heard_is accounted.plan Reclaimer accounted.order reclaimer_deeds (sym (reverse-reverse (deeds_of (ByCaller Reclaimer) accounted.order))) all.may)
       ∙ all.shards_are
 
-  are_replay : IsReplay setting (asked_of verified script options records outcome done) (result_of outcome done record_ends) with_ends.list.events
-  are_replay = record {
-    can = with_ends.list.can;
-    begun = λ worker. begun_among worker with_ends.list.events ∙ ap (begun_by worker) (with_ends.list.of_each worker)
-        ∙ begun_is worker (nat_lt worker options.workers) refl;
-    called = with_ends.called ∙ ap (map call_of_deed) heard_controller ∙ calls_are verified.maps options made done;
-    later = list_first.first.0;
-    first = list_first.first.1
+  are_first_calls : AreFirstCalls list_first.whole.list.events
+  are_first_calls = (
+    list_first.first.0,
+    list_first.first.1
         ∙ ap (λ (list : List SystemEvent). list ++ list_first.first.0)
         (sym (map_both first)
         ∙ ap (λ (calls : List Call). map (λ (call : Call). Controls call) calls) (calls_are verified.maps options made first_done
         ∙ ap (λ (calls : List (List Call)). calls_made verified.maps options made ++ flat_map (λ list. list) calls)
-        (take_map (command_calls verified.maps options) (first_commands script) done)));
+        (take_map (command_calls verified.maps options) (first_commands script) done))),
+  )
+
+  pub are_replay : (with_ends : IsListed) → AreFirstCalls with_ends.list.events →
+      IsReplay setting (asked_of verified script options records outcome done) (result_of outcome done record_ends) with_ends.list.events
+  are_replay with_ends calls_first = record {
+    can = with_ends.list.can;
+    begun = λ worker. begun_among worker with_ends.list.events ∙ ap (begun_by worker) (with_ends.list.of_each worker)
+        ∙ begun_is worker (nat_lt worker options.workers) refl;
+    called = with_ends.called ∙ ap (map call_of_deed) heard_controller ∙ calls_are verified.maps options made done;
+    later = calls_first.0;
+    first = calls_first.1;
     gone_over = with_ends.gone_over ∙ reclaimer_is
         ∙ ap (λ (shards : List ℕ). rounds_over shards rounds)
         (keyed_are setting accounted.plan accounted.count accounted.plans.each accounted.count (omega arith)
@@ -411,7 +425,7 @@ module _ (ran : RunsAreOfTheSystem) (stopped : StoppedRunsAreOfTheSystem) (verif
   }
 
   -- the commands that were carried out are the script's
-  of_script : AreOfScript verified.maps script outcome.refused.items done
+  pub of_script : AreOfScript verified.maps script outcome.refused.items done
   of_script =
       let by = accounted.commands in
       record {
@@ -426,8 +440,8 @@ module _ (ran : RunsAreOfTheSystem) (stopped : StoppedRunsAreOfTheSystem) (verif
         refused_are = by.refused_are;
       }
 
-  abbrev kept : Headline verified script options records outcome
-  kept = record {
+  abbrev pub kept : (with_ends : IsListed) → AreFirstCalls with_ends.list.events → Headline verified script options records outcome
+  kept with_ends calls_first = record {
     safe = safe;
     replay = record {
       done = done;
@@ -440,18 +454,22 @@ module _ (ran : RunsAreOfTheSystem) (stopped : StoppedRunsAreOfTheSystem) (verif
         count = accounted.count_is ∙ accounted.plans.count_is;
       };
       events = with_ends.list.events;
-      are = are_replay;
+      are = are_replay with_ends calls_first;
     };
   }
 
-  headline_of : HeadlineOf verified script options records outcome accounted
-  headline_of = record {
-    headline = kept;
+  abbrev pub headline_of : (with_ends : IsListed) → AreFirstCalls with_ends.list.events → HeadlineOf verified script options records outcome accounted
+  headline_of with_ends calls_first = record {
+    headline = kept with_ends calls_first;
     same_commands = refl;
     same_events = of_accounted ran stopped verified safe script options records outcome fit captured accounted with_ends.list;
+    closes = ends_with_round (setting_of verified options) accounted.plan accounted.count accounted.order with_ends.list.events accounted.closes
+        with_ends.list.written;
   }
 
 pub replays_keep_headline : RunsAreOfTheSystem → StoppedRunsAreOfTheSystem → (verified : Verified) → IsSafeImage verified.maps verified.code →
     ReplaysKeepHeadline verified
 replays_keep_headline ran stopped verified safe script options records outcome fit captured sized accounted =
     headline_of ran stopped verified safe script options records outcome fit captured sized accounted
+    (list_first ran stopped verified safe script options records outcome fit captured sized accounted).whole
+    (are_first_calls ran stopped verified safe script options records outcome fit captured sized accounted)

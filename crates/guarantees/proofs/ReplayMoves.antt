@@ -166,6 +166,13 @@ module _ (verified : Verified) (options : Options) (plan : ℕ → ShardPlan) (c
       run.of_system
   one_is captured before after (Exited steps fate) run = refl
 
+  pub either_did : (captured : Sent) (before after : PassView) (end : RunEnd) →
+      (run : IsEitherOfImage verified options plan count worker captured before end after) →
+      HaveDone worker (moves_of_either verified options plan count worker captured before end after run) before after
+  either_did captured before after end run =
+      subst (λ (moves : List Move). HaveDone worker moves before after) (one_is captured before after end run)
+      (one_run captured before after end run).walks.done
+
   -- ---- all runs of a worker
 
   record AllMoves (runs : List Ran) (before after : PassView) : Type 0 where

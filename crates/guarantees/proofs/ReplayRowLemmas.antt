@@ -1,5 +1,6 @@
 -- Three computed replays, and lists of events that are none.
-use Rattle.std.proofs.Common.{◌≡◌, ℕ, zero, suc, ◌<◌, ◌≤◌, ◌==◌, false, List, [], ◌∷◌, ◌++◌, replicate, refl, ◌∙◌, ap, arith}
+use Rattle.std.proofs.Common.{◌≡◌, ℕ, zero, suc, ◌<◌, ◌≤◌, ◌==◌, false, List, [], ◌∷◌, ◌++◌, replicate, refl, sym, ◌∙◌, ap, subst, append_assoc, arith}
+use Rattle.std.proofs.lemmas.List.{reverse-append}
 use Rattle.std.specs.Prelude.{All, length, map, reverse}
 use Rattle.std.proofs.lemmas.Bool.Decides.{nat_tests}
 use Rattle.ebpf_decode.specs.InstructionEncoding.{slot_count}
@@ -10,7 +11,13 @@ use Rattle.semantics.proofs.shared.ConditionLemmas.{tested_bytes}
 use Rattle.semantics.proofs.shared.SystemSteps.{same_everywhere}
 use Rattle.semantics.specs.Events.{begun_by, ended_by}
 use Rattle.semantics.specs.Replay.{inputs_of, first_calls, ends_by, IsReplay}
-use Rattle.guarantees.specs.ReplayRows.{replay_setting, held_asked, held_run, held_command, held_end, held_events, held_result, held_ending, full_asked, full_events, full_result, first_asked, first_events, first_result, ReplayRows}
+use Rattle.semantics.specs.declared.call.Call.TheVariants.{Delete}
+use Rattle.semantics.specs.Replay.{Captured}
+use Rattle.semantics.specs.SystemRows.{key_of_byte, instructions}
+use Rattle.semantics.specs.System.{DoesInstruction, CallsShard, LeavesShard}
+use Rattle.guarantees.specs.InParts.{AreAllIdle}
+use Rattle.guarantees.specs.TurnByTurn.{AreEventsOfRecord, IsTurnByTurn}
+use Rattle.guarantees.specs.ReplayRows.{put, short_frame, one_frame, held_turns, first_turns, early_round, replay_setting, held_asked, held_run, held_command, held_end, held_events, held_result, held_ending, full_asked, full_events, full_result, first_asked, first_events, first_result, ReplayRows}
 
 input_of : (bytes : List ℕ) → 14 ≤ length bytes → length bytes ≤ 2048 → All (λ byte. byte < 256) bytes → IsInputFrame bytes
 input_of bytes least greatest all = record { least = least; greatest = greatest; bytes = all }
@@ -123,6 +130,55 @@ first_is = record {
   idle = λ worker. all_idle (system_after replay_setting (reverse (first_events))) worker refl;
 }
 
+-- ---- turn by turn
+
+abbrev still : List SystemEvent → Type 0
+still events = (system_after replay_setting (reverse events)).workers ≡ replicate 8 Idle
+
+idle_after : (events : List SystemEvent) → still events → AreAllIdle replay_setting events
+idle_after events are worker = all_idle (system_after replay_setting (reverse events)) worker are
+
+first_in_turns : IsTurnByTurn replay_setting first_asked first_turns first_events
+unfolding slot_count
+first_in_turns =
+    let updates : List SystemEvent = Controls (put 1 5) ∷ [] in
+    let command : List SystemEvent = Controls (put 1 9) ∷ [] in
+    let run : List SystemEvent = held_run ++ held_end in
+    record {
+      later = command ++ (run ++ Reclaims 0 ∷ []);
+      first = refl;
+      in_turns = (
+        command,
+        run ++ Reclaims 0 ∷ [],
+        refl,
+        (put 1 9 ∷ [], refl, refl),
+        idle_after (updates ++ command) refl,
+        (
+          [],
+          run ++ Reclaims 0 ∷ [],
+          refl,
+          (short_frame, refl, refl),
+          idle_after (updates ++ command) refl,
+          (
+            run,
+            Reclaims 0 ∷ [],
+            refl,
+            (
+              one_frame,
+              refl,
+              (
+                instructions 4 ++ CallsShard 0 ∷ CallsShard 0 ∷ held_end,
+                refl,
+                (refl, (refl, (refl, (refl, (refl, (refl, (refl, (refl, (refl, (refl, (refl, tt))))))))))),
+              ),
+            ),
+            idle_after ((updates ++ command) ++ run) refl,
+            (Reclaims 0 ∷ [], [], refl, refl, idle_after (((updates ++ command) ++ run) ++ Reclaims 0 ∷ []) refl, refl),
+          ),
+        ),
+      );
+    }
+
 -- ---- what is none
 
 none_or_one : {A : Type 0} (x : A) → [] ≡ x ∷ [] → ⊥
@@ -141,12 +197,52 @@ begins_not_controls worker frame now told call events later is = cc
 controls_not_begins : (later : List SystemEvent) → held_events ≡ map (λ (call : Call). Controls call) (first_calls (record held_asked { first = 1 })) ++ later → ⊥
 controls_not_begins later is = cc
 
+reclaims_not_leaves : (shard worker one : ℕ) (events later : List SystemEvent) → Reclaims shard ∷ events ≡ LeavesShard worker one ∷ later → ⊥
+reclaims_not_leaves shard worker one events later is = cc
+
+-- the command would come before the run begins
+held_in_none : IsTurnByTurn replay_setting held_asked held_turns held_events → ⊥
+held_in_none is =
+    let short = is.in_turns in
+    let command = short.5 in
+    let one : short_frame ≡ short.3.0 = cc short.3.1 in
+    let none : short.0 ≡ [] = subst (λ (captured : Captured). AreEventsOfRecord held_asked captured short.0) (sym one) short.3.2 in
+    let calls : Delete 0 (key_of_byte 1) ∷ put 2 9 ∷ [] ≡ command.3.0 = cc command.3.1 in
+    let left : held_run ++ held_command ++ held_end ++ Reclaims 0 ∷ [] ≡ is.later = cc is.first in
+    begins_not_controls _ _ _ _ _ _ _
+    (left ∙ short.2 ∙ ap (λ (list : List SystemEvent). list ++ short.1) none ∙ command.2
+    ∙ ap (λ (list : List SystemEvent). list ++ command.1)
+    (command.3.2 ∙ ap (λ (list : List Call). map (λ (call : Call). Controls call) list) (sym calls)))
+
+-- the list would end with a Leave, and not with the round
+round_within : IsTurnByTurn replay_setting first_asked first_turns early_round → ⊥
+round_within is =
+    let command = is.in_turns in
+    let short = command.5 in
+    let run = short.5 in
+    let round = run.5 in
+    let last : List SystemEvent = Reclaims 0 ∷ [] in
+    let tail : List SystemEvent =
+    Controls (put 1 9) ∷ held_run ++ DoesInstruction 0 ∷ CallsShard 0 ∷ instructions 2 ++ Reclaims 0 ∷ LeavesShard 0 0 ∷ [] in
+    let left : tail ≡ is.later = cc is.first in
+    let front : List SystemEvent = (command.0 ++ short.0) ++ run.0 in
+    let parts : tail ≡ front ++ last =
+    left ∙ command.2
+    ∙ ap (λ (list : List SystemEvent). command.0 ++ list)
+    (short.2 ∙ ap (λ (list : List SystemEvent). short.0 ++ list)
+    (run.2 ∙ ap (λ (list : List SystemEvent). run.0 ++ list) (round.2 ∙ (λ i. round.3 i ++ round.5 i))))
+    ∙ sym (append_assoc command.0 short.0 (run.0 ++ last)) ∙ sym (append_assoc (command.0 ++ short.0) run.0 last) in
+    reclaims_not_leaves 0 0 0 (reverse front) _ (sym (reverse-append front last) ∙ ap reverse (sym parts))
+
 pub replay_rows : ReplayRows
 unfolding slot_count
 replay_rows = record {
   held = held_is;
   full = full_is;
   first = first_is;
+  first_in_turns = first_in_turns;
+  held_in_none = held_in_none;
+  round_within = round_within;
   no_run = λ is. none_or_one _ (is.begun 0);
   run_twice = λ is. one_or_two _ _ _ (is.begun 0);
   another_end = λ ending apart is. apart (the_one held_ending ending (is.ended 0));

@@ -205,7 +205,7 @@ module _ (verified : Verified) (options : Options) (plan : ℕ → ShardPlan) (c
   ending_of captured before (HasExited steps fate) after run =
       Exited run.verdict run.of_system.last.frame.bytes run.of_system.last.steps
 
-  run_so : (captured : Sent) (before : PassView) (end : RunEnd) (after : PassView) →
+  pub run_so : (captured : Sent) (before : PassView) (end : RunEnd) (after : PassView) →
       (run : IsEitherOfImage verified options plan count worker captured before end after) →
       IsRunOn (setting_of verified options) count worker (input_of worker (captured_of captured))
       (moves_of_either verified options plan count worker captured before end after run) (ending_of captured before end after run)

@@ -12,7 +12,9 @@ use Rattle.control.specs.ScriptText.{CommandFits}
 use Rattle.actors.specs.declared.outcome.Outcome.{Outcome}
 use Rattle.actors.specs.Accounted.{IsAccounted}
 use Rattle.guarantees.specs.Headline.{Headline}
+use Rattle.guarantees.specs.LastRound.{EndWithRound}
 use Rattle.guarantees.specs.RunsInList.{AreOfAccounted}
+use Rattle.guarantees.specs.SystemRuns.{setting_of}
 use Rattle.actors.specs.Captured.{IsCaptured}
 
 pub record HeadlineOf (verified : Verified) (script : List Command) (options : Options) (records : List Sent) (outcome : Outcome)
@@ -20,6 +22,8 @@ pub record HeadlineOf (verified : Verified) (script : List Command) (options : O
   pub headline : Headline verified script options records outcome
   pub same_commands : headline.replay.done ≡ accounted.commands.done
   pub same_events : AreOfAccounted verified script options records outcome accounted headline.replay.events
+  -- they end with the reclaimer's last round: nothing is written behind it
+  pub closes : EndWithRound (setting_of verified options) accounted.plan accounted.count accounted.order headline.replay.events
 
 -- it holds of every replay that accounts for its records
 abbrev pub ReplaysKeepHeadline : Verified → Type 0

@@ -8,6 +8,7 @@ pub mod StepLaws
 pub mod RunRows
 pub mod SafeRow
 pub mod Merging
+pub mod InParts
 pub mod RunsAlone
 pub mod AloneRow
 pub mod Places
@@ -18,5 +19,7 @@ pub mod ReaderRuns
 pub mod ReaderReplays
 pub mod ReplayRows
 pub mod ReplayOf
+pub mod LastRound
 pub mod Headline
 pub mod HeadlineOf
+pub mod TurnByTurn

@@ -12,6 +12,7 @@ use Rattle.semantics.specs.SystemRows.{setting_over, looking_up, frame_of, key_o
 use Rattle.semantics.specs.SystemRows.{by_worker, by_controller, by_reclaimer}
 use Rattle.semantics.specs.Events.{Ending, Exited, Stopped}
 use Rattle.semantics.specs.Replay.{Captured, Asked, Short, Ran, Totals, Result, IsReplay}
+use Rattle.guarantees.specs.TurnByTurn.{Turn, TheCommand, TheRecord, TheRound, IsTurnByTurn}
 
 abbrev pub replay_setting : Setting
 replay_setting = setting_over Hash looking_up
@@ -114,12 +115,29 @@ first_result = record (held_result held_ending) {
       by_reclaimer (Reclaim 0) (Freed 0) ∷ [];
 }
 
+-- ---- turn by turn: the first list comes in no turns, since its command comes within the run, and the third in these
+
+abbrev pub held_turns : List Turn
+held_turns = TheRecord 0 ∷ TheCommand 0 ∷ TheRecord 1 ∷ TheRound ∷ []
+
+abbrev pub first_turns : List Turn
+first_turns = TheCommand 0 ∷ TheRecord 0 ∷ TheRecord 1 ∷ TheRound ∷ []
+
+-- the third with its round in front of the run's last Leave
+abbrev pub early_round : List SystemEvent
+early_round =
+    Controls (put 1 5) ∷ Controls (put 1 9) ∷ held_run ++ DoesInstruction 0 ∷ CallsShard 0 ∷ instructions 2 ++
+    Reclaims 0 ∷ LeavesShard 0 0 ∷ []
+
 -- ---- what is a replay, and what is none
 
 pub record ReplayRows : Type 0 where
   pub held : IsReplay replay_setting held_asked (held_result held_ending) held_events
   pub full : IsReplay replay_setting full_asked full_result (full_events (Reclaims 0 ∷ []))
   pub first : IsReplay replay_setting first_asked first_result first_events
+  pub first_in_turns : IsTurnByTurn replay_setting first_asked first_turns first_events
+  pub held_in_none : IsTurnByTurn replay_setting held_asked held_turns held_events → ⊥
+  pub round_within : IsTurnByTurn replay_setting first_asked first_turns early_round → ⊥
   -- without the run, or with the run twice
   pub no_run : IsReplay replay_setting held_asked (held_result held_ending) (Controls (put 1 5) ∷ held_command ++ Reclaims 0 ∷ []) → ⊥
   pub run_twice :

@@ -11,7 +11,7 @@
 //! |---|---|---|---|
 //! | `IsReplay` | 31 | 328 | 1,303 |
 //! | `Headline` | 54 | 441 | 1,712 |
-//! | `HeadlineOf` | 80 | 617 | 2,459 |
+//! | `HeadlineOf` | 81 | 621 | 2,478 |
 //!
 //! The laws of `step_laws` show that the definitions are not empty, those of `place_laws` that a worker is inside and holds a cell by places
 //! in the history alone. `one_caller` speaks of runs one after the other without locks, `readers` of programs that only read.
@@ -27,9 +27,11 @@ pub mod step_laws;
 
 ghost use Rattle.semantics.specs.Safety.{IsSafeImage};
 ghost use Rattle.guarantees.specs.HeadlineOf.{ReplaysKeepHeadline};
+ghost use Rattle.guarantees.specs.TurnByTurn.{ReplaysInTurnsAreListed};
 ghost use Rattle.guarantees.specs.Guarantees.{EntriesAreSteps, EntriesAreAnswered};
 ghost use Rattle.guarantees.specs.SystemLaws.{RunsAreOfTheSystem, StoppedRunsAreOfTheSystem};
 ghost use Rattle.guarantees.specs.Merging.{OneOrderIsOneList, OneWorkerIsOneList};
+ghost use Rattle.guarantees.specs.InParts.{OrdersInPartsAreListsInParts};
 ghost use Rattle.guarantees.specs.RunsAlone.{RunsAloneAreOfTheSystem, StoppedRunsAloneAreOfTheSystem};
 
 pub use lone_runs::lone_run;
@@ -55,9 +57,22 @@ use verifier::laws::accepted_is_safe;
 ///
 /// The list is that of what is accounted for (`same_events`): worker by worker its events are the steps of the runs, from idle to idle, each
 /// run's calls, verdict, frame and number of instructions are the run trace on its replies, or, where a full journal stopped it, a beginning
-/// of that; each reply is the one-thread map's at the entry's own place; and the entries are written in the one order of all deeds.
+/// of that; each reply is the one-thread map's at the entry's own place; and the entries are written in the one order of all deeds. It ends
+/// with the reclaimer's last round, behind which nothing is written (`closes`).
 pub fn headline(verified: &Verified)
     ensures { ReplaysKeepHeadline verified.now }
+{
+    accepted_images_are_safe(verified);
+    runs_are_of_the_system();
+    stopped_runs_are_of_the_system();
+}
+
+/// The headline of a replay that was made turn by turn: where what was done in each turn is known (the updates of a command, the deeds of the
+/// run of a record, one round), there is such a list that comes in the same turns. Behind the updates come, turn after turn, the calls of
+/// the command, the whole of the record's run, from its beginning to its last Leave, or a round, those that write nothing too; and between
+/// two turns every worker is idle.
+pub fn replays_in_turns_are_listed(verified: &Verified)
+    ensures { ReplaysInTurnsAreListed verified.now }
 {
     accepted_images_are_safe(verified);
     runs_are_of_the_system();
@@ -109,6 +124,13 @@ pub fn entries_are_answered()
 /// said here; in a replay's list it is one (`headline`).
 pub fn one_order_is_one_list()
     ensures { OneOrderIsOneList }
+{}
+
+/// Where that order comes in parts, each of one caller, and a worker's from idle to idle, the list comes in the same parts: the events of the
+/// parts, one part behind the other, can all happen from the opening on, those that write nothing too, and behind each part every worker
+/// is idle. (The list of `one_order_is_one_list` leaves open where the events stand that write nothing.) After it the histories are the journals.
+pub fn orders_in_parts_are_lists_in_parts()
+    ensures { OrdersInPartsAreListsInParts }
 {}
 
 /// One worker behind what the controller set: these entries and then the worker's steps from idle to idle, one run after the other, are one

@@ -65,7 +65,8 @@ pub fn runs_alone_are_computed()
 /// for a run, an update and a round, in the third a command comes before the first record. And what is none: a list without the run, or with
 /// the run twice; one whose run ends with another verdict, frame or number of instructions; a report with other numbers; a list in which the
 /// update, or a command of frame 0, comes behind the beginning of a run; one without a call of the command, or with a call or a look at a
-/// full journal that nobody asked.
+/// full journal that nobody asked. The third comes turn by turn; a list does not where a command comes within a run, or a round in front of
+/// a run's last Leave.
 pub fn replays_are_computed()
     ensures { ReplayRows }
 {}

@@ -26,7 +26,7 @@ const THREE_RECORDS: &str =
 const THREE_COMMANDS: &str = "0 vip 203.0.113.1 80 tcp\n0 up 1 192.0.2.2\n2 down 1\n";
 
 #[rattlefmt::skip]
-static ROWS: [Row; 12] = [
+static ROWS: [Row; 11] = [
     ("no record", "0 up 1 192.0.2.2\n", "", &[
         "<!DOCTYPE html>\n",
         "<tr><th>records</th><td>0</td></tr>\n<tr><th>sent</th><td>0</td></tr>\n<tr><th>passed</th><td>0</td></tr>\n<tr><th>dropped</th><td>0</td></tr>\n",
@@ -125,11 +125,6 @@ static ROWS: [Row; 12] = [
          <tr><td>4</td><td>4.000000</td><td>tcp 10.0.0.1:1000 to 203.0.113.1:80</td><td>192.0.2.2</td><td>192.0.2.3</td><td>down</td></tr>\n\
          <tr><td>5</td><td>5.000000</td><td>tcp 10.0.0.1:1000 to 203.0.113.1:80</td><td>192.0.2.3</td><td>192.0.2.2</td><td>down</td></tr>\n</table></div>\n\
          </body>\n",
-    ]),
-    ("marks of HTML in a report", "",
-        "1,1.000000,0,TX,99,sent,1,a,10.0.0.1,1000,203.0.113.1,80,tcp\n<2&>,2.000000,0,TX,99,sent,2,&lt;,10.0.0.1,1000,203.0.113.1,80,tcp\n", &[
-        "<th>reason</th></tr>\n\
-         <tr><td>&lt;2&amp;&gt;</td><td>2.000000</td><td>tcp 10.0.0.1:1000 to 203.0.113.1:80</td><td>a</td><td>&amp;lt;</td><td>down</td></tr>\n",
     ]),
     ("a verdict of another word, and the verdicts that are rare", "",
         "1,1.000000,0,ABORTED,9,aborted,,,,,,,\n2,2.000000,0,STOPPED,9,stopped,,,,,,,\n3,3.000000,,SHORT,,short,,,,,,,\n\

@@ -25,6 +25,7 @@ use Rattle.journals.specs.JournalsView.{JournalsView, entries_at}
 use Rattle.shards.specs.Passes.{PassView, seen_at, pass_at, AreSettled}
 use Rattle.shard_port.specs.PassSessions.{StoppedAtCall, StoppedAtEnter}
 use Rattle.actors.proofs.shared.FullStays.{full_stays}
+use Rattle.guarantees.specs.TurnByTurn.{TurnDeeds, AreDeedsOfRuns}
 use Rattle.actors.specs.declared.account.Counts.{Counts}
 use Rattle.replay.specs.declared.crew.Handled.{Handled}
 use Rattle.actors.specs.declared.runner.Ran.{Ran}
@@ -33,6 +34,8 @@ use Rattle.actors.specs.declared.runner.RunEnd.TheVariants.{Stopped, Exited}
 use Rattle.actors.specs.Accounts.{runs_at, AreRunsOfShares}
 use Rattle.semantics.specs.Each.{Each}
 use Rattle.replay.specs.Crews.{IsHandled, IsPart}
+use Rattle.replay.specs.LastRound.{IsWorkerDoneIn}
+use Rattle.replay.proofs.LastRound.{nothing_later}
 use Rattle.actors.specs.RunsInOrder.{IsRunAt, IsChainOfRuns, HasHandled}
 use Rattle.actors.specs.Shares.{frames_of, share}
 use Rattle.actors.specs.RunJobs.{records_of}
@@ -173,6 +176,17 @@ module _ (count : ℕ) (plan : ℕ → ShardPlan) (program : Program) (worker : 
         chain_stands journals chain.0 later after seen chain.2,
       )
 
+  -- what was done in each run is the same
+  pub same_middles : (journals : JournalsView) (before : PassView) (runs : List Ran) (after : PassView) → (seen : IsSeenOf count journals after) →
+      (chain : AreRuns before runs after) (parts : List TurnDeeds) → AreDeedsOfRuns (IsRunAt (IsRunOf count plan program worker) records) before runs after chain parts →
+      AreDeedsOfRuns (IsRunAt (IsRunIn plan count program worker journals) records) before runs after (chain_stands journals before runs after seen chain) parts
+  unfolding chain_stands
+  same_middles journals before [] after seen chain [] are = tt
+  same_middles journals before [] after seen chain (one ∷ parts) are = absurd are
+  same_middles journals before (ran ∷ later) after seen chain [] are = absurd are
+  same_middles journals before (ran ∷ later) after seen chain (one ∷ parts) are =
+      (are.0, are.1, same_middles journals chain.0 later after seen chain.2 parts are.2)
+
 -- ---- a worker before its first run
 
 pub new_is_idle : (count worker : ℕ) (options : Options) (pass : PassView) → worker < options.workers → IsNewPass worker pass → IsIdle count worker options pass
@@ -251,3 +265,22 @@ module _ {B : Type 0} (count : ℕ) (plan : ℕ → ShardPlan) (program : Progra
         own = λ number within. (ended number within).own ∙ ap (λ (c : Caller). own_entries c (reverse (entries_at journals number))) who;
         did = subst (IsOwnIn order) (sym pass_is) (owned worker below) ∙ ap (λ (c : Caller). deeds_of (ByCaller c) order) who;
       }
+
+  -- what they did is all in a beginning of the order
+  pub no_work_later : (handled : List (Handled (Working B))) (lists : List (List Ran)) (states : List (Working B)) (passes : List PassView)
+      (order later last : List Deed) → length handled ≡ workers → Each IsDone 0 handled → Each (IsPart lists states) 0 handled
+      → ((worker : ℕ) → worker < workers → pass_at passes worker ≡ pass_at (map pass_in states) worker)
+      → ((worker : ℕ) → worker < workers → IsOwnIn order (pass_at passes worker)) → Each (IsWorkerDoneIn last) 0 handled → order ≡ later ++ last
+      → (worker : ℕ) → worker < workers → deeds_of (ByCaller (Worker worker)) later ≡ []
+  no_work_later handled lists states passes order later last all done parts same owned in_last is worker below =
+      let it = found handled worker (omega (arith, all, below)) in
+      let part = here (IsPart lists states) handled worker it.0 parts it.1 in
+      let one = here IsDone handled worker it.0 done it.1 in
+      let after : PassView = pass_in it.0.state in
+      let before : PassView = pass_in one.before in
+      let pass_is : after ≡ pass_at passes worker = pass_there states worker it.0.state part.state ∙ sym (same worker below) in
+      let chain = chain_of_passes count plan program worker records one.before it.0.runs.items it.0.state one.chain in
+      let who : after.who ≡ Worker worker = (chain_goes count plan program worker records before it.0.runs.items after chain).who ∙ one.is_new.who in
+      subst (λ (c : Caller). deeds_of (ByCaller c) later ≡ []) who
+      (nothing_later order later last after is (here (IsWorkerDoneIn last) handled worker it.0 in_last it.1)
+      (subst (IsOwnIn order) (sym pass_is) (owned worker below)))

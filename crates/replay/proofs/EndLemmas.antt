@@ -2,11 +2,11 @@
 use Rattle.std.proofs.Common.{replicate, nat_lt, refl, ◌≡◌, ℕ, ◌+◌, ◌/◌, ◌<◌, Bool, true, false, List, [], ◌∷◌, ◌++◌, length, sym, ap, ◌∙◌, subst, arith}
 use Rattle.std.proofs.lemmas.Bool.Decides.{nat_tests}
 use Rattle.rx_queues.specs.declared.job.Job.{Job}
-use Rattle.rx_queues.specs.declared.job.Job.TheVariants.{Note, End}
-use Rattle.actors.specs.Actors.{HasNoEnd, EndsOnce, AreAllEnded, AreBothEnded, ArePutAt, AreDispatched}
+use Rattle.rx_queues.specs.declared.job.Job.TheVariants.{End}
+use Rattle.actors.specs.Actors.{HasNoEnd, EndsOnce, AreAllEnded, AreBothEnded, AreDispatched}
 use Rattle.actors.specs.Puts.{put_at, frame_jobs, ArePutWithEnd, ArePut, AreAllPut, AreNonePut}
 use Rattle.actors.specs.Shares.{share}
-use Rattle.actors.proofs.shared.HandLemmas.{commands_no_end, notes_no_end, note_no_end}
+use Rattle.actors.proofs.shared.HandLemmas.{commands_no_end, notes_no_end}
 use Rattle.actors.proofs.shared.PutLemmas.{none_put, all_put}
 
 frames_no_end : (records : List ℕ) → HasNoEnd (frame_jobs records)
@@ -83,22 +83,6 @@ nobody_ran workers before middle after is within both ended =
         subst EndsOnce (sym (ended.others (workers + 1) (omega arith))) ends.1,
       ),
     )
-
--- the last round, and the end of both
-pub closed_once : (workers : ℕ) (before asked ended after : List (List Job)) → workers + 1 < length before
-    → ArePutAt (workers + 1) (Note ∷ []) before asked → AreBothEnded workers asked ended → after ≡ ended
-    → HasNoEnd (put_at before workers) → HasNoEnd (put_at before (workers + 1)) → EndsOnce (put_at after workers) × EndsOnce (put_at after (workers + 1))
-closed_once workers before asked ended after within put both is first second =
-    let count = put.count in
-    let ends = both_end_once workers asked ended (omega (arith, count, within)) both
-    (subst HasNoEnd (sym (put.elsewhere workers (λ same. absurd (omega (arith, same))))) first)
-    (subst HasNoEnd (sym (put.here within)) (note_no_end (put_at before (workers + 1)) second)) in
-    subst (λ p. EndsOnce (put_at p workers) × EndsOnce (put_at p (workers + 1))) (sym is) ends
-
-pub closed_others : (workers : ℕ) (before asked ended after : List (List Job)) → ArePutAt (workers + 1) (Note ∷ []) before asked
-    → AreBothEnded workers asked ended → after ≡ ended → (place : ℕ) → place < workers → put_at after place ≡ put_at before place
-closed_others workers before asked ended after put both is = λ place below.
-    ap (λ p. put_at p place) is ∙ both.others place below ∙ put.elsewhere place (λ same. absurd (omega (arith, same, below)))
 
 -- the workers' queues when all was handed over and they were handed the end
 pub workers_done : (frames : List (List ℕ)) (workers count : ℕ) (before ended after : List (List Job)) → ArePut frames workers count before

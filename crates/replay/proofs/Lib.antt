@@ -4,6 +4,7 @@ pub mod CrewParts
 pub mod EndLemmas
 pub mod AbandonLemmas
 pub mod TakeLemmas
+pub mod LastRound
 pub mod Accounts
 pub mod PartLemmas
 pub mod TurnLemmas
@@ -17,6 +18,7 @@ pub mod TurnBegun
 pub mod TurnCommands
 pub mod TurnRounds
 pub mod TurnFates
+pub mod TurnParts
 pub mod TurnSimulation
 pub mod TurnAccounts
 pub mod PieceLemmas

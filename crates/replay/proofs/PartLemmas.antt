@@ -30,14 +30,14 @@ use Rattle.control.specs.MapUpdates.{UpdateBytes}
 use Rattle.actors.specs.declared.outcome.Applied.{Applied}
 use Rattle.actors.specs.SharedUpdates.{shard_of, controller_update}
 use Rattle.actors.specs.Commands.{CommanderView, CommandDone, AreNotedOf, IsScriptAccountBehind, IsShardFullForUpdate, HasAccount, OfEachAccount, ServesScript}
-use Rattle.actors.specs.ActorJobs.{command_jobs}
+use Rattle.actors.specs.ActorJobs.{command_jobs, AreRoundsMade}
 use Rattle.actors.specs.Rounds.{AreReclaimed, AreRoundsDone, IsReclaimedBy}
 use Rattle.actors.specs.Actors.{numbers_from, commands_from, due_to, AreDue}
 use Rattle.maglev.specs.RingSize.{IsRingSize}
 use Rattle.map_updates.specs.declared.update.MapUpdate.{MapUpdate}
 use Rattle.semantics.proofs.shared.HoldingLemmas.{each_weaker}
 use Rattle.semantics.proofs.shared.PlanLemmas.{some_shards, below_count}
-use Rattle.actors.specs.Parts.{HasCommanded, HasReclaimed, HasBegunWith, IsScriptRun, IsScriptRunBehind, IsFullInJournal, IsScriptAccounted, AreRoundsAccounted, numbers_of, refused_of, first_commands, first_deeds}
+use Rattle.actors.specs.Parts.{HasCommanded, HasBegunWith, IsScriptRun, IsScriptRunBehind, IsFullInJournal, IsScriptAccounted, AreRoundsAccounted, numbers_of, refused_of, first_commands, first_deeds}
 use Rattle.replay.proofs.Accounts.{full_later, IsOwnIn}
 
 -- ---- rounds
@@ -54,10 +54,10 @@ same_rounds a b same =
     let both = ap (λ (jobs : List Job). length jobs) same in
     omega (arith, first, second, both)
 
-pub rounds_made : (plan : ℕ → ShardPlan) (count rounds : ℕ) (pass : PassView) → HasReclaimed plan count (replicate rounds Note ++ End ∷ []) pass →
+pub rounds_made : (plan : ℕ → ShardPlan) (count rounds : ℕ) (pass : PassView) → AreRoundsMade plan count (replicate rounds Note ++ End ∷ []) pass →
     AreReclaimed plan count rounds pass
-rounds_made plan count rounds pass has =
-    subst (λ (n : ℕ). AreReclaimed plan count n pass) (same_rounds has.rounds.rounds rounds (sym has.rounds.notes)) has.rounds.reclaimed
+rounds_made plan count rounds pass are =
+    subst (λ (n : ℕ). AreReclaimed plan count n pass) (same_rounds are.rounds rounds (sym are.notes)) are.reclaimed
 
 -- what was seen, held against a later history
 reclaimed_later : (kind : MapKind) (plan : ShardPlan) (number rounds : ℕ) (own seen later : List Entry) → BeginsWith later seen →
@@ -268,6 +268,17 @@ script_begins plan maps options count updates script size noted pass journals or
           (sym (ap (λ (n : ℕ). take n run.account.account.done) (sym behind.counted)
           ∙ ap (λ (done : List CommandDone). take (length behind.first) done) run.account.goes_on ∙ take_first behind.first run.account.later))) begins;
     }
+
+-- the commands are those of the account
+pub script_done : (plan : ℕ → ShardPlan) (maps : List MapDef) (options : Options) (count : ℕ) (updates : List MapUpdate) (script : List Command)
+    (size : ℕ) (noted : List Applied) (pass : PassView) (journals : JournalsView) (order : List Deed) (refused : List Applied) (deeds : List Deed) →
+    (plans : ArePlans maps options count plan) (are : AreOptions maps options) (served : IsRingSize size) (serves : ServesScript maps size script) →
+    (behind : IsScriptRunBehind plan maps options updates script size noted pass deeds) (settled : AreSettled count journals pass) →
+    (owned : IsOwnIn order pass) (refused_are : refused ≡ refused_of noted) (begins : AreFirst deeds order) →
+    (script_begins plan maps options count updates script size noted pass journals order refused deeds plans are served serves behind settled owned refused_are
+    begins).commands.done ≡ behind.run.account.account.done
+unfolding script_begins script_stands
+script_done plan maps options count updates script size noted pass journals order refused deeds plans are served serves behind settled owned refused_are begins = refl
 
 -- ---- all passes, when the shards are closed
 

@@ -1,5 +1,5 @@
 -- The account of the controller's commands in turn, with what the one order of all deeds begins with.
-use Rattle.std.proofs.Common.{◌≡◌, ◌⊎◌, ⊎_elim, ℕ, zero, suc, ◌+◌, ◌<◌, ◌≤◌, Bool, true, false, cond, List, [], ◌∷◌, ◌++◌, length, length-append, take, drop, refl, sym, ap, ◌∙◌, subst, append_assoc, append-nil, arith}
+use Rattle.std.proofs.Common.{◌≡◌, ⊎_elim, ℕ, zero, suc, ◌+◌, ◌<◌, ◌≤◌, Bool, true, false, cond, List, [], ◌∷◌, ◌++◌, length, length-append, take, drop, refl, sym, ap, ◌∙◌, subst, append_assoc, arith}
 use Rattle.std.specs.Prelude.{slice_get, Some, nat_lt, if◌then◌else◌}
 use Rattle.std.specs.List.{AllByRecursion}
 use Rattle.std.proofs.lemmas.Bool.{cases_eq}
@@ -127,3 +127,34 @@ begun_more plan updates script size noted state state' before after command last
           (grown_first Controller (first_deeds before.maps before.options updates (take n was.account.done)) order order' more (was.late few)))
           (cases_eq n (next + 1));
     }
+
+-- ---- the same, with what the commands did
+
+pub record IsBegunWith (plan : ℕ → ShardPlan) (maps : List MapDef) (options : Options) (updates : List MapUpdate) (script : List Command) (size : ℕ)
+    (noted : List Applied) (state : ControllerState) (pass : PassView) (next : ℕ) (order : List Deed) (done : List CommandDone) : Type 0 where
+  pub begun : IsBegunAccount plan maps options updates script size noted state pass next order
+  pub same : begun.account.done ≡ done
+
+pub with_grown : (plan : ℕ → ShardPlan) (maps : List MapDef) (options : Options) (updates : List MapUpdate) (script : List Command) (size : ℕ) (noted : List Applied)
+    (state : ControllerState) (pass : PassView) (next : ℕ) (who : Caller) (order order' : List Deed) (done : List CommandDone) → IsMoreBy who order order' →
+    IsBegunWith plan maps options updates script size noted state pass next order done →
+    IsBegunWith plan maps options updates script size noted state pass next order' done
+unfolding begun_grown
+with_grown plan maps options updates script size noted state pass next who order order' done more was = record {
+  begun = begun_grown plan maps options updates script size noted state pass next who order order' more was.begun;
+  same = was.same;
+}
+
+pub with_more : (plan : ℕ → ShardPlan) (updates : List MapUpdate) (script : List Command) (size : ℕ) (noted : List Applied) (state state' : ControllerState)
+    (before after : UpdatesView) (command : Command) (last : Applied) (next : ℕ) (order order' : List Deed) (done : List CommandDone) →
+    (was : IsBegunWith plan before.maps before.options updates script size noted state before.pass next order done) →
+    slice_get script last.command ≡ Some command → (effect : HasEffect plan state command.action last.fault state' before after) →
+    length was.begun.account.done ≡ next → IsMoreBy Controller order order' → (next < first_commands script → AreControllers order') →
+    after.pass.deeds ≡ deeds_of (ByCaller Controller) order' →
+    IsBegunWith plan after.maps after.options updates script size (noted ++ last ∷ []) state' after.pass (next + 1) order' (done ++ effect.one ∷ [])
+unfolding begun_more
+with_more plan updates script size noted state state' before after command last next order order' done was known effect many more alone did = record {
+  begun = begun_more plan updates script size noted state state' before after command last next order order' was.begun known effect many more alone did;
+  same = account_done plan updates script size noted state state' before after command last was.begun.account known effect
+      ∙ ap (λ (list : List CommandDone). list ++ effect.one ∷ []) was.same;
+}

@@ -17,7 +17,7 @@ pub records_push : (runs : List Ran) (ran : Ran) → records_of (runs ++ ran ∷
 records_push [] ran = refl
 records_push (first ∷ later) ran = ap (λ (list : List ℕ). first.number ∷ list) (records_push later ran)
 
-pub chain_push : {S : Type 0} (IsRun : S → Ran → S → Type 0) (before middle after : S) (runs : List Ran) (ran : Ran)
+unfoldable pub chain_push : {S : Type 0} (IsRun : S → Ran → S → Type 0) (before middle after : S) (runs : List Ran) (ran : Ran)
     → IsChainOfRuns IsRun before runs middle → IsRun middle ran after → IsChainOfRuns IsRun before (runs ++ ran ∷ []) after
 chain_push {S} IsRun before middle after [] ran chain run = (after, subst (λ (s : S). IsRun s ran after) (sym chain) run, refl)
 chain_push IsRun before middle after (first ∷ later) ran chain run =

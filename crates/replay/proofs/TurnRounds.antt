@@ -18,7 +18,7 @@ use Rattle.shards.specs.declared.deeds.Deed.{Deed}
 use Rattle.shards.specs.declared.deeds.Deed.TheVariants.{Wrote, MetFull}
 use Rattle.shards.specs.Deeds.{made_on}
 use Rattle.shards.specs.Passes.{PassView, view_at, own_at, seen_at, IsElsewhereSame}
-use Rattle.actors.specs.Rounds.{AreReclaimed, IsReclaimAsked, HasAsked}
+use Rattle.actors.specs.Rounds.{AreReclaimed, HasMadeRound, IsReclaimAsked, HasAsked}
 use Rattle.semantics.specs.Replay.{is_keyed}
 use Rattle.replay.specs.InTurn.{IsAskedInTurn, IsReclaimedInTurn, IsPartOfRound, IsRoundTo}
 use Rattle.actors.proofs.shared.RoundLemmas.{IsInRound, IsPartDone, keyed_turn, array_turn, same_elsewhere, next_turn, first_turn, all_turns, keyed_did, array_did, first_part, next_part, round_done}
@@ -199,6 +199,7 @@ module _ (plan : ℕ → ShardPlan) (count : ℕ) (numbered : (number : ℕ) →
     pub more : IsMoreBy Reclaimer order order'
     pub stands : Stands plan count Reclaimer order' after pass'
     pub reclaimed : AreReclaimed plan count (rounds + 1) pass'
+    pub did : HasMadeRound plan count pass.deeds pass'.deeds
 
   pub round_by_pass : (rounds : ℕ) (order : List Deed) (pass : PassView) (before after : List JournaledShard) → Stands plan count Reclaimer order before pass →
       AreReclaimed plan count rounds pass → IsRoundTo (length before) before after → HasRoundByPass rounds order pass after
@@ -214,4 +215,5 @@ module _ (plan : ℕ → ShardPlan) (count : ℕ) (numbered : (number : ℕ) →
           each = all_turns plan count rounds count done.pass' (omega arith) done.in_round;
           did = round_done plan count rounds pass.deeds done.pass'.deeds were.did done.part;
         };
+        did = record { made = done.part.made; round = done.part.asked; deeds_are = done.part.deeds_are };
       }

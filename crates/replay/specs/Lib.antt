@@ -1,6 +1,7 @@
 -- The definitions that the contracts of this crate cite, in reading order.
 pub mod Crews
 pub mod Settings
+pub mod LastRound
 pub mod Turns
 pub mod InTurn
 pub mod TurnLaws
@@ -13,3 +14,4 @@ pub mod TurnsAccounted
 pub mod Pieces
 pub mod SameReplays
 pub mod OtherJournals
+pub mod EventsInTurns

@@ -2,14 +2,7 @@
 use Rattle.std.specs.Prelude.{ℕ, zero, suc, ◌-◌, ◌%◌, ◌==◌, List, [], ◌∷◌, ◌++◌, map, length, if◌then◌else◌}
 use Rattle.actors.specs.Actors.{numbers_from}
 pub use Rattle.actors.specs.Actors.{due_to}
-
-pub data Turn : Type 0 where
-  -- the script's command of this number is applied
-  TheCommand : ℕ → Turn
-  -- the capture's record of this number is run, if it is long enough
-  TheRecord : ℕ → Turn
-  -- the reclaimer makes a round
-  TheRound : Turn
+pub use Rattle.guarantees.specs.TurnByTurn.{Turn, TheCommand, TheRecord, TheRound}
 
 -- how many commands were due before
 abbrev pub due_before : List ℕ → ℕ → ℕ

@@ -1,26 +1,32 @@
 //! The end of a replay: the shards closed, and everything accounted for.
 
-ghost use Rattle.std.specs.Prelude.{◌≡◌, ◌<◌, ◌≤◌, ◌∷◌, ◌++◌, [], length, map, IfOk};
+ghost use Rattle.std.specs.Prelude.{◌≡◌, ◌<◌, ◌≤◌, ◌+◌, ◌∷◌, ◌++◌, [], ℕ, List, length, map, IfOk};
 ghost use Rattle.semantics.specs.declared.call.Caller.TheVariants.{Reclaimer};
 ghost use Rattle.machine.specs.Running.{program_of};
 ghost use Rattle.maglev.specs.RingSize.{IsRingSize};
 ghost use Rattle.actors.specs.Commands.{ServesScript};
 ghost use Rattle.actors.specs.Rounds.{AreReclaimed};
 ghost use Rattle.replay.specs.Crews.{AreHandled};
+ghost use Rattle.replay.specs.LastRound.{IsWorkerDoneIn, IsRoundLast};
+ghost use Rattle.semantics.specs.Each.{Each};
+ghost use Rattle.shards.specs.Deeds.{AreFirst};
+ghost use Rattle.shards.specs.declared.deeds.Deed.{Deed};
 ghost use Rattle.actors.specs.Accounted.{IsAccounted};
 ghost use Rattle.actors.specs.Parts.{IsScriptRunBehind, round_count, refused_of};
 ghost use Rattle.actors.specs.RunsOverShards.{IsNewAt, IsRunBy, pass_in};
 
-use crate::crew::parted;
+use crate::crew::{Handled, parted};
 use crate::threads::AllEnded;
 use actors::account::{Counts, account};
 use actors::controller::Commanded;
 use actors::first_updates::copied;
+use actors::reclaimer::Reclaiming;
 use actors::worker::Working;
 use actors::{Applied, Outcome, RecordEnd};
 use control::Script;
 use journals::Journals;
 use map_updates::MapUpdate;
+use shard_port::Gate;
 use shards::{First, Naming, Pass, Shards};
 use std::alloc::{AllocError, Global};
 use std::sync::Wait;
@@ -92,6 +98,56 @@ fn outcome_of(
     }
 }
 
+/// Of each worker, all that it did is in a longer beginning of the one order of all deeds than what was known to come first.
+fn workers_so_far<B: Naming>(
+    shards: &Shards<B>,
+    workers: &mut Vec<Handled<Working<B>>>,
+    first: First<B>,
+) -> First<B>
+    ensures later { AreFirst first result }
+    ensures done { Each (IsWorkerDoneIn result) 0 workers.old.items }
+    ensures same { workers.new.items ≡ workers.old.items }
+{
+    let mut all = first;
+    'workers: for place in 0..workers.len() {
+        all = shards.so_far(&mut workers[place].state.pass, all);
+    }
+    all
+}
+
+/// The reclaimer's last round, when all threads have ended: behind all that was done so far. The one order of all deeds begins with that, and
+/// this begins with what was known to come first.
+pub(crate) fn last_round<'x, B: Naming, R: Wait, G: Gate>(
+    shards: &Shards<B>,
+    first: First<B>,
+    ended: AllEnded<Working<B>, Commanded<B>, Reclaiming<'x, B, R, G>>,
+) -> (First<B>, AllEnded<Working<B>, Commanded<B>, Pass<B>>)
+    ensures later { AreFirst first result.0 }
+    ensures workers { result.1.workers.items ≡ ended.entry.workers.items }
+    ensures controller { result.1.controller ≡ ended.entry.controller }
+    ensures closed { IsRoundLast B.plan B.count result.0 result.1.workers.items result.1.controller.pass result.1.reclaimer }
+    ensures rounds { (rounds : ℕ) → AreReclaimed B.plan B.count rounds ended.entry.reclaimer →
+        AreReclaimed B.plan B.count (rounds + 1) result.1.reclaimer }
+    ensures who { result.1.reclaimer.who ≡ Reclaimer }
+{
+    let AllEnded {
+        mut workers,
+        mut controller,
+        reclaimer,
+    } = ended;
+    let worked = workers_so_far(shards, &mut workers, first);
+    let all = shards.so_far(&mut controller.pass, worked);
+    let (last, pass) = reclaimer.last_round(all);
+    (
+        last,
+        AllEnded {
+            workers,
+            controller,
+            reclaimer: pass,
+        },
+    )
+}
+
 /// Closes the shards, and counts what the workers did.
 pub(crate) fn closed<B: Naming, R: Wait>(
     rt: &R,
@@ -102,7 +158,7 @@ pub(crate) fn closed<B: Naming, R: Wait>(
     script: &Script,
     size: u32,
     shards: Shards<B>,
-    first: First<B>,
+    last: First<B>,
     ended: AllEnded<Working<B>, Commanded<B>, Pass<B>>,
 ) -> Result<Outcome, AllocError>
     requires maps { shards.maps ≡ verified.now.maps }
@@ -112,8 +168,9 @@ pub(crate) fn closed<B: Naming, R: Wait>(
         shards.options.workers ended.workers.items }
     requires size { IsRingSize size }
     requires serves { ServesScript shards.maps size script.now }
-    requires script { IsScriptRunBehind B.plan shards.maps shards.options updates.now script.now size ended.controller.noted.items
-        ended.controller.pass first }
+    requires script { (first : List Deed) × AreFirst first last × IsScriptRunBehind B.plan shards.maps shards.options updates.now script.now
+        size ended.controller.noted.items ended.controller.pass first }
+    requires closed { IsRoundLast B.plan B.count last ended.workers.items ended.controller.pass ended.reclaimer }
     requires rounds { AreReclaimed B.plan B.count (round_count (length capture.now.records.items)) ended.reclaimer ×
         (ended.reclaimer.who ≡ Reclaimer) }
     ensures accounted { IfOk result (IsAccounted (program_of verified.now shards.options.shards) script.now shards.options
@@ -134,6 +191,6 @@ pub(crate) fn closed<B: Naming, R: Wait>(
     let Commanded { pass, noted } = controller;
     let passes = all_passes(alloc, working, pass, reclaimer)?;
     let made = copied(alloc, updates)?;
-    let journals = shards.close_behind(rt, passes, first);
+    let journals = shards.close_behind(rt, passes, last);
     Ok(outcome_of(counts, made, noted, sent, ends, journals))
 }

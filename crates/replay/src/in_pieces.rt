@@ -7,11 +7,13 @@ ghost use Rattle.machine.specs.Running.{program_of};
 ghost use Rattle.maglev.specs.RingSize.{IsRingSize};
 ghost use Rattle.semantics.specs.Program.{Program};
 ghost use Rattle.semantics.specs.ShardPlan.{AreOptions, KeepsRows, recorded};
+ghost use Rattle.control.specs.declared.command.Command.{Command as Line};
 ghost use Rattle.semantics.specs.declared.options.Options.{Options as Settings};
 ghost use Rattle.map_updates.specs.Misfits.{AreFitting};
 ghost use Rattle.map_updates.specs.declared.update.MapUpdate.{MapUpdate as Update};
 ghost use Rattle.wire.specs.declared.records.Sent.{Sent as Record};
 ghost use Rattle.actors.specs.Commands.{ServesScript};
+ghost use Rattle.replay.specs.EventsInTurns.{IsListedInTurns};
 ghost use Rattle.replay.specs.ExactReplays.{HasBegun};
 ghost use Rattle.actors.specs.Parts.{AreBadOptions};
 ghost use Rattle.replay.specs.Pieces.{ReplayGoesOn, IsUnderway, IsReplayedInPieces};
@@ -22,7 +24,7 @@ ghost use Rattle.guarantees.specs.HeadlineOf.{HeadlineOf};
 ghost use Rattle.actors.specs.declared.fault.ReplayFault.TheVariants.{BadOptions, NoThread};
 ghost use Rattle.actors.specs.declared.outcome.RecordEnd.{RecordEnd as End};
 
-use crate::laws::turns_are_accounted;
+use crate::laws::{events_come_in_turns, turns_are_accounted};
 use crate::setting::{starts_of, table_for};
 use crate::single_thread::{Turns, begun};
 use crate::turn_shards::TurnShards;
@@ -169,6 +171,19 @@ impl PieceReplay {
         Ok(self.turns.hand_out(alloc))
     }
 
+    /// Takes back what [`PieceReplay::go_on`] returned, once it is used: later pieces use its memory again, so that a frame that is sent
+    /// takes none as long as no more are sent of a piece than of one before, and none is longer. The replay stays where it is.
+    pub fn give_back(&mut self, done: PieceOutcome)
+        ensures underway { (program : Program) (script : List Line) (options : Settings) (updates : List Update) (records sent : List Record)
+            (ends : List End) → IsUnderway program script options updates records sent ends self.old →
+            IsUnderway program script options updates records sent ends self.new }
+        ensures goes_on { (script : List Line) → ReplayGoesOn script self.old → ReplayGoesOn script self.new }
+        ensures maps { self.new.turns.all.maps ≡ self.old.turns.all.maps }
+        ensures taken { self.new.taken ≡ self.old.taken }
+    {
+        self.turns.give_back(done);
+    }
+
     /// Takes the turns behind the last record: the commands that are left, and one more round. The updates are those that it was opened
     /// with.
     ///
@@ -192,12 +207,18 @@ impl PieceReplay {
             IsUnderway (program_of verified.now options.shards) script.now options updates.now records sent ends self →
             (replayed : IsReplayedInPieces (program_of verified.now options.shards) script.now options records sent ends rest) →
             HeadlineOf verified.now script.now options records replayed.whole replayed.accounted) }
+        ensures turn_by_turn { IfOk result (λ rest. (options : Settings) (records sent : List Record) (ends : List End) →
+            AllByRecursion IsCaptured records →
+            IsUnderway (program_of verified.now options.shards) script.now options updates.now records sent ends self →
+            (replayed : IsReplayedInPieces (program_of verified.now options.shards) script.now options records sent ends rest) →
+            IsListedInTurns verified.now script.now options records replayed.whole) }
         ensures updates { IfOk result (λ rest. rest.updates.items ≡ updates.now) }
         ensures none_sent { IfOk result (λ rest. rest.sent.items ≡ []) }
         ensures no_ends { IfOk result (λ rest. rest.ends.items ≡ []) }
     {
         turns_are_accounted();
         headline(verified);
+        events_come_in_turns(verified);
         commands_fit(script);
         let PieceReplay {
             mut turns,

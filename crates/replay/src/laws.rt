@@ -1,11 +1,14 @@
 //! Laws of replays, as contracts of functions that do nothing.
 
+ghost use Rattle.replay.specs.EventsInTurns.{EventsComeInTurns};
 ghost use Rattle.replay.specs.LaterTurns.{TurnsComeInOrder};
 ghost use Rattle.replay.specs.OtherJournals.{JournalsChangeNothing};
 ghost use Rattle.replay.specs.SameReplays.{ExactReplaysAgree, PiecesAgree};
 ghost use Rattle.replay.specs.TurnsAccounted.{TurnsAreAccounted};
 
+use guarantees::replays_in_turns_are_listed;
 use shard_port::laws::{own_entries_after_a_refusal, own_entries_are_sessions};
+use verifier::Verified;
 
 /// A replay on one thread is accounted for as one on threads is: there is one order of all deeds, and each caller has its part of it, so
 /// that each entry of each journal belongs to a run, to a command or to a round. And this order goes through the states of the turns: behind
@@ -15,6 +18,18 @@ pub fn turns_are_accounted()
 {
     own_entries_are_sessions();
     own_entries_after_a_refusal();
+}
+
+/// An exact replay of an image that was verified is one list of events of the system that comes turn by turn: behind the events of the updates
+/// come, turn after turn, those of the turn alone. A command's are its calls, a record's the whole run of its worker on its frame, from its
+/// beginning to its last Leave, and a round's one for each shard with retired cells. Those that write nothing are there too: what begins a
+/// run, its instructions, and calls that met a full journal. Between two turns every worker is idle.
+pub fn events_come_in_turns(verified: &Verified)
+    ensures { EventsComeInTurns verified.now }
+{
+    own_entries_are_sessions();
+    own_entries_after_a_refusal();
+    replays_in_turns_are_listed(verified);
 }
 
 /// In the one order of an exact replay nothing that a later turn writes comes before anything that an earlier one writes, on any shard: an

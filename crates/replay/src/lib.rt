@@ -18,9 +18,9 @@
 //! it is the last. So both are the same list, and each record was run by the worker of its flow, once and in order; each command applied
 //! once, in the script's order; each note answered by a round. Where memory was refused to a thread, the replay fails with 52.
 //!
-//! When all threads have ended the shards are closed with all passes. Then each history is whole, and the own entries of each pass are all
-//! of its caller's in it. So what the actors did is all that happened (`IsAccounted` of `actors`), and by the laws of `guarantees` it is
-//! one list of events of the system.
+//! When all threads have ended the reclaimer's last round is made, behind all that the passes did so far, and then the shards are closed with
+//! all passes (`closing`). Then each history is whole, and the own entries of each pass are all of its caller's in it. So what the actors
+//! did is all that happened (`IsAccounted` of `actors`), and by the laws of `guarantees` it is one list of events of the system.
 //!
 //! Nothing here depends on how the threads are scheduled. That they end is not proved: each waits for its queue. Every way out of
 //! `threads` puts an `End` into the queue of each thread that was started and joins it, also where another could not be started.

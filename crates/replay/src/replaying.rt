@@ -115,7 +115,7 @@ fn replay_over<'x, B: Naming + Send + Sync, R: Threads + Wait + Sync, G: Gate + 
         Ok(pass) => pass,
         Err(unset) => return Err(given_up(rt, alloc, shards, dealer, unset, updates)),
     };
-    let (first, ended) = run_threads::<B, R, G>(
+    let (last, ended) = run_threads::<B, R, G>(
         rt,
         alloc,
         verified,
@@ -133,7 +133,7 @@ fn replay_over<'x, B: Naming + Send + Sync, R: Threads + Wait + Sync, G: Gate + 
         takes,
     )?;
     Ok(closed(
-        rt, alloc, verified, capture, updates, script, size, shards, first, ended,
+        rt, alloc, verified, capture, updates, script, size, shards, last, ended,
     )?)
 }
 
@@ -182,7 +182,7 @@ fn accounted_replay<R: Threads + Wait + Sync, G: Gate + Sync>(
 /// in which nothing has happened. Before the first record a controller makes these updates, one after the other, each whether or not its
 /// key is there. On a thread of its own it applies the commands of a script: those at frame 0 before the first record, behind the updates,
 /// and each other one when as many records as its frame number were dispatched, no later than after the last; and a reclaimer frees what no
-/// run can hold, in a round after every 64 records and one after the workers' end.
+/// run can hold, in a round after every 64 records and one behind all that the others do.
 ///
 /// **The headline** holds of what it returns (`headline`): the image is safe, and the replay is one list of events of the system, in the words
 /// of the model alone; this list is that of what is accounted for (`one_list`).
@@ -196,7 +196,7 @@ fn accounted_replay<R: Threads + Wait + Sync, G: Gate + Sync>(
 /// What all callers did on all shards is one order: shard by shard it is the journal, and of each caller it has what the caller did, looks
 /// at full journals among it: of a worker its runs, of the controller the first updates and the commands' in the script's order, of the
 /// reclaimer a round after the other, each from the lowest shard up. It begins with the updates and the commands of frame 0, so every run
-/// finds what they set.
+/// finds what they set; and it ends with the reclaimer's last round, behind which nobody does anything.
 ///
 /// Each reply to a run, to the controller and to the reclaimer goes through the gate: the actor that has it calls the gate, and holds no
 /// lock then.

@@ -15,7 +15,9 @@ ghost use Rattle.actors.specs.Commands.{HasSet, ServesScript, StaysOf};
 ghost use Rattle.replay.specs.Crews.{AreHandled};
 ghost use Rattle.actors.specs.Parts.{HasNoTable, IsStarted, IsScriptRunBehind, HasBegunWith, numbers_of, round_count};
 ghost use Rattle.actors.specs.Rounds.{AreReclaimed};
+ghost use Rattle.replay.specs.LastRound.{IsRoundLast};
 ghost use Rattle.replay.specs.Settings.{AreFreshPasses};
+ghost use Rattle.shards.specs.Deeds.{AreFirst};
 ghost use Rattle.rx_queues.specs.Passes.{record_count_of, command_count_of};
 ghost use Rattle.actors.specs.RunsOverShards.{IsNewAt, IsRunBy};
 ghost use Rattle.actors.specs.UpdateFaults.{IsOfNoUpdate, IsWhyByPass};
@@ -23,6 +25,7 @@ ghost use Rattle.replay.specs.TurnFaults.{IsWhyInTurn};
 ghost use Rattle.shards.specs.declared.deeds.Deed.{Deed};
 ghost use Rattle.actors.specs.declared.fault.ReplayFault.TheVariants.{BadOptions};
 
+use crate::closing::last_round;
 use crate::threads::{AllEnded, Setting, run_all};
 use actors::ReplayFault;
 use actors::controller::{Commanded, Commander};
@@ -207,8 +210,9 @@ pub(crate) fn new_reclaimer<'x, B: Naming, R: Wait, G: Gate>(
     Ok(Reclaiming::over(rt, shards, pass, gate))
 }
 
-/// Runs all threads, from their start to their end, behind the updates, which the controller's pass has made; and what the controller did
-/// before any thread was started, as the beginning of what all callers did: the updates and the commands of frame 0.
+/// Runs all threads, from their start to their end, behind the updates, which the controller's pass has made, and then makes the reclaimer's
+/// last round; and what was done before that round, as the beginning of what all callers did. It begins with what the controller did before
+/// any thread was started: the updates and the commands of frame 0.
 pub(crate) fn run_threads<'x, B: Naming + Send + Sync, R: Threads + Wait + Sync, G: Gate + Sync>(
     rt: &'x R,
     alloc: Global,
@@ -238,10 +242,12 @@ pub(crate) fn run_threads<'x, B: Naming + Send + Sync, R: Threads + Wait + Sync,
     ensures count { IfOk result (λ it. length it.1.workers.items ≡ shards.now.options.workers) }
     ensures handled { IfOk result (λ it. AreHandled IsNewAt (IsRunBy B.count B.plan
         (program_of verified.now shards.now.options.shards)) capture.now.records.items shards.now.options.workers it.1.workers.items) }
-    ensures script { IfOk result (λ it. IsScriptRunBehind B.plan shards.now.maps shards.now.options updates.now script.now size
-        it.1.controller.noted.items it.1.controller.pass it.0) }
+    ensures script { IfOk result (λ it. (begun : List Deed) × AreFirst begun it.0 × IsScriptRunBehind B.plan shards.now.maps
+        shards.now.options updates.now script.now size
+        it.1.controller.noted.items it.1.controller.pass begun) }
     ensures rounds { IfOk result (λ it. AreReclaimed B.plan B.count (round_count (length capture.now.records.items)) it.1.reclaimer ×
         (it.1.reclaimer.who ≡ Reclaimer)) }
+    ensures closed { IfOk result (λ it. IsRoundLast B.plan B.count it.0 it.1.workers.items it.1.controller.pass it.1.reclaimer) }
     ensures served { ¬ IsErrOf result BadOptions }
     ensures no_update { IfErr result IsOfNoUpdate }
 {
@@ -266,7 +272,7 @@ pub(crate) fn run_threads<'x, B: Naming + Send + Sync, R: Threads + Wait + Sync,
         runner: &runner,
     };
     match run_all(setting, controller, reclaimer, put, takes, states) {
-        Ok(all) => Ok((first, all)),
+        Ok(all) => Ok(last_round(shards, first, all)),
         Err(abandoned) => Err(abandoned.fault),
     }
 }

@@ -20,7 +20,9 @@ ghost use Rattle.actors.specs.declared.outcome.RecordEnd.{RecordEnd as End};
 ghost use Rattle.actors.specs.Accounted.{IsAccounted};
 ghost use Rattle.actors.specs.Accounts.{frames_in, no_counts, counted};
 ghost use Rattle.actors.specs.Commands.{ServesScript};
+ghost use Rattle.actors.specs.RunsOverShards.{IsSentOf, IsTold, steps_in};
 ghost use Rattle.actors.specs.Shares.{worker_of_frame};
+ghost use Rattle.replay.specs.EventsInTurns.{IsListedInTurns};
 ghost use Rattle.replay.specs.ExactReplays.{IsInTurn, HasBegun, starts_in};
 ghost use Rattle.replay.specs.TurnOrder.{IsExact};
 ghost use Rattle.actors.specs.UpdateFaults.{OfUpdate};
@@ -37,7 +39,7 @@ ghost use Rattle.replay.specs.Turns.{commands_between, rounds_at, due_before, tu
 
 use crate::closing::refused;
 use crate::in_pieces::PieceReplay;
-use crate::laws::turns_are_accounted;
+use crate::laws::{events_come_in_turns, turns_are_accounted};
 use crate::replaying::fault_of;
 use crate::setting::frame_of_runs;
 use crate::turn_shards::TurnShards;
@@ -46,12 +48,15 @@ use actors::controller::command_at;
 use actors::dispatch::{ROUND_EVERY, due, is_short, worker_of};
 use actors::first_updates::{copied, set_all};
 use actors::worker::{end_of, moment_of};
-use actors::{Applied, Outcome, PieceOutcome, RecordEnd, ReplayFault, RunEnd, all_are_captured};
+use actors::{
+    Applied, FrameFate, Outcome, PieceOutcome, RecordEnd, ReplayFault, RunEnd, all_are_captured,
+};
 use control::{Command, ControlFault, Controller, Script, commands_fit};
 use guarantees::headline;
+use machine::Exit;
 use map_updates::MapUpdate;
 use runs::closing::journals_of;
-use semantics::{Caller, Options, Recording};
+use semantics::{Caller, Options, Recording, Verdict};
 use shard_port::Gate;
 use std::alloc::{AllocError, Global};
 use std::mem;
@@ -69,6 +74,62 @@ pub(crate) struct Turns {
     pub ends: Vec<RecordEnd>,
     /// The buffer of all runs, one after the other.
     pub frame: Frame,
+    /// Frames that were given back: what is sent later is put into their memory.
+    pub spare: Vec<Sent>,
+}
+
+/// Where a list is empty, later items come into the memory of an older one.
+fn use_again<T: Drop>(list: &mut Vec<T>, mut older: Vec<T>)
+    ensures { list.new.items ≡ list.old.items }
+{
+    if list.is_empty() {
+        older.clear();
+        *list = older;
+    }
+}
+
+/// The frame as it is sent, in the memory of a spare one where there is one.
+fn sent_in(
+    alloc: Global,
+    spare: &mut Vec<Sent>,
+    captured: &Sent,
+    frame: &Frame,
+) -> Result<Sent, AllocError>
+    ensures { IfOk result (IsSentOf captured.now frame.now.bytes) }
+{
+    let mut bytes = match spare.pop() {
+        Some(sent) => sent.bytes,
+        None => Vec::new(alloc),
+    };
+    bytes.clear();
+    bytes.extend_from_slice(frame.bytes())?;
+    Ok(Sent {
+        seconds: captured.seconds,
+        micros: captured.micros,
+        bytes,
+    })
+}
+
+/// How the run of a record ended, by its exit. A frame that is sent takes the memory of a spare one.
+fn end_in(
+    alloc: Global,
+    spare: &mut Vec<Sent>,
+    captured: &Sent,
+    exit: Exit,
+    frame: &Frame,
+) -> Result<RunEnd, AllocError>
+    ensures told { IfOk result (IsTold captured.now exit.verdict frame.now) }
+    ensures counted { IfOk result (λ end. steps_in end ≡ Some exit.steps) }
+{
+    match exit.verdict {
+        Verdict::Tx => Ok(RunEnd::Exited {
+            steps: exit.steps,
+            frame: FrameFate::Sent {
+                sent: sent_in(alloc, spare, captured, frame)?,
+            },
+        }),
+        _ => end_of(alloc, captured, exit, frame),
+    }
 }
 
 /// Runs the program on a record's frame, as a worker, in this buffer. None where memory was refused, or the record has no Ethernet header.
@@ -78,6 +139,7 @@ fn run_record(
     verified: &Verified,
     all: &mut TurnShards,
     frame: &mut Frame,
+    spare: &mut Vec<Sent>,
     worker: u8,
     sent: &Sent,
 ) -> Option<RunEnd>
@@ -94,7 +156,7 @@ fn run_record(
     }
     let moment = moment_of(sent, worker);
     match all.run(verified, &moment, frame) {
-        Ok(exit) => end_of(alloc, sent, exit, frame).ok(),
+        Ok(exit) => end_in(alloc, spare, sent, exit, frame).ok(),
         Err(_) => Some(RunEnd::Stopped),
     }
 }
@@ -106,6 +168,7 @@ fn handle(
     verified: &Verified,
     all: &mut TurnShards,
     frame: &mut Frame,
+    spare: &mut Vec<Sent>,
     worker: usize,
     sent: &Sent,
 ) -> Result<Option<RunEnd>, AllocError>
@@ -121,7 +184,7 @@ fn handle(
         return Ok(None);
     }
     let _ = all.workers();
-    match run_record(alloc, verified, all, frame, worker as u8, sent) {
+    match run_record(alloc, verified, all, frame, spare, worker as u8, sent) {
         Some(end) => Ok(Some(end)),
         None => Err(AllocError),
     }
@@ -167,6 +230,7 @@ impl Turns {
             sent: Vec::new(alloc),
             ends: Vec::new(alloc),
             frame,
+            spare: Vec::new(alloc),
         })
     }
 
@@ -196,6 +260,7 @@ impl Turns {
             verified,
             &mut self.all,
             &mut self.frame,
+            &mut self.spare,
             worker,
             sent,
         )?;
@@ -206,6 +271,7 @@ impl Turns {
     }
 
     /// The turn of a command. Fails only for lack of memory; then nothing is changed.
+    #[inline(never)]
     fn command(
         &mut self,
         alloc: Global,
@@ -251,7 +317,8 @@ impl Turns {
         }
     }
 
-    /// The turns of the commands from one number up to another.
+    /// The turns of the commands from one number up to another. Before most records there are none.
+    #[inline(always)]
     fn commands(
         &mut self,
         alloc: Global,
@@ -384,6 +451,16 @@ impl Turns {
             sent: mem::replace(&mut self.sent, Vec::new(alloc)),
             ends: mem::replace(&mut self.ends, Vec::new(alloc)),
         }
+    }
+
+    /// Takes back what was handed out: later turns use its memory again. Where there is no memory to keep it in, it is let go.
+    pub(crate) fn give_back(&mut self, done: PieceOutcome)
+        ensures { state_in self.new ≡ state_in self.old }
+    {
+        let PieceOutcome { mut sent, ends } = done;
+        let _ = self.spare.append(&mut sent);
+        use_again(&mut self.sent, sent);
+        use_again(&mut self.ends, ends);
     }
 
     /// What is returned after the last turn.
@@ -536,6 +613,7 @@ pub fn replay_in_turn<G: Gate>(
         HeadlineOf verified.now script.now (recorded recording options) capture.now.records.items outcome accounted) }
     ensures in_turn { IfOk result (IsExact (program_of verified.now options.shards) script.now (recorded recording options)
         capture.now.records.items) }
+    ensures turn_by_turn { IfOk result (IsListedInTurns verified.now script.now (recorded recording options) capture.now.records.items) }
     ensures updates { IfOk result (λ outcome. outcome.updates.items ≡ updates.now) }
     ensures refused { IfErr result (OfUpdate (IsWhyInTurn verified.now.maps (recorded recording options) updates.now)) }
     ensures served { OnOk result (KeepsRows options.journal) }
@@ -544,6 +622,7 @@ pub fn replay_in_turn<G: Gate>(
 {
     turns_are_accounted();
     headline(verified);
+    events_come_in_turns(verified);
     commands_fit(script);
     all_are_captured(capture);
     match PieceReplay::open(alloc, verified, updates, script, options, recording) {

@@ -1,7 +1,7 @@
 //! All threads from their start to their end.
 
 ghost use Rattle.std.specs.Prelude.{◌≡◌, ◌<◌, ◌≤◌, ◌+◌, ◌∷◌, ◌++◌, [], ℕ, length, vec_capacity, IfOk, IfErr, IfSome, IsNone};
-ghost use Rattle.rx_queues.specs.declared.job.Job.TheVariants.{Note, End};
+ghost use Rattle.rx_queues.specs.declared.job.Job.TheVariants.{End};
 ghost use Rattle.rx_queues.specs.Passes.{IsPutPassOf, IsTakePassOf, TakeAtTheirPlaces, AreTakePasses};
 ghost use Rattle.rx_queues.specs.Passes.{place_taken_from, jobs_taken, workers_of, jobs_put};
 ghost use Rattle.actors.specs.Actors.{HasNoEnd, EndsOnce, AreAllEnded, AreBothEnded};
@@ -11,7 +11,7 @@ ghost use Rattle.actors.specs.Shares.{frames_of};
 
 use crate::crew::{Handled, abandon, finish_all, start_all};
 use actors::actor::{Actor, ActorThread, settled_actor, start_actor};
-use actors::dispatch::{Dispatch, ask_round, end_all, end_both};
+use actors::dispatch::{Dispatch, end_all, end_both};
 use actors::worker::Lane;
 use actors::{ReplayFault, Runner};
 use rx_queues::{PutPass, Queues, TakePass};
@@ -139,7 +139,7 @@ fn start_both<
     }
 }
 
-/// Asks for the last round, ends the controller and the reclaimer and joins them. Each is none where it was refused memory.
+/// Ends the controller and the reclaimer and joins them. Each is none where it was refused memory.
 fn settle_both<E: Drop, F: Drop, C: Actor<E>, D: Actor<F>, R: Threads + Wait>(
     rt: &R,
     queues: &Queues,
@@ -155,12 +155,11 @@ fn settle_both<E: Drop, F: Drop, C: Actor<E>, D: Actor<F>, R: Threads + Wait>(
     ensures controller { IfSome result.0 (C.gives commanding.entry.promise.actor.value (put_at (jobs_put put.old) (workers_of queues.now)
         ++ End ∷ [])) }
     ensures reclaimer { IfSome result.1 (D.gives reclaiming.entry.promise.actor.value (put_at (jobs_put put.old) (workers_of queues.now
-        + 1) ++ Note ∷ End ∷ [])) }
+        + 1) ++ End ∷ [])) }
     ensures ended { EndsOnce (put_at (jobs_put put.new) (workers_of queues.now)) ×
         EndsOnce (put_at (jobs_put put.new) (workers_of queues.now + 1)) }
     ensures others { (place : ℕ) → place < workers_of queues.now → put_at (jobs_put put.new) place ≡ put_at (jobs_put put.old) place }
 {
-    ask_round(rt, queues, put);
     end_both(rt, queues, put);
     let of_controller = settled_actor(rt, queues, put, commanding);
     let of_reclaimer = settled_actor(rt, queues, put, reclaiming);
@@ -183,7 +182,7 @@ fn close_both<E: Drop, F: Drop, C: Actor<E>, D: Actor<F>, R: Threads + Wait>(
     ensures controller { IfSome result (λ given. C.gives commanding.entry.promise.actor.value
         (put_at (jobs_put put.old) (workers_of queues.now) ++ End ∷ []) given.0) }
     ensures reclaimer { IfSome result (λ given. D.gives reclaiming.entry.promise.actor.value
-        (put_at (jobs_put put.old) (workers_of queues.now + 1) ++ Note ∷ End ∷ []) given.1) }
+        (put_at (jobs_put put.old) (workers_of queues.now + 1) ++ End ∷ []) given.1) }
     ensures ended { EndsOnce (put_at (jobs_put put.new) (workers_of queues.now)) ×
         EndsOnce (put_at (jobs_put put.new) (workers_of queues.now + 1)) }
     ensures others { (place : ℕ) → place < workers_of queues.now → put_at (jobs_put put.new) place ≡ put_at (jobs_put put.old) place }
@@ -318,7 +317,7 @@ fn run_in<
 /// Runs all records of a capture, each by the worker of its flow, on a thread for each of the workers' states, and beside them the
 /// controller and the reclaimer, each on a thread of its own. The controller is handed the commands from `setting.first` on, each once as
 /// many records as `setting.starts` says of it were dispatched and no later than after the last one; the reclaimer is asked for a round
-/// after every 64 records, and for one more after the workers' end.
+/// after every 64 records.
 ///
 /// Given up with 56 where a thread can't be started, and with 52 for lack of memory: before any thread is started, or where one of them is
 /// refused memory. What was put into the queues shows which of these it was. The threads that were started have ended.

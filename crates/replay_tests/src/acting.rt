@@ -1,7 +1,7 @@
 //! What no clause says: that the actors work where there is memory, for what the gate is called, and rows worked out elsewhere.
 
-ghost use Rattle.std.specs.Prelude.{◌≡◌, ◌≤◌, [], IfOk};
-ghost use Rattle.semantics.specs.declared.call.Caller.TheVariants.{Controller as TheController};
+ghost use Rattle.std.specs.Prelude.{◌≡◌, ◌≤◌, ◌+◌, [], IfOk};
+ghost use Rattle.semantics.specs.declared.call.Caller.TheVariants.{Controller as TheController, Reclaimer};
 ghost use Rattle.maglev.specs.RingSize.{IsRingSize};
 ghost use Rattle.actors.specs.Commands.{ServesScript};
 ghost use Rattle.actors.specs.ActorJobs.{IsForCommands};
@@ -384,6 +384,25 @@ fn commands_until_their_end(rt: HostRuntime) -> Result<(), Fail> {
     commanded::<Brand, HostRuntime>(&rt, rt.alloc(), opened, &row)
 }
 
+/// A reclaimer takes its jobs to the end, and gives its pass back.
+fn rounds_taken<'a, B: Naming, R: Abort + Wait>(
+    rt: &'a R,
+    alloc: Global,
+    queues: &Queues,
+    take: TakePass,
+    shards: &'a Shards<B>,
+    pass: Pass<B>,
+) -> Pass<B>
+    requires take { IsTakePassOf queues.now take × (jobs_taken take ≡ []) }
+    requires place { place_taken_from take ≡ workers_of queues.now + 1 }
+    requires who { pass.who ≡ Reclaimer }
+    requires unused { IsUnused pass }
+{
+    let reclaiming = Reclaiming::over(rt, shards, pass, &NoGate);
+    let ended = reclaiming.until_end(rt, alloc, queues, take);
+    ended.given.finish()
+}
+
 /// Asks the reclaimer for the row's rounds, lets it make them to the end, and compares.
 fn asked<B: Naming, R: Abort + Wait>(
     rt: &R,
@@ -396,9 +415,8 @@ fn asked<B: Naming, R: Abort + Wait>(
     let (shards, mut dealer) = opened.share::<B>(alloc).expect(rt, "shared shards");
     let pass = dealer.pass(alloc, Caller::Reclaimer)?;
     let (queues, take) = filled(rt, alloc, Caller::Reclaimer, 2, row.rounds)?;
-    let reclaiming = Reclaiming::over(rt, &shards, pass, &NoGate);
-    let ended = reclaiming.until_end(rt, alloc, &queues, take);
-    close(rt, alloc, shards, ended.given, row);
+    let pass = rounds_taken(rt, alloc, &queues, take, &shards, pass);
+    close(rt, alloc, shards, pass, row);
     Ok(())
 }
 

@@ -170,11 +170,11 @@ struct Row<'a> {
 // The workers' runs are as a separate program computed them from the hashes of the flows.
 #[rattlefmt::skip]
 const ROWS: [Row; 5] = [
-    Row { records: 0,    workers: 1, runs: &[0],      rounds: 1 },
-    Row { records: 63,   workers: 1, runs: &[63],     rounds: 1 },
-    Row { records: 64,   workers: 2, runs: &[32, 32], rounds: 2 },
-    Row { records: 1000, workers: 1, runs: &[990],    rounds: 16 },
-    Row { records: 1000, workers: 4, runs: &[250, 240, 250, 250], rounds: 16 },
+    Row { records: 0,    workers: 1, runs: &[0],      rounds: 0 },
+    Row { records: 63,   workers: 1, runs: &[63],     rounds: 0 },
+    Row { records: 64,   workers: 2, runs: &[32, 32], rounds: 1 },
+    Row { records: 1000, workers: 1, runs: &[990],    rounds: 15 },
+    Row { records: 1000, workers: 4, runs: &[250, 240, 250, 250], rounds: 15 },
 ];
 
 /// After how many records each command comes. The first one was applied before.

@@ -1,11 +1,11 @@
 -- What the calls of each kind return.
-use Rattle.std.proofs.Common.{◌≡◌, ℕ, zero, suc, ◌+◌, ◌-◌, ◌*◌, ◌/◌, ◌%◌, ◌^◌, ◌<◌, ◌≤◌, Bool, true, false, nat_lt, ℤ, List, [], ◌∷◌, length, reverse, Option, Some, None, arith, refl, sym, ◌∙◌, ap, subst, add-one}
+use Rattle.std.proofs.Common.{◌≡◌, ℕ, zero, suc, ◌+◌, ◌-◌, ◌*◌, ◌/◌, ◌%◌, ◌^◌, ◌<◌, ◌≤◌, Bool, true, false, nat_lt, List, [], ◌∷◌, length, reverse, Option, Some, None, arith, refl, sym, ◌∙◌, ap, subst, add-one}
 use Rattle.std.specs.Prelude.{◌==◌, IsTrue, slice_get, find, option_map, bytes_eq, if◌then◌else◌}
 use Rattle.std.specs.List.{AllByRecursion}
 use Rattle.std.proofs.lemmas.Option.{slice_get_within}
 use Rattle.std.proofs.lemmas.Nat.{div-mul-add, mod-mul-add}
 use Rattle.std.proofs.Math.Nat.{ℕ_set, mul-le-mul_right, div-le_self}
-use Rattle.std.specs.Coded.{Coded-set, coded_bool}
+use Rattle.std.specs.Coded.{Coded-set, coded_bool, le_prop}
 use Rattle.std.proofs.Math.Logic.{∥∥₁_elim}
 use Rattle.std.proofs.lemmas.Bool.{false≢true}
 use Rattle.std.proofs.lemmas.Bool.Decides.{nat_tests}
@@ -19,9 +19,9 @@ use Rattle.semantics.specs.declared.call.Caller.TheVariants.{Worker}
 use Rattle.semantics.specs.declared.call.CellRef.{CellRef}
 use Rattle.semantics.specs.declared.call.Entry.{Entry}
 use Rattle.semantics.specs.declared.call.Call.{Call}
-use Rattle.semantics.specs.declared.call.Call.TheVariants.{Lookup, Load, Store, Atomic, Update, Delete}
+use Rattle.semantics.specs.declared.call.Call.TheVariants.{Lookup, Load, Atomic}
 use Rattle.semantics.specs.declared.call.Reply.{Reply}
-use Rattle.semantics.specs.declared.call.Reply.TheVariants.{Cell, Word, Done, Answer}
+use Rattle.semantics.specs.declared.call.Reply.TheVariants.{Cell}
 use Rattle.semantics.specs.LittleEndian.{number_of_bytes}
 use Rattle.semantics.specs.ShardPlan.{plan_for_map}
 use Rattle.semantics.specs.PlanLimits.{IsIndexSize, HasImageSizes}
@@ -42,7 +42,7 @@ use Rattle.shard_port.specs.PortView.{IsShardOf, IsPortReady, IsRunCall, SetsByt
 use Rattle.shard_port.specs.PortLaws.{both_true}
 use Rattle.semantics.proofs.shared.CellBytes.{number_in_cell-below}
 use Rattle.semantics.proofs.shared.CallNumbers.{not_over}
-use Rattle.semantics.specs.Cells.{word_in, answer_in}
+use Rattle.semantics.specs.Cells.{word_in}
 use Rattle.shard_port.proofs.shared.ReadyLemmas.{plan_number, bytes_entered}
 use Rattle.shard_port.proofs.shared.MayAskLemmas.{served_by}
 
@@ -197,15 +197,6 @@ lookup_formed maps options worker before number key reply after ready among =
 
 -- ---- words
 
-word_again : (reply : Reply) (value : ℕ) → reply ≡ Word value → reply ≡ Word (word_in reply)
-word_again reply value is = is ∙ ap (λ (one : Reply). Word (word_in one)) (sym is)
-
-pub load_told : (worker : ℕ) (before : List JournaledShard) (cell : CellRef) (offset size : ℕ) (reply : Reply) (after : List JournaledShard) → IsAnsweredAmong worker before (Load cell offset size) reply after → reply ≡ Word (word_in reply)
-load_told worker before cell offset size reply after among = word_again reply _ among.answered.replied
-
-pub change_told : (worker : ℕ) (before : List JournaledShard) (cell : CellRef) (offset size op value expected : ℕ) (reply : Reply) (after : List JournaledShard) → IsAnsweredAmong worker before (Atomic cell offset size op value expected) reply after → reply ≡ Word (word_in reply)
-change_told worker before cell offset size op value expected reply after among = word_again reply _ among.answered.replied
-
 pub load_below : (maps : List MapDef) (options : Options) (worker : ℕ) (before : List JournaledShard) (cell : CellRef) (offset size : ℕ) (reply : Reply) (after : List JournaledShard) → IsPortReady maps options worker before → IsAnsweredAmong worker before (Load cell offset size) reply after → word_in reply < 256 ^ size
 load_below maps options worker before cell offset size reply after ready among =
     let is : IsShardOf maps options cell.shard among.shard = ready.are_shards.each cell.shard among.shard among.known in
@@ -218,29 +209,18 @@ change_below maps options worker before cell offset size op value expected reply
     subst (λ (one : Reply). word_in one < 256 ^ size) (sym among.answered.replied)
     (number_in_cell-below (shard_after among.shard.plan (reverse (entered worker among.shard).journal)) cell.id offset size (bytes_entered worker among.shard is.bytes))
 
--- ---- stores and answers
-
-pub store_told : (worker : ℕ) (before : List JournaledShard) (cell : CellRef) (offset size value : ℕ) (reply : Reply) (after : List JournaledShard) → IsAnsweredAmong worker before (Store cell offset size value) reply after → reply ≡ Done
-store_told worker before cell offset size value reply after among = among.answered.replied
-
-answer_again : (reply : Reply) (code : ℤ) → reply ≡ Answer code → reply ≡ Answer (answer_in reply)
-answer_again reply code is = is ∙ ap (λ (one : Reply). Answer (answer_in one)) (sym is)
-
-pub update_told : (worker : ℕ) (before : List JournaledShard) (number : ℕ) (key value : List ℕ) (flags : ℕ) (reply : Reply) (after : List JournaledShard) → IsAnsweredAmong worker before (Update number key value flags) reply after → reply ≡ Answer (answer_in reply)
-update_told worker before number key value flags reply after among = answer_again reply _ among.answered.replied
-
-pub delete_told : (worker : ℕ) (before : List JournaledShard) (number : ℕ) (key : List ℕ) (reply : Reply) (after : List JournaledShard) → IsAnsweredAmong worker before (Delete number key) reply after → reply ≡ Answer (answer_in reply)
-delete_told worker before number key reply after among = answer_again reply _ among.answered.replied
-
 -- ---- together
 
-pub given_by : (maps maps' : List MapDef) (options options' : Options) (worker worker' : ℕ) (before after : List JournaledShard) (call : Call) (reply told : Reply) → maps' ≡ maps → options' ≡ options → worker' ≡ worker → 0 < options.shards → IsRunCall call → SetsBytes call → IsReplyTo (program_over (served_by maps options)) call told → reply ≡ told → IsAnsweredAmong worker before call reply after → IsGivenBy (record { served = served_by maps options; worker = worker; shards = before }) call told (record { served = served_by maps' options'; worker = worker'; shards = after })
-given_by maps maps' options options' worker worker' before after call reply told same_maps same_options same_worker some run sets formed is among = record {
+pub given_by : (maps maps' : List MapDef) (options options' : Options) (worker worker' : ℕ) (before after : List JournaledShard) (call : Call) (reply : Reply) →
+    maps' ≡ maps → options' ≡ options → worker' ≡ worker → ∥ IsPortReady maps options worker before ∥₁ → IsRunCall call → SetsBytes call →
+    IsReplyTo (program_over (served_by maps options)) call reply → IsAnsweredAmong worker before call reply after →
+    IsGivenBy (record { served = served_by maps options; worker = worker; shards = before }) call reply (record { served = served_by maps' options'; worker = worker'; shards = after })
+given_by maps maps' options options' worker worker' before after call reply same_maps same_options same_worker is_ready run sets formed among = record {
   same_maps = ap (λ ms. served_by ms options') same_maps ∙ ap (λ os. served_by maps os) same_options;
   same_worker = same_worker;
-  some_shard = some;
+  some_shard = ∥∥₁_elim is_ready le_prop (λ (ready : IsPortReady maps options worker before). some_shards maps options ready.are_options);
   run_call = run;
   sets_bytes = sets;
   formed = formed;
-  answered = subst (λ (one : Reply). IsAnsweredAmong worker before call one after) is among;
+  answered = among;
 }

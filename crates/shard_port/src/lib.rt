@@ -1,6 +1,7 @@
 //! Ports over the shards of an image's maps: of a single caller, and of a worker's pass.
 #![tactic(auto)]
 
+mod handles;
 pub mod laws;
 pub mod plain;
 pub mod port;

@@ -7,17 +7,18 @@ ghost use Rattle.semantics.specs.ShardPlan.{AreOptions};
 ghost use Rattle.semantics.specs.History.{shard_of_call, IsLegalJournal};
 ghost use Rattle.shard_port.specs.Asking.{may_ask_at, all_left, IsAnsweredAmong, IsTurnedAwayAmong, entered, left, can_enter, may_ask};
 ghost use Rattle.shard_port.specs.Asking.{EntersAndCalls, CannotEnterOrCall, IsWorkerOf};
-ghost use Rattle.shard_port.specs.PortView.{ServesMaps, IsPortReady, IsRunCall, SetsBytes, cell_of_handle, handle_of, has_small_cell};
-ghost use Rattle.map_port.specs.Served.{handle_limit};
+ghost use Rattle.shard_port.specs.PortView.{ServesMaps, IsPortReady, IsRunCall, SetsBytes};
 ghost use Rattle.std.specs.List.{AllByRecursion};
 
+use crate::handles::{cell_of_handle, handle_of_found};
 use ebpf_decode::Image;
 use isa::AtomicOp;
+use journal::{AtomicChange, CellRange};
 use map_port::MapPort;
 use map_rules::conditions::shard_of_map;
-use semantics::{Call, Caller, CellRef, JournalFull, Key, Options, Reply, Value};
+use semantics::{Caller, JournalFull, Key, Options, Value};
 use shard_core::Shard;
-use shards::{PlainShards, maps_of};
+use shards::{Ask, Changes, Deletes, Loads, Looks, PlainShards, Stores, Updates, maps_of};
 
 /// A worker's port over the shards of an image's maps. It enters a shard before its first call there, and has to be finished,
 /// which leaves the shards that it entered. No call takes memory.
@@ -70,21 +71,23 @@ impl<'a> PlainPort<'a> {
         shard_of_map(self.image.maps(), self.options.shards, map, key)
     }
 
-    /// Makes a run's call, at the shard that the call names: entered before, if the worker is not inside. Refused where the
-    /// shard's journal is full for the Enter or for the call.
+    /// Makes a run's call of a shard: entered before, if the worker is not inside. Refused where the shard's journal is full for the
+    /// Enter or for the call.
     #[inline(always)]
-    fn ask(&mut self, call: &Call) -> Result<Reply, JournalFull>
-        requires may { IsTrue (may_ask_at self.old.worker (slice_get self.old.shards.now (shard_of_call call.now)) call.now) }
-        requires sets_bytes { SetsBytes call.now }
+    fn ask<C: Ask>(&mut self, shard: u32, ask: C) -> Result<C::Answer, JournalFull>
+        requires may { IsTrue (may_ask_at self.old.worker (slice_get self.old.shards.now shard) (C.asks ask shard)) }
+        requires named { shard_of_call (C.asks ask shard) ≡ shard }
+        requires sets_bytes { SetsBytes (C.asks ask shard) }
         ensures same_shards { self.new.shards.ghost_name ≡ self.old.shards.ghost_name }
         ensures same_image { self.new.image ≡ self.old.image }
         ensures same_options { self.new.options ≡ self.old.options }
         ensures same_worker { self.new.worker ≡ self.old.worker }
-        ensures answered { IfOk result (λ reply. IsAnsweredAmong self.old.worker self.old.shards.now call.now reply self.new.shards.now) }
-        ensures turned_away { OnErr result (IsTurnedAwayAmong self.old.worker self.old.shards.now call.now self.new.shards.now) }
-        ensures names_the_shard { IfErr result (λ fault. fault.shard ≡ shard_of_call call.now) }
+        ensures answered { IfOk result (λ answer. IsAnsweredAmong self.old.worker self.old.shards.now (C.asks ask shard)
+            (C.replies shard answer) self.new.shards.now) }
+        ensures turned_away { OnErr result (IsTurnedAwayAmong self.old.worker self.old.shards.now (C.asks ask shard) self.new.shards.now) }
+        ensures names_the_shard { IfErr result (λ fault. fault.shard ≡ shard) }
     {
-        ask_at(self.shards, self.worker, call)
+        ask_at(self.shards, self.worker, shard, ask)
     }
 
     /// The worker leaves all shards that it is inside of, the lowest number first. A Leave is never refused.
@@ -126,24 +129,27 @@ impl<'a> MapPort for PlainPort<'a> {
     ghost replies = { λ before after call reply given. given.given.formed };
 
     fn lookup(&mut self, map: u32, key: &Key) -> Result<u64, JournalFull> {
-        let call = Call::Lookup {
-            shard: self.shard_of(map, key),
-            key: *key,
-        };
-        match self.ask(&call) {
-            Ok(reply) => Ok(handle_of(&reply)),
+        let shard = self.shard_of(map, key);
+        match self.ask(
+            shard,
+            Looks {
+                key: key.as_slice(),
+            },
+        ) {
+            Ok(found) => Ok(handle_of_found(shard, found)),
             Err(full) => Err(full),
         }
     }
 
     fn load(&mut self, handle: u64, offset: u64, size: u64) -> Result<u64, JournalFull> {
-        let call = Call::Load {
-            cell: cell_of_handle(handle),
+        let cell = cell_of_handle(handle);
+        let range = CellRange {
+            cell: cell.id,
             offset,
             size,
         };
-        match self.ask(&call) {
-            Ok(reply) => Ok(reply.word()),
+        match self.ask(cell.shard, Loads { range: &range }) {
+            Ok(number) => Ok(number),
             Err(full) => Err(full),
         }
     }
@@ -155,14 +161,18 @@ impl<'a> MapPort for PlainPort<'a> {
         size: u64,
         value: u64,
     ) -> Result<(), JournalFull> {
-        let call = Call::Store {
-            cell: cell_of_handle(handle),
+        let cell = cell_of_handle(handle);
+        let range = CellRange {
+            cell: cell.id,
             offset,
             size,
+        };
+        let ask = Stores {
+            range: &range,
             value,
         };
-        match self.ask(&call) {
-            Ok(_) => Ok(()),
+        match self.ask(cell.shard, ask) {
+            Ok(()) => Ok(()),
             Err(full) => Err(full),
         }
     }
@@ -176,16 +186,23 @@ impl<'a> MapPort for PlainPort<'a> {
         value: u64,
         expected: u64,
     ) -> Result<u64, JournalFull> {
-        let call = Call::Atomic {
-            cell: cell_of_handle(handle),
+        let cell = cell_of_handle(handle);
+        let range = CellRange {
+            cell: cell.id,
             offset,
             size,
+        };
+        let change = AtomicChange {
             op: u64::from(op.code()),
             value,
             expected,
         };
-        match self.ask(&call) {
-            Ok(reply) => Ok(reply.word()),
+        let ask = Changes {
+            range: &range,
+            change: &change,
+        };
+        match self.ask(cell.shard, ask) {
+            Ok(number) => Ok(number),
             Err(full) => Err(full),
         }
     }
@@ -197,56 +214,34 @@ impl<'a> MapPort for PlainPort<'a> {
         value: &Value,
         flags: u64,
     ) -> Result<i32, JournalFull> {
-        let call = Call::Update {
-            shard: self.shard_of(map, key),
-            key: *key,
-            value: *value,
+        let shard = self.shard_of(map, key);
+        let ask = Updates {
+            key: key.as_slice(),
+            value: value.as_slice(),
             flags,
         };
-        match self.ask(&call) {
-            Ok(reply) => Ok(reply.answer()),
+        match self.ask(shard, ask) {
+            Ok(code) => Ok(code),
             Err(full) => Err(full),
         }
     }
 
     fn delete(&mut self, map: u32, key: &Key) -> Result<i32, JournalFull> {
-        let call = Call::Delete {
-            shard: self.shard_of(map, key),
-            key: *key,
+        let shard = self.shard_of(map, key);
+        let ask = Deletes {
+            key: key.as_slice(),
         };
-        match self.ask(&call) {
-            Ok(reply) => Ok(reply.answer()),
+        match self.ask(shard, ask) {
+            Ok(code) => Ok(code),
             Err(full) => Err(full),
         }
-    }
-}
-
-/// The cell that a handle represents.
-pub(crate) fn cell_of_handle(handle: u64) -> CellRef
-    ensures { result ≡ cell_of_handle handle }
-{
-    let place = handle.saturating_sub(1);
-    CellRef {
-        shard: (place / 0x1_0000_0000) as u32,
-        id: place % 0x1_0000_0000,
-    }
-}
-
-/// The handle of the cell that a lookup found, or 0.
-fn handle_of(reply: &Reply) -> u64
-    requires { IsTrue (has_small_cell reply.now) }
-    ensures handle { result ≡ handle_of reply.now }
-    ensures limit { result < handle_limit }
-{
-    match reply.cell() {
-        Some(cell) => u64::from(cell.shard) * 0x1_0000_0000 + cell.id + 1,
-        None => 0,
     }
 }
 
 // What a worker asks of a shard: to enter, a call, to leave.
 
 /// Enters the shard, if the worker is not inside. Refused where the journal is full for the Enter; then nothing is changed.
+#[inline(always)]
 fn enter(shard: &mut Shard, worker: u8) -> Result<(), JournalFull>
     requires { IsTrue (nat_lt worker shard.old.plan.workers) }
     ensures enters { OnOk result (IsTrue (can_enter worker shard.old)) }
@@ -256,46 +251,46 @@ fn enter(shard: &mut Shard, worker: u8) -> Result<(), JournalFull>
     ensures unchanged { OnErr result (shard.new ≡ shard.old) }
     ensures names_the_shard { IfErr result (λ fault. fault.shard ≡ shard.old.plan.number) }
 {
-    let number = shard.plan().number;
+    let _ = shard.plan();
     let _ = shard.journal();
     if shard.is_inside(worker) {
         return Ok(());
     }
-    match shard.apply(
-        Caller::Worker { number: worker },
-        &Call::Enter { shard: number },
-    ) {
-        Ok(_entered) => Ok(()),
-        Err(full) => Err(full),
-    }
+    shard.enter(Caller::Worker { number: worker })
 }
 
 /// Makes the call for the worker, which enters first if it is not inside. Refused where the journal is full for the Enter or
 /// for the call; it may have entered then.
 #[inline(always)]
-fn ask(shard: &mut Shard, worker: u8, call: &Call) -> Result<Reply, JournalFull>
-    requires { IsTrue (may_ask worker shard.old call.now) }
-    ensures answered { IfOk result (λ reply. EntersAndCalls worker shard.old call.now reply shard.new) }
-    ensures turned_away { OnErr result (CannotEnterOrCall worker shard.old call.now shard.new) }
+fn enter_and_ask<C: Ask>(shard: &mut Shard, worker: u8, ask: C) -> Result<C::Answer, JournalFull>
+    requires { IsTrue (may_ask worker shard.old (C.asks ask shard.old.plan.number)) }
+    ensures answered { IfOk result (λ answer. EntersAndCalls worker shard.old (C.asks ask shard.old.plan.number)
+        (C.replies shard.old.plan.number answer) shard.new) }
+    ensures turned_away { OnErr result (CannotEnterOrCall worker shard.old (C.asks ask shard.old.plan.number) shard.new) }
     ensures legal { IsLegalJournal shard.new.plan shard.new.journal }
     ensures names_the_shard { IfErr result (λ fault. fault.shard ≡ shard.old.plan.number) }
 {
     match enter(shard, worker) {
-        Ok(()) => shard.apply(Caller::Worker { number: worker }, call),
+        Ok(()) => ask.make(shard, Caller::Worker { number: worker }),
         Err(full) => Err(full),
     }
 }
 
-/// Makes the call for the worker at the shard that the call names. Refused as at one shard, with the shard's number.
+/// Makes the call for the worker at the shard of this number. Refused as at one shard, with the shard's number.
 #[inline(always)]
-fn ask_at(shards: &mut PlainShards, worker: u8, call: &Call) -> Result<Reply, JournalFull>
-    requires { IsTrue (may_ask_at worker (slice_get shards.old (shard_of_call call.now)) call.now) }
-    ensures answered { IfOk result (λ reply. IsAnsweredAmong worker shards.old call.now reply shards.new) }
-    ensures turned_away { OnErr result (IsTurnedAwayAmong worker shards.old call.now shards.new) }
-    ensures names_the_shard { IfErr result (λ fault. fault.shard ≡ shard_of_call call.now) }
+fn ask_at<C: Ask>(
+    shards: &mut PlainShards,
+    worker: u8,
+    number: u32,
+    ask: C,
+) -> Result<C::Answer, JournalFull>
+    requires may { IsTrue (may_ask_at worker (slice_get shards.old number) (C.asks ask number)) }
+    requires named { shard_of_call (C.asks ask number) ≡ number }
+    ensures answered { IfOk result (λ answer. IsAnsweredAmong worker shards.old (C.asks ask number) (C.replies number answer) shards.new) }
+    ensures turned_away { OnErr result (IsTurnedAwayAmong worker shards.old (C.asks ask number) shards.new) }
+    ensures names_the_shard { IfErr result (λ fault. fault.shard ≡ number) }
 {
-    let number = call.shard();
-    ask(shards.shard(number), worker, call)
+    enter_and_ask(shards.shard(number), worker, ask)
 }
 
 /// Leaves the shard, if the worker is inside.
@@ -303,12 +298,9 @@ fn leave(shard: &mut Shard, worker: u8)
     requires { IsWorkerOf worker shard.old }
     ensures { shard.new ≡ left worker shard.old }
 {
-    let number = shard.plan().number;
+    let _ = shard.plan();
     if shard.is_inside(worker) {
-        let _ = shard.apply(
-            Caller::Worker { number: worker },
-            &Call::Leave { shard: number },
-        );
+        shard.leave(Caller::Worker { number: worker });
     }
 }
 

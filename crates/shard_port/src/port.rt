@@ -1,15 +1,12 @@
 //! The port of a worker's pass, over shards that many callers share.
 
 ghost use Rattle.std.specs.Prelude.{◌≡◌, ◌<◌, ◌++◌, IsTrue, IfOk, IfErr, OnOk, OnErr};
-ghost use Rattle.journal.specs.Entries.{found_reply};
-ghost use Rattle.map_port.specs.Served.{handle_limit};
 ghost use Rattle.shard_port.specs.ScheduleHook.{next_count};
 ghost use Rattle.shards.specs.Passes.{IsElsewhereSame, own_at};
-ghost use Rattle.shard_port.specs.PortView.{handle_of, has_small_cell};
 ghost use Rattle.shard_port.specs.PassPorts.{is_worker_below, worker_number, left_deeds, MayAskOnceInside, IsAskedBy, IsTurnedAwayBy};
 ghost use Rattle.shard_port.specs.PassPorts.{IsLeftBy, IsFinishedBy};
 
-use crate::plain::cell_of_handle;
+use crate::handles::{cell_of_handle, handle_of_found};
 use crate::schedule_hook::{Gate, Tally};
 use isa::AtomicOp;
 use journal::{AtomicChange, CellRange};
@@ -260,18 +257,6 @@ impl<'a, B: Naming, W: Wait, G: Gate> MapPort for ShardPort<'a, B, W, G> {
             Ok(code) => Ok(code),
             Err(full) => Err(full),
         }
-    }
-}
-
-/// The handle of the cell that a lookup found in the shard, or 0.
-fn handle_of_found(shard: u32, found: Option<u64>) -> u64
-    requires { IsTrue (has_small_cell (found_reply shard found)) }
-    ensures handle { result ≡ handle_of (found_reply shard found) }
-    ensures limit { result < handle_limit }
-{
-    match found {
-        Some(id) => u64::from(shard) * 0x1_0000_0000 + id + 1,
-        None => 0,
     }
 }
 

@@ -22,6 +22,7 @@ pub mod OrderClosing
 pub mod OrderShards
 pub mod OrderDealing
 pub mod OrderBeginning
+pub mod OrderSoFar
 pub mod Openings
 pub mod Names
 pub mod Transport

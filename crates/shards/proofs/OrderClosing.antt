@@ -77,38 +77,39 @@ met_alike plan other count same (MetFull who call ∷ earlier) within met = (
   met_alike plan other count same earlier within.1 met.1,
 )
 
-pub one_order : (plan : ℕ → ShardPlan) (count : ℕ) (plans : List ShardPlan) (journals : JournalsView) (passes : List PassView) (accounts : List Account) → IsEnd plans accounts → length plans ≡ count →
+pub one_order : (plan : ℕ → ShardPlan) (count callers : ℕ) (plans : List ShardPlan) (journals : JournalsView) (passes : List PassView) (accounts : List Account) → IsEnd plans callers accounts → length plans ≡ count →
     ((number : ℕ) → number < count → plan_in plans number ≡ plan number) → ((number : ℕ) → number < count → HasShard number (entries_at journals number) accounts) →
-    ((place : ℕ) → place < length passes → IsOneOfAccounts (account_of (pass_at passes place)) accounts) → IsOneOrder plan count journals passes
-one_order plan count plans journals passes accounts end sized alike shards callers =
+    ((place : ℕ) → place < length passes → IsOneOfAccounts (account_of (pass_at passes place)) accounts) → IsOneOrder plan count callers journals passes
+one_order plan count callers plans journals passes accounts end sized alike shards handed =
     let within : AreDeedsWithin count end.all = subst (λ (n : ℕ). AreDeedsWithin n end.all) sized end.within in record {
       deeds = end.all;
       within = within;
+      by = end.by;
       journals_are = λ number below.
           let has = shards number below in
           let all : has.deeds ≡ deeds_of (OnShard number) end.all = end.each (account (OnShard number) has.deeds) has.has in
           sym (reverse-reverse (entries_at journals number)) ∙ ap (λ (l : List Entry). reverse l) (sym has.written ∙ ap entries_made all ∙ sym (made_by_deeds number end.all));
-      own = λ place below. end.each (account_of (pass_at passes place)) (callers place below);
+      own = λ place below. end.each (account_of (pass_at passes place)) (handed place below);
       met = met_alike (plan_in plans) plan count alike end.all within end.met;
     }
 
 -- and the order begins with the deeds of the last account
-pub one_order_behind : (plan : ℕ → ShardPlan) (count : ℕ) (plans : List ShardPlan) (journals : JournalsView) (passes : List PassView) (first : List Deed) (accounts : List Account) →
-    IsEnd plans (account AtFirst first ∷ accounts) → length plans ≡ count → ((number : ℕ) → number < count → plan_in plans number ≡ plan number) →
+pub one_order_behind : (plan : ℕ → ShardPlan) (count callers : ℕ) (plans : List ShardPlan) (journals : JournalsView) (passes : List PassView) (first : List Deed) (accounts : List Account) →
+    IsEnd plans callers (account AtFirst first ∷ accounts) → length plans ≡ count → ((number : ℕ) → number < count → plan_in plans number ≡ plan number) →
     ((number : ℕ) → number < count → HasShard number (entries_at journals number) accounts) →
-    ((place : ℕ) → place < length passes → IsOneOfAccounts (account_of (pass_at passes place)) accounts) → IsOneOrderBehind plan count first journals passes
+    ((place : ℕ) → place < length passes → IsOneOfAccounts (account_of (pass_at passes place)) accounts) → IsOneOrderBehind plan count callers first journals passes
 unfolding one_order
-one_order_behind plan count plans journals passes first accounts end sized alike shards callers = record {
-  one = one_order plan count plans journals passes accounts (record { all = end.all; within = end.within; met = end.met; each = λ one has. end.each one (inr has) })
-      sized alike shards callers;
+one_order_behind plan count callers plans journals passes first accounts end sized alike shards handed = record {
+  one = one_order plan count callers plans journals passes accounts (record { all = end.all; within = end.within; by = end.by; met = end.met; each = λ one has. end.each one (inr has) })
+      sized alike shards handed;
   begins = end.each (account AtFirst first) (inl refl);
 }
 
 -- where the seat took in that account last
-pub one_order_gathered : {S : Type 0} (plan : ℕ → ShardPlan) (count : ℕ) (plans : List ShardPlan) (journals : JournalsView) (passes : List PassView) (first : List Deed)
-    (before after : Me S (List Account)) → after ≡ (account AtFirst first ∷ before.0, before.1) → IsEnd plans after.0 → length plans ≡ count →
+pub one_order_gathered : {S : Type 0} (plan : ℕ → ShardPlan) (count callers : ℕ) (plans : List ShardPlan) (journals : JournalsView) (passes : List PassView) (first : List Deed)
+    (before after : Me S (List Account)) → after ≡ (account AtFirst first ∷ before.0, before.1) → IsEnd plans callers after.0 → length plans ≡ count →
     ((number : ℕ) → number < count → plan_in plans number ≡ plan number) → ((number : ℕ) → number < count → HasShard number (entries_at journals number) before.0) →
-    ((place : ℕ) → place < length passes → IsOneOfAccounts (account_of (pass_at passes place)) before.0) → IsOneOrderBehind plan count first journals passes
-one_order_gathered {S} plan count plans journals passes first before after is end sized alike shards callers =
-    one_order_behind plan count plans journals passes first before.0 (subst (λ (l : List Account). IsEnd plans l) (ap (λ (m : Me S (List Account)). m.0) is) end)
-    sized alike shards callers
+    ((place : ℕ) → place < length passes → IsOneOfAccounts (account_of (pass_at passes place)) before.0) → IsOneOrderBehind plan count callers first journals passes
+one_order_gathered {S} plan count callers plans journals passes first before after is end sized alike shards handed =
+    one_order_behind plan count callers plans journals passes first before.0 (subst (λ (l : List Account). IsEnd plans callers l) (ap (λ (m : Me S (List Account)). m.0) is) end)
+    sized alike shards handed

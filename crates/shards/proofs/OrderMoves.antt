@@ -17,7 +17,6 @@ use Rattle.shards.specs.declared.deeds.Deed.TheVariants.{Wrote, MetFull}
 use Rattle.shards.specs.declared.deeds.OrderPart.{OrderPart}
 use Rattle.shards.specs.declared.deeds.OrderPart.TheVariants.{OnShard, ByCaller, AtFirst}
 use Rattle.shards.specs.declared.deeds.Account.{Account}
-use Rattle.shards.specs.LockRule.{caller_at}
 use Rattle.shards.specs.Deeds.{shard_of_deed, caller_of_deed, is_deed_of, deeds_of, entries_made, made_on, IsMetBehind}
 use Rattle.shards.specs.OrderRule.{part_code, plan_in, account, caller_accounts, first_accounts, all_others, first_alone, with_first, IsOther, AreOther, account_deeds, deeds_viewed, deeds_at, IsOwner, IsPartOf, IsAccount, AreAccounts, IsOrderRuleKept, IsEnd, IsOneOfAccounts, noted, AddsDeed, MakesEmptySeat, BringsNothing}
 use Rattle.shards.proofs.Callers.{is_own, is_other, place_at}
@@ -378,6 +377,6 @@ in_order callers owner all id (other ∷ others) are one has = ⊎_elim
     (λ (same : other ≡ one). subst (λ (a : Account). IsPartOf all a.part a.deeds) same are.0.kept) (in_order callers owner all id others are.1 one) has
 
 pub order_ends : {S : Type 0} (plans : List ShardPlan) (callers id : ℕ) (v : List Account) (words : List ℕ) (slots : List S) →
-    Final (Seen (IsOrderRuleKept plans callers) id v) words slots → IsEnd plans v
+    Final (Seen (IsOrderRuleKept plans callers) id v) words slots → IsEnd plans callers v
 order_ends plans callers id v words slots final =
-    let h = final.1.0 in record { all = h.all; within = h.within; met = h.met; each = in_order callers h.owner h.all id v (h.fits id v final.1.1) }
+    let h = final.1.0 in record { all = h.all; within = h.within; by = h.by; met = h.met; each = in_order callers h.owner h.all id v (h.fits id v final.1.1) }

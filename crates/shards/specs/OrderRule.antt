@@ -1,7 +1,7 @@
 -- The rule of the order: each part (a shard, a caller) has one account, which lies with one seat and is all deeds of this part in the
 -- order. So who has the account of a shard and that of a caller can add what the caller does on the shard, and both know that nothing was
 -- added in between. And who has the accounts of all callers knows the whole order so far: the order begins with it from then on, and any seat
--- may know that.
+-- may know that. So may it know that the order begins with all that was done so far, of which its own accounts are parts.
 use Rattle.std.specs.Prelude.{◌≡◌, ◌≢◌, ℕ, zero, suc, ◌*◌, ◌<◌, List, [], ◌∷◌, ◌⊎◌, map, length, slice_index_or}
 use Rattle.std.specs.List.{AllByRecursion}
 use mathlib.Core.Option.{some}
@@ -128,6 +128,15 @@ last_deeds (one ∷ other ∷ more) = last_deeds (other ∷ more)
 abbrev pub SeesFirst : {S : Type 0} → Me S (List Account) → Me S (List Account) → Type 0
 SeesFirst v w = w ≡ (account AtFirst (last_deeds v.0) ∷ v.0, v.1)
 
+-- each account is its part of this order
+abbrev pub AreParts : List Deed → List Account → Type 0
+AreParts all [] = Unit {0}
+AreParts all (one ∷ others) = IsPartOf all one.part one.deeds × AreParts all others
+
+-- a seat learns that the order begins with all that was done so far, of which its accounts are parts
+abbrev pub SeesSoFar : {S : Type 0} → Me S (List Account) → Me S (List Account) → Type 0
+SeesSoFar v w = (all : List Deed) × AreParts all v.0 × (w ≡ (account AtFirst all ∷ v.0, v.1))
+
 -- a seat comes that knows a beginning without deeds
 abbrev pub BringsNothing : {S : Type 0} → Me S (List Account) → Type 0
 BringsNothing w = w ≡ (account AtFirst [] ∷ [], [])
@@ -232,9 +241,10 @@ abbrev pub IsOneOfAccounts : Account → List Account → Type 0
 IsOneOfAccounts one [] = ⊥
 IsOneOfAccounts one (other ∷ others) = (other ≡ one) ⊎ IsOneOfAccounts one others
 
--- one list of deeds; each of these accounts is a part of it
-pub record IsEnd (plans : List ShardPlan) (accounts : List Account) : Type 0 where
+-- one list of deeds of N callers; each of these accounts is a part of it
+pub record IsEnd (plans : List ShardPlan) (callers : ℕ) (accounts : List Account) : Type 0 where
   pub all : List Deed
   pub within : AreDeedsWithin (length plans) all
+  pub by : AreByCallers callers all
   pub met : AreMet (plan_in plans) all
   pub each : (one : Account) → IsOneOfAccounts one accounts → IsPartOf all one.part one.deeds

@@ -135,6 +135,7 @@ impl<'a> Ask for Looks<'a> {
         }
     }
 
+    #[inline(always)]
     fn make(self, shard: &mut Shard, who: Caller) -> Result<Option<u64>, JournalFull> {
         shard.lookup(who, self.key)
     }
@@ -164,6 +165,7 @@ impl<'a> Ask for Loads<'a> {
         HeldChange::Stays
     }
 
+    #[inline(always)]
     fn make(self, shard: &mut Shard, who: Caller) -> Result<u64, JournalFull> {
         shard.load(who, self.range)
     }

@@ -1,11 +1,13 @@
 //! The end of all calls.
 
-ghost use Rattle.std.specs.Prelude.{◌≡◌, ◌≢◌, ◌<◌, ℕ, length};
+ghost use Rattle.std.specs.Prelude.{◌≡◌, ◌≢◌, ◌<◌, ◌+◌, ℕ, length};
 ghost use Rattle.semantics.specs.History.{IsLegalJournal};
 ghost use Rattle.journals.specs.JournalsView.{entries_at};
 ghost use Rattle.shards.specs.CallerView.{IsSettled};
 ghost use Rattle.shards.specs.declared.deeds.Account.{Account};
+ghost use Rattle.shards.specs.declared.deeds.OrderPart.TheVariants.{ByCaller};
 ghost use Rattle.shards.specs.ClosedOrders.{HasGathered, IsOneOrder, IsOneOrderBehind, account_of};
+ghost use Rattle.shards.specs.Deeds.{deeds_of, AreFirst};
 ghost use Rattle.shards.specs.GuardedView.{keyed};
 ghost use Rattle.shards.specs.OrderRule.{IsOneOfAccounts};
 ghost use Rattle.shards.specs.Passes.{pass_at, view_at, AreSettled};
@@ -14,7 +16,7 @@ ghost use Rattle.shards.specs.Seats.{IsLockOf};
 use crate::first::First;
 use crate::lock::visit;
 use crate::naming::Naming;
-use crate::order::{end, gather, visitor};
+use crate::order::{all_so_far, end, gather, visitor};
 use crate::order_rule::{Order, OrderSeat};
 use crate::pass::Pass;
 use crate::rule::Lock;
@@ -22,9 +24,24 @@ use crate::sharing::Shards;
 use crate::showing::close;
 use journal::Journal;
 use journals::Journals;
+use std::marker::PhantomData;
 use std::sync::Wait;
 
 impl<B: Naming> Shards<B> {
+    /// All that was done so far, with which the one order of all deeds begins: what the pass's caller did is its part of it. It begins with
+    /// what was known to come first. Changes nothing.
+    pub fn so_far(&self, pass: &mut Pass<B>, earlier: First<B>) -> First<B>
+        ensures later { AreFirst earlier result }
+        ensures own { pass.old.deeds ≡ deeds_of (ByCaller pass.old.who) result }
+        ensures pass { pass.new ≡ pass.old }
+    {
+        let who = pass.who;
+        First {
+            seat: all_so_far(&self.order, &mut pass.seat, who, earlier.into_seat()),
+            names: PhantomData,
+        }
+    }
+
     /// Ends all calls, and returns the journals; each is legal. Of each pass that is handed in, what it saw is a beginning of the
     /// journal, and its own entries are all that the journal has of its caller. Takes no memory.
     pub fn close(self, rt: &impl Wait, passes: Vec<Pass<B>>) -> Journals
@@ -33,7 +50,7 @@ impl<B: Naming> Shards<B> {
         ensures count { length result.shards ≡ B.count }
         ensures legal { (number : ℕ) → number < B.count → IsLegalJournal (B.plan number) (entries_at result number) }
         ensures settled { (place : ℕ) → place < length passes.items → AreSettled B.count result (pass_at passes.items place) }
-        ensures did { IsOneOrder B.plan B.count result passes.items }
+        ensures did { IsOneOrder B.plan B.count (self.options.workers + 2) result passes.items }
     {
         let first = First::nothing(&self.order);
         self.close_behind(rt, passes, first)
@@ -46,7 +63,7 @@ impl<B: Naming> Shards<B> {
         ensures count { length result.shards ≡ B.count }
         ensures legal { (number : ℕ) → number < B.count → IsLegalJournal (B.plan number) (entries_at result number) }
         ensures settled { (place : ℕ) → place < length passes.items → AreSettled B.count result (pass_at passes.items place) }
-        ensures did { IsOneOrderBehind B.plan B.count first result passes.items }
+        ensures did { IsOneOrderBehind B.plan B.count (self.options.workers + 2) first result passes.items }
     {
         let Shards {
             mut locks,

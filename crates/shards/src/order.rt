@@ -3,7 +3,7 @@
 ghost use Rattle.std.specs.Prelude.{◌≡◌, ◌<◌, ◌∷◌, ◌≤◌, [], drop, length, IfOk, OnOk};
 ghost use Rattle.shards.specs.declared.deeds.OrderPart.{OrderPart};
 ghost use Rattle.shards.specs.declared.deeds.OrderPart.TheVariants.{OnShard, ByCaller, AtFirst};
-ghost use Rattle.shards.specs.Deeds.{shard_of_deed, caller_of_deed, entries_made, IsMetBehind};
+ghost use Rattle.shards.specs.Deeds.{shard_of_deed, caller_of_deed, deeds_of, entries_made, AreFirst, IsMetBehind};
 ghost use Rattle.shards.specs.OrderRule.{IsPlaceOf, IsSeatFor, IsEnd, HaveDistinctParts, ArePlaces, AreShardPlaces, AreCallerPlaces};
 ghost use Rattle.shards.specs.OrderRule.{AreWaiting, HasAllOf, last_deeds};
 ghost use Rattle.shards.specs.OrderRule.{deeds_at, account_deeds, plan_in, with_first};
@@ -13,7 +13,7 @@ use crate::asks::Ask;
 use crate::item::Item;
 use crate::order_rule::{
     AddsDeed, BringsNothing, DealsAccount, MakesEmptySeat, Order, OrderKey, OrderPlace, OrderSeat,
-    SeesFirst, TakesAccount,
+    SeesFirst, SeesSoFar, TakesAccount,
 };
 use atomic_table::Badge;
 use semantics::{Caller, ShardPlan};
@@ -182,11 +182,36 @@ pub(crate) fn first_of_nothing(order: &Order) -> OrderSeat
     order.shared.load_new_seat::<BringsNothing>(0).1
 }
 
+/// A seat that knows that the order begins with all that was done so far, from one that knows an earlier beginning: the deeds of the seat of
+/// this caller are their part of it. The caller is for the proof alone.
+pub(crate) fn all_so_far(
+    order: &Order,
+    mine: &mut OrderSeat,
+    who: Caller,
+    earlier: OrderSeat,
+) -> OrderSeat
+    requires order { 0 < order.now.shared.table_id.words }
+    requires mine { IsSeatFor order.now.shared.table_id (ByCaller who) mine.old }
+    requires earlier { IsSeatFor order.now.shared.table_id AtFirst earlier }
+    ensures mine { IsSeatFor order.now.shared.table_id (ByCaller who) mine.new }
+    ensures same { account_deeds mine.new.me.0 ≡ account_deeds mine.old.me.0 }
+    ensures first { IsSeatFor order.now.shared.table_id AtFirst result }
+    ensures later { AreFirst (account_deeds earlier.me.0) (account_deeds result.me.0) }
+    ensures own { account_deeds mine.old.me.0 ≡ deeds_of (ByCaller who) (account_deeds result.me.0) }
+{
+    let _ = who;
+    order.shared.join_seat::<TakesAccount>(mine, earlier);
+    order.shared.load::<SeesSoFar>(mine, 0);
+    let all = order.shared.split_seat::<DealsAccount>(mine);
+    let _earlier = order.shared.split_seat::<DealsAccount>(mine);
+    all
+}
+
 /// Ends the order, in which the seat's accounts are.
 pub(crate) fn end(order: Order, seat: OrderSeat)
     requires no_slot { order.shared.table_id.slots ≡ 0 }
     requires seat { seat.table_id ≡ order.shared.table_id }
-    ensures { IsEnd order.shared.key.plans.items seat.me.0 }
+    ensures { IsEnd order.shared.key.plans.items order.shared.key.callers seat.me.0 }
 {
     let closed = order.close_with(seat);
     closed.free();

@@ -79,6 +79,15 @@ impl Play<u8, LinkedList<Account>> for SeesFirst {
     ghost then = { λ s v found w. SeesFirst v w };
 }
 
+/// A step by which a seat learns that the order begins with all that was done so far, of which its accounts are parts.
+pub struct SeesSoFar;
+
+impl Play<u8, LinkedList<Account>> for SeesSoFar {
+    ghost use Rattle.shards.specs.OrderRule.{SeesSoFar};
+
+    ghost then = { λ s v found w. SeesSoFar v w };
+}
+
 /// A step that makes a seat that knows a beginning without deeds.
 pub struct BringsNothing;
 

@@ -104,7 +104,7 @@ fn main(rt: HostRuntime) -> io::Result<ExitCode> {
         Ok(settings) => settings,
         Err(status) => return Ok(ExitCode::from(status)),
     };
-    let mut folder = FileFolder::new(&rt, rt.stdin(), rt.stdout());
+    let mut folder = FileFolder::new(&rt, alloc, rt.stdin(), rt.stdout());
     let mut err = StreamSink::new(rt.stderr());
     let progress = TerminalProgress::new(&rt, rt.stderr().is_terminal());
     let status = if writes_output(&settings) {

@@ -8,6 +8,7 @@ use Rattle.map_updates.specs.declared.update.MapUpdate.{MapUpdate}
 use Rattle.wire.specs.declared.records.Sent.{Sent}
 use Rattle.control.specs.declared.command.Command.{Command}
 use Rattle.journals.specs.JournalsView.{JournalsView}
+use Rattle.journals.specs.JournalText.{journals_text}
 use Rattle.command_line.specs.declared.commands.ReplayFiles.{ReplayFiles}
 use Rattle.command_line.specs.Reading.{text_of}
 use Rattle.traffic.specs.declared.readings.Reading.{Reading}
@@ -15,7 +16,7 @@ use Rattle.fleet.specs.declared.part.Part.{Part}
 use Rattle.xlb_commands.specs.declared.fault.Fault.{Fault}
 use Rattle.xlb_commands.specs.declared.report.Report.{Report}
 use Rattle.xlb_commands.specs.Files.{FileBytes, AreKept, AreOthersKept, AreAllButKept}
-use Rattle.xlb_commands.specs.Replays.{IsCaptureOf, IsReplayReport, IsScriptOf}
+use Rattle.xlb_commands.specs.Replays.{AreWritten, IsCaptureOf, IsReplayReport, IsScriptOf}
 use Rattle.xlb_commands.specs.Refused.{AreUnfiled, no_sent_file, no_journals_file, no_report_file}
 use Rattle.xlb_commands.specs.Refused.{IsBrokenOff, no_piece, no_replay_memory}
 use Rattle.xlb_commands.specs.Refused.{IsUnmade, given_up, not_reported, not_written_down}
@@ -53,6 +54,26 @@ unfiled_before a b c failed since names sent journals fault kept so (no_journals
     no_journals_file stands (unfiled_since (text_of names.journals) failed since fault so unwritten)
 unfiled_before a b c failed since names sent journals fault kept so (no_report_file stands written unwritten) =
     no_report_file stands written (unfiled_since (text_of names.report) failed since fault so unwritten)
+
+-- nor did a call behind them change files
+written_still : (b c : FileBytes) (name : Option (List ℕ)) (journals : JournalsView) → AreKept b c → AreWritten b name journals → AreWritten c name journals
+written_still b c None journals kept written = written
+written_still b c (Some file) journals kept written = (kept file (journals_text journals)).0 written
+
+pub unfiled_still : (a b c : FileBytes) (failed since : Type 0) (names : ReplayFiles) (sent : List ℕ) (journals : JournalsView) (fault : Fault)
+    → AreKept b c → (failed → since) → AreUnfiled a b failed names sent journals fault → AreUnfiled a c since names sent journals fault
+unfiled_still a b c failed since names sent journals fault kept so (no_sent_file others unserved) =
+    no_sent_file
+    (λ name bytes apart. (
+      (λ had. (kept name bytes).0 ((others name bytes apart).0 had)),
+      (λ has. (others name bytes apart).1 ((kept name bytes).1 has)),
+    ))
+    (unserved_since failed since fault so unserved)
+unfiled_still a b c failed since names sent journals fault kept so (no_journals_file stands unwritten) =
+    no_journals_file (λ apart. (kept _ _).0 (stands apart)) (unfiled_since (text_of names.journals) failed since fault so unwritten)
+unfiled_still a b c failed since names sent journals fault kept so (no_report_file stands written unwritten) =
+    no_report_file (λ apart third. (kept _ _).0 (stands apart third)) (λ apart. written_still b c (text_of names.journals) journals kept (written apart))
+    (unfiled_since (text_of names.report) failed since fault so unwritten)
 
 pub broken_since : (failed since : Type 0) (fault : Fault) → (failed → since) → IsBrokenOff failed fault → IsBrokenOff since fault
 broken_since failed since fault so (no_piece unserved) = no_piece (unserved_since failed since fault so unserved)

@@ -1,12 +1,14 @@
 -- The lemmas that proofs of this crate share.
 pub mod AcceptedJournals
 pub mod Earlier
+pub mod EndsInPieces
 pub mod LongImages
 pub mod Outcomes
 pub mod PartScripts
 pub mod PieceLemmas
 pub mod ReaderFiles
+pub mod ReportPieces
 pub mod Refusals
 pub mod SameFiles
 pub mod SameFolders
-pub mod ShareLemmas
+pub mod TakingLemmas

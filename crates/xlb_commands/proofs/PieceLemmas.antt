@@ -1,5 +1,6 @@
 -- What is read, run and written in pieces, one piece after another.
-use Rattle.std.proofs.Common.{◌≡◌, ◌∙◌, ◌++◌, ◌∷◌, ◌↔◌, ℕ, false, List, [], append-nil, append_assoc, ap, refl, subst, sym}
+use Rattle.std.proofs.Common.{arith, ◌≡◌, ◌∙◌, ◌+◌, ◌++◌, ◌∷◌, ◌↔◌, ℕ, false, List, [], append-nil, append_assoc, ap, ap₂, length, refl, subst, sym}
+use Rattle.std.proofs.lemmas.List.{length-append}
 use Rattle.std.specs.List.{AllByRecursion}
 use Rattle.folders.specs.PieceReading.{ReaderView, IsReadTo, IsReadWhole}
 use Rattle.control.specs.declared.command.Command.{Command}
@@ -12,7 +13,10 @@ use Rattle.semantics.specs.declared.options.Options.{Options}
 use Rattle.wire.specs.CaptureFormat.{record_bytes, records_bytes}
 use Rattle.wire.specs.declared.records.Sent.{Sent}
 use Rattle.xlb_commands.specs.Files.{FileBytes, AreKept}
-use Rattle.xlb_commands.specs.InPieces.{AreAdded, AreRun, HaveRun}
+use Rattle.command_line.specs.declared.commands.ReplayFiles.{ReplayFiles}
+use Rattle.xlb_commands.specs.InPieces.{AreAdded, AreOfRecords, AreRun, AreTold, AreToldBehind, HaveRun}
+use Rattle.xlb_commands.specs.RecordReports.{backends_in, form_of, runs_shipped, sent_before}
+use Rattle.xlb_commands.proofs.ReportPieces.{lines_of_both, sent_behind}
 use Rattle.traffic.specs.Readings.{unaltered}
 use Rattle.xlb_commands.specs.Replays.{IsCaptureOf}
 
@@ -39,48 +43,93 @@ run_both program script options a b c xs ys sent later_sent ends later_ends firs
     (append_assoc past_ends ends later_ends)
     (second updates (past ++ xs) (past_sent ++ sent) (past_ends ++ ends) (first updates past past_sent past_ends under))))
 
-added_both : (a b c : FileBytes) (sent later : List Sent) → AreAdded a b sent → AreAdded b c later → AreAdded a c (sent ++ later)
-added_both a b c sent later first second = λ name bytes begun.
-    subst (λ (them : List ℕ). c name them)
-    (append_assoc bytes (records_bytes sent) (records_bytes later)
-    ∙ ap (λ (more : List ℕ). bytes ++ more) (sym (records_bytes-append sent later)))
-    (second name (bytes ++ records_bytes sent) (first name bytes begun))
+added_both : (a b c : FileBytes) (name more later : List ℕ) → AreAdded a b name more → AreAdded b c name later → AreAdded a c name (more ++ later)
+added_both a b c name more later first second = λ bytes begun.
+    subst (λ (them : List ℕ). c name them) (append_assoc bytes more later) (second (bytes ++ more) (first bytes begun))
 
--- one piece after another
-pub run_on : (program : Program) (script : List Command) (options : Options) (a b c : PieceReplay) (made made' made'' : FileBytes) (xs ys : List Sent)
-    → HaveRun program script options a b made made' xs → HaveRun program script options b c made' made'' ys → HaveRun program script options a c made made'' (xs ++ ys)
-run_on program script options a b c made made' made'' xs ys first second = record {
-  captured = captured_both xs ys first.captured second.captured;
-  sent = first.sent ++ second.sent;
-  ends = first.ends ++ second.ends;
-  run = run_both program script options a b c xs ys first.sent second.sent first.ends second.ends first.run second.run;
-  added = added_both made made' made'' first.sent second.sent first.added second.added;
-}
+-- what is told of records and of others behind them
+module _ (program : Program) (script : List Command) (options : Options) (files : ReplayFiles) where
+  of_both : (xs ys sent later_sent : List Sent) (ends later_ends : List RecordEnd) → AreOfRecords xs sent ends → AreOfRecords ys later_sent later_ends
+      → AreOfRecords (xs ++ ys) (sent ++ later_sent) (ends ++ later_ends)
+  of_both xs ys sent later_sent ends later_ends one other =
+      let records = length-append xs ys in
+      let all = length-append ends later_ends in
+      let frames = length-append sent later_sent in (
+        omega (arith, records, all, one.0, other.0),
+        frames ∙ (ap₂ (◌+◌) one.1 other.1
+            ∙ sym (ap (λ (n : ℕ). sent_before (ends ++ later_ends) n) all ∙ sent_behind ends later_ends (length later_ends))),
+      )
 
--- no piece
-pub none_run : (program : Program) (script : List Command) (options : Options) (a : PieceReplay) (made made' : FileBytes) → AreKept made made'
-    → HaveRun program script options a a made made' []
-none_run program script options a made made' kept = record {
-  captured = tt;
-  sent = [];
-  ends = [];
-  run = λ updates past past_sent past_ends under.
-      subst (λ (records : List Sent). IsUnderway program script options updates records (past_sent ++ []) (past_ends ++ []) a) (sym (append-nil past))
-      (subst (λ (them : List Sent). IsUnderway program script options updates past them (past_ends ++ []) a) (sym (append-nil past_sent))
-      (subst (λ (them : List RecordEnd). IsUnderway program script options updates past past_sent them a) (sym (append-nil past_ends)) under));
-  added = λ name bytes begun. subst (λ (them : List ℕ). made' name them) (sym (append-nil bytes)) ((kept name bytes).0 begun);
-}
+  told_both : (a b c : FileBytes) (first : ℕ) (xs ys sent later_sent : List Sent) (ends later_ends : List RecordEnd) → AreOfRecords xs sent ends
+      → AreTold a b files script first xs sent ends → AreTold b c files script (first + length xs) ys later_sent later_ends
+      → AreTold a c files script first (xs ++ ys) (sent ++ later_sent) (ends ++ later_ends)
+  told_both a b c first xs ys sent later_sent ends later_ends fit one other = λ name is.
+      subst (λ (lines : List ℕ). AreAdded a c name lines)
+      (sym (lines_of_both (form_of name) (runs_shipped files) (backends_in script) first xs ys ends later_ends sent later_sent fit.0 fit.1))
+      (added_both a b c name _ _ (one name is) (other name is))
 
--- what was made before the piece is what was made before its reading
-pub run_after : (program : Program) (script : List Command) (options : Options) (a b : PieceReplay) (made made' made'' : FileBytes) (records : List Sent) → AreKept made made'
-    → HaveRun program script options a b made' made'' records → HaveRun program script options a b made made'' records
-run_after program script options a b made made' made'' records kept run = record {
-  captured = run.captured;
-  sent = run.sent;
-  ends = run.ends;
-  run = run.run;
-  added = λ name bytes begun. run.added name bytes ((kept name bytes).0 begun);
-}
+  behind_both : (before between : PieceReplay) (a b c : FileBytes) (xs ys sent later_sent : List Sent) (ends later_ends : List RecordEnd)
+      → AreRun program script options before between xs sent ends
+      → AreToldBehind program script options files before a b xs sent ends
+      → AreToldBehind program script options files between b c ys later_sent later_ends
+      → AreToldBehind program script options files before a c (xs ++ ys) (sent ++ later_sent) (ends ++ later_ends)
+  behind_both before between a b c xs ys sent later_sent ends later_ends run one other = λ updates past past_sent past_ends under.
+      let first = one updates past past_sent past_ends under in
+      let second = other updates (past ++ xs) (past_sent ++ sent) (past_ends ++ ends) (run updates past past_sent past_ends under) in (
+        of_both xs ys sent later_sent ends later_ends first.0 second.0,
+        λ apart. told_both a b c (length past) xs ys sent later_sent ends later_ends first.0 (first.1 apart)
+            (subst (λ (n : ℕ). AreTold b c files script n ys later_sent later_ends) (length-append past xs) (second.1 apart)),
+      )
+
+  -- one piece after another
+  pub run_on : (a b c : PieceReplay) (made made' made'' : FileBytes) (xs ys : List Sent)
+      → HaveRun program script options files a b made made' xs → HaveRun program script options files b c made' made'' ys
+      → HaveRun program script options files a c made made'' (xs ++ ys)
+  run_on a b c made made' made'' xs ys first second = record {
+    captured = captured_both xs ys first.captured second.captured;
+    sent = first.sent ++ second.sent;
+    ends = first.ends ++ second.ends;
+    run = run_both program script options a b c xs ys first.sent second.sent first.ends second.ends first.run second.run;
+    added = λ apart.
+        subst (λ (more : List ℕ). AreAdded made made'' files.sent.now more) (sym (records_bytes-append first.sent second.sent))
+        (added_both made made' made'' files.sent.now _ _ (first.added apart) (second.added apart));
+    told = behind_both a b made made' made'' xs ys first.sent second.sent first.ends second.ends first.run first.told second.told;
+  }
+
+  -- no piece
+  none_added : (made made' : FileBytes) (name : List ℕ) → AreKept made made' → AreAdded made made' name []
+  none_added made made' name kept = λ bytes begun.
+      subst (λ (them : List ℕ). made' name them) (sym (append-nil bytes)) ((kept name bytes).0 begun)
+
+  pub none_run : (a : PieceReplay) (made made' : FileBytes) → AreKept made made' → HaveRun program script options files a a made made' []
+  none_run a made made' kept = record {
+    captured = tt;
+    sent = [];
+    ends = [];
+    run = λ updates past past_sent past_ends under.
+        subst (λ (records : List Sent). IsUnderway program script options updates records (past_sent ++ []) (past_ends ++ []) a) (sym (append-nil past))
+        (subst (λ (them : List Sent). IsUnderway program script options updates past them (past_ends ++ []) a) (sym (append-nil past_sent))
+        (subst (λ (them : List RecordEnd). IsUnderway program script options updates past past_sent them a) (sym (append-nil past_ends)) under));
+    added = λ apart. none_added made made' files.sent.now kept;
+    told = λ updates past past_sent past_ends under. ((refl, refl), λ apart name is. none_added made made' name kept);
+  }
+
+  -- what was made before the piece is what was made before its reading
+  added_after : (made made' made'' : FileBytes) (name more : List ℕ) → AreKept made made' → AreAdded made' made'' name more → AreAdded made made'' name more
+  added_after made made' made'' name more kept added = λ bytes begun. added bytes ((kept name bytes).0 begun)
+
+  pub run_after : (a b : PieceReplay) (made made' made'' : FileBytes) (records : List Sent) → AreKept made made'
+      → HaveRun program script options files a b made' made'' records → HaveRun program script options files a b made made'' records
+  run_after a b made made' made'' records kept run = record {
+    captured = run.captured;
+    sent = run.sent;
+    ends = run.ends;
+    run = run.run;
+    added = λ apart. added_after made made' made'' files.sent.now _ kept (run.added apart);
+    told = λ updates past past_sent past_ends under.
+        let it = run.told updates past past_sent past_ends under in
+        (it.0, λ apart name is. added_after made made' made'' name _ kept (it.1 apart name is));
+  }
 
 -- what is left of the file is the same
 pub read_still : (has left left' : List ℕ → Type 0) (records : List Sent) (reader : ReaderView) → ((bytes : List ℕ) → (left bytes ↔ left' bytes))

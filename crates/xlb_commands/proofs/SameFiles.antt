@@ -69,21 +69,21 @@ same_text form is_steering backends number captured other end sent others same a
 
 same_line : (form : ReportForm) (is_steering : Bool) (backends : List (ℕ × ℕ)) (ends : List RecordEnd) (sent others : List Sent) (number : ℕ)
     (captured other : Option Sent) → AreAlike captured other → AreSameFrames sent others
-    → line_of_record form is_steering backends ends sent number captured ≡ line_of_record form is_steering backends ends others number other
+    → line_of_record form is_steering backends 0 ends sent number captured ≡ line_of_record form is_steering backends 0 ends others number other
 same_line form is_steering backends ends sent others number None None alike same = refl
 same_line form is_steering backends ends sent others number None (Some other) alike same = absurd alike
 same_line form is_steering backends ends sent others number (Some captured) None alike same = absurd alike
 same_line form is_steering backends ends sent others number (Some captured) (Some other) alike same =
-    same_text form is_steering backends number captured other (end_of ends number) _ _ alike (alike_at sent others same (sent_before ends number))
+    same_text form is_steering backends (0 + number) captured other (end_of ends number) _ _ alike (alike_at sent others same (sent_before ends number))
 
 same_lines : (form : ReportForm) (is_steering : Bool) (backends : List (ℕ × ℕ)) (records its : List Sent) (ends : List RecordEnd)
     (sent others : List Sent) → AreSameFrames records its → AreSameFrames sent others → (number : ℕ)
-    → lines_until form is_steering backends records ends sent number ≡ lines_until form is_steering backends its ends others number
+    → lines_until form is_steering backends 0 records ends sent number ≡ lines_until form is_steering backends 0 its ends others number
 same_lines form is_steering backends records its ends sent others captured same zero = refl
 same_lines form is_steering backends records its ends sent others captured same (suc number) =
-    ap (λ (text : List ℕ). text ++ line_of_record form is_steering backends ends sent number (slice_get records number))
+    ap (λ (text : List ℕ). text ++ line_of_record form is_steering backends 0 ends sent number (slice_get records number))
     (same_lines form is_steering backends records its ends sent others captured same number)
-    ∙ ap (λ (text : List ℕ). lines_until form is_steering backends its ends others number ++ text)
+    ∙ ap (λ (text : List ℕ). lines_until form is_steering backends 0 its ends others number ++ text)
     (same_line form is_steering backends ends sent others number _ _ (alike_at records its captured number) same)
 
 same_count : (one other : List Sent) → AreSameFrames one other → length one ≡ length other
@@ -95,7 +95,7 @@ same_report : (form : ReportForm) (is_steering : Bool) (script : List Command) (
 same_report form is_steering script records its ends sent others captured same =
     ap (λ (text : List ℕ). report_head form ++ text)
     (same_lines form is_steering (backends_in script) records its ends sent others captured same (length records)
-    ∙ ap (λ (count : ℕ). lines_until form is_steering (backends_in script) its ends others count) (same_count records its captured))
+    ∙ ap (λ (count : ℕ). lines_until form is_steering (backends_in script) 0 its ends others count) (same_count records its captured))
 
 sent_alike : (script : List Command) (records others : List Sent) (one other : Outcome) → AreSameFrames records others
     → SendTheSame one other → SendTheSameBytes script records others one other

@@ -1,5 +1,5 @@
--- An exact replay whose capture is read, and whose sent frames are written, in pieces.
-use Rattle.std.specs.Prelude.{◌≡◌, ◌↔◌, ◌+◌, ◌*◌, ◌^◌, ◌≤◌, ◌++◌, ℕ, true, false, List, [], Option, Some, length, string_bytes}
+-- An exact replay whose capture is read, and whose sent frames and report are written, in pieces.
+use Rattle.std.specs.Prelude.{◌≡◌, ◌≢◌, ◌↔◌, ◌+◌, ◌*◌, ◌^◌, ◌≤◌, ◌++◌, ℕ, true, false, List, [], Option, Some, length, string_bytes}
 use Rattle.std.specs.List.{AllByRecursion}
 use Rattle.ebpf_decode.specs.ImageContents.{Contents}
 use Rattle.abstract_state.specs.declared.state.State.{State}
@@ -24,8 +24,9 @@ use Rattle.command_line.specs.Reading.{text_of}
 use Rattle.command_line.specs.declared.commands.ReplayFiles.{ReplayFiles}
 use Rattle.xlb_commands.specs.declared.report.Report.{Report}
 use Rattle.xlb_commands.specs.Files.{FileBytes}
+use Rattle.xlb_commands.specs.RecordReports.{backends_in, form_of, lines_until, runs_shipped, sent_before}
 use Rattle.xlb_commands.specs.Parts.{command_frames, records_in, script_in}
-use Rattle.xlb_commands.specs.Shares.{AreNumbers}
+use Rattle.xlb_commands.specs.Taking.{AreNumbers}
 use Rattle.xlb_commands.specs.Replays.{AreAccepted, FollowsRule, IsCaptureOf, IsMade, KeepsHeadline, LeavesNothingOut, SendsAlike}
 use Rattle.xlb_commands.specs.Replays.{counts_text, program_of_replay, refusals_text}
 
@@ -40,18 +41,41 @@ AreRun program script options before after records sent ends =
     → IsUnderway program script options updates past past_sent past_ends before
     → IsUnderway program script options updates (past ++ records) (past_sent ++ sent) (past_ends ++ ends) after
 
--- the file that is being made has this many frames more
-abbrev pub AreAdded : FileBytes → FileBytes → List Sent → Type 0
-AreAdded before after sent = (name bytes : List ℕ) → before name bytes → after name (bytes ++ records_bytes sent)
+-- the file of this name, which is being made, has these bytes more
+abbrev pub AreAdded : FileBytes → FileBytes → List ℕ → List ℕ → Type 0
+AreAdded before after name more = (bytes : List ℕ) → before name bytes → after name (bytes ++ more)
 
--- some records were run, and what of them is sent was added to the file that is being made
-pub record HaveRun (program : Program) (script : List Command) (options : Options) (before after : PieceReplay) (made made' : FileBytes)
-    (records : List Sent) : Type 0 where
+-- the sent frames and the report have files of two names
+abbrev pub AreApartInPieces : ReplayFiles → Type 0
+AreApartInPieces files = text_of files.report ≢ Some files.sent.now
+
+-- the report has the lines of these records more, which come behind the first ones, if it is asked for
+abbrev pub AreTold : FileBytes → FileBytes → ReplayFiles → List Command → ℕ → List Sent → List Sent → List RecordEnd → Type 0
+AreTold before after files script first records sent ends = (name : List ℕ) → text_of files.report ≡ Some name →
+    AreAdded before after name (lines_until (form_of name) (runs_shipped files) (backends_in script) first records ends sent (length records))
+
+-- each record has an end, and each that was sent a frame
+abbrev pub AreOfRecords : List Sent → List Sent → List RecordEnd → Type 0
+AreOfRecords records sent ends = (length ends ≡ length records) × (length sent ≡ sent_before ends (length ends))
+
+-- behind records that were run before: what was run is of these records, and the report tells of them
+abbrev pub AreToldBehind : Program → List Command → Options → ReplayFiles → PieceReplay → FileBytes → FileBytes → List Sent → List Sent
+    → List RecordEnd → Type 0
+AreToldBehind program script options files replay before after records sent ends =
+    (updates : List MapUpdate) (past past_sent : List Sent) (past_ends : List RecordEnd)
+    → IsUnderway program script options updates past past_sent past_ends replay
+    → AreOfRecords records sent ends
+    × (AreApartInPieces files → AreTold before after files script (length past) records sent ends)
+
+-- some records were run, and what of them is sent, and what is told of them, was added to the files that are being made
+pub record HaveRun (program : Program) (script : List Command) (options : Options) (files : ReplayFiles) (before after : PieceReplay)
+    (made made' : FileBytes) (records : List Sent) : Type 0 where
   pub captured : AllByRecursion IsCaptured records
   pub sent : List Sent
   pub ends : List RecordEnd
   pub run : AreRun program script options before after records sent ends
-  pub added : AreAdded made made' sent
+  pub added : AreApartInPieces files → AreAdded made made' files.sent.now (records_bytes sent)
+  pub told : AreToldBehind program script options files before made made' records sent ends
 
 -- the replay is at this place of some capture
 pub record IsGoing (program : Program) (script : List Command) (options : Options) (updates : List MapUpdate)
@@ -64,10 +88,11 @@ pub record IsGoing (program : Program) (script : List Command) (options : Option
 -- all that a replay promises holds for the outcome of an exact replay of these records, which sent these frames; and the bytes of the
 -- journals and the report are that outcome's
 pub record IsMadeOf (files : ReplayFiles) (program : Contents) (states : List (Option State)) (script : List Command) (options : Options)
-    (recording : Recording) (ring : ℕ) (updates : List MapUpdate) (records sent : List Sent) (report : Report)
+    (recording : Recording) (ring : ℕ) (updates : List MapUpdate) (records sent : List Sent) (ends : List RecordEnd) (report : Report)
     (journals : List ℕ) : Type 0 where
   pub whole : Outcome
   pub sent_are : whole.sent.items ≡ sent
+  pub ends_are : whole.ends.items ≡ ends
   pub made : IsMade true (program_of_replay program options) updates script (recorded recording options) records whole
   pub headline : KeepsHeadline program script (recorded recording options) records whole made.accounted
   pub by_rule :
@@ -88,9 +113,10 @@ pub record HasNumbers (files : FileBytes) (name : List ℕ) (part : Option Part)
 
 -- besides, all records of the part were run, or where none is asked for all of the capture
 pub record HasGoneThrough (files : FileBytes) (name : List ℕ) (part : Option Part) (whole : List Command) (numbers : List ℕ)
-    (program : Program) (script : List Command) (options : Options) (before after : PieceReplay) (made made' : FileBytes) : Type 0 where
+    (program : Program) (script : List Command) (options : Options) (names : ReplayFiles) (before after : PieceReplay)
+    (made made' : FileBytes) : Type 0 where
   pub numbered : HasNumbers files name part whole numbers
-  pub have_run : HaveRun program script options before after made made' (records_in part numbered.captured)
+  pub have_run : HaveRun program script options names before after made made' (records_in part numbered.captured)
 
 -- the file is a capture, in the part of which the commands of the script for the whole capture are those of this script; besides, the replay
 -- of the part came to its end, and the report and the bytes of the journals are its
@@ -99,7 +125,9 @@ pub record IsReplayLeft (before made made' : FileBytes) (files : ReplayFiles) (p
     (report : Report) (journals : List ℕ) : Type 0 where
   pub captured : List Sent
   pub sent : List Sent
+  pub ends : List RecordEnd
   pub capture : IsCaptureOf before unaltered files.capture.now captured
   pub script_is : script_in part captured whole ≡ script
-  pub added : AreAdded made made' sent
-  pub made_of : IsMadeOf files program states script options recording ring updates (records_in part captured) sent report journals
+  pub added : AreApartInPieces files → AreAdded made made' files.sent.now (records_bytes sent)
+  pub told : AreApartInPieces files → AreTold made made' files script 0 (records_in part captured) sent ends
+  pub made_of : IsMadeOf files program states script options recording ring updates (records_in part captured) sent ends report journals

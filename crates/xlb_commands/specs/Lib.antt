@@ -16,5 +16,5 @@ pub mod AcceptedJournals
 pub mod SameFiles
 pub mod SameFolders
 pub mod AskedReplays
-pub mod Shares
+pub mod Taking
 pub mod InPieces

@@ -128,23 +128,23 @@ abbrev pub sent_before : List RecordEnd → ℕ → ℕ
 sent_before ends zero = 0
 sent_before ends (suc number) = sent_before ends number + one_if (is_sent (end_of ends number))
 
--- the line of the record of this number, if there is one
-abbrev pub line_of_record : ReportForm → Bool → List (ℕ × ℕ) → List RecordEnd → List Sent → ℕ → Option Sent → List ℕ
-line_of_record form is_shipped backends ends sent number None = []
-line_of_record form is_shipped backends ends sent number (Some captured) =
-    line_text form is_shipped backends number captured (end_of ends number) (slice_get sent (sent_before ends number))
+-- the line of the record of this number behind the first ones, if there is one
+abbrev pub line_of_record : ReportForm → Bool → List (ℕ × ℕ) → ℕ → List RecordEnd → List Sent → ℕ → Option Sent → List ℕ
+line_of_record form is_shipped backends first ends sent number None = []
+line_of_record form is_shipped backends first ends sent number (Some captured) =
+    line_text form is_shipped backends (first + number) captured (end_of ends number) (slice_get sent (sent_before ends number))
 
--- the lines of the first N records
-abbrev pub lines_until : ReportForm → Bool → List (ℕ × ℕ) → List Sent → List RecordEnd → List Sent → ℕ → List ℕ
-lines_until form is_shipped backends records ends sent zero = []
-lines_until form is_shipped backends records ends sent (suc number) =
-    lines_until form is_shipped backends records ends sent number
-    ++ line_of_record form is_shipped backends ends sent number (slice_get records number)
+-- the lines of N records behind the first ones
+abbrev pub lines_until : ReportForm → Bool → List (ℕ × ℕ) → ℕ → List Sent → List RecordEnd → List Sent → ℕ → List ℕ
+lines_until form is_shipped backends first records ends sent zero = []
+lines_until form is_shipped backends first records ends sent (suc number) =
+    lines_until form is_shipped backends first records ends sent number
+    ++ line_of_record form is_shipped backends first ends sent number (slice_get records number)
 
 -- the head, and the lines of all records
 abbrev pub report_text : ReportForm → Bool → List Command → List Sent → List RecordEnd → List Sent → List ℕ
 report_text form is_shipped script records ends sent =
-    report_head form ++ lines_until form is_shipped (backends_in script) records ends sent (length records)
+    report_head form ++ lines_until form is_shipped (backends_in script) 0 records ends sent (length records)
 
 -- where a file is named for it, it has the report
 abbrev pub IsReportFile : FileBytes → Option (List ℕ) → Bool → List Command → List Sent → Outcome → Type 0

@@ -415,8 +415,8 @@ pub data AreUnfiled (before after : FileBytes) (failed : Type 0) (names : Replay
       → (text_of names.report ≢ text_of names.journals → AreWritten after (text_of names.journals) journals)
       → AreUnwritten (text_of names.report) failed fault → AreUnfiled before after failed names sent journals fault
 
--- what is read and asked for is right, and the replay was broken off while its capture was read, or its sent frames were written, in
--- pieces: the device failed, or memory was refused for a piece, for its sent frames, or for the replay
+-- what is read and asked for is right, and the replay was broken off while its capture was read, or its sent frames and its report were
+-- written, in pieces: the device failed, or memory was refused for a piece, for its sent frames or its lines, or for the replay
 pub data IsBrokenOff (failed : Type 0) (fault : Fault) : Type 0 where
   no_piece : IsUnserved failed fault → IsBrokenOff failed fault
   no_replay_memory : fault ≡ faults.Replay replays.Memory → IsBrokenOff failed fault
@@ -448,7 +448,7 @@ pub data IsUnreplayed (files after : FileBytes) (failed : Type 0) (names : Repla
   no_part : (captured : List Sent) (taken : Part) → AreKept files after → IsCaptureOf files reading names.capture.now captured
       → part ≡ Some taken → fault ≡ faults.Memory
       → IsUnreplayed files after failed names program script options recording exact reading part updates fault
-  broken_off : (captured : List Sent) → exact ≡ true → reading ≡ unaltered → text_of names.report ≡ None
+  broken_off : (captured : List Sent) → exact ≡ true → reading ≡ unaltered → text_of names.report ≢ Some names.sent.now
       → AreKept files after → IsCaptureOf files reading names.capture.now captured
       → (¬ AreBadOptions program.maps options (script_in part captured script)) → IsBrokenOff failed fault
       → IsUnreplayed files after failed names program script options recording exact reading part updates fault

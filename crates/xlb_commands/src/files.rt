@@ -122,6 +122,7 @@ fn write_bytes_to<D: Folder>(
     requires { D.failure_count folder.old < 2 ^ 64 - 1 }
     ensures written { OnOk result (D.holds folder.new name.now bytes.now) }
     ensures others { AreOthersKept (D.holds folder.old) (D.holds folder.new) name.now }
+    ensures begun { AreKept (D.is_begun folder.old) (D.is_begun folder.new) }
     ensures steady { OnOk result (D.failure_count folder.new ≡ D.failure_count folder.old) }
     ensures refused { IfErr result
         (λ refusal. IsUnserved (HasFailed (D.failure_count folder.old) (D.failure_count folder.new)) refusal.fault) }
@@ -142,6 +143,7 @@ pub(crate) fn write_to<D: Folder>(
     requires { D.failure_count folder.old < 2 ^ 64 - 1 }
     ensures written { OnOk result (D.holds folder.new name.now file.now.bytes) }
     ensures others { AreOthersKept (D.holds folder.old) (D.holds folder.new) name.now }
+    ensures begun { AreKept (D.is_begun folder.old) (D.is_begun folder.new) }
     ensures steady { OnOk result (D.failure_count folder.new ≡ D.failure_count folder.old) }
     ensures refused { IfErr result
         (λ refusal. IsUnserved (HasFailed (D.failure_count folder.old) (D.failure_count folder.new)) refusal.fault) }
@@ -159,6 +161,7 @@ pub(crate) fn write_journals_to<D: Folder>(
     requires { D.failure_count folder.old < 2 ^ 64 - 1 }
     ensures written { OnOk result (HasBytes (D.holds folder.new) (text_of name.entry) file.now.bytes) }
     ensures others { AreAllKeptBut (D.holds folder.old) (D.holds folder.new) (text_of name.entry) }
+    ensures begun { AreKept (D.is_begun folder.old) (D.is_begun folder.new) }
     ensures steady { OnOk result (D.failure_count folder.new ≡ D.failure_count folder.old) }
     ensures refused { IfErr result (λ refusal. AreUnwritten (text_of name.entry)
         (HasFailed (D.failure_count folder.old) (D.failure_count folder.new)) refusal.fault) }

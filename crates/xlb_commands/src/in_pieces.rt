@@ -1,11 +1,11 @@
-//! An exact replay whose capture is read, and whose sent frames are written, in pieces: its memory does not grow with the capture, unless
-//! the journals keep their rows.
+//! An exact replay whose capture is read, and whose sent frames and report are written, in pieces: its memory does not grow with the capture,
+//! unless the journals keep their rows.
 //!
 //! The capture is read twice: once to see that it is one, before anything is run, and once while its frames are run. Where it cannot be
-//! read in pieces, or the file of the sent frames cannot be made in pieces, or the capture is none or was changed in between, nothing was
-//! written, and the replay is made with the whole capture in memory, which also says what is wrong with it.
+//! read in pieces, or one of the two files cannot be made in pieces, or the capture is none or was changed in between, nothing was written,
+//! and the replay is made with the whole capture in memory, which also says what is wrong with it.
 
-ghost use Rattle.std.specs.Prelude.{◌≡◌, ◌≢◌, ◌↔◌, ◌⊎◌, ◌+◌, ◌++◌, ◌-◌, ◌<◌, ◌^◌};
+ghost use Rattle.std.specs.Prelude.{◌≡◌, ◌≢◌, ◌↔◌, ◌⊎◌, ◌+◌, ◌-◌, ◌<◌, ◌^◌};
 ghost use Rattle.std.specs.Prelude.{ℕ, [], true, false};
 ghost use Rattle.std.specs.Prelude.{List, Some, None, IfErr, IfOk, IfSome, IfNone, OnOk, length};
 ghost use Rattle.std.specs.List.{AllByRecursion};
@@ -13,7 +13,6 @@ ghost use Rattle.semantics.specs.Program.{Program};
 ghost use Rattle.semantics.specs.ShardPlan.{KeepsRows, recorded};
 ghost use Rattle.semantics.specs.declared.options.Options.{Options as Settings};
 ghost use Rattle.machine.specs.Running.{program_of};
-ghost use Rattle.wire.specs.CaptureFormat.{header_bytes, records_bytes};
 ghost use Rattle.wire.specs.declared.records.Sent.{Sent as Record};
 ghost use Rattle.folders.specs.PieceReading.{IsReadTo, ReadsOn, ReadsToEnd};
 ghost use Rattle.guarantees.specs.HeadlineOf.{HeadlineOf};
@@ -23,27 +22,30 @@ ghost use Rattle.actors.specs.Parts.{AreBadOptions};
 ghost use Rattle.replay.specs.Pieces.{ReplayGoesOn, IsUnderway, IsReplayedInPieces};
 ghost use Rattle.actors.specs.declared.outcome.Outcome.{Outcome as Made};
 ghost use Rattle.actors.specs.declared.outcome.RecordEnd.{RecordEnd as End};
-ghost use Rattle.journals.specs.JournalsView.{JournalsView};
 ghost use Rattle.command_line.specs.Reading.{text_of};
-ghost use Rattle.xlb_commands.specs.Files.{AreAllButKept, AreKept, AreOthersKept};
+ghost use Rattle.xlb_commands.specs.Files.{AreKept};
 ghost use Rattle.xlb_commands.specs.AskedReplays.{IsConsistent, IsAnswered, IsAnsweredBy, IsDenied, IsDeniedBy, IsMadeInTurn, LeavesOthers};
-ghost use Rattle.xlb_commands.specs.InPieces.{HasGoneThrough, HasNumbers, ReaderHasRoom, HaveRun, IsGoing, IsReplayLeft, IsMadeOf};
+ghost use Rattle.xlb_commands.specs.InPieces.{AreApartInPieces, HasGoneThrough, HasNumbers, ReaderHasRoom, HaveRun, IsGoing};
+ghost use Rattle.xlb_commands.specs.InPieces.{IsReplayLeft, IsMadeOf};
+ghost use Rattle.xlb_commands.specs.RecordReports.{HasNamed, backends_in};
 ghost use Rattle.xlb_commands.specs.Parts.{command_frames, records_in, records_next};
-ghost use Rattle.xlb_commands.specs.Shares.{GoesPast, HasPassed, IsAbreast, script_at};
-ghost use Rattle.xlb_commands.specs.Refused.{AreUnfiled, HasFailed, IsBrokenOff, IsGivenUp, IsUnserved, LacksRoom};
+ghost use Rattle.xlb_commands.specs.Taking.{GoesPast, HasPassed, IsAbreast, script_at};
+ghost use Rattle.xlb_commands.specs.Refused.{HasFailed, IsBrokenOff, IsGivenUp, IsUnserved, LacksRoom};
 ghost use Rattle.traffic.specs.Readings.{unaltered};
-ghost use Rattle.xlb_commands.specs.Replays.{HasBytes, IsCaptureOf, IsMade, image_of};
+ghost use Rattle.xlb_commands.specs.Replays.{IsCaptureOf, IsMade, image_of};
 
 use crate::fault::{Fault, Refusal};
-use crate::files::{journal_bytes, unserved, write_journals_to};
+use crate::files::journal_bytes;
 use crate::left_out::is_left_out;
+use crate::made_in_pieces::{add_frames, add_lines, begin_files, write_pieces};
 use crate::next_records::{PieceStep, fill_piece, unserved_capture};
 use crate::notes::{Altered, Notes, first_stopped};
 use crate::progress::{Progress, Rounds};
-use crate::replays::{Asked, bytes_of_frames, given_up, readers_send_alike, steered_where_shipped};
+use crate::record_report::backends_in;
+use crate::replays::{Asked, given_up, readers_send_alike, steered_where_shipped};
 use crate::report::{Report, replayed};
-use crate::share::{Share, before_all, go_past, has_numbers};
 use crate::summing::Summing;
+use crate::taking::{Taking, before_all, go_past, has_numbers};
 use actors::{PieceOutcome, all_are_captured};
 use command_line::ReplayFiles;
 use control::Script;
@@ -51,7 +53,8 @@ use folders::{CaptureReader, Folder, FolderFault, RecordBuffer};
 use replay::{Outcome, PieceReplay, ReplayFault};
 use shard_port::Gate;
 use std::alloc::Global;
-use wire::{CAPTURE_HEADER_LEN, Capture, MemorySink, Sent};
+use traffic::Backends;
+use wire::{Capture, MemorySink};
 
 /// A capture that was read once.
 #[derive(Drop)]
@@ -60,7 +63,7 @@ struct Seen {
     records: u64,
     /// How many of all have fewer bytes than the frames that were captured.
     cut: u64,
-    share: Share,
+    taking: Taking,
 }
 
 /// The script of the whole capture, and the numbers that its commands have in the part that is replayed; none where all of it is.
@@ -121,7 +124,7 @@ fn look_through<D: Folder>(
     ensures capture { IfOk result (λ found. IfSome found (λ seen. (records : List Record)
         × IsCaptureOf (D.holds folder.old) unaltered asked.entry.files.now.capture.now records
         × (seen.records ≡ length (records_in asked.entry.part records))
-        × HasPassed asked.entry.part (command_frames asked.entry.script.now) records seen.share)) }
+        × HasPassed asked.entry.part (command_frames asked.entry.script.now) records seen.taking)) }
     ensures kept { AreKept (D.holds folder.old) (D.holds folder.new) }
     ensures steady { OnOk result (D.failure_count folder.new ≡ D.failure_count folder.old) }
     ensures refused { IfErr result
@@ -131,17 +134,17 @@ fn look_through<D: Folder>(
     let Some(mut reader) = open_reader(alloc, folder, name)? else {
         return Ok(None);
     };
-    let mut share = before_all(alloc, folder, name, asked.part, asked.script)?;
+    let mut taking = before_all(alloc, folder, name, asked.part, asked.script)?;
     'records: loop {
         match reader.find(folder) {
             Ok(Some(head)) => {
-                let _taken = go_past(alloc, folder, name, &mut share, reader.frame(head))?;
+                let _taken = go_past(alloc, folder, name, &mut taking, reader.frame(head))?;
                 reader.pass(head);
             }
             Ok(None) => return Ok(Some(Seen {
-                records: share.count(reader.count()),
+                records: taking.count(reader.count()),
                 cut: reader.cut(),
-                share,
+                taking,
             })),
             Err(fault) => return match unserved_capture(alloc, folder, name, fault) {
                 Some(refusal) => Err(refusal),
@@ -149,90 +152,6 @@ fn look_through<D: Folder>(
             },
         }
     }
-}
-
-/// Adds bytes to the file that is being made under this name.
-fn add_bytes<D: Folder>(
-    alloc: Global,
-    folder: &mut D,
-    name: &str,
-    bytes: &[u8],
-) -> Result<(), Refusal>
-    requires { D.failure_count folder.old < 2 ^ 64 - 1 }
-    ensures added { OnOk result ((file before : List ℕ) → D.is_begun folder.old file before →
-        D.is_begun folder.new file (before ++ bytes.now)) }
-    ensures kept { AreKept (D.holds folder.old) (D.holds folder.new) }
-    ensures left { (rest : List ℕ) → (D.is_left folder.old rest ↔ D.is_left folder.new rest) }
-    ensures most { D.most_left folder.new ≡ D.most_left folder.old }
-    ensures steady { OnOk result (D.failure_count folder.new ≡ D.failure_count folder.old) }
-    ensures refused { IfErr result
-        (λ refusal. IsUnserved (HasFailed (D.failure_count folder.old) (D.failure_count folder.new)) refusal.fault) }
-{
-    match folder.add(bytes) {
-        Ok(()) => Ok(()),
-        Err(fault) => Err(unserved(alloc, folder, name, fault)),
-    }
-}
-
-/// Adds the records of frames to the capture that is being made under this name.
-fn add_frames<D: Folder>(
-    alloc: Global,
-    folder: &mut D,
-    name: &str,
-    frames: &[Sent],
-) -> Result<(), Refusal>
-    requires { D.failure_count folder.old < 2 ^ 64 - 1 }
-    ensures added { OnOk result ((file before : List ℕ) → D.is_begun folder.old file before →
-        D.is_begun folder.new file (before ++ records_bytes frames.now)) }
-    ensures kept { AreKept (D.holds folder.old) (D.holds folder.new) }
-    ensures left { (rest : List ℕ) → (D.is_left folder.old rest ↔ D.is_left folder.new rest) }
-    ensures most { D.most_left folder.new ≡ D.most_left folder.old }
-    ensures steady { OnOk result (D.failure_count folder.new ≡ D.failure_count folder.old) }
-    ensures refused { IfErr result
-        (λ refusal. IsUnserved (HasFailed (D.failure_count folder.old) (D.failure_count folder.new)) refusal.fault) }
-{
-    let Ok(file) = bytes_of_frames(alloc, frames) else {
-        return Err(unserved(alloc, folder, name, FolderFault::Memory));
-    };
-    add_bytes(alloc, folder, name, &file.bytes()[CAPTURE_HEADER_LEN..])
-}
-
-/// Begins to make a capture under this name, if it can be made in pieces.
-fn begin_sent<D: Folder>(alloc: Global, folder: &mut D, name: &str) -> Result<bool, Refusal>
-    requires { D.failure_count folder.old < 2 ^ 64 - 1 }
-    ensures begun { IfOk result (λ may. may ≡ true → D.is_begun folder.new name.now header_bytes) }
-    ensures kept { AreKept (D.holds folder.old) (D.holds folder.new) }
-    ensures steady { OnOk result (D.failure_count folder.new ≡ D.failure_count folder.old) }
-    ensures refused { IfErr result
-        (λ refusal. IsUnserved (HasFailed (D.failure_count folder.old) (D.failure_count folder.new)) refusal.fault) }
-{
-    match folder.begin(alloc, name) {
-        Ok(true) => match add_header(alloc, folder, name) {
-            Ok(()) => Ok(true),
-            Err(refusal) => {
-                folder.give_up();
-                Err(refusal)
-            }
-        },
-        Ok(false) => Ok(false),
-        Err(fault) => Err(unserved(alloc, folder, name, fault)),
-    }
-}
-
-/// Adds the header of a capture to the file that is being made under this name.
-fn add_header<D: Folder>(alloc: Global, folder: &mut D, name: &str) -> Result<(), Refusal>
-    requires { D.failure_count folder.old < 2 ^ 64 - 1 }
-    ensures added { OnOk result ((file before : List ℕ) → D.is_begun folder.old file before →
-        D.is_begun folder.new file (before ++ header_bytes)) }
-    ensures kept { AreKept (D.holds folder.old) (D.holds folder.new) }
-    ensures steady { OnOk result (D.failure_count folder.new ≡ D.failure_count folder.old) }
-    ensures refused { IfErr result
-        (λ refusal. IsUnserved (HasFailed (D.failure_count folder.old) (D.failure_count folder.new)) refusal.fault) }
-{
-    let Ok(file) = bytes_of_frames(alloc, &[]) else {
-        return Err(unserved(alloc, folder, name, FolderFault::Memory));
-    };
-    add_bytes(alloc, folder, name, file.bytes())
 }
 
 impl Going {
@@ -294,15 +213,17 @@ fn run_piece<D: Folder, G: Gate>(
     alloc: Global,
     folder: &mut D,
     asked: Asked<'_>,
+    table: &Backends,
     going: &mut Going,
     piece: &Capture,
     gate: &G,
 ) -> Result<bool, Refusal>
     requires failures { D.failure_count folder.old < 2 ^ 64 - 1 }
+    requires named { HasNamed table.now (backends_in asked.script.now) }
     requires goes_on { ReplayGoesOn asked.script.now going.old.replay }
     requires maps { going.old.replay.turns.all.maps ≡ asked.verified.now.maps }
     ensures run { IfOk result (λ went. went ≡ true → HaveRun (program_of asked.entry.verified.now asked.entry.options.shards)
-        asked.entry.script.now (recorded asked.entry.recording asked.entry.options) going.old.replay going.new.replay
+        asked.entry.script.now (recorded asked.entry.recording asked.entry.options) asked.entry.files.now going.old.replay going.new.replay
         (D.is_begun folder.old) (D.is_begun folder.new) piece.now.records.items) }
     ensures goes_on { IfOk result (λ went. went ≡ true → ReplayGoesOn asked.entry.script.now going.new.replay) }
     ensures maps { IfOk result (λ went. went ≡ true → going.new.replay.turns.all.maps ≡ asked.entry.verified.now.maps) }
@@ -324,7 +245,9 @@ fn run_piece<D: Folder, G: Gate>(
     {
         Ok(done) => {
             add_frames(alloc, folder, asked.files.sent, &done.sent)?;
+            add_lines(alloc, folder, asked, table, before, &piece.records, &done)?;
             going.note(alloc, asked.script, before, piece, &done);
+            going.replay.give_back(done);
             Ok(true)
         }
         Err(_) => Err(given_up(alloc, asked.options, asked.verified, ReplayFault::Memory)),
@@ -337,27 +260,29 @@ fn take_piece<D: Folder, G: Gate>(
     folder: &mut D,
     asked: Asked<'_>,
     reader: &mut CaptureReader,
-    share: &mut Share,
+    taking: &mut Taking,
     buffer: &mut RecordBuffer,
+    table: &Backends,
     going: &mut Going,
     gate: &G,
 ) -> Result<PieceStep, Refusal>
     requires failures { D.failure_count folder.old < 2 ^ 64 - 1 }
+    requires named { HasNamed table.now (backends_in asked.script.now) }
     requires room { ReaderHasRoom (D.most_left folder.old) reader.old }
-    requires abreast { IsAbreast asked.part share.old reader.old }
+    requires abreast { IsAbreast asked.part taking.old reader.old }
     requires goes_on { ReplayGoesOn asked.script.now going.old.replay }
     requires maps { going.old.replay.turns.all.maps ≡ asked.verified.now.maps }
     ensures more { IfOk result (λ step. step ≡ PieceStep.More → (records : List Record)
         × ReadsOn D.holds (D.is_left folder.old) (D.is_left folder.new) reader.old reader.new records
-        × GoesPast share.old share.new records
+        × GoesPast taking.old taking.new records
         × HaveRun (program_of asked.entry.verified.now asked.entry.options.shards) asked.entry.script.now
-        (recorded asked.entry.recording asked.entry.options) going.old.replay going.new.replay
+        (recorded asked.entry.recording asked.entry.options) asked.entry.files.now going.old.replay going.new.replay
         (D.is_begun folder.old) (D.is_begun folder.new) (records_next asked.entry.part reader.old.count records)) }
     ensures last { IfOk result (λ step. step ≡ PieceStep.Last → (records : List Record)
         × ReadsToEnd D.holds (D.is_left folder.old) reader.old records reader.new.cut
-        × GoesPast share.old share.new records
+        × GoesPast taking.old taking.new records
         × HaveRun (program_of asked.entry.verified.now asked.entry.options.shards) asked.entry.script.now
-        (recorded asked.entry.recording asked.entry.options) going.old.replay going.new.replay
+        (recorded asked.entry.recording asked.entry.options) asked.entry.files.now going.old.replay going.new.replay
         (D.is_begun folder.old) (D.is_begun folder.new) (records_next asked.entry.part reader.old.count records)) }
     ensures room { IfOk result (λ step. step ≢ PieceStep.Changed → ReaderHasRoom (D.most_left folder.new) reader.new) }
     ensures fewer { IfOk result (λ step. step ≡ PieceStep.More →
@@ -369,11 +294,11 @@ fn take_piece<D: Folder, G: Gate>(
     ensures refused { IfErr result
         (λ refusal. IsBrokenOff (HasFailed (D.failure_count folder.old) (D.failure_count folder.new)) refusal.fault) }
 {
-    let step = fill_piece(alloc, folder, asked.files.capture, reader, share, buffer)?;
+    let step = fill_piece(alloc, folder, asked.files.capture, reader, taking, buffer)?;
     if step == PieceStep::Changed {
         return Ok(step);
     }
-    if !run_piece(alloc, folder, asked, going, buffer.capture(), gate)? {
+    if !run_piece(alloc, folder, asked, table, going, buffer.capture(), gate)? {
         return Ok(PieceStep::Changed);
     }
     Ok(step)
@@ -386,16 +311,18 @@ fn go_through<D: Folder, G: Gate>(
     folder: &mut D,
     asked: Asked<'_>,
     whole: WholeScript<'_>,
+    table: &Backends,
     going: &mut Going,
     gate: &G,
 ) -> Result<bool, Refusal>
     requires failures { D.failure_count folder.old < 2 ^ 64 - 1 }
+    requires named { HasNamed table.now (backends_in asked.script.now) }
     requires goes_on { ReplayGoesOn asked.script.now going.old.replay }
     requires maps { going.old.replay.turns.all.maps ≡ asked.verified.now.maps }
     ensures gone { IfOk result (λ gone. gone ≡ true → HasGoneThrough (D.holds folder.old) asked.entry.files.now.capture.now
         asked.entry.part whole.entry.script.now whole.entry.numbers.now
         (program_of asked.entry.verified.now asked.entry.options.shards) asked.entry.script.now
-        (recorded asked.entry.recording asked.entry.options) going.old.replay going.new.replay
+        (recorded asked.entry.recording asked.entry.options) asked.entry.files.now going.old.replay going.new.replay
         (D.is_begun folder.old) (D.is_begun folder.new)) }
     ensures goes_on { IfOk result (λ gone. gone ≡ true → ReplayGoesOn asked.entry.script.now going.new.replay) }
     ensures kept { AreKept (D.holds folder.old) (D.holds folder.new) }
@@ -407,7 +334,7 @@ fn go_through<D: Folder, G: Gate>(
         return Ok(false);
     };
     let name = asked.files.capture;
-    let mut share = before_all(alloc, folder, name, asked.part, whole.script)?;
+    let mut taking = before_all(alloc, folder, name, asked.part, whole.script)?;
     let mut buffer = RecordBuffer::new(alloc);
     'pieces: loop {
         match take_piece(
@@ -415,13 +342,14 @@ fn go_through<D: Folder, G: Gate>(
             folder,
             asked,
             &mut reader,
-            &mut share,
+            &mut taking,
             &mut buffer,
+            table,
             going,
             gate,
         ) {
             Ok(PieceStep::More) => {}
-            Ok(PieceStep::Last) => return has_numbers(alloc, folder, name, share, whole.numbers),
+            Ok(PieceStep::Last) => return has_numbers(alloc, folder, name, taking, whole.numbers),
             Ok(PieceStep::Changed) => return Ok(false),
             Err(refusal) => return Err(refusal),
         }
@@ -467,7 +395,7 @@ fn left_in_pieces(
         IsMadeOf asked.entry.files.now
         (image_of asked.entry.verified.now)
         asked.entry.verified.now.states asked.entry.script.now asked.entry.options asked.entry.recording asked.entry.ring
-        asked.entry.updates.now records sent
+        asked.entry.updates.now records sent ends
         left.report left.journals.bytes) }
     ensures refused { IfErr result (λ refusal. (refusal.fault ≡ Fault.Replay ReplayFault.Memory)
         ⊎ ((records sent : List Record) (ends : List End) →
@@ -506,10 +434,12 @@ fn left_by_pieces<D: Folder, G: Gate>(
     asked: Asked<'_>,
     whole: WholeScript<'_>,
     cut: u64,
+    table: &Backends,
     mut going: Going,
     gate: &G,
 ) -> Result<Option<LeftInPieces>, Refusal>
     requires failures { D.failure_count folder.old < 2 ^ 64 - 1 }
+    requires named { HasNamed table.now (backends_in asked.script.now) }
     requires script { asked.script.now ≡ script_at asked.part whole.numbers.now whole.script.now }
     requires goes_on { ReplayGoesOn asked.script.now going.replay }
     requires maps { going.replay.turns.all.maps ≡ asked.verified.now.maps }
@@ -528,7 +458,7 @@ fn left_by_pieces<D: Folder, G: Gate>(
         (λ refusal. IsBrokenOff (HasFailed (D.failure_count folder.old) (D.failure_count folder.new)) refusal.fault
         ⊎ IsMadeInTurn (D.holds folder.old) asked.entry whole.entry.script.now × LacksRoom (text_of asked.entry.files.now.journals) refusal.fault) }
 {
-    if !go_through(alloc, folder, asked, whole, &mut going, gate)? {
+    if !go_through(alloc, folder, asked, whole, table, &mut going, gate)? {
         return Ok(None);
     }
     let altered = Altered {
@@ -539,42 +469,14 @@ fn left_by_pieces<D: Folder, G: Gate>(
     Ok(Some(left))
 }
 
-/// Gives the file of the sent frames its name, and after it writes the journals where a file is named for them.
-fn write_pieces<D: Folder>(
-    alloc: Global,
-    folder: &mut D,
-    files: &ReplayFiles<'_>,
-    journals: &MemorySink,
-) -> Result<(), Refusal>
-    requires failures { D.failure_count folder.old < 2 ^ 64 - 1 }
-    requires begun { (bytes : List ℕ) × D.is_begun folder.old files.now.sent.now bytes }
-    ensures sent { OnOk result ((bytes : List ℕ) → D.is_begun folder.old files.now.sent.now bytes →
-        text_of files.now.journals ≢ Some files.now.sent.now → D.holds folder.new files.now.sent.now bytes) }
-    ensures journals { OnOk result (HasBytes (D.holds folder.new) (text_of files.now.journals) journals.now.bytes) }
-    ensures others { AreAllButKept (D.holds folder.old) (D.holds folder.new) files.now.sent.now (text_of files.now.journals)
-        (text_of files.now.report) }
-    ensures refused { IfErr result (λ refusal. (bytes : List ℕ) (journals : JournalsView) →
-        D.is_begun folder.old files.now.sent.now bytes → AreUnfiled (D.holds folder.old) (D.holds folder.new)
-        (HasFailed (D.failure_count folder.old) (D.failure_count folder.new)) files.now bytes journals refusal.fault) }
+/// The backends that the script names, of which a report tells.
+fn named_backends(alloc: Global, script: &Script) -> Result<Backends, Refusal>
+    ensures named { IfOk result (λ table. HasNamed table (backends_in script.now)) }
+    ensures refused { IfErr result (λ refusal. refusal.fault ≡ Fault.Folder FolderFault.Memory) }
 {
-    finish_sent(alloc, folder, files.sent)?;
-    write_journals_to(alloc, folder, files.journals, journals)?;
-    Ok(())
-}
-
-/// Gives the file that is being made its name.
-fn finish_sent<D: Folder>(alloc: Global, folder: &mut D, name: &str) -> Result<(), Refusal>
-    requires failures { D.failure_count folder.old < 2 ^ 64 - 1 }
-    requires begun { (bytes : List ℕ) × D.is_begun folder.old name.now bytes }
-    ensures made { OnOk result ((bytes : List ℕ) → D.is_begun folder.old name.now bytes → D.holds folder.new name.now bytes) }
-    ensures others { AreOthersKept (D.holds folder.old) (D.holds folder.new) name.now }
-    ensures steady { OnOk result (D.failure_count folder.new ≡ D.failure_count folder.old) }
-    ensures refused { IfErr result
-        (λ refusal. IsUnserved (HasFailed (D.failure_count folder.old) (D.failure_count folder.new)) refusal.fault) }
-{
-    match folder.finish() {
-        Ok(()) => Ok(()),
-        Err(fault) => Err(unserved(alloc, folder, name, fault)),
+    match backends_in(alloc, script.commands()) {
+        Ok(table) => Ok(table),
+        Err(_) => Err(Refusal::from(Fault::Folder(FolderFault::Memory))),
     }
 }
 
@@ -592,7 +494,7 @@ fn replay_seen<D: Folder, P: Progress + Sync>(
     requires failures { D.failure_count folder.old < 2 ^ 64 - 1 }
     requires exact { asked.exact ≡ true }
     requires all { asked.reading ≡ unaltered }
-    requires no_report { text_of asked.files.now.report ≡ None }
+    requires apart { AreApartInPieces asked.files.now }
     requires consistent { IsConsistent asked }
     requires numbered { HasNumbers (D.holds folder.old) asked.files.now.capture.now asked.part whole.script.now whole.numbers.now }
     requires script { asked.script.now ≡ script_at asked.part whole.numbers.now whole.script.now }
@@ -605,11 +507,13 @@ fn replay_seen<D: Folder, P: Progress + Sync>(
         (HasFailed (D.failure_count folder.old) (D.failure_count folder.new)) asked.entry whole.entry.script.now refusal.fault) }
 {
     let going = opened(alloc, asked)?;
-    if !begin_sent(alloc, folder, asked.files.sent)? {
+    let table = named_backends(alloc, asked.script)?;
+    if !begin_files(alloc, folder, asked.files)? {
+        folder.give_up();
         return Ok(None);
     }
     let rounds = Rounds::of(progress, asked.verified, &asked.options, true, records);
-    match left_by_pieces(alloc, folder, asked, whole, cut, going, &rounds) {
+    match left_by_pieces(alloc, folder, asked, whole, cut, &table, going, &rounds) {
         Ok(Some(left)) => {
             write_pieces(alloc, folder, asked.files, &left.journals)?;
             Ok(Some(left.report))
@@ -636,7 +540,7 @@ pub(crate) fn replay_in_pieces<D: Folder, P: Progress + Sync>(
     requires failures { D.failure_count folder.old < 2 ^ 64 - 1 }
     requires exact { asked.exact ≡ true }
     requires all { asked.reading ≡ unaltered }
-    requires no_report { text_of asked.files.now.report ≡ None }
+    requires apart { AreApartInPieces asked.files.now }
     requires consistent { IsConsistent asked }
     ensures done { IfOk result (λ found. IfSome found (IsAnswered (D.holds folder.old) (D.holds folder.new) asked.entry)) }
     ensures none { IfOk result (λ found. IfNone found (AreKept (D.holds folder.old) (D.holds folder.new))) }
@@ -651,9 +555,9 @@ pub(crate) fn replay_in_pieces<D: Folder, P: Progress + Sync>(
     let Seen {
         records,
         cut,
-        share,
+        taking,
     } = seen;
-    let numbered = share.numbered(alloc, asked.script)?;
+    let numbered = taking.numbered(alloc, asked.script)?;
     match numbered {
         None => {
             let whole = WholeScript {

@@ -8,12 +8,12 @@ ghost use Rattle.fleet.specs.declared.part.Part.{Part as OnePart};
 ghost use Rattle.folders.specs.PieceReading.{IsAtFront, ReadsOn, ReadsToEnd, behind_record};
 ghost use Rattle.xlb_commands.specs.Files.{AreKept};
 ghost use Rattle.xlb_commands.specs.InPieces.{ReaderHasRoom};
-ghost use Rattle.xlb_commands.specs.Shares.{AreRecordsTaken, CanPass, GoesPast, IsAbreast};
+ghost use Rattle.xlb_commands.specs.Taking.{AreRecordsTaken, CanPass, GoesPast, IsAbreast};
 ghost use Rattle.xlb_commands.specs.Refused.{HasFailed, IsUnserved};
 
 use crate::fault::{Fault, Refusal};
 use crate::files::unserved;
-use crate::share::{Share, go_past};
+use crate::taking::{Taking, go_past};
 use folders::{CaptureReader, Folder, FolderFault, RecordBuffer, RecordHead};
 use std::alloc::Global;
 use wire::CaptureFault;
@@ -49,27 +49,28 @@ pub(crate) fn unserved_capture<D: Folder>(
 }
 
 /// Goes past the record at the front, and adds it to those of a buffer where it is taken.
+#[inline(always)]
 fn take_record<D: Folder>(
     alloc: Global,
     folder: &D,
     name: &str,
     reader: &mut CaptureReader,
-    share: &mut Share,
+    taking: &mut Taking,
     head: RecordHead,
     buffer: &mut RecordBuffer,
 ) -> Result<(), Refusal>
     requires front { IsAtFront reader.old.unread head }
     requires room { reader.old.count < 2 ^ 64 - 1 }
-    requires can_pass { CanPass share.old }
+    requires can_pass { CanPass taking.old }
     ensures record { OnOk result ((sent : Record) × BeginsWithRecord reader.old.unread sent × (reader.new ≡ behind_record reader.old sent)
-        × GoesPast share.old share.new (sent ∷ [])
-        × (taken : List Record) × AreRecordsTaken share.old (sent ∷ []) taken × (buffer.new ≡ buffer.old ++ taken)) }
+        × GoesPast taking.old taking.new (sent ∷ [])
+        × (taken : List Record) × AreRecordsTaken taking.old (sent ∷ []) taken × (buffer.new ≡ buffer.old ++ taken)) }
     ensures count { OnOk result (reader.new.count ≡ reader.old.count + 1) }
     ensures fewer { OnOk result (length reader.new.unread + 16 ≤ length reader.old.unread) }
     ensures few { OnOk result (length buffer.new ≤ length buffer.old + 1) }
     ensures refused { IfErr result (λ refusal. refusal.fault ≡ Fault.Folder FolderFault.Memory) }
 {
-    if go_past(alloc, folder, name, share, reader.frame(head))? {
+    if go_past(alloc, folder, name, taking, reader.frame(head))? {
         match reader.keep(alloc, head, buffer) {
             Ok(()) => Ok(()),
             Err(_) => Err(unserved(alloc, folder, name, FolderFault::Memory)),
@@ -87,18 +88,18 @@ pub(crate) fn fill_piece<D: Folder>(
     folder: &mut D,
     name: &str,
     reader: &mut CaptureReader,
-    share: &mut Share,
+    taking: &mut Taking,
     buffer: &mut RecordBuffer,
 ) -> Result<PieceStep, Refusal>
     requires failures { D.failure_count folder.old < 2 ^ 64 - 1 }
     requires room { ReaderHasRoom (D.most_left folder.old) reader.old }
-    requires abreast { (part : Option OnePart) × IsAbreast part share.old reader.old }
+    requires abreast { (part : Option OnePart) × IsAbreast part taking.old reader.old }
     ensures more { IfOk result (λ step. step ≡ PieceStep.More → (records : List Record)
         × ReadsOn D.holds (D.is_left folder.old) (D.is_left folder.new) reader.old reader.new records
-        × GoesPast share.old share.new records × AreRecordsTaken share.old records buffer.new) }
+        × GoesPast taking.old taking.new records × AreRecordsTaken taking.old records buffer.new) }
     ensures last { IfOk result (λ step. step ≡ PieceStep.Last → (records : List Record)
         × ReadsToEnd D.holds (D.is_left folder.old) reader.old records reader.new.cut
-        × GoesPast share.old share.new records × AreRecordsTaken share.old records buffer.new) }
+        × GoesPast taking.old taking.new records × AreRecordsTaken taking.old records buffer.new) }
     ensures room { IfOk result (λ step. step ≢ PieceStep.Changed → ReaderHasRoom (D.most_left folder.new) reader.new) }
     ensures fewer { IfOk result (λ step. step ≡ PieceStep.More →
         length reader.new.unread + D.most_left folder.new < length reader.old.unread + D.most_left folder.old) }
@@ -112,7 +113,7 @@ pub(crate) fn fill_piece<D: Folder>(
     'records: while buffer.len() < PIECE {
         match reader.find(folder) {
             Ok(Some(head)) => {
-                take_record(alloc, folder, name, reader, share, head, buffer)?;
+                take_record(alloc, folder, name, reader, taking, head, buffer)?;
             }
             Ok(None) => return Ok(PieceStep::Last),
             Err(fault) => return match unserved_capture(alloc, folder, name, fault) {

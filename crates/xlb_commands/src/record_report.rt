@@ -1,16 +1,17 @@
 //! The report of a replay: a line for each record.
 
-ghost use Rattle.std.specs.Prelude.{◌≡◌, ◌++◌, ◌-◌, ◌<◌, ◌^◌, ℕ, List, Some, IfOk, IfErr, OnOk, length, slice_get, string_bytes};
+ghost use Rattle.std.specs.Prelude.{◌≡◌, ◌+◌, ◌++◌, ◌-◌, ◌<◌, ◌^◌, ℕ, List, Some, IfOk, IfErr, OnOk, length, slice_get, string_bytes};
 ghost use Rattle.std.specs.Char.{to_ascii_lowercase};
 ghost use Rattle.command_line.specs.Reading.{text_of};
 ghost use Rattle.traffic.specs.Counting.{address_at};
 ghost use Rattle.text_lines.specs.Lines.{finishes};
 ghost use Rattle.xlb_commands.specs.RecordReports.{sent_address, backend_at, backends_in, case_in, form_by, form_of, is_tx, line_text};
-ghost use Rattle.xlb_commands.specs.RecordReports.{lines_until, named_in, report_text, steps_of_end, verdict_in, word_of_verdict, worker_in};
+ghost use Rattle.xlb_commands.specs.RecordReports.{end_of, lines_until, named_in, report_text, steps_of_end, verdict_in, word_of_verdict, worker_in};
 ghost use Rattle.xlb_commands.specs.RecordReports.{HasNamed};
 ghost use Rattle.xlb_commands.specs.declared.fault.Fault.TheVariants.{Memory};
 
 use crate::fault::Refusal;
+use actors::PieceOutcome;
 use control::{Action, Command, Script};
 use replay::{Outcome, RecordEnd};
 use semantics::Verdict;
@@ -31,7 +32,7 @@ fn form_by(name: &str) -> ReportForm
 }
 
 /// The form of a report in a file of this name: JSON if the name ends in `.json` or `.jsonl`, in either case, otherwise CSV.
-fn form_of(alloc: Global, name: &str) -> Result<ReportForm, AllocError>
+pub(crate) fn form_of(alloc: Global, name: &str) -> Result<ReportForm, AllocError>
     ensures { IfOk result (λ form. form ≡ form_of name.now) }
 {
     let lower = name.to_ascii_lowercase(alloc)?;
@@ -135,7 +136,7 @@ fn name_in(table: &mut Backends, command: &Command) -> Result<(), AllocError>
 }
 
 /// The backends that a script names.
-fn backends_in(alloc: Global, script: &[Command]) -> Result<Backends, AllocError>
+pub(crate) fn backends_in(alloc: Global, script: &[Command]) -> Result<Backends, AllocError>
     ensures { IfOk result (λ table. HasNamed table (backends_in script.now)) }
 {
     let mut table = Backends::none(alloc);
@@ -202,23 +203,24 @@ impl Lines<'_> {
         self.form.line(alloc, &line, &captured.bytes)
     }
 
-    /// Appends the lines of all records, which ended so.
+    /// Appends the lines of records behind the first ones, which ended so.
     fn put_all(
         &self,
         alloc: Global,
         text: &mut String,
+        first: usize,
         records: &[Sent],
         ends: &[RecordEnd],
     ) -> Result<(), AllocError>
         requires named { HasNamed self.now.table.now (backends_in self.now.script.now) }
-        requires ends { length ends.now ≡ length records.now }
+        requires numbers { first + length records.now < 2 ^ 64 }
         ensures { OnOk result (string_bytes text.new ≡ string_bytes text.old ++ lines_until self.now.form self.now.is_shipped
-            (backends_in self.now.script.now) records.now ends.now self.now.sent.now (length records.now)) }
+            (backends_in self.now.script.now) first records.now ends.now self.now.sent.now (length records.now)) }
     {
         let mut place = 0;
         'records: for number in 0..records.len() {
-            let end = ends[number];
-            let line = self.line(alloc, number, &records[number], end, place)?;
+            let end = end_at(ends, number);
+            let line = self.line(alloc, first + number, &records[number], end, place)?;
             text.push_str(line.as_str())?;
             if is_tx(verdict_in(end)) {
                 place += 1;
@@ -226,6 +228,44 @@ impl Lines<'_> {
         }
         Ok(())
     }
+}
+
+/// What became of the record of this number.
+fn end_at(ends: &[RecordEnd], number: usize) -> RecordEnd
+    ensures { result ≡ end_of ends.now number }
+{
+    match ends.get(number) {
+        Some(end) => *end,
+        None => RecordEnd::Short,
+    }
+}
+
+/// The lines of the records of a piece, which come behind the first ones, for the report of this name.
+pub(crate) fn piece_lines(
+    alloc: Global,
+    name: &str,
+    is_shipped: bool,
+    script: &Script,
+    table: &Backends,
+    first: usize,
+    records: &[Sent],
+    done: &PieceOutcome,
+) -> Result<String, AllocError>
+    requires named { HasNamed table.now (backends_in script.now) }
+    requires numbers { first + length records.now < 2 ^ 64 }
+    ensures { IfOk result (λ text. string_bytes text ≡ lines_until (form_of name.now) is_shipped (backends_in script.now) first records.now
+        done.now.ends.items done.now.sent.items (length records.now)) }
+{
+    let lines = Lines {
+        form: form_of(alloc, name)?,
+        is_shipped,
+        script,
+        table,
+        sent: &done.sent,
+    };
+    let mut text = String::new(alloc);
+    lines.put_all(alloc, &mut text, first, records, &done.ends)?;
+    Ok(text)
 }
 
 /// The report of a replay in this form.
@@ -251,7 +291,7 @@ fn report_text(
         sent: &outcome.sent,
     };
     let mut text = String::from_str(alloc, form.head())?;
-    lines.put_all(alloc, &mut text, &capture.records, &outcome.ends)?;
+    lines.put_all(alloc, &mut text, 0, &capture.records, &outcome.ends)?;
     Ok(text)
 }
 

@@ -35,6 +35,7 @@ ghost use Rattle.command_line.specs.Reading.{text_of};
 ghost use Rattle.xlb_commands.specs.AskedReplays.{IsConsistent, HasBadOptions, IsAnswered, IsDenied, IsOutcome, IsWhyNone, LeavesOthers};
 ghost use Rattle.xlb_commands.specs.AskedReplays.{IsAnsweredOf, IsDeniedOf};
 ghost use Rattle.xlb_commands.specs.Files.{AreKept, AreAllButKept};
+ghost use Rattle.xlb_commands.specs.InPieces.{AreApartInPieces};
 ghost use Rattle.xlb_commands.specs.Refused.{HasFailed, LacksRoom, AreUnfiled, IsReplayProgramRefusal, IsScriptFileRefusal};
 ghost use Rattle.xlb_commands.specs.Refused.{IsScriptRefusal};
 ghost use Rattle.xlb_commands.specs.Refused.{IsNoCapture, IsNoCaptureIn, IsCaptureRefusal, IsReplayRefused};
@@ -500,12 +501,11 @@ pub(crate) struct Asked<'a> {
 }
 
 impl Asked<'_> {
-    /// Whether the replay may be made in pieces: it is exact, and nothing is asked for that needs all records.
+    /// Whether the replay may be made in pieces: it is exact, the capture is read as it is, and the sent frames and the report have two names.
     fn is_in_pieces(self) -> bool
-        ensures { IsTrue result → (self.entry.exact ≡ true) × (self.entry.reading ≡ unaltered)
-            × (text_of self.entry.files.now.report ≡ None) }
+        ensures { IsTrue result → (self.entry.exact ≡ true) × (self.entry.reading ≡ unaltered) × AreApartInPieces self.entry.files.now }
     {
-        self.exact && !self.reading.alters() && self.files.report.is_none()
+        self.exact && !self.reading.alters() && self.files.report != Some(self.files.sent)
     }
 }
 

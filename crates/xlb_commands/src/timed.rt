@@ -12,9 +12,11 @@ use crate::files::bytes_of;
 use crate::notes::Altered;
 use crate::replays::capture_of;
 use crate::report::Report;
+use comparison::{parts_at, row_at};
 use control::ControlFault;
 use folders::Folder;
 use std::alloc::{AllocError, Global};
+use text_lines::text_or_line;
 use timed_scripts::{TimedScript, timed_script};
 use traffic::Reading;
 use wire::Sent;
@@ -33,19 +35,51 @@ const AS_THEY_ARE: Reading = Reading {
 const EXPECTED: &str =
     "expected a moment (2026-11-28T10:03:00Z, 1764324180.25, or +180s from the first record), a space, and a command\n";
 
-/// Which line is no line of a timed script.
-fn about_line(alloc: Global, line: usize) -> Result<String, AllocError> {
-    let mut text = format!(in alloc;
-        "line {line} is none of a timed script, or its moment is before that of a line above\n"
-    )?;
+/// Whether these words, as the only line, are a timed script.
+fn is_right_alone(alloc: Global, words: &str, records: &[Sent]) -> Result<bool, AllocError> {
+    let alone = format!(in alloc; "{words}\n")?;
+    match timed_script(alloc, alone.as_bytes(), records) {
+        Ok(_made) => Ok(true),
+        Err(_fault) => Ok(false),
+    }
+}
+
+/// Whether a line that was refused is right alone, so that its moment is before that of a line above. What no line feed ends is no line.
+fn falls(alloc: Global, bytes: &[u8], records: &[Sent], line: usize) -> Result<bool, AllocError> {
+    let Ok(text) = text_or_line(bytes) else {
+        return Ok(false);
+    };
+    let lines = parts_at(alloc, text, '\n')?;
+    if lines.len() <= line {
+        return Ok(false);
+    }
+    is_right_alone(alloc, row_at(&lines, line.saturating_sub(1)), records)
+}
+
+/// Why a line cannot stand where it does.
+fn about_line(
+    alloc: Global,
+    bytes: &[u8],
+    records: &[Sent],
+    line: usize,
+) -> Result<String, AllocError> {
+    if falls(alloc, bytes, records, line)? {
+        return format!(in alloc; "line {line}: its moment is before that of a line above\n");
+    }
+    let mut text = format!(in alloc; "line {line} is none of a timed script\n")?;
     text.push_str(EXPECTED)?;
     Ok(text)
 }
 
 /// Why a timed script means no script.
-fn about_timed(alloc: Global, fault: ControlFault) -> Result<Option<String>, AllocError> {
+fn about_timed(
+    alloc: Global,
+    bytes: &[u8],
+    records: &[Sent],
+    fault: ControlFault,
+) -> Result<Option<String>, AllocError> {
     match fault {
-        ControlFault::BadLine { line } => Ok(Some(about_line(alloc, line)?)),
+        ControlFault::BadLine { line } => Ok(Some(about_line(alloc, bytes, records, line)?)),
         _ => Ok(None),
     }
 }
@@ -70,7 +104,10 @@ fn meant(alloc: Global, bytes: &[u8], records: &[Sent]) -> Result<TimedScript, R
 {
     match timed_script(alloc, bytes, records) {
         Ok(made) => Ok(made),
-        Err(fault) => Err(Refusal::hinted(Fault::Script(fault), about_timed(alloc, fault))),
+        Err(fault) => Err(Refusal::hinted(
+            Fault::Script(fault),
+            about_timed(alloc, bytes, records, fault),
+        )),
     }
 }
 

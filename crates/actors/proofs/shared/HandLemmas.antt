@@ -47,13 +47,6 @@ both_ended workers before middle after first second =
       reclaimer = λ within. two.here (omega (arith, count, within)) ∙ ap (λ jobs. jobs ++ End ∷ []) (one.elsewhere (workers + 1) (λ same. absurd (omega (arith, same))));
     }
 
-pub asked_and_ended : (workers : ℕ) (before middle after : List (List Job)) → workers + 1 < length before → ArePutAt (workers + 1) (Note ∷ []) before middle
-    → AreBothEnded workers middle after → put_at after (workers + 1) ≡ put_at before (workers + 1) ++ Note ∷ End ∷ []
-asked_and_ended workers before middle after within asked ended =
-    let count = asked.count in
-    ended.reclaimer (omega (arith, count, within)) ∙ ap (λ jobs. jobs ++ End ∷ []) (asked.here within)
-    ∙ append_assoc (put_at before (workers + 1)) (Note ∷ []) (End ∷ [])
-
 -- ---- commands
 
 numbers_more : (first count : ℕ) → numbers_from first (suc count) ≡ numbers_from first count ++ (first + count) ∷ []
@@ -110,16 +103,6 @@ commands_no_end first (suc count) = ((λ same. absurd (cc)), commands_no_end (fi
 pub notes_no_end : (count : ℕ) → HasNoEnd (replicate count Note)
 notes_no_end zero = tt
 notes_no_end (suc count) = ((λ same. absurd (cc)), notes_no_end count)
-
-pub note_no_end : (jobs : List Job) → HasNoEnd jobs → HasNoEnd (jobs ++ Note ∷ [])
-note_no_end [] none = ((λ same. absurd (cc)), tt)
-note_no_end (job ∷ jobs) none = (none.0, note_no_end jobs none.1)
-
-pub notes_end : (count : ℕ) → replicate count Note ++ Note ∷ End ∷ [] ≡ replicate (count + 1) Note ++ End ∷ []
-notes_end count = notes_there count ∙ ap (λ n. replicate n Note ++ End ∷ []) (sym (add-one count)) where
-  notes_there : (n : ℕ) → replicate n Note ++ Note ∷ End ∷ [] ≡ replicate (suc n) Note ++ End ∷ []
-  notes_there zero = refl
-  notes_there (suc n) = ap (λ rest. Note ∷ rest) (notes_there n)
 
 no_more : (mine left : List Job) → ¬ ([] ≡ (mine ++ End ∷ []) ++ left)
 no_more [] left e = absurd (cc)

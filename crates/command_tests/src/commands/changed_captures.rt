@@ -90,12 +90,12 @@ impl Folder for ChangingFolder {
         self.files.begin(alloc, name)
     }
 
-    fn add(&mut self, bytes: &[u8]) -> Result<(), FolderFault> {
-        self.files.add(bytes)
+    fn add(&mut self, name: &str, bytes: &[u8]) -> Result<(), FolderFault> {
+        self.files.add(name, bytes)
     }
 
-    fn finish(&mut self) -> Result<(), FolderFault> {
-        self.files.finish()
+    fn finish(&mut self, name: &str) -> Result<(), FolderFault> {
+        self.files.finish(name)
     }
 
     fn give_up(&mut self) {

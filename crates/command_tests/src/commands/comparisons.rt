@@ -57,6 +57,12 @@ const CUT: &[u8] = b"\
     2,1.000003,,SHORT,,short,,,,,,\n\
     3,2.000000,1,TX,131,sent,5,192.0.2.2,198.51.100.8,40000,203.0.113.1,80,tcp\n";
 
+/// The destination of the second record is no address.
+const NO_ADDRESS: &[u8] = b"\
+    number,moment,worker,verdict,steps,case,backend,address,source,source_port,destination,destination_port,protocol\n\
+    1,1.000002,0,TX,131,sent,7,192.0.2.1,198.51.100.7,40000,203.0.113.1,80,udp\n\
+    2,1.000003,0,TX,131,sent,7,192.0.2.1,198.51.100.7,40000,here,80,udp\n";
+
 /// What a row shows, the two files, the status, and what is printed and of which mistake.
 type Row = (
     &'static str,
@@ -68,7 +74,7 @@ type Row = (
 );
 
 #[rattlefmt::skip]
-static ROWS: [Row; 15] = [
+static ROWS: [Row; 16] = [
     ("a report and itself", THREE, THREE, 0, "3 records in both, 0 treated differently\n", ""),
     ("other workers and steps", THREE, THREE_AGAIN, 0, "3 records in both, 0 treated differently\n", ""),
     ("no record", HEAD, HEAD, 0, "0 records in both, 0 treated differently\n", ""),
@@ -90,6 +96,7 @@ static ROWS: [Row; 15] = [
     ("fewer records", THREE, HEAD, 2, "", "error: first and second are not of the same records: record 1 differs\n"),
     ("more records", HEAD, THREE, 2, "", "error: first and second are not of the same records: record 1 differs\n"),
     ("a field is missing", THREE, CUT, 2, "", "error: second is no report of CSV: line 3\n"),
+    ("an address that is none", THREE, NO_ADDRESS, 2, "", "error: second is no report of CSV: line 3, column destination\n"),
     ("no bytes", b"", THREE, 2, "", "error: first is no report of CSV: line 1\n"),
     ("a head that is cut", THREE, b"number,moment\n", 2, "", "error: second is no report of CSV: line 1\n"),
     ("JSON lines", THREE, b"{}\n", 2, "", "error: second has JSON lines, and a report of CSV is needed\n"),

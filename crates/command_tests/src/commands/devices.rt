@@ -96,12 +96,12 @@ impl Folder for FullFolder {
         Ok(false)
     }
 
-    fn add(&mut self, _bytes: &[u8]) -> Result<(), FolderFault> {
+    fn add(&mut self, _name: &str, _bytes: &[u8]) -> Result<(), FolderFault> {
         self.failures += 1;
         Err(FolderFault::Device)
     }
 
-    fn finish(&mut self) -> Result<(), FolderFault> {
+    fn finish(&mut self, _name: &str) -> Result<(), FolderFault> {
         self.failures += 1;
         Err(FolderFault::Device)
     }

@@ -22,22 +22,24 @@ const HEAD: &str =
 
 /// The table of flows that is printed where the backend before was not up.
 const DOWN: &str = "\
-    source,source_port,destination,destination_port,protocol,first,last,frames,sent,changes,backends\n\
-    198.51.100.7,40000,203.0.113.1,80,udp,1.000002,2.000000,2,2,1,0 >down 1\n";
+    source,source_port,destination,destination_port,protocol,first,last,frames,sent,dropped,no_backend,changes,backends\n\
+    198.51.100.7,40000,203.0.113.1,80,udp,1.000002,2.000000,2,2,0,0,1,0 >down 1\n";
 
 /// The table of flows that is printed where it was up, and the flow's note was gone.
 const EVICTED: &str = "\
-    source,source_port,destination,destination_port,protocol,first,last,frames,sent,changes,backends\n\
-    198.51.100.7,40000,203.0.113.1,80,udp,1.000002,2.000000,2,2,1,0 >evicted 1\n";
+    source,source_port,destination,destination_port,protocol,first,last,frames,sent,dropped,no_backend,changes,backends\n\
+    198.51.100.7,40000,203.0.113.1,80,udp,1.000002,2.000000,2,2,0,0,1,0 >evicted 1\n";
 
 /// What is said of the first of these.
 const ONE_DOWN: &str = "  1 flows with a sent frame, 1 of them moved
+  0 flows lost frames
   1 frames moved: 1 down, 0 evicted, 0 untracked, 0 readdressed, 0 unknown
   1 changes of udp 198.51.100.7:40000 to 203.0.113.1:80: 0 >down 1
 ";
 
 /// What is said of the second of these.
 const ONE_EVICTED: &str = "  1 flows with a sent frame, 1 of them moved
+  0 flows lost frames
   1 frames moved: 0 down, 1 evicted, 0 untracked, 0 readdressed, 0 unknown
   1 changes of udp 198.51.100.7:40000 to 203.0.113.1:80: 0 >evicted 1
 ";
@@ -47,10 +49,15 @@ const LEFT_OUT: &str = "\
     number,moment,worker,verdict,steps,case,backend,address,source,source_port,destination,destination_port,protocol\n\
     2,2.000000,0,TX,131,sent,1,192.0.2.2,198.51.100.7,40000,203.0.113.1,80,udp\n";
 
+/// A report with a moment that is none.
+const NO_MOMENT: &str = "\
+    number,moment,worker,verdict,steps,case,backend,address,source,source_port,destination,destination_port,protocol\n\
+    1,1.0\u{1b}[2J,0,TX,131,sent,1,192.0.2.2,198.51.100.7,40000,203.0.113.1,80,udp\n";
+
 /// The table of a flow whose backend goes down between its two frames, which a replay of one capture sends at one moment.
 const REPLAYED: &str = "\
-    source,source_port,destination,destination_port,protocol,first,last,frames,sent,changes,backends\n\
-    198.51.100.7,40000,203.0.113.1,80,udp,1.000002,1.000002,2,2,1,0 >down 1\n";
+    source,source_port,destination,destination_port,protocol,first,last,frames,sent,dropped,no_backend,changes,backends\n\
+    198.51.100.7,40000,203.0.113.1,80,udp,1.000002,1.000002,2,2,0,0,1,0 >down 1\n";
 
 /// A script in which both backends stay up.
 const STAY: &str = "0 vip 203.0.113.1 80 udp\n0 up 0 192.0.2.1\n0 up 1 192.0.2.2\n";
@@ -67,10 +74,12 @@ type Row = (
 );
 
 #[rattlefmt::skip]
-static ROWS: [Row; 7] = [
+static ROWS: [Row; 9] = [
     ("a backend that went down",       "flows", MOVED, MOVES, 0, DOWN, ONE_DOWN),
     ("a note that was gone",           "flows", MOVED, STAY,  0, EVICTED, ONE_EVICTED),
     ("flows of another file",          "flows", "a,b\n", STAY, 2, "", "error: report is no report of CSV: line 1\n"),
+    ("flows of a report with a moment that is none", "flows", NO_MOMENT, STAY, 2, "", "error: report is no report of CSV: line 2, column moment\n"),
+    ("a page of it",                   "page",  NO_MOMENT, STAY, 2, "", "error: report is no report of CSV: line 2, column moment\n"),
     ("flows of JSON lines",            "flows", "{}\n", STAY, 2, "", "error: report has JSON lines, and a report of CSV is needed\n"),
     ("flows of a report with a gap",   "flows", LEFT_OUT, STAY, 2, "", "error: report is not of all records of a replay: line 2\n"),
     ("a page of another file",         "page",  "a,b\n", STAY, 2, "", "error: report is no report of CSV: line 1\n"),

@@ -47,26 +47,31 @@ const MEANT: &str = "0 up 0 192.0.2.1\n0 up 1 192.0.2.2\n1 down 1\n2 up 1 192.0.
 /// What is said of the first line of a timed script, and of the seventh.
 const FIRST: &str = "\
 fault 90 BadLine line 1
-  line 1 is none of a timed script, or its moment is before that of a line above
+  line 1 is none of a timed script
   expected a moment (2026-11-28T10:03:00Z, 1764324180.25, or +180s from the first record), a space, and a command
 ";
 
 const SEVENTH: &str = "\
 fault 90 BadLine line 7
-  line 7 is none of a timed script, or its moment is before that of a line above
+  line 7 is none of a timed script
   expected a moment (2026-11-28T10:03:00Z, 1764324180.25, or +180s from the first record), a space, and a command
 ";
+
+/// What is said of a second line that says an earlier moment than the first one.
+const FALLS: &str =
+    "fault 90 BadLine line 2\n  line 2: its moment is before that of a line above\n";
 
 /// What a row shows; the timed script; the status, and what is printed on both streams.
 type Row = (&'static str, &'static str, u8, &'static str, &'static str);
 
 #[rattlefmt::skip]
-const ROWS: [Row; 6] = [
+const ROWS: [Row; 7] = [
     ("a unit of minutes",        TIMED,                                   1, "",                        SEVENTH),
     ("all kinds of moments",     TIMED_RIGHT,                             0, MEANT,                     ""),
     ("no line",                  "",                                      0, "",                        ""),
     ("a moment of no record",    "+11s down 1\n",                         0, "5 down 1\n",              "  line 1: its moment is behind the last record\n"),
     ("the number of a record",   "12 vip\n",                              1, "",                        FIRST),
+    ("a moment that falls",      "+1s down 1\n+0.5s down 2\n",           1, "",                        FALLS),
     ("at the last record",       "1764324190 down 1\n",                   0, "4 down 1\n",              ""),
 ];
 

@@ -140,19 +140,6 @@ impl<D: Folder> WeakFolder<D> {
         self.failures += 1;
         FolderFault::Device
     }
-
-    /// Counts a failure, and removes the file that is made in pieces.
-    fn fail_making(&mut self) -> FolderFault
-        requires { self.old.failures < 2 ^ 64 - 1 }
-        ensures kept { (other bytes : List ℕ) → (D.holds self.old.files other bytes ↔ D.holds self.new.files other bytes) }
-        ensures left_kept { (bytes : List ℕ) → (D.is_left self.old.files bytes ↔ D.is_left self.new.files bytes) }
-        ensures left { self.new.left ≡ self.old.left }
-        ensures fault { result ≡ FolderFault.Device }
-        ensures counted { self.new.failures ≡ self.old.failures + 1 }
-    {
-        self.files.give_up();
-        self.fail()
-    }
 }
 
 impl<D: Folder> Folder for WeakFolder<D> {
@@ -239,10 +226,9 @@ impl<D: Folder> Folder for WeakFolder<D> {
 
     fn begin(&mut self, alloc: Global, name: &str) -> Result<bool, FolderFault> {
         if self.is_failing(FolderCall::Begin) {
-            return Err(self.fail_making());
+            return Err(self.fail());
         }
         if !self.weakness.begins {
-            self.files.give_up();
             return Ok(false);
         }
         match self.files.begin(alloc, name) {
@@ -252,22 +238,22 @@ impl<D: Folder> Folder for WeakFolder<D> {
         }
     }
 
-    fn add(&mut self, bytes: &[u8]) -> Result<(), FolderFault> {
+    fn add(&mut self, name: &str, bytes: &[u8]) -> Result<(), FolderFault> {
         if self.is_failing(FolderCall::Add) {
-            return Err(self.fail_making());
+            return Err(self.fail());
         }
-        match self.files.add(bytes) {
+        match self.files.add(name, bytes) {
             Ok(()) => Ok(()),
             Err(FolderFault::Memory) => Err(FolderFault::Memory),
             Err(FolderFault::Device) => Err(self.fail()),
         }
     }
 
-    fn finish(&mut self) -> Result<(), FolderFault> {
+    fn finish(&mut self, name: &str) -> Result<(), FolderFault> {
         if self.is_failing(FolderCall::Finish) {
-            return Err(self.fail_making());
+            return Err(self.fail());
         }
-        match self.files.finish() {
+        match self.files.finish(name) {
             Ok(()) => Ok(()),
             Err(FolderFault::Memory) => Err(FolderFault::Memory),
             Err(FolderFault::Device) => Err(self.fail()),

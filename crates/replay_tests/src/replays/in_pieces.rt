@@ -113,6 +113,7 @@ fn take_piece<R: Abort, G: Gate>(
     holds_of(rt, setting.name, "room", replay.has_room(&piece));
     let done = replay.go_on(alloc, setting.verified, setting.script, &piece, gate)?;
     given.add(rt, alloc, &done);
+    replay.give_back(done);
     let taken = replay.taken();
     same_fact(rt, setting.name, "the ends", &given.ends.len(), &taken);
     Ok(())

@@ -136,14 +136,14 @@ ready_with maps options worker before after kept ready = record {
   are_shards = kept ready.are_shards;
 }
 
--- a call that was served or refused
-pub shards_asked : (maps : List MapDef) (options : Options) (worker : ℕ) (before : List JournaledShard) (call : Call)
-    (result : Result Reply JournalFull) (after : List JournaledShard) → SetsBytes call →
-    IfOk result (λ reply. IsAnsweredAmong worker before call reply after) → OnErr result (IsTurnedAwayAmong worker before call after) →
+-- a call that was served or refused, whatever its answer is
+pub shards_asked : {A : Type 0} (maps : List MapDef) (options : Options) (worker : ℕ) (before : List JournaledShard) (call : Call)
+    (replies : A → Reply) (result : Result A JournalFull) (after : List JournaledShard) → SetsBytes call →
+    IfOk result (λ answer. IsAnsweredAmong worker before call (replies answer) after) → OnErr result (IsTurnedAwayAmong worker before call after) →
     AreShardsOf maps options before → AreShardsOf maps options after
-shards_asked maps options worker before call (Ok reply) after sets answered away are =
-    shards_answered maps options worker before call reply after sets answered are
-shards_asked maps options worker before call (Err full) after sets answered away are =
+shards_asked maps options worker before call replies (Ok answer) after sets answered away are =
+    shards_answered maps options worker before call (replies answer) after sets answered are
+shards_asked maps options worker before call replies (Err full) after sets answered away are =
     shards_turned_away maps options worker before call after away are
 
 -- ---- leaving

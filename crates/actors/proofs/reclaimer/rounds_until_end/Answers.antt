@@ -17,5 +17,5 @@ jobs-preserved g c = record {
   place = c.next_note.ensures.take.1 ∙ c.jobs.invariant.place;
   taken = one_note g.B.Naming.plan g.B.Naming.count (jobs_taken c.jobs.take) (jobs_taken c.next_note.new.take) c.jobs.reclaiming c.round.new.self
       c.jobs.invariant.taken
-      (c.next_note.ensures.taken ∙ ap (λ is. jobs_taken c.jobs.take ++ round_job is ∷ []) c.if-not-next_note.false) c.round.ensures;
+      (c.next_note.ensures.taken ∙ ap (λ is. jobs_taken c.jobs.take ++ round_job is ∷ []) c.if-not-next_note.false) c.round.ensures.rounds;
 }

@@ -5,7 +5,7 @@ use Rattle.comparison.specs.Rows.IsUnread.{is_no_report}
 use Rattle.comparison.proofs.rows.rows_in.Goals as goal
 
 pub returns-in-Err-clause-refused : goal.returns-in-Err-clause-refused
-returns-in-Err-clause-refused c = is_no_report c.in-Err.line (c.begins_as_json.ensures.otherwise c.if-begins_as_json.false) (no_text c.in-Err.ensures.no_text) refl
+returns-in-Err-clause-refused c = is_no_report (c.begins_as_json.ensures.otherwise c.if-begins_as_json.false) (no_text c.in-Err.line c.in-Err.ensures.no_text refl)
 
 pub returns-in-Some-clause-refused : goal.returns-in-Some-clause-refused
 returns-in-Some-clause-refused c =
@@ -14,4 +14,5 @@ returns-in-Some-clause-refused c =
 
 pub returns-in-None-clause-refused : goal.returns-in-None-clause-refused
 returns-in-None-clause-refused c =
-    is_no_report 1 (c.begins_as_json.ensures.otherwise c.if-begins_as_json.false) (no_head (λ rest is. c.in-None.ensures.none rest (c.in-Ok.ensures.text.0 ∙ is)) refl) refl
+    is_no_report (c.begins_as_json.ensures.otherwise c.if-begins_as_json.false)
+    (no_head (λ rest is. c.in-None.ensures.none rest (c.in-Ok.ensures.text.0 ∙ is)) refl)

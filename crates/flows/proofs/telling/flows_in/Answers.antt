@@ -1,9 +1,9 @@
-use Rattle.std.proofs.Common.{◌≡◌, ◌∙◌, ℕ, List, Bor, ap, length, map}
+use Rattle.std.proofs.Common.{◌≡◌, ◌∙◌, ℕ, List, Bor, ap, count_by, length, map}
 use Rattle.control.specs.declared.command.Command.{Command}
 use Rattle.flows.specs.declared.flow.Flow.{Flow}
 use Rattle.flows.specs.declared.moves.Move.{Move}
 use Rattle.flows.specs.FlowRecords.{moved_of, stories_in, story_of}
-use Rattle.flows.specs.Stories.{Story}
+use Rattle.flows.specs.Stories.{Story, is_stopped_row}
 use Rattle.flows.specs.SummaryText.{summary_text}
 use Rattle.flows.specs.TableText.{table_text}
 use Rattle.flows.specs.Telling.{Moved, moves_until, stories_until}
@@ -27,8 +27,10 @@ returns-clause-flows c =
       table_is = c.in_ok-table.ensures
           ∙ ap table_text (ap (λ (it : List Flow). map story_of it) c.deref-2.ensures.value ∙ stories);
       summary_is = c.in_ok-summary.ensures
-          ∙ (ap (λ (it : List Story). summary_text it (map moved_of c.deref-4.result.now))
+          ∙ (ap (λ (it : List Story). summary_text it (map moved_of c.deref-4.result.now) c.stopped_count.result)
           (ap (λ (it : List Flow). map story_of it) c.deref-3.ensures.value ∙ stories)
-          ∙ ap (λ (it : List Moved). summary_text (stories_until rows c.args.script.now (length rows)) it)
-          (ap (λ (it : List Move). map moved_of it) c.deref-4.ensures.value ∙ moves));
+          ∙ (ap (λ (it : List Moved). summary_text (stories_until rows c.args.script.now (length rows)) it c.stopped_count.result)
+          (ap (λ (it : List Move). map moved_of it) c.deref-4.ensures.value ∙ moves)
+          ∙ ap (λ (it : ℕ). summary_text (stories_until rows c.args.script.now (length rows)) (moves_until rows c.args.script.now (length rows)) it)
+          (c.stopped_count.ensures ∙ ap (λ (it : List (Bor (List ℕ))). count_by is_stopped_row (map now it)) c.deref-5.ensures.value)));
     }

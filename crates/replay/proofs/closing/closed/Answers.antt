@@ -1,4 +1,4 @@
-use Rattle.std.proofs.Common.{◌≡◌, List, length, refl, sym, ap, ◌∙◌, subst, arith}
+use Rattle.std.proofs.Common.{◌≡◌, List, [], length, refl, sym, ap, ◌∙◌, subst, arith}
 use Rattle.std.proofs.lemmas.List.{length-map}
 use Rattle.std.specs.Prelude.{map, Vec}
 use Rattle.std.specs.declared.alloc.Global.{Global}
@@ -12,7 +12,11 @@ use Rattle.actors.specs.RunsOverShards.{pass_in}
 use Rattle.actors.specs.Accounted.{IsAccounted}
 use Rattle.actors.specs.declared.outcome.Outcome.{Outcome}
 use Rattle.shards.specs.Passes.{AreSettled}
-use Rattle.replay.proofs.Accounts.{IsOwnIn, shares, work, outcome_is}
+use Rattle.semantics.specs.declared.call.Caller.{Caller}
+use Rattle.shards.specs.declared.deeds.OrderPart.TheVariants.{ByCaller}
+use Rattle.shards.specs.Deeds.{deeds_of}
+use Rattle.replay.proofs.Accounts.{IsOwnIn, shares, work, no_work_later, outcome_is}
+use Rattle.replay.proofs.LastRound.{first_of_first, nothing_later, closes_behind}
 use Rattle.replay.proofs.PartLemmas.{IsScriptBegun, all_of, script_begins, rounds_stand}
 use Rattle.replay.proofs.closing.closed.Goals as goal
 
@@ -49,11 +53,12 @@ returns-clause-accounted g c =
     let begun = subst (λ maps. IsScriptBegun g.B.Naming.plan maps c.args.shards.options g.B.Naming.count c.outcome_of.result.updates.items c.args.script.now journals one.deeds
     c.outcome_of.result.refused.items) c.requires.maps
     (script_begins g.B.Naming.plan c.args.shards.maps c.args.shards.options g.B.Naming.count c.outcome_of.result.updates.items c.args.script.now c.args.size
-    c.args.ended.controller.noted.items c.args.ended.controller.pass journals one.deeds c.outcome_of.result.refused.items c.args.first c.planned.ensures.plans
+    c.args.ended.controller.noted.items c.args.ended.controller.pass journals one.deeds c.outcome_of.result.refused.items c.requires.script.0 c.planned.ensures.plans
     c.planned.ensures.options c.requires.size c.requires.serves
     (subst (λ (updates : List MapUpdate). IsScriptRunBehind g.B.Naming.plan c.args.shards.maps c.args.shards.options updates c.args.script.now c.args.size
-    c.args.ended.controller.noted.items c.args.ended.controller.pass c.args.first) (sym updates_are) c.requires.script)
-    settled.next owned.next told.refused did.begins) in
+    c.args.ended.controller.noted.items c.args.ended.controller.pass c.requires.script.0) (sym updates_are) c.requires.script.2)
+    settled.next owned.next told.refused (first_of_first c.requires.script.0 c.args.last one.deeds c.requires.script.1 did.begins)) in
+    let later = did.begins.0 in
     subst (λ (outcome : Outcome). IsAccounted program c.args.script.now c.args.shards.options records outcome) (sym is) (record {
       maps = c.close_behind-journals.ensures.maps ∙ c.requires.maps;
       options_are = c.close_behind-journals.ensures.options;
@@ -78,4 +83,11 @@ returns-clause-accounted g c =
       begins = begun.begins;
       rounds = rounds_stand g.B.Naming.plan g.B.Naming.count (round_count (length records)) journals one.deeds c.args.ended.reclaimer c.requires.rounds.1
           settled.last owned.last c.requires.rounds.0;
+      closes = closes_behind g.B.Naming.plan g.B.Naming.count workers one.deeds c.args.last c.args.ended.reclaimer.deeds one.by did.begins
+          (no_work_later g.B.Naming.count g.B.Naming.plan program records workers c.args.ended.workers.items (lists_of lists) working (map pass_in working)
+          one.deeds later c.args.last c.requires.count c.requires.handled c.in_ok-runs.ensures.parts (λ worker below. refl)
+          (λ worker below. owned.first worker (omega (arith, below, workers_passes))) c.requires.closed.by_workers did.begins.1)
+          (subst (λ (one : Caller). deeds_of (ByCaller one) later ≡ []) c.requires.script.2.run.who
+          (nothing_later one.deeds later c.args.last c.args.ended.controller.pass did.begins.1 c.requires.closed.by_controller owned.next))
+          (owned.last ∙ ap (λ (one : Caller). deeds_of (ByCaller one) did.one.deeds) c.requires.rounds.1) c.requires.closed.last;
     })

@@ -1,4 +1,4 @@
-use Rattle.std.proofs.Common.{◌≡◌, ◌+◌, ◌-◌, ℕ, List, length, sym, ap, ◌∙◌, subst, arith}
+use Rattle.std.proofs.Common.{◌≡◌, ◌+◌, ◌-◌, ◌/◌, ℕ, List, length, sym, ap, ◌∙◌, subst, arith}
 use Rattle.std.specs.Prelude.{map}
 use Rattle.std.proofs.lemmas.List.{length-map}
 use Rattle.machine.specs.Running.{program_of}
@@ -6,7 +6,7 @@ use Rattle.control.specs.declared.command.Command.{Command}
 use Rattle.semantics.specs.Each.{Each}
 use Rattle.semantics.specs.declared.options.Options.{Options}
 use Rattle.replay.specs.Crews.{IsHandled}
-use Rattle.actors.specs.Parts.{round_count}
+use Rattle.actors.specs.Parts.{IsScriptRunBehind}
 use Rattle.actors.specs.RunsOverShards.{IsNewAt, IsRunBy, pass_in}
 use Rattle.rx_queues.specs.Passes.{jobs_put}
 use Rattle.replay.specs.Settings.{AreFreshPasses, IsAbandoned}
@@ -57,13 +57,18 @@ run_all-requires-clause-actors g c κs outlives =
     )
 
 pub returns-in-Ok-clause-count : goal.returns-in-Ok-clause-count
-returns-in-Ok-clause-count g c = c.in-Ok.ensures.done.count ∙ c.in_ok-states.ensures.count ∙ ap (λ (o : Options). o.workers) c.options.ensures
+returns-in-Ok-clause-count g c =
+    ap (λ l. length l) c.last_round.ensures.workers
+    ∙ c.in-Ok.ensures.done.count ∙ c.in_ok-states.ensures.count ∙ ap (λ (o : Options). o.workers) c.options.ensures
 
 pub returns-in-Ok-clause-handled : goal.returns-in-Ok-clause-handled
 returns-in-Ok-clause-handled g c =
     subst (λ n. Each (IsHandled IsNewAt (IsRunBy g.B.Naming.count g.B.Naming.plan
     (program_of c.args.verified.now c.args.shards.now.options.shards)) c.args.capture.now.records.items n) 0
-    c.in-Ok.all.workers.items) (c.in_ok-states.ensures.count ∙ ap (λ (o : Options). o.workers) c.options.ensures) c.in-Ok.ensures.done.handled
+    c.last_round.result.1.workers.items) (c.in_ok-states.ensures.count ∙ ap (λ (o : Options). o.workers) c.options.ensures)
+    (subst (λ items. Each (IsHandled IsNewAt (IsRunBy g.B.Naming.count g.B.Naming.plan
+    (program_of c.args.verified.now c.args.shards.now.options.shards)) c.args.capture.now.records.items (length c.in_ok-states.states.items)) 0 items)
+    (sym c.last_round.ensures.workers) c.in-Ok.ensures.done.handled)
 
 pub returns-in-Ok-clause-script : goal.returns-in-Ok-clause-script
 returns-in-Ok-clause-script g c =
@@ -75,16 +80,26 @@ returns-in-Ok-clause-script g c =
     let below = started.within in
     let many = as_many_starts c.args.starts.now script c.requires.starts in
     let all : first + count ≡ length script = omega (arith, below) in
-    script_run_behind g.B.Naming.plan c.args.shards.now.maps c.args.shards.now.options c.args.updates.now script c.args.size
+    let ran = script_run_behind g.B.Naming.plan c.args.shards.now.maps c.args.shards.now.options c.args.updates.now script c.args.size
     start c.in-Ok.all.controller.noted.items c.in-Ok.all.controller.pass c.in_ok-controller.first
     (script_run g.B.Naming.plan c.args.shards.now.maps c.args.shards.now.options c.args.updates.now script c.args.size start
     c.in-Ok.all.controller.noted.items c.in-Ok.all.controller.pass first count started.updates_are started.script_is started.maps_are started.options_are
-    started.size_is started.applied all (c.in-Ok.ensures.done.commands count (all ∙ sym many))) c.in_ok-controller.ensures.first
+    started.size_is started.applied all (c.in-Ok.ensures.done.commands count (all ∙ sym many))) c.in_ok-controller.ensures.first in (
+      c.in_ok-controller.first,
+      c.last_round.ensures.later,
+      subst (λ one. IsScriptRunBehind g.B.Naming.plan c.args.shards.now.maps c.args.shards.now.options c.args.updates.now script c.args.size
+          one.noted.items one.pass c.in_ok-controller.first) (sym c.last_round.ensures.controller) ran,
+    )
 
 pub returns-in-Ok-clause-rounds : goal.returns-in-Ok-clause-rounds
 returns-in-Ok-clause-rounds g c =
-    let rounds = c.in-Ok.ensures.done.rounds in
-    (rounds_made g.B.Naming.plan g.B.Naming.count (round_count (length c.args.capture.now.records.items)) c.in-Ok.all.reclaimer rounds, rounds.who)
+    let rounds = length c.args.capture.now.records.items / 64 in (
+      c.last_round.ensures.rounds rounds (rounds_made g.B.Naming.plan g.B.Naming.count rounds c.in-Ok.all.reclaimer c.in-Ok.ensures.done.rounds),
+      c.last_round.ensures.who,
+    )
+
+pub returns-in-Ok-clause-closed : goal.returns-in-Ok-clause-closed
+returns-in-Ok-clause-closed g c = c.last_round.ensures.closed
 
 why_abandoned : (frames : List (List ℕ)) (workers count : ℕ) (it : Abandoned) → IsAbandoned frames workers count it.fault (jobs_put it.put)
     → IsOfNoUpdate it.fault × (it.fault ≡ BadOptions → ⊥)

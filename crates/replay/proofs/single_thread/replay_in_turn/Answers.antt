@@ -24,3 +24,10 @@ returns-in_ok-whole-in-Ok-clause-one_list g c = λ account.
     let options = recorded c.args.recording c.args.options in
     c.headline.ensures c.args.script.now options c.args.capture.now.records.items c.in_ok-whole-in-Ok.field-0 under.options_fit
     c.all_are_captured.ensures c.commands_fit.ensures account
+
+pub returns-in_ok-whole-in-Ok-clause-turn_by_turn : goal.returns-in_ok-whole-in-Ok-clause-turn_by_turn
+returns-in_ok-whole-in-Ok-clause-turn_by_turn g c =
+    let under = c.in-Ok.ensures.underway in
+    let options = recorded c.args.recording c.args.options in
+    c.events_come_in_turns.ensures c.args.script.now options c.args.capture.now.records.items c.in_ok-whole-in-Ok.field-0 under.options_fit
+    c.all_are_captured.ensures c.commands_fit.ensures (c.in_ok-whole-in-Ok.ensures.in_turn options under)

@@ -1,10 +1,10 @@
 use Rattle.std.proofs.Common.{rules, inl, inr, refl, ◌≡◌, ◌+◌, ◌-◌, ◌/◌, ◌<◌, ◌∷◌, ◌++◌, [], List, length, sym, ap, ◌∙◌, subst, arith}
 use Rattle.rx_queues.specs.declared.job.Job.{Job}
-use Rattle.rx_queues.specs.declared.job.Job.TheVariants.{Note, End}
+use Rattle.rx_queues.specs.declared.job.Job.TheVariants.{End}
 use Rattle.rx_queues.specs.Passes.{workers_of, jobs_put}
 use Rattle.actors.specs.Actors.{HasNoEnd, AreAllEnded, AreBothEnded, round_jobs, commands_from}
 use Rattle.actors.specs.Puts.{ArePutWithEnd, put_at}
-use Rattle.actors.proofs.shared.HandLemmas.{commands_no_end, notes_no_end, notes_end}
+use Rattle.actors.proofs.shared.HandLemmas.{commands_no_end, notes_no_end}
 use Rattle.replay.proofs.AbandonLemmas.{given_up_then}
 use Rattle.replay.proofs.EndLemmas.{ended_then, all_ended, nobody_ran}
 use Rattle.actors.proofs.shared.PutLemmas.{all_queues}
@@ -73,8 +73,7 @@ returns-in-Some-close_both-clause-done g c =
     let jobs = put_at (jobs_put c.work_all.new.put) (workers_of c.args.setting.queues.now) in
     let notes = put_at (jobs_put c.work_all.new.put) (workers_of c.args.setting.queues.now + 1) in
     let rounds = round_jobs (length c.args.setting.capture.now.records.items) in
-    let all : notes ++ Note ∷ End ∷ [] ≡ rounds =
-    ap (λ (xs : List Job). xs ++ Note ∷ End ∷ []) c.in-Ok-work_all.ensures.done.notes ∙ notes_end (length c.args.setting.capture.now.records.items / 64) in
+    let all : notes ++ End ∷ [] ≡ rounds = ap (λ (xs : List Job). xs ++ End ∷ []) c.in-Ok-work_all.ensures.done.notes in
     record {
       count = c.in-Ok-work_all.ensures.done.count;
       handled = c.in-Ok-work_all.ensures.done.handled;

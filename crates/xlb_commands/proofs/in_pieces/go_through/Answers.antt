@@ -10,18 +10,18 @@ use Rattle.xlb_commands.specs.declared.next_records.PieceStep.TheVariants.{More,
 use Rattle.xlb_commands.proofs.Earlier.{broken_since}
 use Rattle.xlb_commands.proofs.PieceLemmas.{capture_is, none_run, run_on}
 use Rattle.xlb_commands.proofs.Refusals.{failed_since, kept_twice}
-use Rattle.xlb_commands.proofs.ShareLemmas.{none_taken, taken_both}
+use Rattle.xlb_commands.proofs.TakingLemmas.{none_taken, taken_both}
 use Rattle.xlb_commands.proofs.in_pieces.go_through.Goals as goal
 
 pub pieces-init : goal.pieces-init
 pieces-init g c = record {
   records = [];
   read = rw c.in-Some.is at c.in_ok-reader.ensures.opened;
-  passed = c.in_ok-share.ensures.passed;
+  passed = c.in_ok-taking.ensures.passed;
   have_run = subst (λ (them : List Sent). HaveRun (program_of c.args.asked.verified.now c.args.asked.options.shards) c.args.asked.script.now
-      (recorded c.args.asked.recording c.args.asked.options) c.args.going.now.replay c.args.going.now.replay
+      (recorded c.args.asked.recording c.args.asked.options) c.args.asked.files.now c.args.going.now.replay c.args.going.now.replay
       (g.D.Folder.is_begun c.args.folder.now) (g.D.Folder.is_begun c.open_reader.new.folder) them) (sym (none_taken c.args.asked.part))
-      (none_run _ _ _ _ _ _ c.open_reader.ensures.made);
+      (none_run _ _ _ _ _ _ _ c.open_reader.ensures.made);
   room = rw c.in-Some.is at c.in_ok-reader.ensures.room;
   goes_on = c.requires.goes_on;
   maps = c.requires.maps;
@@ -41,10 +41,10 @@ pieces-preserved g c =
       read = more.1 c.args.folder.now c.args.asked.files.now.capture.now so_far.records so_far.read;
       passed = more.2 c.args.asked.part (command_frames c.args.whole.script.now) so_far.records so_far.passed;
       have_run = subst (λ (them : List Sent). HaveRun (program_of c.args.asked.verified.now c.args.asked.options.shards) c.args.asked.script.now
-          (recorded c.args.asked.recording c.args.asked.options) c.args.going.now.replay c.take_piece.new.going.replay
+          (recorded c.args.asked.recording c.args.asked.options) c.args.asked.files.now c.args.going.now.replay c.take_piece.new.going.replay
           (g.D.Folder.is_begun c.args.folder.now) (g.D.Folder.is_begun c.take_piece.new.folder) them)
           (sym (taken_both c.args.asked.part so_far.records more.0 _ so_far.read.counted))
-          (run_on _ _ _ _ _ _ _ _ _ (records_in c.args.asked.part so_far.records) _ so_far.have_run more.3);
+          (run_on _ _ _ _ _ _ _ _ _ _ (records_in c.args.asked.part so_far.records) _ so_far.have_run more.3);
       room = (rw c.in-Ok-More.field-0-is at c.in-Ok-More.ensures.room) more_comes;
       goes_on = (rw c.in-Ok-More.field-0-is at c.in-Ok-More.ensures.goes_on) more_comes;
       maps = (rw c.in-Ok-More.field-0-is at c.in-Ok-More.ensures.maps) more_comes;
@@ -84,14 +84,14 @@ returns-in-Ok-Last-clause-gone g c =
         captured = so_far.records ++ last.0;
         capture = capture_is (g.D.Folder.holds c.args.folder.now) c.args.asked.files.now.capture.now (so_far.records ++ last.0) _
             (last.1 c.args.folder.now c.args.asked.files.now.capture.now so_far.records so_far.read);
-        numbers_are = same is c.args.asked.part (command_frames c.args.whole.script.now) (so_far.records ++ last.0)
-            (last.2 c.args.asked.part (command_frames c.args.whole.script.now) so_far.records so_far.passed);
+        numbers_are = (same c.args.asked.part (command_frames c.args.whole.script.now) (so_far.records ++ last.0)
+            (last.2 c.args.asked.part (command_frames c.args.whole.script.now) so_far.records so_far.passed)).0 is;
       };
       have_run = subst (λ (them : List Sent). HaveRun (program_of c.args.asked.verified.now c.args.asked.options.shards) c.args.asked.script.now
-          (recorded c.args.asked.recording c.args.asked.options) c.args.going.now.replay c.take_piece.new.going.replay
+          (recorded c.args.asked.recording c.args.asked.options) c.args.asked.files.now c.args.going.now.replay c.take_piece.new.going.replay
           (g.D.Folder.is_begun c.args.folder.now) (g.D.Folder.is_begun c.take_piece.new.folder) them)
           (sym (taken_both c.args.asked.part so_far.records last.0 _ so_far.read.counted))
-          (run_on _ _ _ _ _ _ _ _ _ (records_in c.args.asked.part so_far.records) _ so_far.have_run last.3);
+          (run_on _ _ _ _ _ _ _ _ _ _ (records_in c.args.asked.part so_far.records) _ so_far.have_run last.3);
     })
     c.has_numbers.ensures.same
 

@@ -5,7 +5,7 @@ use Rattle.xlb_commands.specs.declared.fault.Fault.{Fault}
 use Rattle.xlb_commands.specs.declared.fault.Fault.TheVariants as faults
 use Rattle.xlb_commands.specs.Parts.{records_in}
 use Rattle.xlb_commands.specs.Refused.{IsBrokenOff, LacksRoom, no_replay_memory}
-use Rattle.xlb_commands.proofs.ShareLemmas.{script_is}
+use Rattle.xlb_commands.proofs.TakingLemmas.{script_is}
 use Rattle.xlb_commands.proofs.in_pieces.left_by_pieces.Goals as goal
 
 pub left_in_pieces-requires-clause-underway : goal.left_in_pieces-requires-clause-underway
@@ -55,9 +55,11 @@ returns-clause-left g c =
     record {
       captured = captured;
       sent = gone.have_run.sent;
+      ends = gone.have_run.ends;
       capture = gone.numbered.capture;
       script_is = script_is c.args.asked.part captured c.args.whole.numbers.now c.args.whole.script.now gone.numbered.numbers_are ∙ sym c.requires.script;
       added = gone.have_run.added;
+      told = (gone.have_run.told c.args.asked.updates.now [] [] [] c.requires.underway).1;
       made_of = c.in_ok-left.ensures.left (records_in c.args.asked.part captured) gone.have_run.sent gone.have_run.ends
           (gone.have_run.run c.args.asked.updates.now [] [] [] c.requires.underway) gone.have_run.captured;
     }

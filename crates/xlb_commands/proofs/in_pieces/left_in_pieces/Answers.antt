@@ -109,6 +109,7 @@ returns-clause-left c = λ records sent ends under captured.
     record {
       whole = whole;
       sent_are = is.sent_are;
+      ends_are = is.ends_are;
       made = record { updates_are = updated; accounted = account; in_turn = λ exact. replayed.in_order };
       headline = record {
         verified = asked.verified.now;

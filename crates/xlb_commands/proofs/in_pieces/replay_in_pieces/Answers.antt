@@ -2,13 +2,13 @@ use Rattle.std.proofs.Common.{◌∙◌, ℕ, List, ap, subst, sym}
 use Rattle.std.proofs.lemmas.Option.{IfSome_then}
 use Rattle.std.proofs.lemmas.Result.{err_from_is_err_and, IfErr-weaker, IfOk-weaker}
 use Rattle.xlb_commands.specs.Parts.{command_frames}
-use Rattle.xlb_commands.specs.Shares.{AreNumbers, script_at}
+use Rattle.xlb_commands.specs.Taking.{AreNumbers, script_at}
 use Rattle.traffic.specs.declared.readings.Reading.{Reading}
 use Rattle.xlb_commands.specs.Refused.{no_part}
 use Rattle.xlb_commands.specs.Replays.{IsCaptureOf}
 use Rattle.xlb_commands.proofs.Earlier.{all_but_kept, capture_before, report_before, unreplayed_before}
 use Rattle.xlb_commands.proofs.Refusals.{failed_since, kept_back}
-use Rattle.xlb_commands.proofs.ShareLemmas.{numbers_of_all, script_of_all, script_of_one}
+use Rattle.xlb_commands.proofs.TakingLemmas.{numbers_of_all, script_of_all, script_of_one}
 use Rattle.xlb_commands.proofs.in_pieces.replay_in_pieces.Goals as goal
 
 pub numbered-requires : goal.numbered-requires

@@ -1,4 +1,4 @@
-use Rattle.std.proofs.Common.{◌≡◌, ◌++◌, ◌⊎◌, ◌∙◌, inl, inr, ℕ, Bool, true, List, Option, None, arith, refl, subst, sym}
+use Rattle.std.proofs.Common.{◌≡◌, ◌++◌, ◌⊎◌, ◌∙◌, inl, inr, ℕ, Bool, true, List, Option, None, Some, arith, refl, subst, sym}
 use Rattle.std.proofs.lemmas.Result.{err_from_is_err_and}
 use Rattle.wire.specs.CaptureFormat.{capture_bytes, header_bytes, records_bytes}
 use Rattle.wire.specs.declared.records.Sent.{Sent}
@@ -6,7 +6,12 @@ use Rattle.command_line.specs.Reading.{text_of}
 use Rattle.semantics.specs.ShardPlan.{recorded}
 use Rattle.traffic.specs.Readings.{unaltered}
 use Rattle.traffic.specs.declared.readings.Reading.{Reading}
-use Rattle.xlb_commands.specs.RecordReports.{IsReportFile, runs_shipped}
+use Rattle.xlb_commands.specs.RecordReports.{IsReportFile, form_of, report_text, runs_shipped}
+use Rattle.xlb_commands.specs.InPieces.{AreApartInPieces, AreTold}
+use Rattle.traffic.specs.RecordLines.{report_head}
+use Rattle.actors.specs.declared.outcome.Outcome.{Outcome}
+use Rattle.actors.specs.declared.outcome.RecordEnd.{RecordEnd}
+use Rattle.command_line.specs.declared.commands.ReplayFiles.{ReplayFiles}
 use Rattle.xlb_commands.specs.declared.fault.Fault.{Fault}
 use Rattle.xlb_commands.specs.declared.replays.Asked.{Asked}
 use Rattle.xlb_commands.specs.declared.report.Report.{Report}
@@ -16,11 +21,11 @@ use Rattle.xlb_commands.specs.AskedReplays.{HasBadOptions, IsAnsweredBy, IsAnswe
 use Rattle.xlb_commands.specs.Parts.{records_in, script_in}
 use Rattle.xlb_commands.specs.Files.{FileBytes, AreKept}
 use Rattle.xlb_commands.specs.Refused.{HasFailed, IsBrokenOff, IsGivenUp, IsUnmade, LacksRoom}
-use Rattle.xlb_commands.specs.Refused.{broken_off, given_up, no_piece, not_reported, not_written_down, unmade}
+use Rattle.xlb_commands.specs.Refused.{broken_off, given_up, lacks_memory, no_piece, not_reported, not_written_down, unmade}
 use Rattle.xlb_commands.specs.Replays.{IsCaptureOf, IsMade, IsReportOf, image_of, program_of_replay}
 use Rattle.xlb_commands.proofs.Earlier.{all_but_kept, broken_since, capture_before, unfiled_before}
 use Rattle.xlb_commands.proofs.Refusals.{failed_since, kept_still, kept_twice, written_down}
-use Rattle.xlb_commands.proofs.ShareLemmas.{script_is}
+use Rattle.xlb_commands.proofs.TakingLemmas.{script_is}
 use Rattle.xlb_commands.proofs.in_pieces.replay_seen.Goals as goal
 
 -- what was made of the part is what was made with the script for the whole capture
@@ -43,17 +48,30 @@ unmade_by before after failed asked script captured fault capture same is =
     (subst (λ (them : List Command). IsUnmade before after failed asked.files.now (image_of asked.verified.now) them asked.options asked.recording
     asked.exact asked.updates.now (records_in asked.part captured) fault) (sym same) is)
 
+-- the report that is made in pieces is that of all records
+report_of : (first made after : FileBytes) (files : ReplayFiles) (name : Option (List ℕ)) → text_of files.report ≡ name
+    → (script : List Command) (records sent : List Sent) (ends : List RecordEnd) (whole : Outcome) → whole.sent.items ≡ sent → whole.ends.items ≡ ends
+    → ((file : List ℕ) → text_of files.report ≡ Some file → first file (report_head (form_of file)))
+    → AreTold first made files script 0 records sent ends
+    → ((file bytes : List ℕ) → text_of files.report ≡ Some file → made file bytes → after file bytes)
+    → IsReportFile after name (runs_shipped files) script records whole
+report_of first made after files None is script records sent ends whole sent_are ends_are begun told written = tt
+report_of first made after files (Some file) is script records sent ends whole sent_are ends_are begun told written =
+    subst (λ (them : List Sent). after file (report_text (form_of file) (runs_shipped files) script records whole.ends.items them)) (sym sent_are)
+    (subst (λ (them : List RecordEnd). after file (report_text (form_of file) (runs_shipped files) script records them sent)) (sym ends_are)
+    (written file _ is (told file is (report_head (form_of file)) (begun file is))))
+
 -- a failure between two calls that had none
 failed_within : (first second third fourth : ℕ) → second ≡ first → fourth ≡ third → HasFailed second third → HasFailed first fourth
 failed_within first second third fourth same after failed = omega arith
 
 pub returns-in_err-write_pieces-in-Ok-Some-clause-kept : goal.returns-in_err-write_pieces-in-Ok-Some-clause-kept
 returns-in_err-write_pieces-in-Ok-Some-clause-kept g c =
-    all_but_kept _ _ _ _ _ _ (kept_twice _ _ _ c.begin_sent.ensures.kept c.left_by_pieces.ensures.kept) c.write_pieces.ensures.others
+    all_but_kept _ _ _ _ _ _ (kept_twice _ _ _ c.begin_files.ensures.kept c.left_by_pieces.ensures.kept) c.write_pieces.ensures.others
 
-pub returns-in_ok-write_pieces-in-Ok-Some-clause-kept : goal.returns-in_ok-write_pieces-in-Ok-Some-clause-kept
-returns-in_ok-write_pieces-in-Ok-Some-clause-kept g c =
-    all_but_kept _ _ _ _ _ _ (kept_twice _ _ _ c.begin_sent.ensures.kept c.left_by_pieces.ensures.kept) c.write_pieces.ensures.others
+pub returns-in-Ok-Some-clause-kept : goal.returns-in-Ok-Some-clause-kept
+returns-in-Ok-Some-clause-kept g c =
+    all_but_kept _ _ _ _ _ _ (kept_twice _ _ _ c.begin_files.ensures.kept c.left_by_pieces.ensures.kept) c.write_pieces.ensures.others
 
 pub returns-in_err-going-clause-refused : goal.returns-in_err-going-clause-refused
 returns-in_err-going-clause-refused g c =
@@ -76,8 +94,8 @@ returns-in_err-write_pieces-in-Ok-Some-clause-refused g c =
     let asked = c.args.asked in
     let left = rw c.in-Ok-Some.field-0-is at c.in-Ok-Some.ensures.left in
     let made_of = left.made_of in
-    let before = c.begin_sent.ensures.kept in
-    let begun = left.added asked.files.now.sent.now header_bytes (c.in_ok-begin_sent.ensures.begun c.if-not-branch.false) in
+    let before = c.begin_files.ensures.kept in
+    let begun = left.added c.requires.apart header_bytes (c.in_ok-begin_files.ensures.sent c.if-not-branch.false) in
     let p = err_from_is_err_and c.from_residual-in_err-write_pieces-in-Ok-Some.result c.from_residual-in_err-write_pieces-in-Ok-Some.ensures.1 in
     rw (p.1, p.2)
     (unmade_by _ _ _ asked c.args.whole.script.now left.captured _
@@ -88,18 +106,18 @@ returns-in_err-write_pieces-in-Ok-Some-clause-refused g c =
     (subst (λ (exact : Bool). IsMade exact (program_of_replay (image_of asked.verified.now) asked.options) asked.updates.now asked.script.now
     (recorded asked.recording asked.options) (records_in asked.part left.captured) made_of.whole) (sym c.requires.exact) made_of.made)
     (unfiled_before _ _ _ _ _ _ _ _ _ (kept_twice _ _ _ before c.left_by_pieces.ensures.kept)
-    (λ failed. failed_since _ _ _ c.in_ok-begin_sent.ensures.steady (failed_since _ _ _ c.in-Ok-Some.ensures.steady failed))
+    (λ failed. failed_since _ _ _ c.in_ok-begin_files.ensures.steady (failed_since _ _ _ c.in-Ok-Some.ensures.steady failed))
     (c.in_err-write_pieces-in-Ok-Some.ensures.refused (capture_bytes made_of.whole.sent.items) made_of.whole.journals
     (subst (λ (sent : List Sent). g.D.Folder.is_begun c.left_by_pieces.new.folder asked.files.now.sent.now (header_bytes ++ records_bytes sent))
-    (sym made_of.sent_are) begun)))))
+    (sym made_of.sent_are) begun) made_of.journals_are))))
 
-pub returns-in_ok-write_pieces-in-Ok-Some-clause-done : goal.returns-in_ok-write_pieces-in-Ok-Some-clause-done
-returns-in_ok-write_pieces-in-Ok-Some-clause-done g c =
+pub returns-in-Ok-Some-clause-done : goal.returns-in-Ok-Some-clause-done
+returns-in-Ok-Some-clause-done g c =
     let asked = c.args.asked in
     let left = rw c.in-Ok-Some.field-0-is at c.in-Ok-Some.ensures.left in
     let made_of = left.made_of in
-    let before = c.begin_sent.ensures.kept in
-    let begun = left.added asked.files.now.sent.now header_bytes (c.in_ok-begin_sent.ensures.begun c.if-not-branch.false) in
+    let before = c.begin_files.ensures.kept in
+    let begun = left.added c.requires.apart header_bytes (c.in_ok-begin_files.ensures.sent c.if-not-branch.false) in
     answer_by _ _ asked c.args.whole.script.now left.captured _
     (subst (λ (reading : Reading). IsCaptureOf (g.D.Folder.holds c.args.folder.now) reading asked.files.now.capture.now left.captured)
     (sym c.requires.all) (capture_before _ _ before _ _ left.captured left.capture)) left.script_is (
@@ -119,10 +137,13 @@ returns-in_ok-write_pieces-in-Ok-Some-clause-done g c =
             (subst (λ (sent : List Sent). g.D.Folder.is_begun c.left_by_pieces.new.folder asked.files.now.sent.now (header_bytes ++ records_bytes sent))
             (sym made_of.sent_are) begun) other;
         journals = λ apart. written_down (g.D.Folder.holds c.write_pieces.new.folder) (text_of asked.files.now.journals) _ made_of.whole.journals
-            made_of.journals_are c.in_ok-write_pieces-in-Ok-Some.ensures.journals;
+            made_of.journals_are (c.in_ok-write_pieces-in-Ok-Some.ensures.journals apart);
         accepted = made_of.accepted;
-        report = subst (λ (name : Option (List ℕ)). IsReportFile (g.D.Folder.holds c.write_pieces.new.folder) name (runs_shipped asked.files.now)
-            asked.script.now (records_in asked.part left.captured) made_of.whole) (sym c.requires.no_report) tt;
+        report = report_of (g.D.Folder.is_begun c.begin_files.new.folder) (g.D.Folder.is_begun c.left_by_pieces.new.folder)
+            (g.D.Folder.holds c.write_pieces.new.folder) asked.files.now (text_of asked.files.now.report) refl asked.script.now
+            (records_in asked.part left.captured) left.sent left.ends made_of.whole made_of.sent_are made_of.ends_are
+            (c.in_ok-begin_files.ensures.report c.if-not-branch.false) (left.told c.requires.apart)
+            c.in_ok-write_pieces-in-Ok-Some.ensures.report;
         lines = made_of.text;
       },
       made_of.none_refused,
@@ -131,17 +152,17 @@ returns-in_ok-write_pieces-in-Ok-Some-clause-done g c =
 
 -- the replay was broken off, or it was made and memory was refused for what it leaves
 denied : (before after held : FileBytes) (failed since : Type 0) (asked : Asked) (script : List Command) (captured : List Sent) (fault : Fault)
-    → asked.exact ≡ true → asked.reading ≡ unaltered → text_of asked.files.now.report ≡ None → AreKept before held → AreKept before after
+    → asked.exact ≡ true → asked.reading ≡ unaltered → AreApartInPieces asked.files.now → AreKept before held → AreKept before after
     → IsCaptureOf before unaltered asked.files.now.capture.now captured → script_in asked.part captured script ≡ asked.script.now
     → (¬ HasBadOptions asked) → (failed → since)
     → (IsBrokenOff failed fault ⊎ (IsMadeInTurn held asked script × LacksRoom (text_of asked.files.now.journals) fault))
     → IsDeniedBy before after since asked script fault
-denied before after held failed since asked script captured fault exact all no_report same kept capture commands good so (inl broken) =
-    broken_off captured exact all no_report kept
+denied before after held failed since asked script captured fault exact all apart same kept capture commands good so (inl broken) =
+    broken_off captured exact all apart kept
     (subst (λ (reading : Reading). IsCaptureOf before reading asked.files.now.capture.now captured) (sym all) capture)
     (subst (λ (them : List Command). ¬ AreBadOptions asked.verified.now.maps asked.options them) (sym commands) good)
     (broken_since failed since fault so broken)
-denied before after held failed since asked script captured fault exact all no_report same kept capture commands good so (inr both) =
+denied before after held failed since asked script captured fault exact all apart same kept capture commands good so (inr both) =
     let made = both.0 in
     unmade_by before after since asked script made.captured fault
     (subst (λ (reading : Reading). IsCaptureOf before reading asked.files.now.capture.now made.captured) (sym all)
@@ -152,26 +173,39 @@ denied before after held failed since asked script captured fault exact all no_r
     (recorded asked.recording asked.options) (records_in asked.part made.captured) made.outcome) (sym exact) made.made)
     both.1)
 
-pub returns-in-Err-clause-refused : goal.returns-in-Err-clause-refused
-returns-in-Err-clause-refused g c =
+pub returns-clause-refused : goal.returns-clause-refused
+returns-clause-refused g c =
     let asked = c.args.asked in
     let seen = c.requires.numbered in
-    let before = c.begin_sent.ensures.kept in
-    denied _ _ _ _ _ asked c.args.whole.script.now seen.captured _ c.requires.exact c.requires.all c.requires.no_report before
+    let before = c.begin_files.ensures.kept in
+    denied _ _ _ _ _ asked c.args.whole.script.now seen.captured _ c.requires.exact c.requires.all c.requires.apart before
     (kept_twice _ _ _ (kept_twice _ _ _ before c.left_by_pieces.ensures.kept) c.give_up-in-Err.ensures.kept) seen.capture
     (script_is asked.part seen.captured c.args.whole.numbers.now c.args.whole.script.now seen.numbers_are ∙ sym c.requires.script)
     c.in_ok-going.ensures.good
-    (failed_within _ _ _ _ c.in_ok-begin_sent.ensures.steady c.give_up-in-Err.ensures.steady) c.in-Err.ensures.refused
+    (failed_within _ _ _ _ c.in_ok-begin_files.ensures.steady c.give_up-in-Err.ensures.steady) c.in-Err.ensures.refused
 
-pub returns-in_err-begin_sent-clause-refused : goal.returns-in_err-begin_sent-clause-refused
-returns-in_err-begin_sent-clause-refused g c =
+pub returns-in_err-begin_files-clause-refused : goal.returns-in_err-begin_files-clause-refused
+returns-in_err-begin_files-clause-refused g c =
     let asked = c.args.asked in
     let seen = c.requires.numbered in
     let same = script_is asked.part seen.captured c.args.whole.numbers.now c.args.whole.script.now seen.numbers_are ∙ sym c.requires.script in
-    let p = err_from_is_err_and c.from_residual-in_err-begin_sent.result c.from_residual-in_err-begin_sent.ensures.1 in
+    let p = err_from_is_err_and c.from_residual-in_err-begin_files.result c.from_residual-in_err-begin_files.ensures.1 in
     rw (p.1, p.2)
-    (broken_off seen.captured c.requires.exact c.requires.all c.requires.no_report c.begin_sent.ensures.kept
+    (broken_off seen.captured c.requires.exact c.requires.all c.requires.apart c.begin_files.ensures.kept
     (subst (λ (reading : Reading). IsCaptureOf (g.D.Folder.holds c.args.folder.now) reading asked.files.now.capture.now seen.captured)
     (sym c.requires.all) seen.capture)
     (subst (λ (them : List Command). ¬ AreBadOptions asked.verified.now.maps asked.options them) (sym same) c.in_ok-going.ensures.good)
-    (no_piece c.in_err-begin_sent.ensures.refused))
+    (no_piece c.in_err-begin_files.ensures.refused))
+
+pub returns-in_err-table-clause-refused : goal.returns-in_err-table-clause-refused
+returns-in_err-table-clause-refused g c =
+    let asked = c.args.asked in
+    let seen = c.requires.numbered in
+    let same = script_is asked.part seen.captured c.args.whole.numbers.now c.args.whole.script.now seen.numbers_are ∙ sym c.requires.script in
+    let p = err_from_is_err_and c.from_residual-in_err-table.result c.from_residual-in_err-table.ensures.1 in
+    rw (p.1, p.2)
+    (broken_off seen.captured c.requires.exact c.requires.all c.requires.apart (kept_still _)
+    (subst (λ (reading : Reading). IsCaptureOf (g.D.Folder.holds c.args.folder.now) reading asked.files.now.capture.now seen.captured)
+    (sym c.requires.all) seen.capture)
+    (subst (λ (them : List Command). ¬ AreBadOptions asked.verified.now.maps asked.options them) (sym same) c.in_ok-going.ensures.good)
+    (no_piece (lacks_memory c.in_err-table.ensures.refused)))

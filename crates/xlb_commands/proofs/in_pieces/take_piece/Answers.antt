@@ -18,11 +18,11 @@ returns-clause-last g c = λ is.
       filled.1,
       filled.2,
       subst (λ (them : List Sent). HaveRun (program_of c.args.asked.verified.now c.args.asked.options.shards) c.args.asked.script.now
-          (recorded c.args.asked.recording c.args.asked.options) c.args.going.now.replay c.run_piece.new.going.replay
+          (recorded c.args.asked.recording c.args.asked.options) c.args.asked.files.now c.args.going.now.replay c.run_piece.new.going.replay
           (g.D.Folder.is_begun c.args.folder.now) (g.D.Folder.is_begun c.run_piece.new.folder) them)
           (c.capture.ensures ∙ filled.3 c.args.asked.part abreast.frames abreast.past abreast.passed
           ∙ ap (λ (n : ℕ). records_next c.args.asked.part n filled.0) (sym abreast.counted))
-          (run_after _ _ _ _ _ _ _ _ _ c.fill_piece.ensures.made (c.in_ok-run_piece.ensures.run c.if-not-branch.false)),
+          (run_after _ _ _ _ _ _ _ _ _ _ c.fill_piece.ensures.made (c.in_ok-run_piece.ensures.run c.if-not-branch.false)),
     )
 
 pub returns-clause-more : goal.returns-clause-more
@@ -34,9 +34,9 @@ returns-clause-more g c = λ is.
           read_still (g.D.Folder.holds opened name) _ _ (records ++ filled.0) _ c.run_piece.ensures.left (filled.1 opened name records to),
       filled.2,
       subst (λ (them : List Sent). HaveRun (program_of c.args.asked.verified.now c.args.asked.options.shards) c.args.asked.script.now
-          (recorded c.args.asked.recording c.args.asked.options) c.args.going.now.replay c.run_piece.new.going.replay
+          (recorded c.args.asked.recording c.args.asked.options) c.args.asked.files.now c.args.going.now.replay c.run_piece.new.going.replay
           (g.D.Folder.is_begun c.args.folder.now) (g.D.Folder.is_begun c.run_piece.new.folder) them)
           (c.capture.ensures ∙ filled.3 c.args.asked.part abreast.frames abreast.past abreast.passed
           ∙ ap (λ (n : ℕ). records_next c.args.asked.part n filled.0) (sym abreast.counted))
-          (run_after _ _ _ _ _ _ _ _ _ c.fill_piece.ensures.made (c.in_ok-run_piece.ensures.run c.if-not-branch.false)),
+          (run_after _ _ _ _ _ _ _ _ _ _ c.fill_piece.ensures.made (c.in_ok-run_piece.ensures.run c.if-not-branch.false)),
     )

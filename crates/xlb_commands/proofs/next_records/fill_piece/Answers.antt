@@ -1,9 +1,9 @@
 use Rattle.std.proofs.Common.{◌++◌, ◌∷◌, [], List, ap, arith, length, length-append, refl, rules, subst, sym}
 use Rattle.folders.proofs.shared.ReadingLemmas.{more_on, none_on, sent_on, then_end}
 use Rattle.wire.specs.declared.records.Sent.{Sent}
-use Rattle.xlb_commands.specs.Shares.{AreRecordsTaken}
+use Rattle.xlb_commands.specs.Taking.{AreRecordsTaken}
 use Rattle.xlb_commands.proofs.Refusals.{kept_still, kept_twice}
-use Rattle.xlb_commands.proofs.ShareLemmas.{past_both, past_none, taken_none, taken_of_both}
+use Rattle.xlb_commands.proofs.TakingLemmas.{past_both, past_none, taken_none, taken_of_both}
 use Rattle.xlb_commands.proofs.next_records.fill_piece.Goals as goal
 
 pub records-init : goal.records-init
@@ -13,7 +13,7 @@ records-init g c =
       records = [];
       read = none_on _ _ _;
       past = past_none _;
-      taken = subst (λ (them : List Sent). AreRecordsTaken c.args.share.now [] them) (sym c.clear.ensures) (taken_none _);
+      taken = subst (λ (them : List Sent). AreRecordsTaken c.args.taking.now [] them) (sym c.clear.ensures) (taken_none _);
       counted = omega arith;
       room = c.requires.room;
       fewer = omega (arith, none);
@@ -68,7 +68,7 @@ records-preserved g c =
       records = so_far.records ++ one.0 ∷ [];
       read = more_on _ _ _ _ _ _ _ so_far.records (one.0 ∷ []) so_far.read (sent_on _ _ _ _ _ _ one.0 found.read one.1 one.2);
       past = past_both _ _ _ so_far.records (one.0 ∷ []) so_far.past one.3;
-      taken = subst (λ (them : List Sent). AreRecordsTaken c.args.share.now (so_far.records ++ one.0 ∷ []) them) (sym one.6)
+      taken = subst (λ (them : List Sent). AreRecordsTaken c.args.taking.now (so_far.records ++ one.0 ∷ []) them) (sym one.6)
           (taken_of_both _ _ so_far.records (one.0 ∷ []) _ _ so_far.past so_far.taken one.5);
       counted = omega (arith, both, counted, found_count, count);
       room = omega (arith, room, found_count, count, less, fewer);

@@ -3,15 +3,15 @@ use Rattle.folders.specs.PieceReading.{ReadsOn}
 use Rattle.wire.specs.declared.records.Sent.{Sent}
 use Rattle.xlb_commands.specs.Files.{AreKept}
 use Rattle.xlb_commands.specs.InPieces.{ReaderHasRoom}
-use Rattle.xlb_commands.specs.Shares.{AreRecordsTaken, GoesPast}
+use Rattle.xlb_commands.specs.Taking.{AreRecordsTaken, GoesPast}
 use Rattle.xlb_commands.proofs.next_records.fill_piece.Given as goal
 
 -- the records so far: those that are taken are in the buffer
 pub record Filled (g : goal.Over) (l : goal.Live-records g) : Type 0 where
   pub records : List Sent
   pub read : ReadsOn g.D.Folder.holds (g.D.Folder.is_left l.fn.folder) (g.D.Folder.is_left l.folder) l.fn.reader l.reader records
-  pub past : GoesPast l.fn.share l.share records
-  pub taken : AreRecordsTaken l.fn.share records l.buffer
+  pub past : GoesPast l.fn.taking l.taking records
+  pub taken : AreRecordsTaken l.fn.taking records l.buffer
   pub counted : l.reader.count ≡ l.fn.reader.count + length records
   pub room : ReaderHasRoom (g.D.Folder.most_left l.folder) l.reader
   pub fewer : length l.reader.unread + g.D.Folder.most_left l.folder + 16 * length l.buffer

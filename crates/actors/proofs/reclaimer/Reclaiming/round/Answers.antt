@@ -13,8 +13,14 @@ shards-preserved g c =
       part = next_part g.B.Naming.plan c.shards.number c.args.self.now.deeds c.shards.self c.turn.new.self c.shards.invariant.part c.turn.ensures.did;
     }
 
-pub returns : goal.returns
-returns g c = λ rounds are.
+pub returns-clause-did : goal.returns-clause-did
+returns-clause-did g c =
+    let last : c.shards.number ≡ g.B.Naming.count = omega (arith, c.shards.auto.number-end, c.shards-test.false, c.shards.invariant.end_is) in
+    let part = subst (λ number. IsPartDone g.B.Naming.plan number c.args.self.now.deeds c.shards.self.deeds) last c.shards.invariant.part in
+    record { made = part.made; round = part.asked; deeds_are = part.deeds_are }
+
+pub returns-clause-rounds : goal.returns-clause-rounds
+returns-clause-rounds g c = λ rounds are.
     let past : g.B.Naming.count ≤ c.shards.number = omega (arith, c.shards.auto.number-end, c.shards-test.false, c.shards.invariant.end_is) in
     let last : c.shards.number ≡ g.B.Naming.count = omega (arith, c.shards.auto.number-end, c.shards-test.false, c.shards.invariant.end_is) in
     record {

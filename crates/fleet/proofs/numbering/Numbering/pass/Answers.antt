@@ -1,15 +1,12 @@
-use Rattle.std.proofs.Common.{arith, refl}
 use Rattle.fleet.proofs.NumberLemmas.{taken_few}
 use Rattle.fleet.proofs.numbering.Numbering.pass.Goals as goal
-
-pub note-requires : goal.note-requires
-note-requires c =
-    let few = taken_few c.args.frames.now c.requires.numbering.past c.commands.self
-    (c.commands.invariant.each c.requires.numbering.past c.requires.numbering.numbered) in
-    let due = c.commands-test.ensures.due refl in
-    record { small = omega (arith, few, due.2) }
+use Rattle.fleet.proofs.numbering.Numbering.pass.Goals.{then-is_due+in_ok-note_due, else-is_due}
 
 pub go_past-requires-clause-few : goal.go_past-requires-clause-few
 go_past-requires-clause-few c =
-    taken_few c.args.frames.now c.requires.numbering.past c.commands.self
-    (c.commands.invariant.each c.requires.numbering.past c.requires.numbering.numbered)
+    let past = c.requires.numbering.past in
+    let numbered = c.requires.numbering.numbered in
+    elim c.if-is_due.branch [
+      | then-is_due+in_ok-note_due w ↦ rw w.self-is (taken_few _ past _ (w.in_ok-note_due.ensures.noted past numbered))
+      | else-is_due w ↦ rw w.self-is (taken_few _ past _ numbered)
+    ]

@@ -87,3 +87,7 @@ returns-clause-replayed c = λ program options records sent ends under.
 pub returns-clause-one_list : goal.returns-clause-one_list
 returns-clause-one_list c = λ options records sent ends captured under replayed.
     c.headline.ensures c.args.script.now options records replayed.whole under.options_fit captured c.commands_fit.ensures replayed.accounted
+
+pub returns-clause-turn_by_turn : goal.returns-clause-turn_by_turn
+returns-clause-turn_by_turn c = λ options records sent ends captured under replayed.
+    c.events_come_in_turns.ensures c.args.script.now options records replayed.whole under.options_fit captured c.commands_fit.ensures replayed.in_order.turns

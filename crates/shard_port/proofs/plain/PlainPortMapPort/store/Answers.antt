@@ -1,26 +1,24 @@
 use Rattle.std.proofs.Common.{ap}
-use Rattle.std.specs.Coded.{Coded-set, coded_bool, le_prop}
+use Rattle.std.specs.Coded.{Coded-set, coded_bool}
 use Rattle.std.proofs.Math.Logic.{∥∥₁_elim}
-use Rattle.semantics.specs.declared.call.Call.TheVariants.{Store}
 use Rattle.semantics.specs.declared.call.Reply.TheVariants.{Done}
-use Rattle.semantics.proofs.shared.PlanLemmas.{some_shards}
+use Rattle.semantics.specs.declared.call.Call.TheVariants.{Store}
 use Rattle.shard_port.specs.Asking.{IsAnsweredAmong}
 use Rattle.shard_port.specs.PortView.{IsPortReady, cell_of_handle}
 use Rattle.shard_port.proofs.shared.MayAskLemmas.{may_store}
-use Rattle.shard_port.proofs.GivenLemmas.{given_by, store_told}
+use Rattle.shard_port.proofs.GivenLemmas.{given_by}
 use Rattle.shard_port.proofs.plain.PlainPortMapPort.store.Goals as goal
 
 pub ask-requires-clause-may : goal.ask-requires-clause-may
-ask-requires-clause-may c = rw c.cell_of_handle.ensures (∥∥₁_elim c.args.self.now.ready (Coded-set coded_bool _ _)
-    (λ (ready : IsPortReady c.args.self.now.image.now.maps c.args.self.now.options c.args.self.now.worker c.args.self.now.shards.now). may_store
-    c.args.self.now.image.now.maps c.args.self.now.options c.args.self.now.worker c.args.self.now.shards.now (cell_of_handle c.args.handle)
-    c.args.offset c.args.size c.args.value ready c.requires))
+ask-requires-clause-may c = rw c.cell_of_handle-cell.ensures (∥∥₁_elim c.args.self.now.ready (Coded-set coded_bool _ _)
+    (λ (ready : IsPortReady c.args.self.now.image.now.maps c.args.self.now.options c.args.self.now.worker c.args.self.now.shards.now).
+    may_store c.args.self.now.image.now.maps c.args.self.now.options c.args.self.now.worker c.args.self.now.shards.now (cell_of_handle c.args.handle) c.args.offset c.args.size c.args.value ready c.requires))
 
 pub returns-in-Ok-clause-gives : goal.returns-in-Ok-clause-gives
 returns-in-Ok-clause-gives c =
     let among : IsAnsweredAmong c.args.self.now.worker c.args.self.now.shards.now
-    (Store (cell_of_handle c.args.handle) c.args.offset c.args.size c.args.value) c.in-Ok.field-0 c.ask.new.self.shards.now =
-    rw c.cell_of_handle.ensures at c.in-Ok.ensures.answered in
+    (Store (cell_of_handle c.args.handle) c.args.offset c.args.size c.args.value) (Done) c.ask.new.self.shards.now =
+    rw c.cell_of_handle-cell.ensures at c.in-Ok.ensures.answered in
     record {
       same_port = record {
         same_shards = c.ask.ensures.same_shards;
@@ -29,10 +27,7 @@ returns-in-Ok-clause-gives c =
         same_worker = c.ask.ensures.same_worker;
       };
       given = given_by c.args.self.now.image.now.maps _ c.args.self.now.options _ c.args.self.now.worker _ c.args.self.now.shards.now _
-          (Store (cell_of_handle c.args.handle) c.args.offset c.args.size c.args.value) c.in-Ok.field-0 (Done)
+          (Store (cell_of_handle c.args.handle) c.args.offset c.args.size c.args.value) (Done)
           (ap (λ image. image.now.maps) c.ask.ensures.same_image) c.ask.ensures.same_options c.ask.ensures.same_worker
-          (∥∥₁_elim c.args.self.now.ready le_prop (λ (ready : IsPortReady c.args.self.now.image.now.maps c.args.self.now.options
-          c.args.self.now.worker c.args.self.now.shards.now). some_shards _ c.args.self.now.options ready.are_options)) tt tt (tt)
-          (store_told c.args.self.now.worker c.args.self.now.shards.now (cell_of_handle c.args.handle) c.args.offset c.args.size
-          c.args.value c.in-Ok.field-0 c.ask.new.self.shards.now among) among;
+          c.args.self.now.ready tt tt tt among;
     }

@@ -1,37 +1,37 @@
-use Rattle.std.proofs.Common.{◌≡◌, ◌<◌, ap, sym, ◌∙◌, subst, rules, to_z, of_z, w32}
+use Rattle.std.proofs.Common.{◌≡◌, ◌<◌, ap, rules, to_z, of_z, w32}
 use Rattle.std.proofs.Math.Facts.{Fits-lt-pow}
 use Rattle.std.specs.Prelude.{FitsSigned}
 use Rattle.std.proofs.lemmas.Int.{to_z-of_z}
-use Rattle.std.specs.Coded.{Coded-set, coded_bool, le_prop}
 use Rattle.std.proofs.lemmas.List.Elements.{recursion_from_All}
+use Rattle.std.specs.Coded.{Coded-set, coded_bool}
 use Rattle.std.proofs.Math.Logic.{∥∥₁_elim}
 use Rattle.semantics.specs.declared.call.Reply.TheVariants.{Answer}
-use Rattle.map_port.specs.Served.{update_call, served_shard}
-use Rattle.semantics.proofs.shared.PlanLemmas.{some_shards}
+use Rattle.map_port.specs.Served.{update_call}
 use Rattle.shard_port.specs.Asking.{IsAnsweredAmong}
 use Rattle.shard_port.specs.PortView.{IsPortReady}
 use Rattle.shard_port.specs.PlainPorts.{maps_of}
 use Rattle.shard_port.proofs.shared.MayAskLemmas.{may_update}
-use Rattle.shard_port.proofs.GivenLemmas.{given_by, update_told}
+use Rattle.shard_port.proofs.GivenLemmas.{given_by}
 use Rattle.shard_port.proofs.plain.PlainPortMapPort.update.Goals as goal
 
 pub ask-requires-clause-may : goal.ask-requires-clause-may
-ask-requires-clause-may c = rw c.shard_of.ensures (∥∥₁_elim c.args.self.now.ready (Coded-set coded_bool _ _)
+ask-requires-clause-may c = rw (c.shard_of-shard.ensures, c.as_slice.ensures.bytes, c.as_slice-2.ensures.bytes) (∥∥₁_elim c.args.self.now.ready (Coded-set coded_bool _ _)
     (λ (ready : IsPortReady c.args.self.now.image.now.maps c.args.self.now.options c.args.self.now.worker c.args.self.now.shards.now).
-    may_update c.args.self.now.image.now.maps c.args.self.now.options c.args.self.now.worker c.args.self.now.shards.now c.args.map
-    c.args.key.now c.args.value.now c.args.flags ready (Fits-lt-pow c.ranges.flags) c.requires))
+    may_update c.args.self.now.image.now.maps c.args.self.now.options c.args.self.now.worker c.args.self.now.shards.now c.args.map c.args.key.now c.args.value.now c.args.flags
+    ready (Fits-lt-pow c.ranges.flags) c.requires))
 
 pub ask-requires-clause-sets_bytes : goal.ask-requires-clause-sets_bytes
-ask-requires-clause-sets_bytes c = recursion_from_All (λ byte. byte < 256) c.args.value.now c.requires.value_bytes
+ask-requires-clause-sets_bytes c =
+    rw c.as_slice-2.ensures.bytes (recursion_from_All (λ byte. byte < 256) c.args.value.now c.requires.value_bytes)
 
 pub returns-in-Ok-clause-gives : goal.returns-in-Ok-clause-gives
 returns-in-Ok-clause-gives c =
     let among : IsAnsweredAmong c.args.self.now.worker c.args.self.now.shards.now
-    (update_call (maps_of c.args.self.now) c.args.map c.args.key.now c.args.value.now c.args.flags) c.in-Ok.reply
-    c.ask.new.self.shards.now = rw c.shard_of.ensures at c.in-Ok.ensures.answered in
-    let fits : FitsSigned w32 c.answer.result = search rules in
-    let same : to_z w32 (of_z w32 c.answer.result) ≡ c.answer.result = to_z-of_z w32 c.answer.result fits in
-    record {
+    (update_call (maps_of c.args.self.now) c.args.map c.args.key.now c.args.value.now c.args.flags) (Answer c.in-Ok.code) c.ask.new.self.shards.now =
+    rw (c.shard_of-shard.ensures, c.as_slice.ensures.bytes, c.as_slice-2.ensures.bytes) at c.in-Ok.ensures.answered in
+    let fits : FitsSigned w32 c.in-Ok.code = search rules in
+    let same : to_z w32 (of_z w32 c.in-Ok.code) ≡ c.in-Ok.code = to_z-of_z w32 c.in-Ok.code fits in
+    rw same (record {
       same_port = record {
         same_shards = c.ask.ensures.same_shards;
         same_maps = ap (λ image. image.now.maps) c.ask.ensures.same_image;
@@ -39,13 +39,7 @@ returns-in-Ok-clause-gives c =
         same_worker = c.ask.ensures.same_worker;
       };
       given = given_by c.args.self.now.image.now.maps _ c.args.self.now.options _ c.args.self.now.worker _ c.args.self.now.shards.now _
-          (update_call (maps_of c.args.self.now) c.args.map c.args.key.now c.args.value.now c.args.flags) c.in-Ok.reply
-          (Answer (to_z w32 (of_z w32 c.answer.result)))
+          (update_call (maps_of c.args.self.now) c.args.map c.args.key.now c.args.value.now c.args.flags) (Answer c.in-Ok.code)
           (ap (λ image. image.now.maps) c.ask.ensures.same_image) c.ask.ensures.same_options c.ask.ensures.same_worker
-          (∥∥₁_elim c.args.self.now.ready le_prop (λ (ready : IsPortReady c.args.self.now.image.now.maps c.args.self.now.options
-          c.args.self.now.worker c.args.self.now.shards.now). some_shards _ c.args.self.now.options ready.are_options)) tt
-          (recursion_from_All (λ byte. byte < 256) c.args.value.now c.requires.value_bytes) (subst (FitsSigned w32) (sym same) fits)
-          (update_told c.args.self.now.worker c.args.self.now.shards.now (served_shard (maps_of c.args.self.now) c.args.map c.args.key.now)
-          c.args.key.now c.args.value.now c.args.flags c.in-Ok.reply c.ask.new.self.shards.now among ∙
-          ap Answer (sym c.answer.ensures ∙ sym same)) among;
-    }
+          c.args.self.now.ready tt (recursion_from_All (λ byte. byte < 256) c.args.value.now c.requires.value_bytes) fits among;
+    })

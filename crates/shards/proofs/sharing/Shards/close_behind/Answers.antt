@@ -2,7 +2,6 @@ use Rattle.std.proofs.Common.{◌≡◌, ◌<◌, ◌+◌, ℕ, List, [], ◌∷
 use Rattle.std.specs.Prelude.{slice_index_or}
 use Rattle.std.proofs.lemmas.List.{length-map, map-append}
 use Rattle.semantics.specs.declared.call.Entry.{Entry}
-use Rattle.atomic_table.specs.Table.{Me}
 use Rattle.journal.specs.Journaled.{Journaled}
 use Rattle.journals.specs.KeptEntries.{written_entries, HaveRoom}
 use Rattle.semantics.proofs.shared.CellBytes.{each_append}
@@ -17,7 +16,8 @@ use Rattle.semantics.proofs.shared.EachLemmas.{each_first, each_rest}
 use Rattle.shards.proofs.Settling.{legal_more, settled_more, untouched_less}
 use Rattle.shards.specs.declared.deeds.Account.{Account}
 use Rattle.shards.specs.declared.deeds.OrderPart.TheVariants.{ByCaller, AtFirst}
-use Rattle.shards.specs.OrderRule.{account, IsOneOfAccounts}
+use Rattle.semantics.specs.declared.options.Options.{Options}
+use Rattle.shards.specs.OrderRule.{account, IsOneOfAccounts, IsEnd}
 use Rattle.shards.proofs.OrderShards.{numbered, reserved}
 use Rattle.shards.proofs.OrderClosing.{HasShard, gathered, gathered_more, one_order_gathered}
 use Rattle.shards.proofs.sharing.Shards.close_behind.Goals as goal
@@ -97,8 +97,9 @@ returns-clause-did g c =
     let i = c.shards.invariant in
     let end = c.gather_all.ensures in
     let first = gathered c.gather_all.new.seat.me c.gather.new.seat.me c.into_seat.result.me AtFirst c.args.first c.gather.ensures.both c.into_seat.ensures.seat.1 c.into_seat.ensures.deeds in
-    one_order_gathered g.B.Naming.plan g.B.Naming.count _ c.written.result c.args.passes.items c.args.first c.gather_all.new.seat.me c.gather.new.seat.me first
-    c.end.ensures i.order_is.sized i.order_is.plans
+    one_order_gathered g.B.Naming.plan g.B.Naming.count (c.args.self.options.workers + 2) _ c.written.result c.args.passes.items c.args.first c.gather_all.new.seat.me c.gather.new.seat.me first
+    (subst (λ (n : ℕ). IsEnd c.self.inside.order.shared.key.plans.items n c.gather.new.seat.me.0) (i.order_is.callers_are ∙ ap (λ (o : Options). o.workers + 2) i.options) c.end.ensures)
+    i.order_is.sized i.order_is.plans
     (λ number below. let was = i.gathered number (let t = i.together in let e = c.shards-test.false in let n = i.count_is in omega (arith, t, e, n, below)) in
     subst (λ (js : JournalsView). HasShard number (entries_at js number) c.gather_all.new.seat.me.0) (sym c.written.ensures)
     (record { deeds = was.deeds; written = was.written; has = end.kept _ was.has }))

@@ -14,26 +14,22 @@ member_at [] place x inside is = absurd (omega arith)
 member_at (y ∷ ys) zero x inside is = ap (λ (it : _). Some it) (sym is)
 member_at (y ∷ ys) (suc place) x inside is = member_at ys place x (omega arith) is
 
-same_inside : {A : Type 0} (xs : List A) (place : ℕ) (d e : A) → place < length xs → get_or xs place d ≡ get_or xs place e
-same_inside [] place d e inside = absurd (omega arith)
-same_inside (y ∷ ys) zero d e inside = refl
-same_inside (y ∷ ys) (suc place) d e inside = same_inside ys place d e (omega arith)
-
-module _ (form : ReportForm) (is_shipped : Bool) (backends : List (ℕ × ℕ)) (records : List Sent) (ends : List RecordEnd) (sent : List Sent) where
+module _ (form : ReportForm) (is_shipped : Bool) (backends : List (ℕ × ℕ)) (first : ℕ) (records : List Sent) (ends : List RecordEnd)
+    (sent : List Sent) where
   -- a text with the lines so far, and one more
   one_line : (number place : ℕ) (captured : Sent) (end : RecordEnd) (old before line after : List ℕ) → slice_get records number ≡ Some captured
-      → end ≡ end_of ends number → place ≡ sent_before ends number → before ≡ old ++ lines_until form is_shipped backends records ends sent number
-      → line ≡ line_text form is_shipped backends number captured end (slice_get sent place) → after ≡ before ++ line
-      → after ≡ old ++ lines_until form is_shipped backends records ends sent (number + 1)
+      → end ≡ end_of ends number → place ≡ sent_before ends number → before ≡ old ++ lines_until form is_shipped backends first records ends sent number
+      → line ≡ line_text form is_shipped backends (first + number) captured end (slice_get sent place) → after ≡ before ++ line
+      → after ≡ old ++ lines_until form is_shipped backends first records ends sent (number + 1)
   one_line number place captured end old before line after found end_is place_is were is_line put =
-      let same : line ≡ line_of_record form is_shipped backends ends sent number (slice_get records number) =
+      let same : line ≡ line_of_record form is_shipped backends first ends sent number (slice_get records number) =
       is_line
-      ∙ (ap (λ (it : RecordEnd). line_text form is_shipped backends number captured it (slice_get sent place)) end_is
-      ∙ (ap (λ (it : ℕ). line_text form is_shipped backends number captured (end_of ends number) (slice_get sent it)) place_is
-      ∙ ap (λ (it : _). line_of_record form is_shipped backends ends sent number it) (sym found))) in
+      ∙ (ap (λ (it : RecordEnd). line_text form is_shipped backends (first + number) captured it (slice_get sent place)) end_is
+      ∙ (ap (λ (it : ℕ). line_text form is_shipped backends (first + number) captured (end_of ends number) (slice_get sent it)) place_is
+      ∙ ap (λ (it : _). line_of_record form is_shipped backends first ends sent number it) (sym found))) in
       put ∙ (ap₂ (◌++◌) were same
-      ∙ (append_assoc old (lines_until form is_shipped backends records ends sent number) _
-      ∙ ap (λ (n : ℕ). old ++ lines_until form is_shipped backends records ends sent n) (sym (add-one number))))
+      ∙ (append_assoc old (lines_until form is_shipped backends first records ends sent number) _
+      ∙ ap (λ (n : ℕ). old ++ lines_until form is_shipped backends first records ends sent n) (sym (add-one number))))
 
 -- one more is sent, or none
 one_place : (ends : List RecordEnd) (number place next : ℕ) (sent : Bool) → place ≡ sent_before ends number → sent ≡ is_sent (end_of ends number)
@@ -44,7 +40,6 @@ one_place ends number place next sent place_is sent_is next_is =
 pub records-preserved : goal.records-preserved
 records-preserved c =
     let inside : c.records.number < length c.args.records.now = omega (arith, c.records-test.true, c.records.auto.number-end) in
-    let of_end : c.records.number < length c.args.ends.now = omega (arith, inside, c.requires.ends) in
     let next_is : c.if-is_tx.place ≡ c.records.place + one_if c.is_tx.result =
     elim c.if-is_tx.branch [
       | then-is_tx w ↦ let one : one_if c.is_tx.result ≡ 1 = ap one_if w.if-is_tx.true in omega (arith, one, w.place-is)
@@ -55,13 +50,13 @@ records-preserved c =
       | then-is_tx w ↦ omega (arith, w.place-is, c.records.invariant.2)
       | else-is_tx w ↦ omega (arith, w.place-is, c.records.invariant.2)
     ] in (
-      one_line c.args.self.now.form c.args.self.now.is_shipped (backends_in c.args.self.now.script.now) c.args.records.now c.args.ends.now
+      one_line c.args.self.now.form c.args.self.now.is_shipped (backends_in c.args.self.now.script.now) c.args.first c.args.records.now c.args.ends.now
           c.args.self.now.sent.now c.records.number c.records.place c.index-records-number.result _ (string_bytes c.args.text.now)
           (string_bytes c.records.text) c.as_str.result.now (string_bytes c.push_str.new.self)
           (member_at c.args.records.now c.records.number c.index-records-number.result inside c.index-records-number.is)
-          (same_inside c.args.ends.now c.records.number _ _ of_end) c.records.invariant.1 c.records.invariant.0
+          c.end_at-end.ensures c.records.invariant.1 c.records.invariant.0
           (c.as_str.ensures.value ∙ c.in_ok-line.ensures) c.in_ok-push_str.ensures.bytes,
       one_place c.args.ends.now c.records.number c.records.place c.if-is_tx.place c.is_tx.result c.records.invariant.1
-          (c.is_tx.ensures ∙ ap is_tx (c.verdict_in.ensures ∙ ap verdict_in (same_inside c.args.ends.now c.records.number _ _ of_end))) next_is,
+          (c.is_tx.ensures ∙ ap is_tx (c.verdict_in.ensures ∙ ap verdict_in c.end_at-end.ensures)) next_is,
       few,
     )

@@ -5,5 +5,5 @@ use Rattle.xlb_commands.proofs.record_report.Lines.put_all.Given as goal
 abbrev pub invariant-records : goal.invariant-records
 invariant-records l =
     (string_bytes l.text ≡ string_bytes l.fn.text ++
-    lines_until l.self.form l.self.is_shipped (backends_in l.self.script.now) l.records l.ends l.self.sent.now l.number)
+    lines_until l.self.form l.self.is_shipped (backends_in l.self.script.now) l.first l.records l.ends l.self.sent.now l.number)
     × (l.place ≡ sent_before l.ends l.number) × (l.place ≤ l.number)

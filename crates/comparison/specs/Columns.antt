@@ -1,0 +1,68 @@
+-- What the thirteen columns of a report may say: numbers, moments, words and addresses, each of a bounded length. So a field that is printed has
+-- no letter that does more to a terminal than to be shown, and is short.
+use Rattle.std.specs.Prelude.{ℕ, ◌==◌, ◌&&◌, ◌||◌, not, nat_le, Bool, List, codes, count_by, if◌then◌else◌, length}
+use Rattle.std.specs.Char.{is_ascii_digit, is_ascii_lowercase, is_ascii_uppercase}
+use Rattle.std.specs.List.{after_first, before_first}
+
+-- ---- what a field may be
+
+-- so many bytes at most, and one at least
+abbrev pub is_short : ℕ → List ℕ → Bool
+is_short most text = not (length text == 0) && nat_le (length text) most
+
+-- a decimal number
+abbrev pub is_number : List ℕ → Bool
+is_number text = is_short 20 text && count_by (λ b. not (is_ascii_digit b)) text == 0
+
+abbrev pub is_known_number : List ℕ → Bool
+is_known_number text = length text == 0 || is_number text
+
+-- what is before the first point, or all; and what comes after it
+abbrev pub before_point : List ℕ → List ℕ
+before_point text = before_first (λ b. b == 46) text
+
+abbrev pub after_point : List ℕ → List ℕ
+after_point text = after_first (λ b. b == 46) text
+
+-- seconds, a point, and six digits
+abbrev pub is_moment : List ℕ → Bool
+is_moment text = is_number (before_point text) && (length (after_point text) == 6 && is_number (after_point text))
+
+-- a word of capital letters
+abbrev pub is_verdict : List ℕ → Bool
+is_verdict text = is_short 32 text && count_by (λ b. not (is_ascii_uppercase b)) text == 0
+
+-- a word of small letters and dashes, or nothing
+abbrev pub is_word_letter : ℕ → Bool
+is_word_letter byte = is_ascii_lowercase byte || byte == 45
+
+abbrev pub is_known_word : List ℕ → Bool
+is_known_word text = length text == 0 || (is_short 32 text && count_by (λ b. not (is_word_letter b)) text == 0)
+
+-- four numbers with points between them, as far as its bytes show, or nothing
+abbrev pub is_address_letter : ℕ → Bool
+is_address_letter byte = is_ascii_digit byte || byte == 46
+
+abbrev pub is_known_address : List ℕ → Bool
+is_known_address text =
+    length text == 0
+    || (is_short 15 text && (count_by (λ b. not (is_address_letter b)) text == 0 && count_by (λ b. b == 46) text == 3))
+
+-- ---- columns
+
+-- the field in this column, counted from 0, is what the column says: number, moment, worker, verdict, steps, case, backend, address, source,
+-- its port, destination, its port, protocol; what may be unknown may be nothing
+abbrev pub is_field : ℕ → List ℕ → Bool
+is_field column text =
+    if column == 0 then is_number text else (if column == 1 then is_moment text else (if column == 3 then is_verdict text else
+    (if column == 5 || column == 12 then is_known_word text else
+    (if column == 7 || (column == 8 || column == 10) then is_known_address text else is_known_number text))))
+
+-- the names of columns
+abbrev pub column_name : ℕ → List ℕ
+column_name column =
+    if column == 0 then codes "number" else (if column == 1 then codes "moment" else (if column == 2 then codes "worker" else
+    (if column == 3 then codes "verdict" else (if column == 4 then codes "steps" else (if column == 5 then codes "case" else
+    (if column == 6 then codes "backend" else (if column == 7 then codes "address" else (if column == 8 then codes "source" else
+    (if column == 9 then codes "source_port" else (if column == 10 then codes "destination" else
+    (if column == 11 then codes "destination_port" else codes "protocol")))))))))))

@@ -1,0 +1,160 @@
+//! What the columns of a report may say.
+
+ghost use Rattle.std.specs.Prelude.{◌≡◌, ◌==◌, count_by, not};
+ghost use Rattle.comparison.specs.Columns.{after_point, before_point, column_name, is_address_letter, is_field, is_known_address};
+ghost use Rattle.comparison.specs.Columns.{is_known_number, is_known_word, is_moment, is_number, is_short, is_verdict, is_word_letter};
+
+/// Whether a text has so many bytes at most, and one at least.
+fn is_short(most: usize, text: &str) -> bool
+    ensures { result ≡ is_short most text.now }
+{
+    text.len() != 0 && text.len() <= most
+}
+
+/// Whether a text is a decimal number.
+fn is_number(text: &str) -> bool
+    ensures { result ≡ is_number text.now }
+{
+    is_short(20, text)
+        && text
+            .as_bytes()
+            .iter()
+            .filter(|byte| !byte.is_ascii_digit())
+            .count()
+            == 0
+}
+
+/// Whether it is a number or nothing.
+fn is_known_number(text: &str) -> bool
+    ensures { result ≡ is_known_number text.now }
+{
+    text.len() == 0 || is_number(text)
+}
+
+/// What is before the first point, or all.
+fn before_point(text: &str) -> &str
+    ensures { result.now ≡ before_point text.now }
+{
+    match text.split_once('.') {
+        Some((front, _)) => front,
+        None => text,
+    }
+}
+
+/// What comes after the first point.
+fn after_point(text: &str) -> &str
+    ensures { result.now ≡ after_point text.now }
+{
+    match text.split_once('.') {
+        Some((_, back)) => back,
+        None => "",
+    }
+}
+
+/// Whether a text is seconds, a point, and six digits.
+fn is_moment(text: &str) -> bool
+    ensures { result ≡ is_moment text.now }
+{
+    let micros = after_point(text);
+    is_number(before_point(text)) && (micros.len() == 6 && is_number(micros))
+}
+
+/// Whether a text is a word of capital letters.
+fn is_verdict(text: &str) -> bool
+    ensures { result ≡ is_verdict text.now }
+{
+    is_short(32, text)
+        && text
+            .as_bytes()
+            .iter()
+            .filter(|byte| !byte.is_ascii_uppercase())
+            .count()
+            == 0
+}
+
+/// Whether a byte may be in a word.
+fn is_word_letter(byte: u8) -> bool
+    ensures { result ≡ is_word_letter byte }
+{
+    byte.is_ascii_lowercase() || byte == b'-'
+}
+
+/// Whether a text is a word of small letters and dashes, or nothing.
+fn is_known_word(text: &str) -> bool
+    ensures { result ≡ is_known_word text.now }
+{
+    text.len() == 0
+        || is_short(32, text)
+            && text
+                .as_bytes()
+                .iter()
+                .filter(|byte| !is_word_letter(**byte))
+                .count()
+                == 0
+}
+
+/// Whether a byte may be in an address.
+fn is_address_letter(byte: u8) -> bool
+    ensures { result ≡ is_address_letter byte }
+{
+    byte.is_ascii_digit() || byte == b'.'
+}
+
+/// How many bytes of a text are in no address.
+fn other_letters(text: &str) -> usize
+    ensures { result ≡ count_by (λ b. not (is_address_letter b)) text.now }
+{
+    text.as_bytes()
+        .iter()
+        .filter(|byte| !is_address_letter(**byte))
+        .count()
+}
+
+/// How many points a text has.
+fn points(text: &str) -> usize
+    ensures { result ≡ count_by (λ b. b == 46) text.now }
+{
+    text.as_bytes().iter().filter(|byte| **byte == b'.').count()
+}
+
+/// Whether a text is an address, or nothing.
+fn is_known_address(text: &str) -> bool
+    ensures { result ≡ is_known_address text.now }
+{
+    text.len() == 0 || is_short(15, text) && (other_letters(text) == 0 && points(text) == 3)
+}
+
+/// Whether the field in this column, counted from 0, is what the column says.
+pub(crate) fn is_field(column: usize, text: &str) -> bool
+    ensures { result ≡ is_field column text.now }
+{
+    match column {
+        0 => is_number(text),
+        1 => is_moment(text),
+        3 => is_verdict(text),
+        5 | 12 => is_known_word(text),
+        7 | 8 | 10 => is_known_address(text),
+        _ => is_known_number(text),
+    }
+}
+
+/// The name of a column.
+pub(crate) fn column_name(column: usize) -> &'static str
+    ensures { result.now ≡ column_name column }
+{
+    match column {
+        0 => "number",
+        1 => "moment",
+        2 => "worker",
+        3 => "verdict",
+        4 => "steps",
+        5 => "case",
+        6 => "backend",
+        7 => "address",
+        8 => "source",
+        9 => "source_port",
+        10 => "destination",
+        11 => "destination_port",
+        _ => "protocol",
+    }
+}
