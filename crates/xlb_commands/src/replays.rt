@@ -60,10 +60,9 @@ use crate::shipping::shipped_program;
 use crate::{hints, records};
 use actors::all_are_captured;
 use command_line::{ReplayFiles, ReplaySettings};
-use control::{Script, commands_fit, parse_script};
+use control::{Script, parse_script};
 use fleet::Part;
 use folders::Folder;
-use guarantees::headline;
 use guarantees::readers::readers_send_as_at_opening;
 use journals::Journals;
 use map_updates::{MapUpdate, Misfit, first_misfit};
@@ -535,8 +534,6 @@ fn replay_records<R: Threads + Wait + Sync, D: Folder, P: Progress + Sync>(
         asked.exact,
         frames,
     );
-    headline(asked.verified);
-    commands_fit(asked.script);
     readers_send_alike(asked.verified);
     steered_where_shipped(asked);
     all_are_captured(capture);

@@ -35,8 +35,8 @@ answer_by : (before after : FileBytes) (asked : Asked) (script : List Command) (
 answer_by before after asked script captured report capture same is = record {
   captured = captured;
   capture = capture;
-  of_part = subst (λ (them : List Command). IsReportOf after asked.files.now (image_of asked.verified.now) asked.verified.now.states them asked.options
-      asked.recording asked.ring asked.exact asked.updates.now (records_in asked.part captured) report) (sym same) is;
+  of_part = subst (λ (them : List Command). IsReportOf after asked.files.now asked.verified.now them asked.options asked.recording asked.ring
+      asked.exact asked.updates.now (records_in asked.part captured) report) (sym same) is;
 }
 
 -- the same of what was not made
@@ -129,7 +129,7 @@ returns-in-Ok-Some-clause-done g c =
           accounted = made_of.made.accounted;
           in_turn = λ exact. made_of.made.in_turn refl;
         };
-        headline = made_of.headline;
+        headline = record { kept = made_of.headline.kept; in_turns = λ exact. made_of.headline.in_turns refl };
         by_rule = made_of.by_rule;
         readers = made_of.readers;
         refused_are = refl;
