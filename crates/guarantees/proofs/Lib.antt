@@ -16,8 +16,6 @@ pub mod RowStates
 pub mod RowAlone
 pub mod DeedLemmas
 pub mod MergeEvents
-pub mod Heard
-pub mod AfterDeeds
 pub mod Merge
 pub mod OneWorker
 pub mod PlaceLemmas

@@ -1,11 +1,11 @@
 -- One order of all callers' deeds makes one list of events: by induction on the order, in which each deed is one event of its caller, after
 -- the instructions that its worker does before it. Other workers stay where they are.
-use Rattle.std.proofs.Common.{⊎_elim, ◌≡◌, ◌≢◌, ℕ, zero, suc, ◌*◌, ◌<◌, ◌≤◌, ◌==◌, ◌&&◌, Bool, true, false, true≢false, cond, List, [], ◌∷◌, ◌++◌, length, reverse, Option, Some, refl, sym, ◌∙◌, ap, subst, arith, append_assoc, append-nil}
+use Rattle.std.proofs.Common.{⊎_elim, ◌≡◌, ◌≢◌, ℕ, zero, suc, ◌*◌, ◌<◌, ◌≤◌, ◌==◌, ◌&&◌, Bool, true, false, true≢false, cond, List, [], ◌∷◌, ◌++◌, length, reverse, Option, Some, None, refl, sym, ◌∙◌, ap, subst, arith, append_assoc, append-nil}
 use Rattle.std.specs.Prelude.{filter, map, IsTrue, slice_index_or, if◌then◌else◌}
 use Rattle.std.specs.List.{AllByRecursion}
 use Rattle.std.proofs.lemmas.Bool.{cases_lt, cases_eq, ne_eqb}
 use Rattle.std.proofs.lemmas.Bool.Decides.{nat_tests}
-use Rattle.std.proofs.lemmas.List.{reverse-reverse, length-replicate}
+use Rattle.std.proofs.lemmas.List.{reverse-append, reverse-reverse, length-set, length-replicate}
 use Rattle.std.proofs.lemmas.List.Elements.{filter-append}
 use Rattle.semantics.specs.declared.call.Caller.{Caller}
 use Rattle.semantics.specs.declared.call.Caller.TheVariants.{Worker, Controller, Reclaimer}
@@ -19,15 +19,16 @@ use Rattle.semantics.specs.CallerLaws.{is_caller}
 use Rattle.semantics.specs.ShardPlan.{plan_at}
 use Rattle.semantics.specs.History.{shard_of_call, meets, IsJournalFull, IsLegalJournal, IsLegalStep}
 use Rattle.semantics.specs.System.{Setting, SystemState, SystemEvent, Controls, Reclaims, WorkerState, Idle, worker_state, history_of, with_entry, after_call, MayCall, CanHappen, after_event, opening_system}
-use Rattle.semantics.proofs.shared.SystemSteps.{same_everywhere}
+use Rattle.semantics.proofs.shared.SystemSteps.{history_there, history_elsewhere, same_everywhere}
 use Rattle.shards.specs.declared.deeds.Deed.{Deed}
 use Rattle.shards.specs.declared.deeds.Deed.TheVariants.{Wrote, MetFull}
-use Rattle.shards.specs.Deeds.{shard_of_deed, entries_made, made_on}
+use Rattle.shards.specs.declared.deeds.OrderPart.TheVariants.{ByCaller}
+use Rattle.shards.specs.Deeds.{shard_of_deed, is_deed_of, entries_made, made_on}
 use Rattle.semantics.specs.Events.{Ending, controlled, reclaimed, answers_of_event, answered, ended_by}
-use Rattle.guarantees.specs.Steps.{AskedOfShard, Writes, Refused, Move, AreSteps, entries_asked, deeds_asked, deeds_in}
+use Rattle.guarantees.specs.Steps.{AskedOfShard, Nothing, Writes, Refused, Move, AreSteps, entries_asked, deeds_asked, deeds_in}
 use Rattle.guarantees.specs.Moves.{IsAskedSo, after_asked, is_event_of}
 use Rattle.guarantees.specs.Merging.{IsOrderOfMoves, IsWrittenNext, AreWrittenInOrder, events_of, IsOneList, OneOrderIsOneList}
-use Rattle.guarantees.specs.InParts.{call_of_deed}
+pub use Rattle.guarantees.specs.InParts.{call_of_deed}
 use Rattle.guarantees.proofs.EndLemmas.{ends_in, Walk, no_end}
 use Rattle.guarantees.proofs.AnswerLemmas.{then_ended, then_answered, then_controlled, then_reclaimed, none_ended, none_answered, none_controlled, none_reclaimed}
 use Rattle.guarantees.proofs.LegalEntries.{entry_is_legal}
@@ -35,8 +36,43 @@ use Rattle.guarantees.proofs.MoveLemmas.{numbered}
 use Rattle.guarantees.proofs.DeedLemmas.{is_deed_by, made_append, met_at}
 use Rattle.guarantees.proofs.MergeEvents.{HappenFrom, then_happen, then_written, entries_are, IsListed, listed, AreOwn, own_stay, own_go, Advance, advance, RunsOut, runs_out}
 use Rattle.guarantees.proofs.MergeCalls.{IsAtPlace, worker_at, answers_at, controller_changes_keys, reclaimer_reclaims, served, may_call, answer_served, IsLookAt, may_look, turned_away, no_answer}
-use Rattle.guarantees.proofs.AfterDeeds.{put, put_there, put_other, HaveHistories, after_entry, after_look, asked_shards}
-use Rattle.guarantees.proofs.Heard.{is_heard, heard, answer_of_deed, heard_more, heard_less}
+
+-- ---- what is left to do, by worker
+
+abbrev pub put : {A : Type 0} → ℕ → A → (ℕ → A) → ℕ → A
+put worker own rest other = if other == worker then own else rest other
+
+pub put_there : {A : Type 0} (worker : ℕ) (own : A) (rest : ℕ → A) → put worker own rest worker ≡ own
+put_there worker own rest =
+    let same : (worker == worker) ≡ true = grind (arith, nat_tests) in
+    ap (λ (test : Bool). cond test own (rest worker)) same
+
+pub put_other : {A : Type 0} (worker other : ℕ) (own : A) (rest : ℕ → A) → other ≢ worker → put worker own rest other ≡ rest other
+put_other worker other own rest apart = ap (λ (test : Bool). cond test own (rest other)) (ne_eqb other worker apart)
+
+-- ---- the deeds of the controller and the reclaimer that are events: what they wrote, and the looks that they may make
+
+abbrev pub is_askable : (ℕ → ShardPlan) → Caller → Deed → Bool
+is_askable plan who (Wrote entry) = true
+is_askable plan who (MetFull one call) = meets (plan (shard_of_call call)) [] who call
+
+abbrev pub is_heard : (ℕ → ShardPlan) → Caller → Deed → Bool
+is_heard plan who deed = is_deed_of (ByCaller who) deed && is_askable plan who deed
+
+abbrev pub heard : (ℕ → ShardPlan) → Caller → List Deed → List Deed
+heard plan who deeds = filter (is_heard plan who) deeds
+
+abbrev pub answer_of_deed : Deed → Option Reply
+answer_of_deed (Wrote entry) = Some entry.reply
+answer_of_deed (MetFull who call) = None
+
+heard_more : (plan : ℕ → ShardPlan) (who : Caller) (deed : Deed) (later : List Deed) → is_heard plan who deed ≡ true →
+    heard plan who (deed ∷ later) ≡ deed ∷ heard plan who later
+heard_more plan who deed later is = ap (λ (test : Bool). cond test (deed ∷ heard plan who later) (heard plan who later)) is
+
+heard_less : (plan : ℕ → ShardPlan) (who : Caller) (deed : Deed) (later : List Deed) → is_heard plan who deed ≡ false →
+    heard plan who (deed ∷ later) ≡ heard plan who later
+heard_less plan who deed later is = ap (λ (test : Bool). cond test (deed ∷ heard plan who later) (heard plan who later)) is
 
 -- ---- where the order has come to
 
@@ -237,7 +273,52 @@ finish setting plan count deeds (suc most) small fits system rest ends stands no
     further : (most worker : ℕ) → most ≤ worker → worker ≢ most → suc most ≤ worker
     further most worker past apart = grind (arith, past, apart)
 
+-- ---- the histories after one deed
+
+made_there : (entry : Entry) → made_on (shard_of_call entry.call) (Wrote entry ∷ []) ≡ entry ∷ []
+made_there entry =
+    let same : (shard_of_call entry.call == shard_of_call entry.call) ≡ true = grind (arith, nat_tests) in
+    ap (λ (test : Bool). cond test (entry ∷ []) []) same
+
+made_elsewhere : (entry : Entry) (number : ℕ) → number ≢ shard_of_call entry.call → made_on number (Wrote entry ∷ []) ≡ []
+made_elsewhere entry number apart =
+    ap (λ (test : Bool). cond test (entry ∷ []) []) (ne_eqb (shard_of_call entry.call) number (λ same. apart (sym same)))
+
+abbrev pub HaveHistories : ℕ → List Deed → SystemState → Type 0
+HaveHistories count deeds system = (number : ℕ) → number < count → history_of system number ≡ reverse (made_on number deeds)
+
+pub after_entry : (count : ℕ) (earlier : List Deed) (system after : SystemState) (entry : Entry) → length system.histories ≡ count →
+    shard_of_call entry.call < count → HaveHistories count earlier system →
+    after.histories ≡ (with_entry system (shard_of_call entry.call) entry).histories → HaveHistories count (earlier ++ Wrote entry ∷ []) after
+after_entry count earlier system after entry shards within histories same number below =
+    let shard : ℕ = shard_of_call entry.call in
+    let room : shard < length system.histories = subst (λ (n : ℕ). shard < n) (sym shards) within in
+    ⊎_elim
+    (λ at. subst (λ (one : ℕ). history_of after one ≡ reverse (made_on one (earlier ++ Wrote entry ∷ []))) (sym at)
+    (ap (λ list. slice_index_or list shard []) same ∙ history_there system shard entry room
+    ∙ ap (λ (list : List Entry). entry ∷ list) (histories shard within)
+    ∙ sym (reverse-append (made_on shard earlier) (entry ∷ []))
+    ∙ ap (λ (list : List Entry). reverse (made_on shard earlier ++ list)) (sym (made_there entry))
+    ∙ ap reverse (sym (made_append shard earlier (Wrote entry ∷ [])))))
+    (λ apart. ap (λ list. slice_index_or list number []) same ∙ history_elsewhere system shard number entry apart ∙ histories number below
+    ∙ ap reverse (sym (append-nil (made_on number earlier))
+    ∙ ap (λ (list : List Entry). made_on number earlier ++ list) (sym (made_elsewhere entry number apart))
+    ∙ sym (made_append number earlier (Wrote entry ∷ []))))
+    (cases_eq number shard)
+
+pub after_look : (count : ℕ) (earlier : List Deed) (system after : SystemState) (who : Caller) (call : Call) → HaveHistories count earlier system →
+    after.histories ≡ system.histories → HaveHistories count (earlier ++ MetFull who call ∷ []) after
+after_look count earlier system after who call histories same number below =
+    ap (λ list. slice_index_or list number []) same ∙ histories number below
+    ∙ ap reverse (sym (append-nil (made_on number earlier)) ∙ sym (made_append number earlier (MetFull who call ∷ [])))
+
 -- ---- a worker's deed
+
+pub asked_shards : (system : SystemState) (asked : AskedOfShard) → length (after_asked system asked).histories ≡ length system.histories
+asked_shards system Nothing = refl
+asked_shards system (Writes entry) =
+    length-set system.histories (shard_of_call entry.call) (entry ∷ history_of system (shard_of_call entry.call))
+asked_shards system (Refused call) = refl
 
 abbrev MergesFrom : Setting → (ℕ → ShardPlan) → ℕ → List Deed → List Deed → List Deed → Type 0
 MergesFrom setting plan count deeds earlier later =

@@ -58,9 +58,7 @@ use Rattle.guarantees.proofs.AnswerLemmas.{begun_among}
 use Rattle.guarantees.proofs.DeedAnswers.{heard_is, all_askable, calls_are, answers_are, made_as_many, commands_as_many, keyed_are, rounds_are}
 use Rattle.guarantees.proofs.EndLemmas.{Walk}
 use Rattle.guarantees.proofs.HeadlineRuns.{work, moves, moves_of_work, order_is, of_accounted}
-use Rattle.guarantees.specs.InParts.{call_of_deed}
-use Rattle.guarantees.proofs.Heard.{heard, is_heard, answer_of_deed}
-use Rattle.guarantees.proofs.Merge.{IsListWithEnds, IsListFirst, AreControllers, one_list_first}
+use Rattle.guarantees.proofs.Merge.{IsListWithEnds, IsListFirst, AreControllers, heard, is_heard, one_list_first, answer_of_deed, call_of_deed}
 use Rattle.guarantees.proofs.RecordEnds.{first_all, placed, picked, of_sent, IsEndingOf, IsRunOfRecord, AreRunsEnded, all_ends, runners_are, totals_are, told_are, sent_are, ends_are, share_is, spread_below}
 use Rattle.guarantees.proofs.RunEnds.{ending_at_stop, ending_of, endings_of, captured_in, walk_of, begun_in}
 use Rattle.guarantees.proofs.SizedUpdates.{commands_may_look}

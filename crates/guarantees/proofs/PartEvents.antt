@@ -28,8 +28,7 @@ use Rattle.guarantees.proofs.AnswerLemmas.{then_ended, then_answered, none_ended
 use Rattle.guarantees.proofs.DeedLemmas.{made_append, met_at}
 use Rattle.guarantees.proofs.EndLemmas.{ends_of_asked, ends_in, Walk, end_is, no_end}
 use Rattle.guarantees.proofs.LegalEntries.{entry_is_legal}
-use Rattle.guarantees.proofs.AfterDeeds.{HaveHistories, after_entry, after_look, asked_shards}
-use Rattle.guarantees.proofs.Heard.{answer_of_deed}
+use Rattle.guarantees.proofs.Merge.{answer_of_deed, HaveHistories, after_entry, after_look, asked_shards}
 use Rattle.guarantees.proofs.MergeCalls.{IsAtPlace, answers_at, controller_changes_keys, reclaimer_reclaims, served, may_call, answer_served, IsLookAt, may_look, turned_away, no_answer}
 use Rattle.guarantees.proofs.MergeEvents.{HappenFrom, then_happen, then_written, listed, IsListed, asked_written, entries_are, asked_workers, AreOwn}
 use Rattle.guarantees.proofs.MoveLemmas.{numbered, steps_are_moves}

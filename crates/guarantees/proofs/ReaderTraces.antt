@@ -78,6 +78,10 @@ handed program call reply = tt
 pub holds : (program : Program) (call : Call) (reply : Reply) → HoldsAfter program all_held all_held call reply
 holds program call reply = record { kept = λ map shard cell h. refl; handed_out = handed program call reply }
 
+abbrev IsSame : ℕ → Program → ℕ → Type 0
+IsSame worker program count = (state : MachineState) (replies : List Reply) → AreReplies program (trace_of count program state replies).calls replies →
+    trace_of_any (trace_of count program state replies) ≡ trace_of_any (trace_of count program (at_worker worker state) replies)
+
 pub record IsAccepted (version : Version) (program : Program) (states : List (Option State)) : Type 0 where
   pub accepted : Accepts version program.maps program.code states
   pub fits : PartsFit program.maps program.code

@@ -53,9 +53,7 @@ use Rattle.guarantees.proofs.EndLemmas.{Walk}
 use Rattle.guarantees.proofs.EventLemmas.{is_some_entry, since, Reaches, Exited as EndsSo, reached, append_on, append_deeds, whole_session}
 use Rattle.guarantees.proofs.EveryEntry.{all_both, all_reverse}
 use Rattle.guarantees.proofs.Leaving.{itself, all_leave}
-use Rattle.guarantees.proofs.Heard.{heard, is_askable, answer_of_deed}
-use Rattle.guarantees.specs.InParts.{call_of_deed}
-use Rattle.guarantees.proofs.Merge.{one_list_behind}
+use Rattle.guarantees.proofs.Merge.{heard, is_askable, call_of_deed, answer_of_deed, one_list_behind}
 use Rattle.guarantees.proofs.MoveLemmas.{numbered}
 use Rattle.guarantees.proofs.OneWorker.{its_own, IsOwnDeed, all_own, all_entries, IsWritten, all_written, none_looks, deeds_set, set_entries, set_written, order_of_one, none_met, run_refuses_none, leavings_refuse_none}
 use Rattle.guarantees.proofs.RunEnds.{IsRunOn, run_on, exit_walk, stop_walk, leaving_begins_none}

@@ -45,8 +45,7 @@ use Rattle.guarantees.proofs.DeedAnswers.{made_calls, command_calls_are, round_i
 use Rattle.guarantees.proofs.EndLemmas.{ends_in}
 use Rattle.guarantees.proofs.EveryEntry.{all_both}
 use Rattle.guarantees.proofs.HeadlineRuns.{moves, moves_of_work, order_is, work_deeds}
-use Rattle.guarantees.proofs.AfterDeeds.{put, put_there, put_other}
-use Rattle.guarantees.proofs.Heard.{heard, answer_of_deed}
+use Rattle.guarantees.proofs.Merge.{put, put_there, put_other, heard, answer_of_deed}
 use Rattle.guarantees.proofs.OneReplay as whole
 use Rattle.guarantees.proofs.OneReplay.{less, map_both, ends_if, ends}
 use Rattle.guarantees.proofs.OpenedReplays.{record_of}

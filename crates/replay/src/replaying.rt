@@ -1,7 +1,6 @@
 //! A whole replay.
 
-ghost use Rattle.std.specs.Prelude.{◌≡◌, ◌<◌, ◌≤◌, ◌+◌, ◌↔◌};
-ghost use Rattle.std.specs.Prelude.{true, false, [], length, map, replicate, slice_set, IfOk, OnOk, IfErr, IsErrOf};
+ghost use Rattle.std.specs.Prelude.{◌≡◌, ◌<◌, ◌≤◌, ◌+◌, ◌↔◌, true, false, [], length, map, replicate, slice_set, IfOk, OnOk, IfErr, IsErrOf};
 ghost use Rattle.machine.specs.Running.{program_of};
 ghost use Rattle.semantics.specs.ShardPlan.{KeepsRows, recorded};
 ghost use Rattle.rx_queues.specs.Passes.{IsPutPassOf, AreTakePasses, jobs_put, workers_of, record_count_of, command_count_of};

@@ -20,11 +20,11 @@ fn is_only(commands: &[Command]) -> bool
 /// What a refusal says: the words are no action's, or memory was refused.
 fn refused(fault: ControlFault) -> Result<bool, ControlFault>
     ensures none { IfOk result (λ is. (is ≡ false) × (fault ≢ Memory)) }
-    ensures memory { IfErr result (λ refusal. (refusal ≡ Memory) × (fault ≡ Memory)) }
+    ensures memory { IfErr result (λ fault. fault ≡ Memory) }
 {
     match fault {
-        ControlFault::Memory => Err(ControlFault::Memory),
-        _ => Ok(false),
+        ControlFault::BadLine { .. } => Ok(false),
+        _ => Err(ControlFault::Memory),
     }
 }
 

@@ -11,9 +11,12 @@ use verifier::Verified;
 /// After how many rounds of the reclaimer a replay reports its progress.
 const ROUNDS: u64 = 512;
 
+/// After how many records of a capture that is read in pieces.
+const RECORDS: u64 = 32_768;
+
 /// What a replay reports its progress to.
 pub trait Progress {
-    /// `frames` of `all` frames were handed to the workers.
+    /// `frames` of `all` frames were handed to the workers; where a capture is read in pieces, so many of its frames were gone past.
     fn handed(&self, frames: u64, all: u64);
 }
 
@@ -60,6 +63,24 @@ impl<R: Clock + Eprint> Progress for TerminalProgress<'_, R> {
             frames as u128 * 1000 / millis
         };
         let _ = eprintln!(self.rt; "  {frames} of {all} frames, {rate} a second");
+    }
+}
+
+/// How far a replay is in a capture that is read in pieces.
+#[derive(Clone, Copy)]
+pub(crate) struct Distance<'a, P> {
+    pub progress: &'a P,
+    /// How many records the capture has.
+    pub all: u64,
+}
+
+impl<P: Progress> Distance<'_, P> {
+    /// Behind `passed` records, where it was behind `before` of them when this was called last: reports it, if a multiple of `RECORDS` is
+    /// among the new ones.
+    pub(crate) fn note(&self, before: u64, passed: u64) {
+        if before / RECORDS < passed / RECORDS {
+            self.progress.handed(passed, self.all);
+        }
     }
 }
 

@@ -1,7 +1,6 @@
 //! The report of a replay: a line for each record.
 
-ghost use Rattle.std.specs.Prelude.{◌≡◌, ◌+◌, ◌++◌, ◌-◌, ◌<◌, ◌^◌};
-ghost use Rattle.std.specs.Prelude.{ℕ, List, Some, IfOk, IfErr, OnOk, length, slice_get, string_bytes};
+ghost use Rattle.std.specs.Prelude.{◌≡◌, ◌+◌, ◌++◌, ◌-◌, ◌<◌, ◌^◌, ℕ, List, Some, IfOk, IfErr, OnOk, length, slice_get, string_bytes};
 ghost use Rattle.std.specs.Char.{to_ascii_lowercase};
 ghost use Rattle.command_line.specs.Reading.{text_of};
 ghost use Rattle.traffic.specs.Counting.{address_at};
