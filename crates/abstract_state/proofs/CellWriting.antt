@@ -34,7 +34,7 @@ use Rattle.abstract_state.specs.declared.flow.Flow.{Flow}
 use Rattle.abstract_state.specs.declared.state.State.{State}
 use Rattle.abstract_state.specs.States.{◌>>=◌, kind_of, value_size_of}
 use Rattle.abstract_state.specs.Places.{atomic_access}
-use Rattle.abstract_state.specs.Words.{narrow_storable}
+use Rattle.abstract_state.specs.Words.{storable_number}
 use Rattle.abstract_state.specs.Access.{with_fetched_kind, expects, checked_atomic, atomic_of}
 use Rattle.abstract_state.specs.Flow.{fetch_writable, reads_atomic, atomic_flow, flow_of}
 use Rattle.abstract_state.specs.Soundness.{GoesOnAt, FallsOn, Follows, HoldsAfter}
@@ -116,7 +116,7 @@ or_true : (a : Bool) → (a || true) ≡ true
 or_true true = refl
 or_true false = refl
 
-is_number : (kind : Kind) (done : Unit {0}) → expects CompareExchange kind ≡ Ok done → narrow_storable kind ≡ Ok tt
+is_number : (kind : Kind) (done : Unit {0}) → expects CompareExchange kind ≡ Ok done → storable_number kind ≡ Ok tt
 is_number (Scalar i) done e = refl
 is_number Unset done e = cc
 is_number Ctx done e = cc
@@ -219,9 +219,9 @@ atomic_by_kind : (program : Program) (held : Held) (state : State) (machine : Ma
     KindCovers (kind_scope_of program.maps held a.ids machine) known v → (s : State) → checked_atomic program.maps state width op known offset dst src ≡ Ok s →
     FallsOn program held s machine (machine.slot + slot_count insn) (atomic_step program insn machine width op v src offset)
 atomic_by_kind program held state machine a insn width op dst src offset done may (Value map id off) v c s e =
-    let first = ok_then (atomic_access program.maps map off offset (size_bytes (width_size width))) (λ from. narrow_storable (kind_of state src) >>= (λ _.
+    let first = ok_then (atomic_access program.maps map off offset (size_bytes (width_size width))) (λ from. storable_number (kind_of state src) >>= (λ _.
     expects op (kind_of state R0) >>= (λ _. Ok (with_fetched_kind state (fetched_register op src) width)))) s e
-    in let second = ok_then (narrow_storable (kind_of state src)) (λ _. expects op (kind_of state R0) >>= (λ _. Ok (with_fetched_kind state (fetched_register op src) width))) s first.1.1
+    in let second = ok_then (storable_number (kind_of state src)) (λ _. expects op (kind_of state R0) >>= (λ _. Ok (with_fetched_kind state (fetched_register op src) width))) s first.1.1
     in let third = ok_then (expects op (kind_of state R0)) (λ _. Ok (with_fetched_kind state (fetched_register op src) width)) s second.1.1
     in let same : with_fetched_kind state (fetched_register op src) width ≡ s =
     ok_same (Ok (with_fetched_kind state (fetched_register op src) width)) (with_fetched_kind state (fetched_register op src) width) s refl third.1.1

@@ -21,7 +21,7 @@ use Rattle.abstract_state.specs.declared.kind.Kind.TheVariants.{Unset, Scalar, C
 use Rattle.abstract_state.specs.declared.broken_rule.BrokenRule.TheVariants.{WrongKind, UnsetRegister}
 use Rattle.abstract_state.specs.States.{Checked}
 use Rattle.abstract_state.specs.Arithmetic.{number_kind, moved_kind, combined_kind, alu_kind}
-use Rattle.abstract_state.specs.Flow.{is_set}
+use Rattle.abstract_state.specs.Flow.{check_set}
 use Rattle.abstract_state.specs.Abstraction.{KindScope, KindCovers, IsNumberIn}
 use Rattle.abstract_state.proofs.shared.Inverting.{err_not_ok, ok_value}
 use Rattle.abstract_state.proofs.shared.Following.{Gives, gives}
@@ -105,7 +105,7 @@ pointer_moved s slot Bits64 old kind v source st c same stays not e = made s slo
 pointer_moved s slot Bits32 old kind v source st c same stays not e = absurd (err_not_ok (WrongKind source) kind (sym not ∙ e))
 
 moved : (s : KindScope) (slot : ℕ) (width : Width) (second kind : Kind) (v : RegisterValue) (source : Register) → Stands s slot →
-    is_set second source ≡ Ok tt → KindCovers s second v → moved_kind width second source ≡ Ok kind → Gives s slot kind (moved_value width v)
+    check_set second source ≡ Ok tt → KindCovers s second v → moved_kind width second source ≡ Ok kind → Gives s slot kind (moved_value width v)
 moved s slot width Unset kind v source st set c e = absurd (err_not_ok (UnsetRegister source) tt set)
 moved s slot width (Scalar i) kind v source st set c e = number_moved s slot width i v kind st c e
 moved s slot width Ctx kind v source st set c e = pointer_moved s slot width Ctx kind v source st c (copied v ContextPointer c refl) refl refl e
@@ -141,7 +141,7 @@ combined s version slot small width op (Value map id off) second kind u v dst so
 
 -- any operation on operands that are set
 pub operation_gives : (s : KindScope) (version : Version) (slot : ℕ) → SmallValues s → (width : Width) (op : AluOp) (first second kind : Kind) (u v : RegisterValue) (dst source : Register) → Stands s slot →
-    is_set second source ≡ Ok tt → KindCovers s first u → KindCovers s second v → alu_kind s.maps version s.slot width op first second dst source ≡ Ok kind →
+    check_set second source ≡ Ok tt → KindCovers s first u → KindCovers s second v → alu_kind s.maps version s.slot width op first second dst source ≡ Ok kind →
     Gives s slot kind (alu_outcome width op u v)
 operation_gives s version slot small width Mov first second kind u v dst source st set c d e = moved s slot width second kind v source st set d e
 operation_gives s version slot small width op first second kind u v dst source st set c d e = combined s version slot small width op first second kind u v dst source st c d e

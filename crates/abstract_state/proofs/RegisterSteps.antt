@@ -40,7 +40,7 @@ use Rattle.abstract_state.specs.declared.broken_rule.BrokenRule.TheVariants.{Wro
 use Rattle.abstract_state.specs.declared.state.State.{State}
 use Rattle.abstract_state.specs.States.{◌>>=◌, kind_of, with_kind, value_size_of}
 use Rattle.abstract_state.specs.Arithmetic.{source_kind, blamed, alu_kind, after_alu_of}
-use Rattle.abstract_state.specs.Flow.{writable, is_set, reads, reads_operands, alu_flow, checked_number, operand_of, unary_flow, number_flow, known_map, map_flow, exit_kind, falls, flow_of}
+use Rattle.abstract_state.specs.Flow.{writable, check_set, reads, reads_operands, alu_flow, checked_number, operand_of, unary_flow, number_flow, known_map, map_flow, exit_kind, falls, flow_of}
 use Rattle.abstract_state.specs.Abstraction.{Held, KindScope, KindCovers, IsNumberIn, kind_scope_of, Abstracts}
 use Rattle.abstract_state.specs.Soundness.{EndsRun, JumpsOn, JumpsForward, Follows}
 use Rattle.abstract_state.proofs.shared.Inverting.{err_not_ok, ok_value, ok_then}
@@ -55,7 +55,7 @@ stands program held state machine a insn h = record { later = omega arith; bases
 -- ---- two operands
 
 source_set : (state : State) (op : AluOp) (dst : Register) (source : SourceOperand) → reads_operands state op dst source ≡ Ok tt →
-    is_set (source_kind state source) (blamed dst source) ≡ Ok tt
+    check_set (source_kind state source) (blamed dst source) ≡ Ok tt
 source_set state op dst (Imm immediate) e = refl
 source_set state Mov dst (Reg register) e = e
 source_set state op dst (Reg register) e =

@@ -22,7 +22,7 @@ use Rattle.abstract_state.specs.declared.kind.StackWord.TheVariants.{Spilled, By
 use Rattle.abstract_state.specs.declared.state.State.{State}
 use Rattle.abstract_state.specs.States.{kind_of, word_of, with_word}
 use Rattle.abstract_state.specs.Join.{bytes_of_word}
-use Rattle.abstract_state.specs.Words.{narrow_storable, with_set}
+use Rattle.abstract_state.specs.Words.{storable_number, with_set}
 use Rattle.abstract_state.specs.Access.{stack_stored}
 use Rattle.abstract_state.specs.Soundness.{FallsOn}
 use Rattle.abstract_state.specs.Abstraction.{Held, KindScope, KindCovers, IsSpilled, WordCovers, places_of, kind_scope_of, Abstracts}
@@ -42,7 +42,7 @@ AreEight state = (word : ℕ) → word < 64 → length (bytes_of_word (word_of s
 -- ---- what is stored
 
 -- a number that may be stored in part
-pub narrow_is_number : (s : KindScope) (kind : Kind) (value : RegisterValue) (done : Unit {0}) → narrow_storable kind ≡ Ok done → KindCovers s kind value → (n : ℕ) × (value ≡ Number n)
+pub narrow_is_number : (s : KindScope) (kind : Kind) (value : RegisterValue) (done : Unit {0}) → storable_number kind ≡ Ok done → KindCovers s kind value → (n : ℕ) × (value ≡ Number n)
 narrow_is_number s (Scalar i) value done e c = (c.number, c.is)
 narrow_is_number s Unset value done e c = cc
 narrow_is_number s Ctx value done e c = cc

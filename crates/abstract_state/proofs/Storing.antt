@@ -23,9 +23,9 @@ use Rattle.abstract_state.specs.declared.state.State.{State}
 use Rattle.abstract_state.specs.States.{◌>>=◌, kind_of, word_of, with_word}
 use Rattle.abstract_state.specs.Join.{bytes_of_word}
 use Rattle.abstract_state.specs.Places.{stack_access, packet_access, value_access}
-use Rattle.abstract_state.specs.Words.{narrow_storable, with_set}
+use Rattle.abstract_state.specs.Words.{storable_number, with_set}
 use Rattle.abstract_state.specs.Access.{stack_stored, stored, store_of}
-use Rattle.abstract_state.specs.Flow.{is_set, reads, reads_both, store_flow, store_register_flow, flow_of}
+use Rattle.abstract_state.specs.Flow.{check_set, reads, reads_both, store_flow, store_register_flow, flow_of}
 use Rattle.abstract_state.specs.Soundness.{FallsOn, Follows}
 use Rattle.abstract_state.specs.Abstraction.{Held, KindCovers, IsStackPlace, kind_scope_of, Abstracts}
 use Rattle.abstract_state.proofs.shared.Checking.{ok_same, ok_then, falls_made}
@@ -38,13 +38,13 @@ use Rattle.abstract_state.proofs.StoredPlaces.{AreEight, narrow_is_number, whole
 
 stack_part : (program : Program) (held : Held) (state : State) (machine : MachineState) (a : Abstracts program.maps held state machine) → AreEight state → (insn : Insn) (size : Size) →
     (offset : ℤ) (place : ℕ) (v : RegisterValue) → IsStackPlace place v → (kind : Kind) (value : RegisterValue) → KindCovers (kind_scope_of program.maps held a.ids machine) kind value →
-    (s : State) → (stack_access place offset (size_bytes size) >>= (λ from. narrow_storable kind >>= (λ _.
+    (s : State) → (stack_access place offset (size_bytes size) >>= (λ from. storable_number kind >>= (λ _.
     Ok (with_word state (from / 8) (Bytes (with_set (bytes_of_word (word_of state (from / 8))) (from % 8) (size_bytes size))))))) ≡ Ok s →
     FallsOn program held s machine (machine.slot + slot_count insn) (store_step program insn machine v offset size value)
 stack_part program held state machine a eight insn size offset place v c kind value cv s e =
-    let first = ok_then (stack_access place offset (size_bytes size)) (λ from. narrow_storable kind >>= (λ _.
+    let first = ok_then (stack_access place offset (size_bytes size)) (λ from. storable_number kind >>= (λ _.
     Ok (with_word state (from / 8) (Bytes (with_set (bytes_of_word (word_of state (from / 8))) (from % 8) (size_bytes size)))))) s e
-    in let second = ok_then (narrow_storable kind) (λ _.
+    in let second = ok_then (storable_number kind) (λ _.
     Ok (with_word state (first.0 / 8) (Bytes (with_set (bytes_of_word (word_of state (first.0 / 8))) (first.0 % 8) (size_bytes size))))) s first.1.1
     in let same : with_word state (first.0 / 8) (Bytes (with_set (bytes_of_word (word_of state (first.0 / 8))) (first.0 % 8) (size_bytes size))) ≡ s =
     ok_same (Ok (with_word state (first.0 / 8) (Bytes (with_set (bytes_of_word (word_of state (first.0 / 8))) (first.0 % 8) (size_bytes size)))))
@@ -82,8 +82,8 @@ store_by_kind program held state machine a eight insn U8 offset dst (Stack place
 store_by_kind program held state machine a eight insn U16 offset dst (Stack place) v c kind value set cv s e = stack_part program held state machine a eight insn U16 offset place v c kind value cv s e
 store_by_kind program held state machine a eight insn U32 offset dst (Stack place) v c kind value set cv s e = stack_part program held state machine a eight insn U32 offset place v c kind value cv s e
 store_by_kind program held state machine a eight insn size offset dst (Packet id off range) v c kind value set cv s e =
-    let first = ok_then (packet_access off range offset (size_bytes size)) (λ from. narrow_storable kind >>= (λ _. Ok state)) s e
-    in let second = ok_then (narrow_storable kind) (λ _. Ok state) s first.1.1
+    let first = ok_then (packet_access off range offset (size_bytes size)) (λ from. storable_number kind >>= (λ _. Ok state)) s e
+    in let second = ok_then (storable_number kind) (λ _. Ok state) s first.1.1
     in let same : state ≡ s = ok_same (Ok state) state s refl second.1.1
     in let n = narrow_is_number (kind_scope_of program.maps held a.ids machine) kind value second.0 second.1.0 cv
     in let found = range_found (pos off +ℤ offset) (size_bytes size) range _ first.0 first.1.0
@@ -99,8 +99,8 @@ store_by_kind program held state machine a eight insn size offset dst PacketEnd 
 store_by_kind program held state machine a eight insn size offset dst (Map map) v c kind value set cv s e = cc
 store_by_kind program held state machine a eight insn size offset dst (ValueOrNull map id) v c kind value set cv s e = cc
 store_by_kind program held state machine a eight insn size offset dst (Value map id off) v c kind value set cv s e =
-    let first = ok_then (value_access program.maps map off offset (size_bytes size)) (λ from. narrow_storable kind >>= (λ _. Ok state)) s e
-    in let second = ok_then (narrow_storable kind) (λ _. Ok state) s first.1.1
+    let first = ok_then (value_access program.maps map off offset (size_bytes size)) (λ from. storable_number kind >>= (λ _. Ok state)) s e
+    in let second = ok_then (storable_number kind) (λ _. Ok state) s first.1.1
     in let same : state ≡ s = ok_same (Ok state) state s refl second.1.1
     in let n = narrow_is_number (kind_scope_of program.maps held a.ids machine) kind value second.0 second.1.0 cv
     in let there = value_found program.maps map off offset (size_bytes size) first.0 c.at c.least c.most first.1.0
@@ -130,7 +130,7 @@ store_sound program held state machine size dst offset immediate flow fits eight
     (record { number = twos_complement 64 immediate; is = refl; within = record { above = omega arith; below = omega arith }; word = small })
     made.0 first.1.1)
 
-not_unset : (kind : Kind) (register : Register) (done : Unit {0}) → is_set kind register ≡ Ok done → kind ≡ Unset → ⊥
+not_unset : (kind : Kind) (register : Register) (done : Unit {0}) → check_set kind register ≡ Ok done → kind ≡ Unset → ⊥
 not_unset Unset register done e n = cc
 not_unset (Scalar i) register done e n = cc
 not_unset Ctx register done e n = cc

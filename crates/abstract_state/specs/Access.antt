@@ -22,7 +22,7 @@ use Rattle.abstract_state.specs.declared.broken_rule.BrokenRule.TheVariants.{Wro
 use Rattle.abstract_state.specs.declared.state.State.{State}
 use Rattle.abstract_state.specs.States.{Checked, ◌>>=◌, kind_of, with_kind, word_of, with_word}
 use Rattle.abstract_state.specs.Places.{stack_access, packet_access, value_access, atomic_access}
-use Rattle.abstract_state.specs.Words.{loaded_number, word_loaded, storable, narrow_storable, word_stored}
+use Rattle.abstract_state.specs.Words.{loaded_number, word_loaded, storable, storable_number, word_stored}
 
 -- ---- loads
 
@@ -77,9 +77,9 @@ stored maps state size Ctx offset dst kind = Err ContextAccess
 stored maps state size (Stack place) offset dst kind =
     stack_access place offset (size_bytes size) >>= (λ from. storable size kind >>= (λ _. Ok (stack_stored state size from kind)))
 stored maps state size (Packet id off range) offset dst kind =
-    packet_access off range offset (size_bytes size) >>= (λ from. narrow_storable kind >>= (λ _. Ok state))
+    packet_access off range offset (size_bytes size) >>= (λ from. storable_number kind >>= (λ _. Ok state))
 stored maps state size (Value map id off) offset dst kind =
-    value_access maps map off offset (size_bytes size) >>= (λ from. narrow_storable kind >>= (λ _. Ok state))
+    value_access maps map off offset (size_bytes size) >>= (λ from. storable_number kind >>= (λ _. Ok state))
 stored maps state size other offset dst kind = Err (WrongKind dst)
 
 abbrev pub store_of : List MapDef → State → Size → Register → ℤ → Kind → Checked State
@@ -103,7 +103,7 @@ expects op kind = Ok tt
 abbrev pub checked_atomic : List MapDef → State → Width → AtomicOp → Kind → ℤ → Register → Register → Checked State
 checked_atomic maps state width op (Value map id off) offset dst src =
     atomic_access maps map off offset (size_bytes (width_size width)) >>= (λ from.
-    narrow_storable (kind_of state src) >>= (λ _.
+    storable_number (kind_of state src) >>= (λ _.
     expects op (kind_of state R0) >>= (λ _.
     Ok (with_fetched_kind state (fetched_register op src) width))))
 checked_atomic maps state width op other offset dst src = Err (WrongKind dst)

@@ -50,12 +50,12 @@ abbrev pub fetch_writable : Option Register → Checked (Unit {0})
 fetch_writable None = Ok tt
 fetch_writable (Some register) = writable register
 
-abbrev pub is_set : Kind → Register → Checked (Unit {0})
-is_set Unset register = Err (UnsetRegister register)
-is_set kind register = Ok tt
+abbrev pub check_set : Kind → Register → Checked (Unit {0})
+check_set Unset register = Err (UnsetRegister register)
+check_set kind register = Ok tt
 
 abbrev pub reads : State → Register → Checked (Unit {0})
-reads state register = is_set (kind_of state register) register
+reads state register = check_set (kind_of state register) register
 
 abbrev pub reads_source : State → SourceOperand → Checked (Unit {0})
 reads_source state (Imm immediate) = Ok tt

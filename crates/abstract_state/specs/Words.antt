@@ -48,13 +48,13 @@ word_loaded state size from (Bytes set) = bytes_loaded state size from
 -- ---- stores
 
 -- any register can be spilled whole, and of a number also a part
-abbrev pub narrow_storable : Kind → Checked (Unit {0})
-narrow_storable (Scalar i) = Ok tt
-narrow_storable other = Err PointerLeak
+abbrev pub storable_number : Kind → Checked (Unit {0})
+storable_number (Scalar i) = Ok tt
+storable_number other = Err PointerLeak
 
 abbrev pub storable : Size → Kind → Checked (Unit {0})
 storable U64 kind = Ok tt
-storable size kind = narrow_storable kind
+storable size kind = storable_number kind
 
 abbrev pub with_set : List Bool → ℕ → ℕ → List Bool
 with_set set from count = take from set ++ replicate count true ++ drop (from + count) set

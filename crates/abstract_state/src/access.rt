@@ -4,7 +4,7 @@ ghost use Rattle.std.specs.Prelude.{◌≡◌, ◌<◌, ◌≤◌, ◌+◌, ◌%
 ghost use Rattle.isa.specs.InstructionCodes.{size_bytes};
 ghost use Rattle.abstract_scalar.specs.Intervals.{full_of};
 ghost use Rattle.abstract_state.specs.Words.{loaded_number, is_byte_set, are_bytes_set, bytes_loaded, narrow_loaded, spilled_loaded};
-ghost use Rattle.abstract_state.specs.Words.{word_loaded, narrow_storable, storable};
+ghost use Rattle.abstract_state.specs.Words.{word_loaded, storable_number, storable};
 ghost use Rattle.abstract_state.specs.InPlace.{kept};
 ghost use Rattle.abstract_state.specs.Access.{context_kind, context_loaded, loaded_kind, signed_loaded, stack_stored, stored};
 
@@ -44,9 +44,9 @@ fn spilled_loaded(size: Size, kind: Kind) -> Result<Kind, BrokenRule>
     }
 }
 
-/// Whether what is stored is a number.
-pub(crate) fn narrow_storable(kind: Kind) -> Result<(), BrokenRule>
-    ensures { result ≡ narrow_storable kind }
+/// 46 unless what is stored is a number: asked of every store but a whole one to the stack, and of atomic operations.
+pub(crate) fn storable_number(kind: Kind) -> Result<(), BrokenRule>
+    ensures { result ≡ storable_number kind }
 {
     match kind {
         Kind::Scalar(_) => Ok(()),
@@ -60,7 +60,7 @@ fn storable(size: Size, kind: Kind) -> Result<(), BrokenRule>
 {
     match size {
         Size::U64 => Ok(()),
-        _ => narrow_storable(kind),
+        _ => storable_number(kind),
     }
 }
 
@@ -209,11 +209,11 @@ impl State {
             }
             Kind::Packet { off, range, .. } => {
                 packet_access(off, range, to.offset, count)?;
-                narrow_storable(kind)
+                storable_number(kind)
             }
             Kind::Value { map, off, .. } => {
                 value_access(site.maps, map, off, to.offset, count)?;
-                narrow_storable(kind)
+                storable_number(kind)
             }
             _ => Err(BrokenRule::WrongKind(to.register)),
         }

@@ -7,7 +7,7 @@ use isa::Register;
 pub enum BrokenRule {
     /// 35: an instruction reads a register that is unset.
     UnsetRegister(Register),
-    /// 36: a kind that the instruction can't take.
+    /// 36: the register's kind is not one that the instruction takes.
     WrongKind(Register),
     /// 37: outside what is known to lie in the packet.
     PacketBounds,
@@ -17,9 +17,9 @@ pub enum BrokenRule {
     StackUnset,
     /// 40: outside a map's value.
     ValueBounds,
-    /// 41: no multiple of the access's size.
+    /// 41: the address is not a multiple of the access's size.
     Misaligned,
-    /// 42: no field of the context.
+    /// 42: the context has no such field of this size, or it is written.
     ContextAccess,
     /// 43: R10 would be written.
     ReadOnlyFp,
@@ -31,6 +31,6 @@ pub enum BrokenRule {
     PointerLeak,
     /// 47: no map at this place of the image's list.
     UnknownMap,
-    /// 49: the map in whose value an address is loaded is no array.
+    /// 49: `ldval` names a map that is not an array.
     NotArrayMap,
 }

@@ -1,35 +1,35 @@
 //! What a program may do, instruction by instruction.
 //!
 //! The checker goes over a program once, by rising slot. Every jump goes forward, so when it comes to an instruction, it has seen all
-//! ways that lead there. It then holds a `State`, which is true of every run that ever is there:
+//! paths that lead there. It then has a `State`, which holds for every run that reaches the instruction:
 //!
-//! - of each of the eleven registers (RFC 9669, section 3.1) a `Kind`: unset, a number of an interval, or a pointer, and to what: the
-//!   context, the stack, the packet or its end, a map, a value of a map, or what a lookup gave, which may be null;
-//! - of each eight bytes of the stack the kind of the register that was spilled there, or which of the bytes were written;
+//! - for each of the eleven registers (RFC 9669, section 3.1) its `Kind`: unset, a number in an interval, or a pointer to the context,
+//!   the stack, the packet or its end, a map, a value of a map, or the result of a lookup, which may be null;
+//! - for each eight bytes of the stack the kind of the register that was spilled there, or which of the bytes were written;
 //! - how many bytes from the packet's start are known to lie in the packet.
 //!
-//! `State::step` takes the state over one instruction. It refuses the instruction where some run in such a state could do what has no
-//! meaning, or what no program may do (each refusal with its number):
+//! `State::step` takes the state over one instruction. It rejects the instruction if a run in such a state could do one of these (with
+//! the fault's number):
 //!
 //! - read a register (35) or a byte of the stack (39) that was never written, or write the frame pointer R10 (43);
 //! - compute with a pointer, or take a number for one (36), except moving a pointer within what it points to; make a pointer
 //!   readable as a number, in the packet, in a part of a stack word or as the verdict (46);
 //! - touch memory past what a test showed to be in the packet (37), outside the stack (38) or outside a map's value (40), on the stack
-//!   and in values at no multiple of the size (41), or a part of the context that is no field (42);
-//! - call what is no helper (44) or with arguments that it does not take (45), name a map that the image does not have (47), or load
-//!   an address in a value of a map that is no array (49).
+//!   and in values not at a multiple of the size (41), or a part of the context that is not a field (42);
+//! - call an unknown helper (44) or with arguments that it does not take (45), name a map that the image does not have (47), or load
+//!   an address in a value of a map that is not an array (49).
 //!
-//! Where two ways meet, `State::join` keeps what both know. A conditional jump has two edges, and `State::follow` takes the state along
-//! one of them, with what its test says there: a number is cut to the part of its interval that can pass; what a lookup gave is null,
-//! or a value; this many bytes of the packet are there. Every pointer into the packet or to a value carries an id, the slot of the
-//! instruction that made it. No slot is reached twice in a run, so an id represents one address; and a test of one copy says all of
-//! them, the spilled ones too.
+//! Where two paths meet, `State::join` keeps what both know. A conditional jump has two edges, and `State::follow` takes the state along
+//! one of them, with what its test says there: a number's interval is cut to the part that passes; the result of a lookup is null, or
+//! it is a value; this many bytes of the packet are there. Every pointer into the packet or to a value carries an id: 0 for the
+//! packet's start, else the slot of the instruction that made it. No slot is reached twice in a run, so an id stands for one address;
+//! and a test of one copy tells about all copies, spilled ones too.
 //!
-//! Why that is enough: a state is true of every run that is there, so an instruction that breaks no rule in it traps in none of
-//! them, and what flows along its edges is true where they lead. This is proved, in the words of `specs/Soundness`, as the laws
+//! Why that is enough: a state holds for every run that reaches it, so an instruction that breaks no rule in it traps in none of
+//! them, and what flows along its edges holds where they lead. This is proved, in the words of `specs/Soundness`, as the laws
 //! `flow_is_sound`, `join_is_sound` and `opening_is_sound`. The verifier carries it by induction over all that workers, controller and
-//! reclaimer do. And no run is endless, since each step goes up. A refusal may be needless, since less is known than is true: of
-//! numbers only an unsigned interval is followed, no single bits, no signed bounds, and no relation between two registers.
+//! reclaimer do. Every run ends, because each step goes to a higher slot. A safe program may be rejected: of numbers only an unsigned
+//! interval is followed, no single bits, no signed bounds, and no relation between two registers.
 //!
 //! The order of rules within an instruction is part of the promise, since the first that is broken is returned: a write of R10; then an
 //! unknown helper or map; then an unset register, the destination before the source; then the rule of the instruction's class.
@@ -39,12 +39,12 @@ ghost use Rattle.abstract_state.specs.Access.{load_of, signed_load_of, with_fetc
 ghost use Rattle.abstract_state.specs.States.{kind_of};
 ghost use Rattle.abstract_state.specs.Unary.{unary_change};
 ghost use Rattle.abstract_state.specs.InPlace.{kept, flow_kept, edge_state};
-ghost use Rattle.abstract_state.specs.Flow.{writable, fetch_writable, is_set, reads, reads_source, reads_both, reads_operands};
+ghost use Rattle.abstract_state.specs.Flow.{writable, fetch_writable, check_set, reads, reads_source, reads_both, reads_operands};
 ghost use Rattle.abstract_state.specs.Flow.{reads_expected, reads_atomic, reads_arguments, alu_flow, checked_number, operand_of, unary_flow};
 ghost use Rattle.abstract_state.specs.Flow.{load_flow, store_flow, store_register_flow, atomic_flow, known_map, map_flow, array_size};
 ghost use Rattle.abstract_state.specs.Flow.{address_in, checked_value_address, address_flow, number_flow, call_flow, verdict_kind, flow_of};
 
-use crate::access::narrow_storable;
+use crate::access::storable_number;
 use crate::broken_rule::BrokenRule;
 use crate::calls::helper_at;
 use crate::flow::Way;
@@ -82,8 +82,8 @@ fn fetch_writable(register: Option<Register>) -> Result<(), BrokenRule>
 }
 
 /// A kind that may be read.
-fn is_set(kind: Kind, register: Register) -> Result<(), BrokenRule>
-    ensures { result ≡ is_set kind register }
+fn check_set(kind: Kind, register: Register) -> Result<(), BrokenRule>
+    ensures { result ≡ check_set kind register }
 {
     match kind {
         Kind::Unset => Err(BrokenRule::UnsetRegister(register)),
@@ -140,7 +140,7 @@ fn address_in(definition: &MapDef, map: u32, slot: u16, offset: u32) -> Result<K
     })
 }
 
-/// The same by the map's place in the image's list.
+/// An address in the value of the map at this index of the image's list.
 fn value_address(site: Site<'_>, map: i32, offset: u32) -> Result<Kind, BrokenRule>
     ensures { result ≡ checked_value_address site.entry.maps.now site.entry.slot map offset }
 {
@@ -158,7 +158,7 @@ impl State {
     fn reads(&self, register: Register) -> Result<(), BrokenRule>
         ensures { result ≡ reads self.now register }
     {
-        is_set(self.kind(register), register)
+        check_set(self.kind(register), register)
     }
 
     /// A source is read.
@@ -253,7 +253,7 @@ impl State {
     {
         writable(dst)?;
         self.reads(operand)?;
-        number_of(self.kind(operand), operand)
+        checked_number(self.kind(operand), operand)
     }
 
     /// An offset from what a register holds.
@@ -365,7 +365,7 @@ impl State {
         match at.base {
             Kind::Value { map, off, .. } => {
                 atomic_access(site.maps, map, off, at.offset, width.size().bytes())?;
-                narrow_storable(self.kind(src))?;
+                storable_number(self.kind(src))?;
                 expects(op, self.kind(Register::R0))?;
                 self.fetch(op.fetched(src), width);
                 Ok(())
@@ -434,7 +434,7 @@ impl State {
         ensures { kept result self.new ≡ unary_flow self.old dst operand (unary_change change) }
     {
         let i = self.operand(dst, operand)?;
-        self.set(dst, Kind::Scalar(change.of(i)));
+        self.set(dst, Kind::Scalar(change.apply(i)));
         Ok(())
     }
 
@@ -448,10 +448,10 @@ impl State {
         self.call_helper(site, helper)
     }
 
-    /// Takes the state over the instruction that begins in it, and says where a run goes on: or the first rule that
-    /// the instruction breaks (a write of R10; then an unknown helper or map; then an unset register; then the rule of its
-    /// class). After a conditional jump the state is as it was: `follow` takes it along an edge. After a refusal no promise
-    /// is made of it.
+    /// Takes the state over the instruction that begins in it. Says where a run goes on, or returns the first rule that the
+    /// instruction breaks (a write of R10; then an unknown helper or map; then an unset register; then the rule of its
+    /// class). After a conditional jump the state is as it was: `follow` takes it along an edge. After an error the state is
+    /// unspecified.
     #[rattlefmt::skip]
     pub fn step(&mut self, site: Site<'_>, insn: Insn) -> Result<Way, BrokenRule>
         ensures { flow_kept insn result self.new ≡ flow_of site.entry.maps.now self.old site.entry.slot insn }
@@ -513,8 +513,8 @@ enum Unary {
 }
 
 impl Unary {
-    /// The interval that it makes of one.
-    fn of(self, i: Interval) -> Interval
+    /// The interval of its results over this interval.
+    fn apply(self, i: Interval) -> Interval
         ensures { result ≡ unary_change self i }
     {
         match self {
@@ -527,7 +527,7 @@ impl Unary {
 }
 
 /// The number that an operation with one operand reads.
-fn number_of(kind: Kind, register: Register) -> Result<Interval, BrokenRule>
+fn checked_number(kind: Kind, register: Register) -> Result<Interval, BrokenRule>
     ensures { result ≡ checked_number kind register }
 {
     match kind {

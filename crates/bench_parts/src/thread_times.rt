@@ -10,6 +10,7 @@ ghost use Rattle.bench_parts.specs.Measured.{IsPassReady};
 use anyhow::Error;
 use core_calls::timed_core;
 use ebpf_decode::{Image, Insn, Version};
+use semantics::JournalFull;
 use shards::{Naming, Opened, Shards};
 use shared_calls::{CallTask, LOOKUPS, MAP, OPTIONS, THREADS, task_of, work};
 use std::alloc::Global;
@@ -38,7 +39,7 @@ fn two<B: Naming + Send + Sync, R: Threads + Wait + Sync>(
     shards: &Shards<B>,
     first: CallTask<B>,
     second: CallTask<B>,
-) -> u64
+) -> Result<u64, JournalFull>
     requires first { IsPassReady B.count B.plan first.pass first.shard }
     requires second { IsPassReady B.count B.plan second.pass second.shard }
 {
@@ -51,7 +52,7 @@ fn two<B: Naming + Send + Sync, R: Threads + Wait + Sync>(
             requires { IsPassReady B.count B.plan second.pass second.shard }
         { work(rt, shards, second) },
     );
-    one.wrapping_add(other)
+    Ok(one?.wrapping_add(other?))
 }
 
 /// The work of four threads.
@@ -62,7 +63,7 @@ fn four<B: Naming + Send + Sync, R: Threads + Wait + Sync>(
     second: CallTask<B>,
     third: CallTask<B>,
     fourth: CallTask<B>,
-) -> u64
+) -> Result<u64, JournalFull>
     requires first { IsPassReady B.count B.plan first.pass first.shard }
     requires second { IsPassReady B.count B.plan second.pass second.shard }
     requires third { IsPassReady B.count B.plan third.pass third.shard }
@@ -79,7 +80,7 @@ fn four<B: Naming + Send + Sync, R: Threads + Wait + Sync>(
             requires fourth { IsPassReady B.count B.plan fourth.pass fourth.shard }
         { two(rt, shards, third, fourth) },
     );
-    one.wrapping_add(other)
+    Ok(one?.wrapping_add(other?))
 }
 
 /// The shard of a thread: its own, or the first.
@@ -102,7 +103,7 @@ fn timed_four<B: Naming + Send + Sync, R: Clock + Threads + Wait + Sync>(
     let third = task_of(alloc, &shards, &mut dealer, 2, shard_of(2, are_apart))?;
     let fourth = task_of(alloc, &shards, &mut dealer, 3, shard_of(3, are_apart))?;
     let start = Instant::now(rt)?;
-    let _sum = four(rt, &shards, first, second, third, fourth);
+    let _sum = four(rt, &shards, first, second, third, fourth)?;
     Ok(start.elapsed(rt)?.as_nanos())
 }
 
@@ -117,7 +118,7 @@ fn timed_one<B: Naming, R: Clock + Wait>(
     let (shards, mut dealer) = opened.share::<B>(alloc)?;
     let task = task_of(alloc, &shards, &mut dealer, 0, 0)?;
     let start = Instant::now(rt)?;
-    let _sum = work(rt, &shards, task);
+    let _sum = work(rt, &shards, task)?;
     Ok(start.elapsed(rt)?.as_nanos())
 }
 

@@ -1,15 +1,15 @@
 -- The commands of the program and their words, as the parser of command lines sees them.
-use Rattle.std.specs.Prelude.{ℕ, List, [], ◌∷◌, Some, true, codes}
+use Rattle.std.specs.Prelude.{ℕ, [], ◌∷◌, Some, true, codes}
 use Rattle.clap.specs.Walk.{Rule, Text}
 use Rattle.clap.specs.Simple.{App, new_app, new_rule, on_top, with_rule, with_subcommand}
 use Rattle.clap.specs.declared.builder.action.ArgAction.TheVariants.{Append, Set, SetTrue}
 use Rattle.clap.specs.declared.builder.value_parser.ValueParser.TheVariants.{Unsigned}
 
 -- a file, or another word, that has to be given
-abbrev pub file_rule : Text → Rule
-file_rule id = record (new_rule id) { required = true; action = Some Set }
+abbrev pub argument_rule : Text → Rule
+argument_rule id = record (new_rule id) { required = true; action = Some Set }
 
--- an option `--id FILE`, which may be missing
+-- an option `--id WORD`, which may be missing
 abbrev pub option_rule : Text → Rule
 option_rule id = record (new_rule id) { long = Some id; action = Some Set; value_names = 1 }
 
@@ -17,7 +17,7 @@ option_rule id = record (new_rule id) { long = Some id; action = Some Set; value
 abbrev pub three_words_rule : Text → Rule
 three_words_rule id = record (new_rule id) { long = Some id; action = Some Append; value_names = 3 }
 
--- an option `--id N`, a number of at most `most`, which is the default where it is not given
+-- an option `--id N`, a number of at most `most`; `default` if it is not given
 abbrev pub number_rule : Text → ℕ → Text → Rule
 number_rule id most default = record (new_rule id) {
   long = Some id;
@@ -27,19 +27,23 @@ number_rule id most default = record (new_rule id) {
   defaults = default ∷ [];
 }
 
+-- a number of 32 bits
+abbrev pub count_rule : Text → Text → Rule
+count_rule id default = number_rule id 4294967295 default
+
 -- a switch `--id`, which may be missing
 abbrev pub switch_rule : Text → Rule
 switch_rule id = record (new_rule id) { long = Some id; action = Some SetTrue }
 
 abbrev pub check_command : App
-check_command = with_rule (with_rule (new_app (codes "check")) (file_rule (codes "IMAGE"))) (switch_rule (codes "explain"))
+check_command = with_rule (with_rule (new_app (codes "check")) (argument_rule (codes "IMAGE"))) (switch_rule (codes "explain"))
 
 -- a run: its image, its frame, the file of the journals, and updates
 abbrev pub run_named : App
 run_named =
     with_rule
     (with_rule
-    (with_rule (with_rule (new_app (codes "run")) (file_rule (codes "IMAGE"))) (file_rule (codes "FRAME")))
+    (with_rule (with_rule (new_app (codes "run")) (argument_rule (codes "IMAGE"))) (argument_rule (codes "FRAME")))
     (option_rule (codes "journals")))
     (three_words_rule (codes "update"))
 
@@ -48,42 +52,44 @@ abbrev pub run_command : App
 run_command =
     with_rule
     (with_rule run_named (number_rule (codes "now") 18446744073709551615 (codes "0")))
-    (number_rule (codes "worker") 4294967295 (codes "0"))
+    (count_rule (codes "worker") (codes "0"))
 
 abbrev pub disasm_command : App
-disasm_command = with_rule (with_rule (new_app (codes "disasm")) (file_rule (codes "IMAGE"))) (switch_rule (codes "source"))
+disasm_command = with_rule (with_rule (new_app (codes "disasm")) (argument_rule (codes "IMAGE"))) (switch_rule (codes "source"))
 
 abbrev pub asm_command : App
 asm_command =
     with_rule
-    (with_rule (with_rule (new_app (codes "asm")) (file_rule (codes "TEXT"))) (file_rule (codes "OUT")))
+    (with_rule (with_rule (new_app (codes "asm")) (argument_rule (codes "TEXT"))) (argument_rule (codes "OUT")))
     (switch_rule (codes "source"))
 
 -- a command of two files, or other words, that have to be given
-abbrev pub two_files : List ℕ → List ℕ → List ℕ → App
-two_files name first second = with_rule (with_rule (new_app name) (file_rule first)) (file_rule second)
+abbrev pub two_files : Text → Text → Text → App
+two_files name first second = with_rule (with_rule (new_app name) (argument_rule first)) (argument_rule second)
 
 abbrev pub audit_command : App
 audit_command = two_files (codes "audit") (codes "IMAGE") (codes "JOURNALS")
 
 abbrev pub explain_command : App
-explain_command = with_rule (new_app (codes "explain")) (file_rule (codes "FAULT"))
+explain_command = with_rule (new_app (codes "explain")) (argument_rule (codes "FAULT"))
 
 abbrev pub shipped_command : App
 shipped_command =
     with_rule
     (with_rule
-    (with_rule (new_app (codes "shipped")) (file_rule (codes "OUT")))
-    (number_rule (codes "ring") 4294967295 (codes "251")))
-    (number_rule (codes "flows") 4294967295 (codes "4096"))
+    (with_rule (new_app (codes "shipped")) (argument_rule (codes "OUT")))
+    (count_rule (codes "ring") (codes "251")))
+    (count_rule (codes "flows") (codes "4096"))
 
 abbrev pub table_command : App
 table_command =
     with_rule
-    (with_rule (new_app (codes "table")) (file_rule (codes "SCRIPT")))
-    (number_rule (codes "ring") 4294967295 (codes "251"))
+    (with_rule (new_app (codes "table")) (argument_rule (codes "SCRIPT")))
+    (count_rule (codes "ring") (codes "251"))
 
--- a replay: its capture, and the file of what is sent
+-- ---- a replay, whose words are added in steps, by what they are about
+
+-- its capture, and the file of what is sent
 abbrev pub replay_named : App
 replay_named = two_files (codes "replay") (codes "CAPTURE") (codes "SENT")
 
@@ -105,16 +111,16 @@ abbrev pub replay_opened : App
 replay_opened =
     with_rule
     (with_rule
-    (with_rule replay_reported (number_rule (codes "workers") 4294967295 (codes "1")))
-    (number_rule (codes "shards") 4294967295 (codes "1")))
-    (number_rule (codes "journal") 4294967295 (codes "65536"))
+    (with_rule replay_reported (count_rule (codes "workers") (codes "1")))
+    (count_rule (codes "shards") (codes "1")))
+    (count_rule (codes "journal") (codes "65536"))
 
 -- and the sizes of the lookup table and the flow table
 abbrev pub replay_sized : App
 replay_sized =
     with_rule
-    (with_rule replay_opened (number_rule (codes "ring") 4294967295 (codes "251")))
-    (number_rule (codes "flows") 4294967295 (codes "4096"))
+    (with_rule replay_opened (count_rule (codes "ring") (codes "251")))
+    (count_rule (codes "flows") (codes "4096"))
 
 -- and whether commands take effect at exact moments, and whether a summary is printed
 abbrev pub replay_noted : App
@@ -145,7 +151,7 @@ abbrev pub compare_command : App
 compare_command = two_files (codes "compare") (codes "FIRST") (codes "SECOND")
 
 -- a command that reads the report of a replay, and its script
-abbrev pub looking_back : List ℕ → App
+abbrev pub looking_back : Text → App
 looking_back name = two_files name (codes "REPORT") (codes "SCRIPT")
 
 -- the name, with `--version`; a command has to be given, and `help` describes the commands

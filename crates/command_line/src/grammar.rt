@@ -142,7 +142,7 @@ output; what the command prints goes to the standard error then.";
 
 /// A file, or another word, that has to be given.
 fn file<'a>(alloc: Global, id: &'a str, help: &'a str) -> Arg<'a>
-    ensures rule { rule_of result ≡ line.file_rule id.entry.now }
+    ensures rule { rule_of result ≡ line.argument_rule id.entry.now }
     ensures local { result.global ≡ false }
 {
     Arg::new(alloc, id)
@@ -352,7 +352,7 @@ fn explain<'a>(alloc: Global) -> Result<Command<'a>, AllocError>
 
 /// A number of 32 bits that may be given.
 fn count<'a>(alloc: Global, id: &'a str, default: &'a str, help: &'a str) -> Arg<'a>
-    ensures rule { rule_of result ≡ line.number_rule id.entry.now 4294967295 default.entry.now }
+    ensures rule { rule_of result ≡ line.count_rule id.entry.now default.entry.now }
     ensures local { result.global ≡ false }
 {
     number(alloc, id, u32::MAX as u64, default, help)
@@ -360,7 +360,7 @@ fn count<'a>(alloc: Global, id: &'a str, default: &'a str, help: &'a str) -> Arg
 
 /// The size of the shipped program's ring.
 fn ring<'a>(alloc: Global) -> Arg<'a>
-    ensures rule { rule_of result ≡ line.number_rule (codes "ring") 4294967295 (codes "251") }
+    ensures rule { rule_of result ≡ line.count_rule (codes "ring") (codes "251") }
     ensures local { result.global ≡ false }
 {
     count(
@@ -373,7 +373,7 @@ fn ring<'a>(alloc: Global) -> Arg<'a>
 
 /// The size of the shipped program's flow table.
 fn flow_notes<'a>(alloc: Global) -> Arg<'a>
-    ensures rule { rule_of result ≡ line.number_rule (codes "flows") 4294967295 (codes "4096") }
+    ensures rule { rule_of result ≡ line.count_rule (codes "flows") (codes "4096") }
     ensures local { result.global ≡ false }
 {
     count(
@@ -415,7 +415,8 @@ fn table<'a>(alloc: Global) -> Result<Command<'a>, AllocError>
     .arg(ring(alloc))
 }
 
-/// The words of a replay that name a capture and the file of what is sent.
+/// The words of a replay that name a capture and the file of what is sent. Its other words are added in steps, two to four in each: a new one
+/// goes into the step of its kind, and into the definition of the same name in specs/CommandLine.
 fn replay_named<'a>(alloc: Global) -> Result<Command<'a>, AllocError>
     ensures app { IfOk result (λ command. app_of command ≡ line.replay_named) }
     ensures local { IfOk result (λ command. (out-Command command).has_globals ≡ false) }

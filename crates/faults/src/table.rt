@@ -1,4 +1,5 @@
-//! The rows of the table, section by section.
+//! The rows of the table of faults, a match a section: a large constant that is cited by reference stops the prover
+//! (docs/PROOF_FORMS.md). The last row of a section is its `_` arm.
 
 ghost use Rattle.std.specs.Prelude.{◌≤◌};
 ghost use Rattle.faults.specs.FaultTable.{IsRowOf};
@@ -17,7 +18,7 @@ pub(crate) fn frames(number: u8) -> Explanation
             number: 1,
             name: "BadMagic",
             fields: FieldNames::Empty,
-            meaning: "A capture file does not begin with the number a1b2c3d4, low byte first.",
+            meaning: "The capture file does not begin with the magic number a1b2c3d4 in little-endian order.",
             causes: "The file is no classic pcap file: it is pcapng, big-endian, has times in nanoseconds, or is another kind of file.",
             example: "A file that begins with `0a 0d 0d 0a` is pcapng; `editcap -F pcap` turns it into a classic one.",
         },
@@ -25,7 +26,7 @@ pub(crate) fn frames(number: u8) -> Explanation
             number: 2,
             name: "BadVersion",
             fields: FieldNames::Empty,
-            meaning: "A capture file has another version than 2.4.",
+            meaning: "The capture file's version is not 2.4.",
             causes: "It was written by a very old or a faulty tool.",
             example: "Bytes 4 to 7 have to be `02 00 04 00`.",
         },
@@ -58,7 +59,8 @@ pub(crate) fn frames(number: u8) -> Explanation
             name: "FrameTooLong",
             fields: FieldNames::One("record"),
             meaning: "A frame has more than 2048 bytes.",
-            causes: "The capture has frames that a network card joined, or the named file is no frame: a frame's file holds its bytes, no hexadecimal digits.",
+            causes: "The capture has frames that a network card merged, or the file is not a frame: it must hold the bytes themselves, not \
+                hexadecimal digits.",
             example: "Captures taken with receive offload on have such frames.",
         },
         7 => Explanation {
@@ -73,7 +75,7 @@ pub(crate) fn frames(number: u8) -> Explanation
             number: 8,
             name: "Memory",
             fields: FieldNames::Empty,
-            meaning: "Memory was refused while a file was read or an answer made.",
+            meaning: "Out of memory while reading a file or making the output.",
             causes: "The file is larger than the memory that is free.",
             example: "A limit set by `ulimit -v` is too low for the file.",
         },
@@ -101,8 +103,8 @@ pub(crate) fn images(number: u8) -> Explanation
             name: "BadHead",
             fields: FieldNames::Empty,
             meaning: "The bytes do not begin as an image does.",
-            causes: "The file is no image (a text or a frame was named in its place), it has another version than 1 and 2, more than 16 maps, or its list of \
-                maps is cut.",
+            causes: "The file is not an image (perhaps a text or a frame), its version is not 1 or 2, it has more than 16 maps, or its list of \
+                maps is cut off.",
             example: "`xlb check first_run.txt`: a text has to go through `xlb asm` first.",
         },
         11 => Explanation {
@@ -110,8 +112,8 @@ pub(crate) fn images(number: u8) -> Explanation
             name: "BadMap",
             fields: FieldNames::One("map"),
             meaning: "A map's definition is outside its limits.",
-            causes: "The type is not array, hash or lru; the key has not 1 to 32 bytes (an array's 4); the value has not 8, 16, .. 64 bytes (to 256 in \
-                version 2); there are not 1 to 131,072 entries.",
+            causes: "The type is not array, hash or lru; the key size is not 1 to 32 bytes (array: 4); the value size is not 8, 16, .. 64 bytes \
+                (version 2: up to 256); the number of entries is not 1 to 131,072.",
             example: "`map array 8 8 1`: the key of an array has 4 bytes.",
         },
         12 => Explanation {
@@ -126,7 +128,7 @@ pub(crate) fn images(number: u8) -> Explanation
             number: 13,
             name: "NotWhole",
             fields: FieldNames::Empty,
-            meaning: "The bytes after the maps are no multiple of 8.",
+            meaning: "The number of bytes after the maps is not a multiple of 8.",
             causes: "The file is cut within a slot.",
             example: "An image without its last byte.",
         },
@@ -142,15 +144,15 @@ pub(crate) fn images(number: u8) -> Explanation
             number: 15,
             name: "UnknownOpcode",
             fields: FieldNames::One("slot"),
-            meaning: "An instruction is none of the instruction table.",
-            causes: "Bytes that are no program, or an instruction of another instruction set version.",
+            meaning: "The instruction is not in the instruction table.",
+            causes: "The bytes are not a program, or the instruction is from another version of the instruction set.",
             example: "`37 00 02 00 01 00 00 00`: a division has offset 0, or 1 where it is signed.",
         },
         16 => Explanation {
             number: 16,
             name: "NotInProfile",
             fields: FieldNames::One("slot"),
-            meaning: "The instruction is one of RFC 9669 that images of this version may not have.",
+            meaning: "The instruction is in RFC 9669, but images of this version may not use it.",
             causes: "The program uses legacy packet loads, calls between functions, or `ldval` in an image of version 1.",
             example: "`ldval r1, 0, 0` below `version 1`; write `version 2`.",
         },
@@ -182,7 +184,7 @@ pub(crate) fn images(number: u8) -> Explanation
             number: 20,
             name: "Memory",
             fields: FieldNames::Empty,
-            meaning: "Memory was refused while an image was decoded.",
+            meaning: "Out of memory while decoding an image.",
             causes: "Too little memory is free.",
             example: "A limit set by `ulimit -v` is too low.",
         },
@@ -201,8 +203,9 @@ pub(crate) fn texts(number: u8) -> Explanation
             number: 21,
             name: "BadLine",
             fields: FieldNames::One("line"),
-            meaning: "A line of a text is not in its one spelling.",
-            causes: "A misspelt instruction, a comment or an empty line, a number with a leading zero or outside its field, an offset without its sign, two \
+            meaning: "A line of the text is not in canonical form.",
+            causes: "A misspelt instruction, a comment or an empty line, a number with a leading zero or outside its field, an offset without its \
+                sign, two \
                 spaces, or a last line without its line feed.",
             example: "`mov r0, 02` has to be `mov r0, 2`, and `ldxw r1, [r2]` has to be `ldxw r1, [r2+0]`.",
         },
@@ -211,7 +214,8 @@ pub(crate) fn texts(number: u8) -> Explanation
             name: "Image",
             fields: FieldNames::One("decode"),
             meaning: "The lines are right, but the image that they spell is refused.",
-            causes: "The number after `decode` is the fault of that image: 10 for more than 16 maps, 11 for a map, 12 for no instruction, 14 for too many, 16 \
+            causes: "The number after `decode` is the fault of that image: 10 for more than 16 maps, 11 for a map, 12 for no instruction, 14 for \
+                too many, 16 \
                 for one of another version.",
             example: "`map array 4 8 0`, which has no entries: decode 11.",
         },
@@ -219,7 +223,7 @@ pub(crate) fn texts(number: u8) -> Explanation
             number: 23,
             name: "Memory",
             fields: FieldNames::Empty,
-            meaning: "Memory was refused while a text was read.",
+            meaning: "Out of memory while reading a text.",
             causes: "Too little memory is free.",
             example: "A limit set by `ulimit -v` is too low.",
         },
@@ -290,7 +294,8 @@ pub(crate) fn kinds(number: u8) -> Explanation
             name: "UnsetRegister",
             fields: FieldNames::Two("slot", "register"),
             meaning: "An instruction reads a register that is not written on every path that leads there.",
-            causes: "The register was never written; or only on one side of a test; or a call came between, after which r1 to r5 are unset; or helper 44 \
+            causes: "The register was never written; or only on one side of a test; or a call came between, after which r1 to r5 are unset; or \
+                helper 44 \
                 moved the packet's start, after which packet pointers are; or two paths bring it with kinds that do not agree.",
             example: "`exit` alone: r0 has to be written first.",
         },
@@ -299,7 +304,7 @@ pub(crate) fn kinds(number: u8) -> Explanation
             name: "WrongKind",
             fields: FieldNames::Two("slot", "register"),
             meaning: "An instruction uses a register of a kind that it cannot take.",
-            causes: "A lookup's answer is used before it was tested against 0; two pointers are added; a number is used as an address; a pointer is \
+            causes: "A lookup's result is used before it is compared with 0; two pointers are added; a number is used as an address; a pointer is \
                 multiplied or compared with a number.",
             example: "`ldxdw r3, [r0+0]` after a lookup: put `jeq r0, 0, +1` before it.",
         },
@@ -308,7 +313,8 @@ pub(crate) fn kinds(number: u8) -> Explanation
             name: "PacketBounds",
             fields: FieldNames::One("slot"),
             meaning: "Bytes of the packet are read or written that no test has shown to be there.",
-            causes: "The end of the access was not compared with the packet's end (r1+4) on the path that leads here, the test shows fewer bytes, or an \
+            causes: "The end of the access was not compared with the packet's end (r1+4) on the path that leads here, the test shows fewer bytes, \
+                or an \
                 offset may go above 65535.",
             example: "`mov r4, r2`, `add r4, 14`, `jgt r4, r3, +n` shows that 14 bytes are there: those at [r2+0] to [r2+13].",
         },
@@ -340,8 +346,8 @@ pub(crate) fn kinds(number: u8) -> Explanation
             number: 41,
             name: "Misaligned",
             fields: FieldNames::One("slot"),
-            meaning: "An access is at no multiple of its size.",
-            causes: "The stack or a value is read or written at no multiple of the access's size; an atomic operation of a value always has to be aligned.",
+            meaning: "An access is not aligned to its size.",
+            causes: "Accesses to the stack and to values, and all atomic operations, must be at a multiple of their size.",
             example: "`stw [r10-6], 0`: 4 bytes may stand at -4 or -8.",
         },
         42 => Explanation {
@@ -349,7 +355,8 @@ pub(crate) fn kinds(number: u8) -> Explanation
             name: "ContextAccess",
             fields: FieldNames::One("slot"),
             meaning: "There is no such field of the context, or it is not read with this size, or it is written.",
-            causes: "The context in r1 has words of four bytes at 0 (packet), 4 (its end), 12 (interface) and 16 (receive queue), which can only be read.",
+            causes: "The context in r1 has words of four bytes at 0 (packet), 4 (its end), 12 (interface) and 16 (receive queue), which can only \
+                be read.",
             example: "`ldxdw r2, [r1+0]`: write `ldxw`.",
         },
         43 => Explanation {
@@ -373,8 +380,8 @@ pub(crate) fn kinds(number: u8) -> Explanation
             name: "BadArgument",
             fields: FieldNames::Two("slot", "register"),
             meaning: "An argument of a call is of the wrong kind.",
-            causes: "r1 is no map (or for helper 44 not the context), r2 or r3 does not point to the stack, or what has to be a number is none (r4 \
-                of helper 2, r2 of helper 44).",
+            causes: "r1 is not a map (helper 44: not the context), r2 or r3 does not point to the stack, or an argument that must be a number is \
+                not (r4 of helper 2, r2 of helper 44).",
             example: "A key that lies in the packet: copy it to the stack first.",
         },
         46 => Explanation {
@@ -397,7 +404,7 @@ pub(crate) fn kinds(number: u8) -> Explanation
             number: 48,
             name: "Memory",
             fields: FieldNames::Empty,
-            meaning: "Memory was refused while a program was verified.",
+            meaning: "Out of memory while verifying a program.",
             causes: "Too little memory is free.",
             example: "A limit set by `ulimit -v` is too low.",
         },
@@ -405,7 +412,7 @@ pub(crate) fn kinds(number: u8) -> Explanation
             number: 49,
             name: "NotArrayMap",
             fields: FieldNames::One("slot"),
-            meaning: "An address in a value is taken of a map that is no array.",
+            meaning: "`ldval` names a map that is not an array.",
             causes: "`ldval` gives an address in element 0 of an array, which is always there; a hash map's value has to be looked up.",
             example: "`ldval r1, 0, 0` where map 0 is `hash`.",
         },
@@ -424,7 +431,7 @@ pub(crate) fn shards(number: u8) -> Explanation
             number: 50,
             name: "JournalFull",
             fields: FieldNames::One("shard"),
-            meaning: "A shard's journal has no room for a call; for each run inside a place is kept for its leave.",
+            meaning: "A shard's journal has no room for the call; one entry is reserved for the Leave of each run that is inside.",
             causes: "The journal was opened too small for the calls that are made: open it larger (--journal), open more shards (--shards), over \
                 which the keys of hash maps are spread, or replay without rows (--no-journals).",
             example: "A journal of 16 entries and a run that makes twenty lookups.",
@@ -434,7 +441,8 @@ pub(crate) fn shards(number: u8) -> Explanation
             name: "BadOptions",
             fields: FieldNames::Empty,
             meaning: "Shards cannot be opened with these options, or there is no such worker.",
-            causes: "`--workers` is 1 to 8; `--shards`, of each map, is 1, 2, 4 or 8, and each map's entries are a multiple of it; `--journal`, the entries \
+            causes: "`--workers` is 1 to 8; `--shards`, of each map, is 1, 2, 4 or 8, and each map's entries are a multiple of it; `--journal`, \
+                the entries \
                 of each shard, is 16 to 1,048,576; `--worker`, whose run it is, counts from 0; a script with commands wants the maps of steering.",
             example: "`xlb run IMAGE FRAME --worker 8`.",
         },
@@ -442,7 +450,7 @@ pub(crate) fn shards(number: u8) -> Explanation
             number: 52,
             name: "Memory",
             fields: FieldNames::Empty,
-            meaning: "Memory was refused for shards, journals, or an audit.",
+            meaning: "Out of memory for shards, journals or an audit.",
             causes: "All memory of the shards is taken when they are opened.",
             example: "Many large maps, or a limit set by `ulimit -v`.",
         },
@@ -450,8 +458,9 @@ pub(crate) fn shards(number: u8) -> Explanation
             number: 53,
             name: "Illegal",
             fields: FieldNames::Two("shard", "place"),
-            meaning: "A journal has an entry that a map on one thread cannot give.",
-            causes: "The reply is not the one that follows from the entries before it, the caller may not make the call, or the journal was full. Places \
+            meaning: "A journal has an entry that a one-thread map would not make.",
+            causes: "The reply is not the one that follows from the entries before it, the caller may not make the call, or the journal was full. \
+                Places \
                 count from 0, so place 3 of shard 0 is the fourth line of that shard.",
             example: "`word 1` where the element held 2.",
         },
@@ -459,7 +468,7 @@ pub(crate) fn shards(number: u8) -> Explanation
             number: 54,
             name: "PassTaken",
             fields: FieldNames::Empty,
-            meaning: "A caller's pass was given before.",
+            meaning: "The caller's pass was handed out already.",
             causes: "Each worker, the controller and the reclaimer get theirs once.",
             example: "Asking twice for the pass of worker 0.",
         },
@@ -467,9 +476,9 @@ pub(crate) fn shards(number: u8) -> Explanation
             number: 55,
             name: "BadJournalFile",
             fields: FieldNames::One("line"),
-            meaning: "A line of a file of journals is none that can stand there.",
-            causes: "A header with options that do not fit the image's maps, a misspelt line, a key or a value of another length than its map's, a shard \
-                before that of the line above, or a last line without its line feed.",
+            meaning: "A line of the journals file is not valid where it stands.",
+            causes: "A header with options that do not fit the image's maps, a misspelt line, a key or a value of another length than its map's, a \
+                shard number below that of the line above, or a last line without its line feed.",
             example: "`XLBJ 1 9 1 16`: there are at most 8 workers.",
         },
         _ => Explanation {
@@ -495,7 +504,7 @@ pub(crate) fn rings(number: u8) -> Explanation
             number: 70,
             name: "NoBackend",
             fields: FieldNames::Empty,
-            meaning: "A ring cannot be made of no backends.",
+            meaning: "A lookup table needs at least one backend.",
             causes: "All backends are down.",
             example: "An empty list.",
         },
@@ -503,7 +512,7 @@ pub(crate) fn rings(number: u8) -> Explanation
             number: 71,
             name: "Twice",
             fields: FieldNames::Empty,
-            meaning: "Two backends of a ring have one number or one address.",
+            meaning: "Two backends have the same number or the same address.",
             causes: "A backend was entered twice.",
             example: "Numbers 0 and 1 with the address 192.0.2.1 both.",
         },
@@ -511,7 +520,7 @@ pub(crate) fn rings(number: u8) -> Explanation
             number: 72,
             name: "TooMany",
             fields: FieldNames::Empty,
-            meaning: "A ring has more backends than it may.",
+            meaning: "There are too many backends for the lookup table.",
             causes: "There are more than 256, or more than the ring has slots.",
             example: "Eight backends for a ring of 7 slots.",
         },
@@ -519,15 +528,15 @@ pub(crate) fn rings(number: u8) -> Explanation
             number: 73,
             name: "BadSize",
             fields: FieldNames::Empty,
-            meaning: "A lookup table or a flow table has another size than it may.",
-            causes: "A lookup table has 7, 251, 4093 or 65537 slots, a flow table 4096, 8192, 16384, 32768, 65536 or 131072 notes.",
+            meaning: "A lookup table or a flow table has an unsupported size.",
+            causes: "A lookup table has 7, 251, 4093 or 65537 slots, a flow table 4096, 8192, 16384, 32768, 65536 or 131072 entries.",
             example: "A lookup table of 256 slots.",
         },
         _ => Explanation {
             number: 74,
             name: "Memory",
             fields: FieldNames::Empty,
-            meaning: "Memory was refused for a ring or an image.",
+            meaning: "Out of memory for a lookup table or an image.",
             causes: "Too little memory is free.",
             example: "A limit set by `ulimit -v` is too low.",
         },
@@ -589,8 +598,9 @@ pub(crate) fn scripts(number: u8) -> Explanation
             number: 90,
             name: "BadLine",
             fields: FieldNames::One("line"),
-            meaning: "A line of a script is no command in its one spelling.",
-            causes: "A misspelt command, capitals, a number with a leading zero or too large, a frame number below that of the line above, two spaces, a space \
+            meaning: "A line of the script is not a command in canonical form.",
+            causes: "A misspelt command, capitals, a number with a leading zero or too large, a frame number below that of the line above, two \
+                spaces, a space \
                 or a carriage return at the line's end, or a last line without its line feed.",
             example: "`0 up 0 192.0.2.01`.",
         },
@@ -624,14 +634,14 @@ pub(crate) fn scripts(number: u8) -> Explanation
             name: "JournalFull",
             fields: FieldNames::Empty,
             meaning: "A journal was full when the controller changed maps.",
-            causes: "The journal was opened too small (`--journal`, `--no-journals`); every later command is refused alike.",
+            causes: "The journal was opened too small (`--journal`, `--no-journals`); every later command is refused too.",
             example: "A journal of 16 entries and a ring of 251 slots.",
         },
         _ => Explanation {
             number: 95,
             name: "Memory",
             fields: FieldNames::Empty,
-            meaning: "Memory was refused for a script, or for a command of it.",
+            meaning: "Out of memory for a script or one of its commands.",
             causes: "Too little memory is free.",
             example: "A limit set by `ulimit -v` is too low.",
         },
@@ -647,7 +657,7 @@ pub(crate) fn stopped() -> Explanation
         number: 60,
         name: "JournalFull",
         fields: FieldNames::One("shard"),
-        meaning: "A run was stopped, since a shard's journal has no room for its next call.",
+        meaning: "A run was stopped because a shard's journal has no room for its next call.",
         causes: "The journal was opened too small for the calls of all runs together: open it larger (--journal), open more shards (--shards), \
             over which the keys of hash maps are spread, or replay without rows (--no-journals).",
         example: "A program of more lookups than the journal has entries.",

@@ -154,6 +154,29 @@ impl CaptureReader {
         }
     }
 
+    /// Goes past all records that are left.
+    ///
+    /// Refused as `find` refuses the first of them that is no record, or that cannot be read.
+    pub fn pass_rest<D: Folder>(&mut self, folder: &mut D) -> Result<(), CaptureFault>
+        requires failures { D.failure_count folder.old < 2 ^ 64 - 1 }
+        requires room { 16 * self.old.count + length self.old.unread + D.most_left folder.old ≤ 2 ^ 40 }
+        ensures whole { OnOk result ((records : List Record) × ReadsToEnd D.holds (D.is_left folder.old) self.old records self.new.cut
+            × (self.new.count ≡ self.old.count + length records)) }
+        ensures fault { IfErr result (λ fault. fault ≡ CaptureFault.Device ⊎ RefusesNext D.holds (D.is_left folder.old) self.old fault) }
+        ensures kept { (other held : List ℕ) → (D.holds folder.old other held ↔ D.holds folder.new other held) }
+        ensures begun_kept { (other held : List ℕ) → (D.is_begun folder.old other held ↔ D.is_begun folder.new other held) }
+        ensures device { IsErrOf result CaptureFault.Device ↔ (D.failure_count folder.new ≡ D.failure_count folder.old + 1) }
+        ensures steady { IsErrOf result CaptureFault.Device ⊎ (D.failure_count folder.new ≡ D.failure_count folder.old) }
+    {
+        'records: loop {
+            match self.find(folder) {
+                Ok(Some(head)) => self.pass(head),
+                Ok(None) => return Ok(()),
+                Err(fault) => return Err(fault),
+            }
+        }
+    }
+
     /// Goes past the record at the front, and adds it to those of a buffer. It fails only for lack of memory; then nothing is changed.
     pub fn keep(
         &mut self,

@@ -8,6 +8,7 @@ use std::io;
 pub(crate) enum Step {
     Opening,
     Reading,
+    Copying,
     Making,
     Writing,
 }
@@ -38,13 +39,25 @@ impl Step {
         match self {
             Step::Opening => "open",
             Step::Reading => "read",
+            Step::Copying => "copy",
             Step::Making => "make",
             Step::Writing => "write",
         }
     }
 }
 
+impl From<Failure> for Trouble {
+    fn from(failure: Failure) -> Trouble {
+        Trouble::Device(failure)
+    }
+}
+
 /// A call that failed at this step.
+pub(crate) fn at_step(step: Step, error: io::Error) -> Failure {
+    Failure { step, error }
+}
+
+/// The same, in place of a file.
 pub(crate) fn failed(step: Step, error: io::Error) -> Trouble {
-    Trouble::Device(Failure { step, error })
+    Trouble::Device(at_step(step, error))
 }

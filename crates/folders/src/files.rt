@@ -3,14 +3,15 @@
 ghost use Rattle.std.specs.Prelude.{◌≡◌, ◌+◌, ◌-◌, ◌<◌, ◌≤◌, ◌^◌, IfOk, IfSome, OnOk, length};
 ghost use Rattle.folders.specs.Fronts.{IsShortFront};
 
+use crate::copies::{Copied, ENDLESS, copy_stream, unnamed};
 use crate::failure::{Failure, Step, Trouble, failed};
 use crate::folder::{Folder, FolderFault, Front};
 use crate::links::is_one_file;
-use crate::making::{Making, begun, is_in_the_way, make, not_begun, put_all};
+use crate::making::{Making, begun, begun_apart, is_in_the_way, make, not_begun, put_all};
 use std::alloc::{Alloc, AllocError, Global};
 use std::fs::{File, OpenFile};
 use std::io::{ErrorKind, Read, Write};
-use std::rt::Files;
+use std::rt::{Env, Files};
 use std::{fs, io};
 use wire::MOST_GIVEN;
 
@@ -21,8 +22,8 @@ const MOST_OF_STREAM: u64 = 1 << 30;
 /// read no further has whole slots.
 const MORE: u64 = 8;
 
-/// Why no more is read of these, and what to do.
-const ENDLESS: &str = "it gave more than 1073741824 bytes: save it as a file, and name that";
+/// How many bytes are asked of the system at a time, of a file that is read whole.
+const AT_A_TIME: usize = 1 << 16;
 
 /// Why no more is read of a file in pieces.
 const TOO_LONG: &str = "it has more than 1099511627776 bytes";
@@ -53,6 +54,8 @@ pub struct FileFolder<'a, R: Files, I, O> {
     output: O,
     /// The device or the pipe whose front was read last, if it has more.
     stream: Option<Stream<R::File>>,
+    /// The copy of the device, the pipe or the standard input that was opened last, to be read in pieces.
+    copied: Option<Copied>,
     /// The file that is read in pieces.
     reading: Option<R::File>,
     /// How many bytes were read of it.
@@ -75,6 +78,7 @@ impl<'a, R: Files, I, O> FileFolder<'a, R, I, O> {
             input,
             output,
             stream: None,
+            copied: None,
             reading: None,
             given: 0,
             making: Vec::new(alloc),
@@ -95,7 +99,7 @@ fn read_on<S: Read>(
     requires few { (length bytes.old.items ≤ most) × (length bytes.old.items ≤ limit) }
     ensures { OnOk result ((length bytes.new.items ≤ most) × (length bytes.new.items ≤ limit)) }
 {
-    let mut buffer = [0; 4096];
+    let mut buffer = [0; AT_A_TIME];
     'reading: loop {
         let length = bytes.len() as u64;
         let room = most - bytes.len();
@@ -176,7 +180,7 @@ fn size_of<F: OpenFile>(file: &F) -> Option<u64> {
     }
 }
 
-impl<R: Files<File = File> + Alloc, I: Read, O: Write> FileFolder<'_, R, I, O> {
+impl<R: Files<File = File> + Env + Alloc, I: Read, O: Write> FileFolder<'_, R, I, O> {
     /// Reads on a device or a pipe, which is the standard input where there is no file.
     fn read_stream(
         &mut self,
@@ -220,11 +224,16 @@ impl<R: Files<File = File> + Alloc, I: Read, O: Write> FileFolder<'_, R, I, O> {
         })
     }
 
-    /// The first bytes of a file, or of the standard input, whose length the system does not know.
+    /// The first bytes of a file, or of the standard input, whose length the system does not know. Of what was copied they are those of the
+    /// copy.
     fn front(&mut self, alloc: Global, name: &str, most: usize) -> Result<Front, Trouble>
         ensures front { IfOk result (IsShortFront most) }
         ensures steady { self.new.failures ≡ self.old.failures }
     {
+        if let Some(mut copy) = self.kept_copy(name)? {
+            let size = size_of(&copy).unwrap_or(0);
+            return front_of_file(alloc, &mut copy, most, size);
+        }
         if name == STANDARD_INPUT {
             return self.front_of_stream(alloc, name, most, None);
         }
@@ -257,8 +266,74 @@ impl<R: Files<File = File> + Alloc, I: Read, O: Write> FileFolder<'_, R, I, O> {
         Ok(self.front(alloc, name, usize::MAX)?.bytes)
     }
 
-    /// A file that can be read in pieces; none where it can only be read whole. A device or a pipe is not opened: what was read of it is
-    /// lost when it is closed.
+    /// The copy that was made of what has this name, to be read from its beginning; none where it was not opened last.
+    fn kept_copy(&mut self, name: &str) -> Result<Option<File>, Failure>
+        ensures steady { self.new.failures ≡ self.old.failures }
+        ensures given { self.new.given ≡ self.old.given }
+    {
+        match &mut self.copied {
+            Some(copied) if copied.is_of(name) => Ok(Some(copied.again()?)),
+            _ => Ok(None),
+        }
+    }
+
+    /// Copies what a device, a pipe or the standard input gives.
+    fn copy_to(&mut self, name: &str, copy: &mut File) -> Result<(), Failure>
+        ensures steady { self.new.failures ≡ self.old.failures }
+        ensures given { self.new.given ≡ self.old.given }
+    {
+        if name == STANDARD_INPUT {
+            return copy_stream(&mut self.input, copy, MOST_OF_STREAM);
+        }
+        match fs::open(self.rt, name) {
+            Ok(mut stream) => copy_stream(&mut stream, copy, MOST_OF_STREAM),
+            Err(error) => Err(Failure {
+                step: Step::Opening,
+                error,
+            }),
+        }
+    }
+
+    /// Keeps a copy of what a device, a pipe or the standard input gives. None where none can be made; then nothing was read.
+    fn new_copy(&mut self, alloc: Global, name: &str) -> Result<Option<File>, Trouble>
+        ensures steady { self.new.failures ≡ self.old.failures }
+        ensures given { self.new.given ≡ self.old.given }
+    {
+        let Some(mut copy) = unnamed(self.rt)? else {
+            return Ok(None);
+        };
+        self.copy_to(name, &mut copy)?;
+        self.copied = Some(Copied::of(alloc, name, copy)?);
+        Ok(self.kept_copy(name)?)
+    }
+
+    /// Whether this is the device or the pipe whose front was read last.
+    fn is_fronted(&self, name: &str) -> bool {
+        match &self.stream {
+            Some(stream) => stream.name.as_str() == name,
+            None => false,
+        }
+    }
+
+    /// A file that can be read in pieces: of a device, a pipe or the standard input a copy. None where it can only be read whole.
+    fn opened(&mut self, alloc: Global, name: &str) -> Result<Option<File>, Trouble>
+        ensures steady { self.new.failures ≡ self.old.failures }
+        ensures given { self.new.given ≡ self.old.given }
+    {
+        if self.is_fronted(name) {
+            return Ok(None);
+        }
+        if let Some(copy) = self.kept_copy(name)? {
+            return Ok(Some(copy));
+        }
+        match self.ordinary(name)? {
+            Some(file) => Ok(Some(file)),
+            None => self.new_copy(alloc, name),
+        }
+    }
+
+    /// An ordinary file; none where it is a device, a pipe or the standard input. These are not opened: what was read of one is lost when it
+    /// is closed.
     fn ordinary(&self, name: &str) -> Result<Option<R::File>, Failure> {
         if name == STANDARD_INPUT {
             return Ok(None);
@@ -324,11 +399,16 @@ impl<R: Files<File = File> + Alloc, I: Read, O: Write> FileFolder<'_, R, I, O> {
         if let Some(making) = self.taken_out(name) {
             making.give_up(self.rt);
         }
-        if name == STANDARD_OUTPUT || self.has_beside(name) {
+        if self.has_beside(name) {
             return Ok(false);
         }
         self.making.reserve(1)?;
-        match begun(self.rt, alloc, name)? {
+        let making = if name == STANDARD_OUTPUT {
+            begun_apart(self.rt, alloc, name)?
+        } else {
+            begun(self.rt, alloc, name)?
+        };
+        match making {
             Some(making) => {
                 self.making.push_reserved(making);
                 Ok(true)
@@ -381,7 +461,7 @@ impl<R: Files, I, O> FileFolder<'_, R, I, O> {
     }
 }
 
-impl<R: Files<File = File> + Alloc, I: Read, O: Write> Folder for FileFolder<'_, R, I, O> {
+impl<R: Files<File = File> + Env + Alloc, I: Read, O: Write> Folder for FileFolder<'_, R, I, O> {
     ghost holds = { λ _ _ _. Unit {0} };
 
     ghost are_one = { λ _ _ _. Unit {0} };
@@ -420,15 +500,16 @@ impl<R: Files<File = File> + Alloc, I: Read, O: Write> Folder for FileFolder<'_,
         }
     }
 
-    fn open(&mut self, _alloc: Global, name: &str) -> Result<bool, FolderFault> {
+    fn open(&mut self, alloc: Global, name: &str) -> Result<bool, FolderFault> {
         self.reading = None;
         self.given = 0;
-        match self.ordinary(name) {
+        match self.opened(alloc, name) {
             Ok(file) => {
                 self.reading = file;
                 Ok(self.reading.is_some())
             }
-            Err(failure) => Err(self.fail(failure)),
+            Err(Trouble::Device(failure)) => Err(self.fail(failure)),
+            Err(Trouble::Memory) => Err(FolderFault::Memory),
         }
     }
 
@@ -456,6 +537,7 @@ impl<R: Files<File = File> + Alloc, I: Read, O: Write> Folder for FileFolder<'_,
 
     fn finish(&mut self, name: &str) -> Result<(), FolderFault> {
         let done = match self.taken_out(name) {
+            Some(making) if name == STANDARD_OUTPUT => making.write_to(&mut self.output),
             Some(making) => making.finish(self.rt),
             None => Err(not_begun()),
         };

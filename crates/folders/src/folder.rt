@@ -110,8 +110,9 @@ pub trait Folder {
         ensures device { IsErrOf result FolderFault.Device ↔ (failure_count self.new ≡ failure_count self.old + 1) }
         ensures no_device { IsErrOf result FolderFault.Memory → failure_count self.new ≡ failure_count self.old };
 
-    /// Begins to read a file in pieces, in place of one that was read so before. `false` where it can only be read whole: the standard
-    /// input, a pipe, a device. Then, and after a fault, nothing is left to read in pieces.
+    /// Begins to read a file in pieces, in place of one that was read so before. `false` where it can only be read whole, and then none of it
+    /// was read; where it can, `open`, `read` and `read_front` of the same name begin again at its beginning, if no other file is opened
+    /// before, also of the standard input, a pipe or a device. After `false` and after a fault nothing is left to read in pieces.
     fn open(&mut self, alloc: Global, name: &str) -> Result<bool, FolderFault>
         requires { failure_count self.old < 2 ^ 64 - 1 }
         ensures opened { IfOk result (λ in_pieces. IsTrue in_pieces → IsOpened (holds self.old name.now) (is_left self.new)) }
@@ -139,7 +140,7 @@ pub trait Folder {
         ensures counted { OnErr result (failure_count self.new ≡ failure_count self.old + 1) };
 
     /// Begins to make a file in pieces, in place of one that was begun under this name before, which is removed. `false` where it can only be
-    /// written whole: a device, a pipe, the standard output, and wherever the type needs to. Then, and after a fault, none is begun under it.
+    /// written whole. Then, and after a fault, none is begun under it.
     fn begin(&mut self, alloc: Global, name: &str) -> Result<bool, FolderFault>
         requires { failure_count self.old < 2 ^ 64 - 1 }
         ensures begun { IfOk result (λ in_pieces. IsTrue in_pieces → is_begun self.new name.now []) }

@@ -2,6 +2,7 @@
 #![tactic(auto)]
 
 mod capture_reader;
+mod copies;
 mod failure;
 mod files;
 mod folder;

@@ -3,16 +3,18 @@
 //! A file is made beside its name (`NAME.unfinished`) and then renamed, so a file of that name has all bytes. A command that is ended
 //! leaves the unfinished file; the next one that makes a file of this name removes it and makes its own, unless the other one still runs: a
 //! lock on the open file, which ends with its command, says so. An unfinished file that is not the command's own any more is neither renamed
-//! nor removed. Devices, pipes and the standard output alone are written in place.
+//! nor removed. Devices, pipes and the standard output alone are written in place; where they are given bytes in pieces, a copy without a
+//! name has these until all are there.
 
 ghost use Rattle.std.specs.Prelude.{◌≡◌};
 
+use crate::copies::{put_on_copy, unnamed, write_copy};
 use crate::failure::{Failure, Step, Trouble};
 use crate::links::{end_of, is_link, is_one_file, is_one_node, parts_of};
 use std::alloc::{Alloc, Global};
 use std::fs::{File, OpenOptions};
 use std::io::{ErrorKind, Write};
-use std::rt::Files;
+use std::rt::{Env, Files};
 use std::{fs, io};
 
 /// The longest name that the system takes.
@@ -294,13 +296,15 @@ pub(crate) fn is_in_the_way<R: Files + Alloc>(rt: &R, name: &str, made: &str) ->
     is_unfinished_of(rt, name, made)
 }
 
-/// A file that is made in pieces. Until it is finished it has a name of its own.
+/// A file that is made in pieces. Until it is finished it has a name of its own; what a device, a pipe or the standard output will be given
+/// has none.
 #[derive(Drop)]
 pub(crate) struct Making {
     file: File,
     /// The name under which it was begun, which may be a link's.
     under: String,
     name: String,
+    /// The name that it has until it is finished; empty where it has none.
     unfinished: String,
 }
 
@@ -332,14 +336,33 @@ fn begun_beside<R: Files<File = File>>(
     }
 }
 
-/// Begins a file beside its name, or beside the name that a link leads to; none where it is a device or a pipe, which is written in place.
-pub(crate) fn begun<R: Files<File = File> + Alloc>(
+/// Begins what a device, a pipe or the standard output will be given, in a file without a name; none where no such file can be made.
+pub(crate) fn begun_apart<R: Files<File = File> + Env + Alloc>(
+    rt: &R,
+    alloc: Global,
+    name: &str,
+) -> Result<Option<Making>, Trouble> {
+    let under = String::from_str(alloc, name)?;
+    let own = String::from_str(alloc, name)?;
+    match unnamed(rt)? {
+        Some(file) => Ok(Some(Making {
+            file,
+            under,
+            name: own,
+            unfinished: String::new(alloc),
+        })),
+        None => Ok(None),
+    }
+}
+
+/// Begins a file beside its name, or beside the name that a link leads to; where it is a device or a pipe, what it will be given.
+pub(crate) fn begun<R: Files<File = File> + Env + Alloc>(
     rt: &R,
     alloc: Global,
     name: &str,
 ) -> Result<Option<Making>, Trouble> {
     if is_device(rt, name) {
-        return Ok(None);
+        return begun_apart(rt, alloc, name);
     }
     if is_link(rt, name) {
         let end = end_of(rt, name)?;
@@ -356,17 +379,41 @@ impl Making {
 
     /// Whether a file that is made under this name would have the same name until it is finished: so it is where two long names begin alike.
     pub(crate) fn is_beside<R: Files + Alloc>(&self, rt: &R, name: &str) -> bool {
-        is_in_the_way(rt, self.unfinished.as_str(), name)
+        !self.is_apart() && is_in_the_way(rt, self.unfinished.as_str(), name)
+    }
+
+    /// Whether it has no name, and is for a device, a pipe or the standard output.
+    fn is_apart(&self) -> bool {
+        self.unfinished.is_empty()
     }
 
     /// Puts bytes at the end. Where that fails the file is removed.
     pub(crate) fn add<R: Files>(&mut self, rt: &R, bytes: &[u8]) -> Result<(), Failure> {
+        if self.is_apart() {
+            return put_on_copy(&mut self.file, bytes);
+        }
         let done = put_all(&mut self.file, bytes);
         removed_where_failed(rt, &self.file, self.unfinished.as_str(), done)
     }
 
-    /// Renames the file to its name. If that fails it is removed.
+    /// Writes all that was put there.
+    pub(crate) fn write_to<K: Write>(mut self, writer: &mut K) -> Result<(), Failure> {
+        write_copy(&mut self.file, writer)
+    }
+
+    /// Writes all that was put there to the device or the pipe that it is for.
+    fn give<R: Files>(self, rt: &R) -> Result<(), Failure> {
+        match File::create(rt, self.name.as_str()) {
+            Ok(mut device) => self.write_to(&mut device),
+            Err(error) => Err(not_made(error)),
+        }
+    }
+
+    /// Renames the file to its name, or gives the device or the pipe what it is for. If that fails it is removed.
     pub(crate) fn finish<R: Files>(self, rt: &R) -> Result<(), Failure> {
+        if self.is_apart() {
+            return self.give(rt);
+        }
         let unfinished = self.unfinished.as_str();
         let done = named(rt, &self.file, unfinished, self.name.as_str());
         removed_where_failed(rt, &self.file, unfinished, done)

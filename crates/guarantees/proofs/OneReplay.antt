@@ -446,6 +446,7 @@ module _ (ran : RunsAreOfTheSystem) (stopped : StoppedRunsAreOfTheSystem) (verif
   kept with_ends calls_first = record {
     safe = safe;
     replay = record {
+      options_fit = fit;
       done = done;
       of_script = of_script;
       ends = record_ends;

@@ -29,7 +29,7 @@ use Rattle.abstract_state.specs.declared.kind.Kind.TheVariants.{Unset, Scalar, C
 use Rattle.abstract_state.specs.declared.state.State.{State}
 use Rattle.abstract_state.specs.States.{◌>>=◌, kind_of, opening_state}
 use Rattle.abstract_state.specs.Access.{stored, store_of, checked_atomic, atomic_of}
-use Rattle.abstract_state.specs.Flow.{is_set, reads, reads_both, reads_atomic, reads_expected, fetch_writable, store_flow, store_register_flow, atomic_flow, flow_of}
+use Rattle.abstract_state.specs.Flow.{check_set, reads, reads_both, reads_atomic, reads_expected, fetch_writable, store_flow, store_register_flow, atomic_flow, flow_of}
 use Rattle.abstract_state.specs.Abstraction.{KindScope, KindCovers, kind_scope_of, Abstracts}
 use Rattle.abstract_state.proofs.shared.Checking.{ok_then, falls_made}
 use Rattle.abstract_state.proofs.shared.Opening.{opening_sound}
@@ -67,7 +67,7 @@ cell_kind s (Value map id off) value c is = refl
 
 -- a store that is accepted, to a place that is no value of a map
 stored_nowhere : (maps : List MapDef) (known : State) (size : Size) (at : Kind) (distance : ℤ) (dst : Register) (kind : Kind) (after : State) (done : Unit {0}) →
-    is_set at dst ≡ Ok done → stored maps known size at distance dst kind ≡ Ok after → not (is_value_kind at) ≡ true → may_be_cell at ≡ true → ⊥
+    check_set at dst ≡ Ok done → stored maps known size at distance dst kind ≡ Ok after → not (is_value_kind at) ≡ true → may_be_cell at ≡ true → ⊥
 stored_nowhere maps known size Unset distance dst kind after done set made other may = cc
 stored_nowhere maps known size (Scalar i) distance dst kind after done set made other may = false≢true may
 stored_nowhere maps known size Ctx distance dst kind after done set made other may = false≢true may
@@ -80,7 +80,7 @@ stored_nowhere maps known size (Value map id off) distance dst kind after done s
 
 -- an atomic operation that is accepted, likewise
 changed_nowhere : (maps : List MapDef) (known : State) (width : Width) (op : AtomicOp) (at : Kind) (distance : ℤ) (dst src : Register) (after : State)
-    (done : Unit {0}) → is_set at dst ≡ Ok done → checked_atomic maps known width op at distance dst src ≡ Ok after → not (is_value_kind at) ≡ true →
+    (done : Unit {0}) → check_set at dst ≡ Ok done → checked_atomic maps known width op at distance dst src ≡ Ok after → not (is_value_kind at) ≡ true →
     may_be_cell at ≡ true → ⊥
 changed_nowhere maps known width op Unset distance dst src after done set made other may = cc
 changed_nowhere maps known width op (Scalar i) distance dst src after done set made other may = false≢true may

@@ -27,7 +27,7 @@ use Rattle.abstract_state.specs.declared.kind.Kind.TheVariants.{Unset, Scalar, C
 use Rattle.abstract_state.specs.declared.state.State.{State}
 use Rattle.abstract_state.specs.States.{◌>>=◌, kind_of, opening_state}
 use Rattle.abstract_state.specs.Access.{load_of}
-use Rattle.abstract_state.specs.Flow.{writable, is_set, reads, load_flow, flow_of}
+use Rattle.abstract_state.specs.Flow.{writable, check_set, reads, load_flow, flow_of}
 use Rattle.abstract_state.specs.Abstraction.{KindScope, KindCovers, kind_scope_of, Abstracts}
 use Rattle.abstract_state.proofs.shared.Checking.{ok_then, falls_made}
 use Rattle.abstract_state.proofs.shared.Opening.{opening_sound}
@@ -42,7 +42,7 @@ use Rattle.guarantees.proofs.SameSteps.{SameStep, AsksNoWorker, same_step}
 -- ---- what an accepted instruction that only reads asks for
 
 -- a register that holds the context is known to
-context_kind : (s : KindScope) (kind : Kind) (register : Register) (value : RegisterValue) (done : Unit {0}) → is_set kind register ≡ Ok done → KindCovers s kind value → value ≡ ContextPointer → kind ≡ Ctx
+context_kind : (s : KindScope) (kind : Kind) (register : Register) (value : RegisterValue) (done : Unit {0}) → check_set kind register ≡ Ok done → KindCovers s kind value → value ≡ ContextPointer → kind ≡ Ctx
 context_kind s Unset register value done set c is = cc
 context_kind s (Scalar i) register value done set c is = absurd (let e : Number c.number ≡ ContextPointer = sym c.is ∙ is in cc)
 context_kind s Ctx register value done set c is = refl

@@ -6,6 +6,7 @@ use Rattle.semantics.specs.declared.options.Options.{Options}
 use Rattle.semantics.specs.System.{SystemEvent}
 use Rattle.semantics.specs.Safety.{IsSafeImage}
 use Rattle.semantics.specs.Replay.{RecordEnd, IsReplay}
+use Rattle.semantics.specs.ShardPlan.{AreOptions}
 use Rattle.verifier.specs.Verified.{Verified}
 use Rattle.journals.specs.JournalsView.{JournalsView}
 use Rattle.maglev.specs.RingSize.{IsRingSize}
@@ -42,6 +43,8 @@ pub record AreJournalsOf (maps : List MapDef) (options : Options) (journals : Jo
 -- What was asked and what is handed back are one list of events of the system (`IsReplay`).
 pub record IsOneReplay (verified : Verified) (script : List Command) (options : Options) (records : List Sent) (outcome : Outcome) :
     Type 0 where
+  -- the image's maps can be opened with these options, so that it is safe (`IsSafeImage`) for the events of this very replay
+  pub options_fit : AreOptions verified.maps options
   -- the calls of each command are those of the script
   pub done : List CommandDone
   pub of_script : AreOfScript verified.maps script outcome.refused.items done

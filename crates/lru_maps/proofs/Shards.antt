@@ -1,10 +1,11 @@
 -- What each call leaves of a shard's fields.
-use Rattle.std.proofs.Common.{◌≡◌, ◌≢◌, ℕ, ◌+◌, ◌-◌, ◌<◌, ◌≤◌, Bool, true, false, cond, List, [], ◌∷◌, ◌++◌, length, set, slice_get, Some, None, refl, sym, ap, ◌∙◌, arith, bytes_eq}
+use Rattle.std.proofs.Common.{◌≡◌, ◌≢◌, ℕ, ◌+◌, ◌-◌, ◌<◌, ◌≤◌, Bool, true, false, cond, List, [], ◌∷◌, ◌++◌, length, set, get_or, slice_get, Option, Some, None, refl, sym, ap, ◌∙◌, arith, bytes_eq}
 use Rattle.std.specs.Prelude.{option_map}
 use Rattle.std.proofs.lemmas.List.{length-set, get_or-set_other}
 use Rattle.std.proofs.lemmas.Grind.{get_or-set_at}
 use Rattle.std.specs.Map.{lookup}
 use Rattle.plain_maps.specs.Keyed.{KeyMap, entry_number_of, key_of_number, AreInverse}
+use Rattle.plain_maps.specs.Listed.{item_of}
 use Rattle.lru_maps.specs.Recency.{used, released, countdown, StandOnce}
 use Rattle.lru_maps.specs.LruTable.{cell_of_lru_key, touched, with_newest_key, table_without_key, last_of, all_but_last_entry, victim, without_victim}
 use Rattle.lru_maps.specs.Numbered.{in_order, id_at, lru_table, IsLruShard}
@@ -43,6 +44,14 @@ module _ (index : KeyMap) (ids order : List ℕ) (count : ℕ) (ok : IsLruShard 
 
   pub absent_entry : (q : List ℕ) → cell_of_lru_key (lru_table index ids order) q ≡ None → entry_number_of index q ≡ None
   absent_entry q none = no_number (key_of_number index) (id_at ids) (entry_number_of index) inverse q order (λ n found. ok.listed n (small q n found)) none
+
+  -- the cell of a key is what its entry number has
+  pub item_is : (q : List ℕ) → item_of index ids q ≡ cell_of_lru_key (lru_table index ids order) q
+  item_is q = by_number (entry_number_of index q) refl
+    where
+      by_number : (number : Option ℕ) → entry_number_of index q ≡ number → option_map (λ (n : ℕ). get_or ids n 0) number ≡ cell_of_lru_key (lru_table index ids order) q
+      by_number None absent = sym (absent_cell q absent)
+      by_number (Some n) found = sym (found_cell q n found)
 
   -- ---- a use
 

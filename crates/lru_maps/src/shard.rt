@@ -2,6 +2,7 @@
 
 ghost use Rattle.std.specs.Prelude.{◌≡◌, ℕ, ◌<◌, ◌≤◌, ◌+◌, List, [], length, IfOk, Some, None, option_map};
 ghost use Rattle.lru_maps.specs.LruTable.{LruTable, cell_of_lru_key, touched, with_newest_key, table_without_key, victim, without_victim};
+ghost use Rattle.plain_maps.specs.Listed.{ListsAll};
 
 use crate::recency::Recency;
 use plain_maps::KeyIndex;
@@ -78,6 +79,15 @@ impl LruShard {
             Some(number) => Some(self.ids[number as usize]),
             None => None,
         }
+    }
+
+    /// Each key with its cell, in no order that a contract names. This is no use of a key. Fails only for lack of memory.
+    pub fn entries(&self, alloc: Global) -> Result<Vec<(Key, u64)>, AllocError>
+        ensures { IfOk result (λ entries. ListsAll (cell_of_lru_key self.now) entries.items) }
+    {
+        self.index.keys_and_numbers();
+        let entries = self.index.entries(alloc, &self.ids)?;
+        Ok(entries)
     }
 
     /// The cell of a key, which is used: it is first. Where the key is absent nothing is changed.

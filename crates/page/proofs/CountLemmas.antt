@@ -1,5 +1,5 @@
 -- Counts of cells.
-use Rattle.std.proofs.Common.{◌≡◌, ◌∙◌, ◌==◌, ◌++◌, ◌∷◌, ◌≢◌, ℕ, zero, suc, ◌+◌, ◌<◌, ◌≤◌, Bool, true, false, List, []}
+use Rattle.std.proofs.Common.{◌≡◌, ◌∙◌, ◌==◌, ◌∷◌, ◌≢◌, ℕ, zero, suc, ◌+◌, ◌<◌, ◌≤◌, Bool, true, false, List, []}
 use Rattle.std.proofs.Common.{⊎_elim, arith, ap, refl, sym, subst, get_or, set, length, take, add-one, length-append, length-set, get_or-set_other}
 use Rattle.std.specs.Prelude.{count_by, nat_le}
 use Rattle.std.proofs.Math.ListN.{get_or-eq_default}

@@ -1,16 +1,10 @@
 -- Texts that are put together.
-use Rattle.std.proofs.Common.{◌≡◌, ◌∙◌, ◌++◌, List, ℕ, String, Global, ap, append_assoc, string_bytes, subst}
+use Rattle.std.proofs.Common.{◌≡◌, ◌∙◌, ◌++◌, List, ℕ, String, Global, ap, string_bytes, subst}
 use Rattle.std.specs.Prelude.{IfOk, Result}
 
 -- a text and a piece behind it
 pub next_text : (old piece new text more : List ℕ) → old ≡ text → piece ≡ more → new ≡ old ++ piece → new ≡ text ++ more
 next_text old piece new text more a b c = c ∙ (ap (λ (it : List ℕ). it ++ piece) a ∙ ap (λ (it : List ℕ). text ++ it) b)
-
--- a text and two pieces behind it
-pub next_two : (old first second one two text p q : List ℕ) → old ≡ text → first ≡ p → second ≡ q → one ≡ old ++ first → two ≡ one ++ second
-    → two ≡ text ++ (p ++ q)
-next_two old first second one two text p q a b c d e =
-    next_text one second two (text ++ p) q (next_text old first one text p a b d) c e ∙ append_assoc text p q
 
 -- a made text is the text that is wanted
 pub of_same : {E : Type 0} (r : Result (String Global) E) (made wanted : List ℕ) → IfOk r (λ text. string_bytes text ≡ made) → made ≡ wanted

@@ -2,7 +2,8 @@
 use Rattle.std.specs.Prelude.{ℕ, zero, suc, ◌+◌, ◌-◌, ◌*◌, ◌/◌, ◌%◌, ◌==◌, ◌++◌, min, max, List, [], codes, decimal, fold, if◌then◌else◌, length}
 use Rattle.std.specs.Prelude.{nat_lt, slice_index}
 use Rattle.page.specs.Svg.{axis_text, groups_until, highest_of, legend_text, row_text, scaled}
-use Rattle.page.specs.Tallies.{class_of_backend, classes_of, counts_by_cell, slot_counts}
+use Rattle.page.specs.Named.{classes_by_name, pattern_of}
+use Rattle.page.specs.Tallies.{counts_by_cell, slot_counts}
 
 -- ---- words
 
@@ -29,9 +30,16 @@ backend_label listed own place = if nat_lt place own then codes "backend " ++ de
 
 -- ---- legends
 
+abbrev pub name_legend : List ℕ → ℕ → List ℕ
+name_legend named zero = []
+name_legend named (suc place) = name_legend named place ++ legend_text place (backend_label named 8 place)
+
+-- all backends without a name, if one of them has a frame
+abbrev pub others_legend : ℕ → List ℕ
+others_legend count = if count == 0 then [] else legend_text 8 (codes "others")
+
 abbrev pub backend_legend : List ℕ → ℕ → List ℕ
-backend_legend listed zero = []
-backend_legend listed (suc place) = backend_legend listed place ++ legend_text place (backend_label listed 8 place)
+backend_legend named others = name_legend named (min (length named) 8) ++ others_legend others
 
 abbrev pub fate_legend : ℕ → List ℕ
 fate_legend zero = []
@@ -97,11 +105,15 @@ unfoldable pub fate_chart : List ℕ → List ℕ → List ℕ → List ℕ
 fate_chart body marks legend =
     fate_opening ++ (body ++ (marks ++ (legend ++ codes "</svg>\n")))
 
--- frames over time by backend, of rows with these slots and keys, between two moments
-unfoldable pub backends_over_time : List ℕ → List ℕ → List ℕ → List ℕ → List ℕ → List ℕ → List ℕ
-backends_over_time listed keys slots first last marks =
-    backend_chart patterns_text (body_text (slot_counts 9 slots (classes_of listed 9 keys)) 9 first last) marks
-    (backend_legend listed (min (length listed) 9))
+-- frames over time by backend, of rows with these slots and classes, between two moments
+unfoldable pub classes_over_time : List ℕ → List ℕ → List ℕ → List ℕ → List ℕ → List ℕ → List ℕ
+classes_over_time named classes slots first last marks =
+    backend_chart patterns_text (body_text (slot_counts 9 slots classes) 9 first last) marks
+    (backend_legend named (slice_index (counts_by_cell classes 9) 8))
+
+-- the same of rows with these keys, where these backends have a name
+abbrev pub backends_over_time : List ℕ → List ℕ → List ℕ → List ℕ → List ℕ → List ℕ → List ℕ
+backends_over_time named keys slots first last marks = classes_over_time named (classes_by_name named keys) slots first last marks
 
 unfoldable pub fates_over_time : List ℕ → List ℕ → List ℕ → List ℕ → List ℕ → List ℕ → List ℕ
 fates_over_time totals fates slots first last marks =
@@ -113,14 +125,15 @@ fates_over_time totals fates slots first last marks =
 abbrev pub backend_count : List ℕ → List ℕ → ℕ
 backend_count listed totals = if slice_index totals 32 == 0 then length listed else 33
 
-unfoldable pub backend_row : List ℕ → List ℕ → ℕ → ℕ → List ℕ
-backend_row listed totals highest place =
-    row_text place (min place 8) (backend_label listed 32 place) (scaled 240 highest (slice_index totals place)) (slice_index totals place)
+unfoldable pub backend_row : List ℕ → List ℕ → List ℕ → ℕ → ℕ → List ℕ
+backend_row named listed totals highest place =
+    row_text place (pattern_of named (slice_index listed place)) (backend_label listed 32 place) (scaled 240 highest (slice_index totals place))
+    (slice_index totals place)
 
-abbrev pub backend_rows : List ℕ → List ℕ → ℕ → ℕ → List ℕ
-backend_rows listed totals highest zero = []
-backend_rows listed totals highest (suc place) =
-    backend_rows listed totals highest place ++ backend_row listed totals highest place
+abbrev pub backend_rows : List ℕ → List ℕ → List ℕ → ℕ → ℕ → List ℕ
+backend_rows named listed totals highest zero = []
+backend_rows named listed totals highest (suc place) =
+    backend_rows named listed totals highest place ++ backend_row named listed totals highest place
 
 -- the most frames that a backend got, and 1 where none got any
 abbrev pub most_of : List ℕ → ℕ
@@ -131,6 +144,6 @@ rows_chart height rows =
     codes "<h2>Frames by backend</h2>\n<svg role=\"img\" viewBox=\"0 0 400 " ++ (decimal height
     ++ (codes "\">\n<title>Frames by backend</title>\n<desc>Bars: how many frames each backend got.</desc>\n" ++ (rows ++ codes "</svg>\n")))
 
-unfoldable pub backends_text : List ℕ → List ℕ → List ℕ
-backends_text listed totals =
-    rows_chart (4 + 14 * backend_count listed totals) (backend_rows listed totals (most_of totals) (backend_count listed totals))
+unfoldable pub backends_text : List ℕ → List ℕ → List ℕ → List ℕ
+backends_text named listed totals =
+    rows_chart (4 + 14 * backend_count listed totals) (backend_rows named listed totals (most_of totals) (backend_count listed totals))

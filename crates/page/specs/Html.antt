@@ -1,11 +1,11 @@
 -- The page's frame, and the commands of a script on it.
-use Rattle.std.specs.Prelude.{ℕ, zero, suc, ◌+◌, ◌-◌, ◌==◌, ◌++◌, Bool, true, false, List, [], Option, Some, None, codes, decimal, if◌then◌else◌, length, map}
+use Rattle.std.specs.Prelude.{ℕ, zero, suc, ◌+◌, ◌-◌, ◌==◌, ◌++◌, Bool, List, [], Option, Some, None, codes, decimal, if◌then◌else◌, length, map}
 use Rattle.std.specs.Prelude.{slice_get, slice_index_or, take}
 use Rattle.control.specs.declared.command.Action.{Action}
 use Rattle.control.specs.declared.command.Action.TheVariants.{Vip, Up, Down, Gateway}
 use Rattle.control.specs.declared.command.Command.{Command}
 use Rattle.control.specs.ScriptText.{address_text, transport_text}
-use Rattle.page.specs.Charts.{seconds_text}
+use Rattle.page.specs.Stamps.{moment_text}
 use Rattle.page.specs.Tables.{more_text}
 use Rattle.page.specs.Tallies.{time_slot}
 
@@ -51,7 +51,7 @@ command_text number before moment action =
 abbrev pub command_row : List ℕ → ℕ → ℕ → Option Command → List ℕ
 command_row moments last place None = []
 command_row moments last place (Some command) =
-    command_text (place + 1) (command.frame + 1) (seconds_text (command_moment moments last command.frame)) (command_words command.action)
+    command_text (place + 1) (command.frame + 1) (moment_text (command_moment moments last command.frame)) (command_words command.action)
 
 -- the rows of the first N commands
 abbrev pub command_rows : List ℕ → ℕ → List Command → ℕ → List ℕ
@@ -59,15 +59,20 @@ command_rows moments last commands zero = []
 command_rows moments last commands (suc place) =
     command_rows moments last commands place ++ command_row moments last place (slice_get commands place)
 
-unfoldable pub commands_table : List ℕ → List ℕ → List ℕ
-commands_table rows more =
-    codes "<h2>Commands</h2>\n<div class=\"wide\"><table>\n<tr><th>mark</th><th>before record</th><th>at</th><th>command</th></tr>\n"
-    ++ (rows ++ (codes "</table></div>\n" ++ more))
+-- how many commands come before the first record
+abbrev pub firsts_text : ℕ → List ℕ
+firsts_text count = if count == 0 then [] else codes "<p>" ++ (decimal count ++ codes " commands before the first record</p>\n")
 
--- the first hundred commands
-unfoldable pub commands_text : List ℕ → ℕ → List Command → List ℕ
-commands_text moments last commands =
-    commands_table (command_rows moments last (take 100 commands) (length (take 100 commands))) (more_text (length commands - 100))
+unfoldable pub commands_table : List ℕ → List ℕ → List ℕ → List ℕ
+commands_table firsts rows more =
+    codes "<h2>Commands</h2>\n" ++ (firsts
+    ++ (codes "<div class=\"wide\"><table>\n<tr><th>mark</th><th>before record</th><th>at</th><th>command</th></tr>\n"
+    ++ (rows ++ (codes "</table></div>\n" ++ more))))
+
+-- how many commands come before the first record, and the first hundred of the later ones
+unfoldable pub commands_text : ℕ → List ℕ → ℕ → List Command → List ℕ
+commands_text count moments last later =
+    commands_table (firsts_text count) (command_rows moments last (take 100 later) (length (take 100 later))) (more_text (length later - 100))
 
 -- ---- the frame
 

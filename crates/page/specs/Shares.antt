@@ -1,14 +1,10 @@
 -- The shares of a lookup table at the start of a script and at its end.
 use Rattle.std.specs.Prelude.{◌≡◌, ℕ, zero, suc, ◌+◌, ◌==◌, ◌&&◌, ◌++◌, List, [], codes, decimal, if◌then◌else◌}
-use Rattle.std.specs.List.{filter}
 use Rattle.control.specs.declared.command.Command.{Command}
 use Rattle.maglev.specs.Population.{share_of}
+use Rattle.page.specs.Commands.{first_ones}
 use Rattle.page.specs.Svg.{scaled}
 use Rattle.traffic.specs.Applied.{AreWordsAfter}
-
--- the commands before the first record
-abbrev pub first_ones : List Command → List Command
-first_ones commands = filter (λ (command : Command). command.frame == 0) commands
 
 -- a row of the table: a backend's number, its slots at the start and at the end
 unfoldable pub share_numbers : ℕ → ℕ → ℕ → List ℕ

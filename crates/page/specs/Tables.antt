@@ -1,32 +1,14 @@
--- The tables of a page: figures, and frames of flows that moved. What comes from the report is escaped for HTML.
-use Rattle.std.specs.Prelude.{ℕ, zero, suc, ◌+◌, ◌-◌, ◌==◌, ◌++◌, List, [], codes, decimal, if◌then◌else◌, length, slice_index, take}
+-- The tables of a page: figures, and frames of flows that moved. Fields of a report have no mark of HTML.
+use Rattle.std.specs.Prelude.{ℕ, zero, suc, ◌-◌, ◌==◌, ◌++◌, List, [], codes, decimal, if◌then◌else◌, length, slice_index, take}
 use Rattle.std.specs.List.{flat_map}
-use Rattle.comparison.specs.Rows.{field, parts_between, row_at}
+use Rattle.comparison.specs.Rows.{field, row_at}
 use Rattle.comparison.specs.ComparisonText.{flow_phrase}
 use Rattle.flows.specs.Stories.{reason_word}
 use Rattle.flows.specs.Telling.{Moved}
 use Rattle.flows.specs.declared.reason.Reason.{Reason}
-use Rattle.page.specs.Charts.{fate_word, seconds_text}
-
--- ---- escapes
-
--- a text between two parts
-abbrev pub between_at : List ℕ → ℕ → List ℕ
-between_at between zero = []
-between_at between (suc place) = between
-
--- the first N parts, with a text between them
-abbrev pub joined_until : List ℕ → List (List ℕ) → ℕ → List ℕ
-joined_until between parts zero = []
-joined_until between parts (suc place) = joined_until between parts place ++ (between_at between place ++ row_at parts place)
-
--- a text with another in place of each mark
-abbrev pub replaced : ℕ → List ℕ → List ℕ → List ℕ
-replaced mark by text = joined_until by (parts_between mark text) (length (parts_between mark text))
-
--- a text as HTML has it between elements: ampersands first, then less and greater signs
-abbrev pub escaped : List ℕ → List ℕ
-escaped text = replaced 62 (codes "&gt;") (replaced 60 (codes "&lt;") (replaced 38 (codes "&amp;") text))
+use Rattle.page.specs.Charts.{fate_word}
+use Rattle.page.specs.Reading.{micros_of_row}
+use Rattle.page.specs.Stamps.{moment_text}
 
 -- ---- figures
 
@@ -41,7 +23,13 @@ unfoldable pub figures_text : ℕ → List ℕ → ℕ → List ℕ → List ℕ
 figures_text records fates moves first last =
     codes "<table class=\"figures\">\n<tr><th>records</th><td>" ++ (decimal records ++ (codes "</td></tr>\n" ++ (fates
     ++ (codes "<tr><th>moves of flows</th><td>" ++ (decimal moves ++ (codes "</td></tr>\n<tr><th>first moment</th><td>" ++ (first
-    ++ (codes " s</td></tr>\n<tr><th>last moment</th><td>" ++ (last ++ codes " s</td></tr>\n</table>\n")))))))))
+    ++ (codes "</td></tr>\n<tr><th>last moment</th><td>" ++ (last ++ codes "</td></tr>\n</table>\n")))))))))
+
+-- how many frames were stopped, if any were
+abbrev pub stopped_note : ℕ → List ℕ
+stopped_note stopped =
+    if stopped == 0 then []
+    else codes "<p>" ++ (decimal stopped ++ codes " frames were stopped by full journals: what is said of flows is incomplete</p>\n")
 
 -- ---- flows that moved
 
@@ -59,7 +47,7 @@ move_text record_number moment flow before after reason = move_front record_numb
 -- the row of a record whose flow was sent to this address before, and why it moved
 unfoldable pub move_row : List ℕ → Reason → List ℕ → List ℕ
 move_row from reason row =
-    move_text (escaped (field 0 row)) (escaped (field 1 row)) (escaped (flow_phrase row)) (escaped from) (escaped (field 7 row)) (reason_word reason)
+    move_text (field 0 row) (moment_text (micros_of_row row)) (flow_phrase row) from (field 7 row) (reason_word reason)
 
 abbrev pub move_line : List (List ℕ) → Moved → List ℕ
 move_line rows move = move_row move.from move.reason (row_at rows move.place)

@@ -1,18 +1,21 @@
 //! The charts of a page.
 
-ghost use Rattle.std.specs.Prelude.{◌≡◌, ◌^◌, ◌<◌, ◌≤◌, IfOk, length, string_bytes};
-ghost use Rattle.page.specs.Charts.{backend_chart, backend_count, backend_legend, backend_opening, backend_row, backend_rows, backends_over_time};
+ghost use Rattle.std.specs.Prelude.{◌≡◌, ◌^◌, ◌<◌, ◌≤◌, IfOk, length, slice_index, string_bytes};
+ghost use Rattle.page.specs.Charts.{backend_chart, backend_count, backend_legend, backend_opening, backend_row, backend_rows};
+ghost use Rattle.page.specs.Charts.{backends_over_time, classes_over_time, name_legend, others_legend};
 ghost use Rattle.page.specs.Charts.{backends_text, body_text, fate_chart, fate_legend, fate_opening, fate_word, fates_named, fates_over_time};
 ghost use Rattle.page.specs.Charts.{backend_label, most_of};
 ghost use Rattle.page.specs.Charts.{patterns_text, rows_chart, seconds_text, six_last_digits};
+ghost use Rattle.page.specs.Tallies.{counts_by_cell};
 
+use crate::named::{classes_by_name, pattern_of};
 use crate::svg::{axis_text, groups_of, highest_of, legend_text, row_text, scaled};
-use crate::tallies::{at, classes_of, key_at, slot_counts};
+use crate::tallies::{at, counts_of, key_at, slot_counts};
 use std::alloc::{AllocError, Global};
 
 /// The last six digits of a number.
 #[tactic(auto, unfolding(crate::specs::Charts::six_last_digits))]
-fn six_digits(alloc: Global, number: u64) -> Result<String, AllocError>
+pub(crate) fn six_digits(alloc: Global, number: u64) -> Result<String, AllocError>
     ensures { IfOk result (λ text. string_bytes text ≡ six_last_digits number) }
 {
     let first = number / 100_000 % 10;
@@ -51,7 +54,12 @@ pub(crate) fn fate_word(fate: usize) -> &'static str
 
 /// The name of the listed backend of this rank, of which so many have their own name.
 #[tactic(auto, unfolding(crate::specs::Charts::backend_label))]
-fn label_of(alloc: Global, listed: &[u64], own: usize, place: usize) -> Result<String, AllocError>
+pub(crate) fn label_of(
+    alloc: Global,
+    listed: &[u64],
+    own: usize,
+    place: usize,
+) -> Result<String, AllocError>
     ensures { IfOk result (λ text. string_bytes text ≡ backend_label listed.now own place) }
 {
     if place < own {
@@ -62,17 +70,37 @@ fn label_of(alloc: Global, listed: &[u64], own: usize, place: usize) -> Result<S
     }
 }
 
-/// The legend of so many classes of backends.
-fn backend_legend(alloc: Global, listed: &[u64], count: usize) -> Result<String, AllocError>
+/// The legend of so many backends with a name.
+fn name_legend(alloc: Global, named: &[u64], count: usize) -> Result<String, AllocError>
     requires { count < 2 ^ 15 }
-    ensures { IfOk result (λ text. string_bytes text ≡ backend_legend listed.now count) }
+    ensures { IfOk result (λ text. string_bytes text ≡ name_legend named.now count) }
 {
     let mut text = String::new(alloc);
-    'classes: for place in 0..count {
-        let label = label_of(alloc, listed, 8, place)?;
+    'names: for place in 0..count {
+        let label = label_of(alloc, named, 8, place)?;
         let entry = legend_text(alloc, place, label.as_str())?;
         text.push_str(entry.as_str())?;
     }
+    Ok(text)
+}
+
+/// The legend of all backends without a name, which have so many frames.
+fn others_legend(alloc: Global, count: usize) -> Result<String, AllocError>
+    ensures { IfOk result (λ text. string_bytes text ≡ others_legend count) }
+{
+    if count == 0 {
+        return Ok(String::new(alloc));
+    }
+    legend_text(alloc, 8, "others")
+}
+
+/// The legend of backends.
+fn backend_legend(alloc: Global, named: &[u64], others: usize) -> Result<String, AllocError>
+    ensures { IfOk result (λ text. string_bytes text ≡ backend_legend named.now others) }
+{
+    let mut text = name_legend(alloc, named, named.len().min(8))?;
+    let legend = others_legend(alloc, others)?;
+    text.push_str(legend.as_str())?;
     Ok(text)
 }
 
@@ -183,23 +211,47 @@ fn fate_chart(alloc: Global, body: &str, marks: &str, legend: &str) -> Result<St
     format!(in alloc; "{opening}{body}{marks}{legend}</svg>\n")
 }
 
-/// Frames over time by backend, of rows with these slots and keys, between two moments.
-#[tactic(auto, unfolding(crate::specs::Charts::backends_over_time))]
+/// How many of these classes are of backends without a name.
+fn others_of(alloc: Global, classes: &[usize]) -> Result<usize, AllocError>
+    ensures { IfOk result (λ others. others ≡ slice_index (counts_by_cell classes.now 9) 8) }
+{
+    let totals = counts_of(alloc, classes, 9)?;
+    Ok(at(&totals, 8))
+}
+
+/// Frames over time by backend, of rows with these slots and keys, between two moments, where these backends have a name.
 pub(crate) fn backends_over_time(
     alloc: Global,
-    listed: &[u64],
+    named: &[u64],
     keys: &[u64],
     slots: &[usize],
     first: &str,
     last: &str,
     marks: &str,
 ) -> Result<String, AllocError>
-    ensures { IfOk result (λ text. string_bytes text ≡ backends_over_time listed.now keys.now slots.now first.now last.now marks.now) }
+    ensures { IfOk result (λ text. string_bytes text ≡ backends_over_time named.now keys.now slots.now first.now last.now marks.now) }
 {
-    let classes = classes_of(alloc, listed, 9, keys)?;
-    let counts = slot_counts(alloc, 9, slots, &classes)?;
+    let classes = classes_by_name(alloc, named, keys)?;
+    classes_over_time(alloc, named, &classes, slots, first, last, marks)
+}
+
+/// The same of rows with these classes.
+#[tactic(auto, unfolding(crate::specs::Charts::classes_over_time))]
+fn classes_over_time(
+    alloc: Global,
+    named: &[u64],
+    classes: &[usize],
+    slots: &[usize],
+    first: &str,
+    last: &str,
+    marks: &str,
+) -> Result<String, AllocError>
+    ensures { IfOk result (λ text. string_bytes text ≡ classes_over_time named.now classes.now slots.now first.now last.now marks.now) }
+{
+    let others = others_of(alloc, classes)?;
+    let counts = slot_counts(alloc, 9, slots, classes)?;
     let body = body_text(alloc, &counts, 9, first, last)?;
-    let legend = backend_legend(alloc, listed, listed.len().min(9))?;
+    let legend = backend_legend(alloc, named, others)?;
     backend_chart(
         alloc,
         patterns_text(),
@@ -245,6 +297,7 @@ fn backend_count(listed: &[u64], totals: &[usize]) -> usize
 #[tactic(auto, unfolding(crate::specs::Charts::backend_row))]
 fn backend_row(
     alloc: Global,
+    named: &[u64],
     listed: &[u64],
     totals: &[usize],
     highest: u128,
@@ -253,17 +306,19 @@ fn backend_row(
     requires place { place < 2 ^ 15 }
     requires some { 1 ≤ highest }
     requires highest { highest ≤ 2 ^ 80 }
-    ensures { IfOk result (λ text. string_bytes text ≡ backend_row listed.now totals.now highest place) }
+    ensures { IfOk result (λ text. string_bytes text ≡ backend_row named.now listed.now totals.now highest place) }
 {
     let count = at(totals, place);
     let label = label_of(alloc, listed, 32, place)?;
     let width = scaled(240, highest, count as u128);
-    row_text(alloc, place, place.min(8), label.as_str(), width, count)
+    let pattern = pattern_of(named, key_at(listed, place));
+    row_text(alloc, place, pattern, label.as_str(), width, count)
 }
 
 /// The bars of so many backends.
 fn backend_rows(
     alloc: Global,
+    named: &[u64],
     listed: &[u64],
     totals: &[usize],
     highest: u128,
@@ -272,11 +327,11 @@ fn backend_rows(
     requires count { count < 2 ^ 15 }
     requires some { 1 ≤ highest }
     requires highest { highest ≤ 2 ^ 80 }
-    ensures { IfOk result (λ text. string_bytes text ≡ backend_rows listed.now totals.now highest count) }
+    ensures { IfOk result (λ text. string_bytes text ≡ backend_rows named.now listed.now totals.now highest count) }
 {
     let mut text = String::new(alloc);
     'backends: for place in 0..count {
-        let row = backend_row(alloc, listed, totals, highest, place)?;
+        let row = backend_row(alloc, named, listed, totals, highest, place)?;
         text.push_str(row.as_str())?;
     }
     Ok(text)
@@ -309,13 +364,14 @@ fn rows_chart(alloc: Global, height: usize, rows: &str) -> Result<String, AllocE
 #[tactic(auto, unfolding(crate::specs::Charts::backends_text))]
 pub(crate) fn backends_text(
     alloc: Global,
+    named: &[u64],
     listed: &[u64],
     totals: &[usize],
 ) -> Result<String, AllocError>
     requires { length listed.now ≤ 32 }
-    ensures { IfOk result (λ text. string_bytes text ≡ backends_text listed.now totals.now) }
+    ensures { IfOk result (λ text. string_bytes text ≡ backends_text named.now listed.now totals.now) }
 {
     let count = backend_count(listed, totals);
-    let rows = backend_rows(alloc, listed, totals, most_of(totals) as u128, count)?;
+    let rows = backend_rows(alloc, named, listed, totals, most_of(totals) as u128, count)?;
     rows_chart(alloc, 4 + 14 * count, rows.as_str())
 }

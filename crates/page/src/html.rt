@@ -3,9 +3,9 @@
 ghost use Rattle.std.specs.Prelude.{◌≡◌, ◌<◌, IfOk, length, slice_get, string_bytes, take};
 ghost use Rattle.page.specs.Html.{command_moment, command_row, command_rows, command_slots, command_words};
 ghost use Rattle.page.specs.Html.{notrack_word, up_text, vip_words, whole_text};
-ghost use Rattle.page.specs.Html.{command_text, commands_table, commands_text, down_text, gateway_words, head_text};
+ghost use Rattle.page.specs.Html.{command_text, commands_table, commands_text, down_text, firsts_text, gateway_words, head_text};
 
-use crate::charts::seconds_text;
+use crate::stamps::moment_text;
 use crate::tables::more_text;
 use crate::tallies::slot_of;
 use control::{Action, Command, transport_text};
@@ -139,7 +139,7 @@ fn command_row(
     match commands.get(place) {
         None => Ok(String::new(alloc)),
         Some(command) => {
-            let moment = seconds_text(alloc, command_moment(moments, last, command.frame))?;
+            let moment = moment_text(alloc, command_moment(moments, last, command.frame))?;
             let action = action_text(alloc, command.action)?;
             let before = u64::from(command.frame) + 1;
             command_text(alloc, place + 1, before, moment.as_str(), action.as_str())
@@ -164,13 +164,23 @@ fn command_rows(
     Ok(text)
 }
 
+/// How many commands come before the first record.
+fn firsts_text(alloc: Global, count: usize) -> Result<String, AllocError>
+    ensures { IfOk result (λ text. string_bytes text ≡ firsts_text count) }
+{
+    if count == 0 {
+        return Ok(String::new(alloc));
+    }
+    format!(in alloc; "<p>{count} commands before the first record</p>\n")
+}
+
 /// The table of these rows.
 #[tactic(auto, unfolding(crate::specs::Html::commands_table))]
-fn commands_table(alloc: Global, rows: &str, more: &str) -> Result<String, AllocError>
-    ensures { IfOk result (λ text. string_bytes text ≡ commands_table rows.now more.now) }
+fn commands_table(alloc: Global, firsts: &str, rows: &str, more: &str) -> Result<String, AllocError>
+    ensures { IfOk result (λ text. string_bytes text ≡ commands_table firsts.now rows.now more.now) }
 {
     format!(in alloc;
-        "<h2>Commands</h2>\n<div class=\"wide\"><table>\n<tr><th>mark</th><th>before record</th><th>at</th><th>command</th></tr>\n{rows}</table></div>\n{more}"
+        "<h2>Commands</h2>\n{firsts}<div class=\"wide\"><table>\n<tr><th>mark</th><th>before record</th><th>at</th><th>command</th></tr>\n{rows}</table></div>\n{more}"
     )
 }
 
@@ -185,19 +195,21 @@ pub(crate) fn first_commands(commands: &[Command], count: usize) -> &[Command]
     }
 }
 
-/// The first hundred commands.
+/// How many commands come before the first record, and the first hundred of the later ones.
 #[tactic(auto, unfolding(crate::specs::Html::commands_text))]
 pub(crate) fn commands_text(
     alloc: Global,
+    count: usize,
     moments: &[u64],
     last: u64,
-    commands: &[Command],
+    later: &[Command],
 ) -> Result<String, AllocError>
-    ensures { IfOk result (λ text. string_bytes text ≡ commands_text moments.now last commands.now) }
+    ensures { IfOk result (λ text. string_bytes text ≡ commands_text count moments.now last later.now) }
 {
-    let rows = command_rows(alloc, moments, last, first_commands(commands, COMMANDS))?;
-    let more = more_text(alloc, commands.len().saturating_sub(COMMANDS))?;
-    commands_table(alloc, rows.as_str(), more.as_str())
+    let firsts = firsts_text(alloc, count)?;
+    let rows = command_rows(alloc, moments, last, first_commands(later, COMMANDS))?;
+    let more = more_text(alloc, later.len().saturating_sub(COMMANDS))?;
+    commands_table(alloc, firsts.as_str(), rows.as_str(), more.as_str())
 }
 
 /// What comes before the figures.

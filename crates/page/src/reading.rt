@@ -32,7 +32,7 @@ fn number_of(text: &str) -> u64
 }
 
 /// The moment of a row, in microseconds.
-fn moment_of(row: &str) -> u64
+pub(crate) fn moment_of(row: &str) -> u64
     ensures { result ≡ micros_of_row row.now }
 {
     number_of(field(row, 1))

@@ -1,8 +1,9 @@
 //! The shares of a lookup table at the start of a script and at its end.
 
 ghost use Rattle.std.specs.Prelude.{◌≡◌, ◌<◌, ◌^◌, IfOk, string_bytes};
-ghost use Rattle.page.specs.Shares.{AreSharesTold, first_ones, share_bars, share_numbers, share_row, share_rows, shares_table, shares_text};
+ghost use Rattle.page.specs.Shares.{AreSharesTold, share_bars, share_numbers, share_row, share_rows, shares_table, shares_text};
 
+use crate::commands::first_ones;
 use crate::svg::scaled;
 use control::Command;
 use std::alloc::{AllocError, Global};
@@ -13,17 +14,6 @@ const SLOTS: u32 = 251;
 
 /// So many backends may be up.
 const BACKENDS: u32 = 256;
-
-/// The commands before the first record.
-fn first_ones(alloc: Global, commands: &[Command]) -> Result<Vec<Command>, AllocError>
-    ensures { IfOk result (λ firsts. firsts.items ≡ first_ones commands.now) }
-{
-    commands
-        .iter()
-        .copied()
-        .filter(|command| command.frame == 0)
-        .collect(alloc)
-}
 
 /// A backend's number, and its slots at the start and at the end.
 #[tactic(auto, unfolding(crate::specs::Shares::share_numbers))]

@@ -1,61 +1,25 @@
 //! The tables of a page: figures, and frames of flows that moved.
 
-ghost use Rattle.std.specs.Prelude.{◌≡◌, ◌<◌, IfOk, length, map, string_bytes, take};
+ghost use Rattle.std.specs.Prelude.{◌≡◌, IfOk, map, string_bytes, take};
 ghost use Rattle.std.specs.List.{flat_map};
 ghost use Rattle.flows.specs.FlowRecords.{moved_of};
-ghost use Rattle.page.specs.Tables.{between_at, escaped, fate_figures, figure_text, figures_text, joined_until, more_text, move_back};
-ghost use Rattle.page.specs.Tables.{move_front, move_line, move_row, move_text, moves_table, moves_text, replaced};
+ghost use Rattle.page.specs.Tables.{fate_figures, figure_text, figures_text, more_text, move_back};
+ghost use Rattle.page.specs.Tables.{move_front, move_line, move_row, move_text, moves_table, moves_text, stopped_note};
 
 use crate::charts::fate_word;
+use crate::reading::moment_of;
+use crate::stamps::moment_text;
 use crate::tallies::at;
-use comparison::{field, flow_phrase, parts_at, row_at};
+use comparison::{field, flow_phrase, row_at};
 use flows::{Move, Reason};
 use std::alloc::{AllocError, Global};
 
 /// So many moves are in the table.
 const MOVES: usize = 100;
 
-/// What is before the part at this place.
-fn between_at(between: &str, place: usize) -> &str
-    ensures { result.now ≡ between_at between.now place }
-{
-    if place == 0 { "" } else { between }
-}
-
-/// The parts, with a text between them.
-fn joined(alloc: Global, between: &str, parts: &[&str]) -> Result<String, AllocError>
-    ensures { IfOk result (λ text. string_bytes text ≡
-        joined_until between.now (map (λ part. part.now) parts.now) (length (map (λ part. part.now) parts.now))) }
-{
-    let mut text = String::new(alloc);
-    'parts: for place in 0..parts.len() {
-        text.push_str(between_at(between, place))?;
-        text.push_str(row_at(parts, place))?;
-    }
-    Ok(text)
-}
-
-/// A text with another in place of each mark.
-fn replaced(alloc: Global, mark: char, by: &str, text: &str) -> Result<String, AllocError>
-    requires { mark < 128 }
-    ensures { IfOk result (λ made. string_bytes made ≡ replaced mark by.now text.now) }
-{
-    let parts = parts_at(alloc, text, mark)?;
-    joined(alloc, by, &parts)
-}
-
-/// A text as HTML has it between elements.
-fn escaped(alloc: Global, text: &str) -> Result<String, AllocError>
-    ensures { IfOk result (λ made. string_bytes made ≡ escaped text.now) }
-{
-    let first = replaced(alloc, '&', "&amp;", text)?;
-    let second = replaced(alloc, '<', "&lt;", first.as_str())?;
-    replaced(alloc, '>', "&gt;", second.as_str())
-}
-
 /// A row of figures.
 #[tactic(auto, unfolding(crate::specs::Tables::figure_text))]
-fn figure_text(alloc: Global, name: &str, value: usize) -> Result<String, AllocError>
+pub(crate) fn figure_text(alloc: Global, name: &str, value: usize) -> Result<String, AllocError>
     ensures { IfOk result (λ text. string_bytes text ≡ figure_text name.now value) }
 {
     format!(in alloc; "<tr><th>{name}</th><td>{value}</td></tr>\n")
@@ -91,7 +55,19 @@ pub(crate) fn figures_text(
 {
     format!(in alloc;
         "<table class=\"figures\">\n<tr><th>records</th><td>{records}</td></tr>\n{fates}<tr><th>moves of flows</th><td>{moves}</td></tr>\n\
-         <tr><th>first moment</th><td>{first} s</td></tr>\n<tr><th>last moment</th><td>{last} s</td></tr>\n</table>\n"
+         <tr><th>first moment</th><td>{first}</td></tr>\n<tr><th>last moment</th><td>{last}</td></tr>\n</table>\n"
+    )
+}
+
+/// How many frames were stopped, if any were.
+pub(crate) fn stopped_note(alloc: Global, stopped: usize) -> Result<String, AllocError>
+    ensures { IfOk result (λ text. string_bytes text ≡ stopped_note stopped) }
+{
+    if stopped == 0 {
+        return Ok(String::new(alloc));
+    }
+    format!(in alloc;
+        "<p>{stopped} frames were stopped by full journals: what is said of flows is incomplete</p>\n"
     )
 }
 
@@ -135,19 +111,15 @@ fn move_text(
 fn move_row(alloc: Global, from: &str, reason: Reason, row: &str) -> Result<String, AllocError>
     ensures { IfOk result (λ text. string_bytes text ≡ move_row from.now reason row.now) }
 {
-    let number = escaped(alloc, field(row, 0))?;
-    let moment = escaped(alloc, field(row, 1))?;
-    let phrase = flow_phrase(alloc, row)?;
-    let flow = escaped(alloc, phrase.as_str())?;
-    let from = escaped(alloc, from)?;
-    let to = escaped(alloc, field(row, 7))?;
+    let moment = moment_text(alloc, moment_of(row))?;
+    let flow = flow_phrase(alloc, row)?;
     move_text(
         alloc,
-        number.as_str(),
+        field(row, 0),
         moment.as_str(),
         flow.as_str(),
-        from.as_str(),
-        to.as_str(),
+        from,
+        field(row, 7),
         reason.word(),
     )
 }

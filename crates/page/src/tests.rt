@@ -26,18 +26,19 @@ const THREE_RECORDS: &str =
 const THREE_COMMANDS: &str = "0 vip 203.0.113.1 80 tcp\n0 up 1 192.0.2.2\n2 down 1\n";
 
 #[rattlefmt::skip]
-static ROWS: [Row; 11] = [
+static ROWS: [Row; 13] = [
     ("no record", "0 up 1 192.0.2.2\n", "", &[
         "<!DOCTYPE html>\n",
         "<tr><th>records</th><td>0</td></tr>\n<tr><th>sent</th><td>0</td></tr>\n<tr><th>passed</th><td>0</td></tr>\n<tr><th>dropped</th><td>0</td></tr>\n",
         "<tr><th>aborted</th><td>0</td></tr>\n<tr><th>stopped</th><td>0</td></tr>\n<tr><th>short</th><td>0</td></tr>\n\
          <tr><th>moves of flows</th><td>0</td></tr>\n",
-        "<tr><th>first moment</th><td>0.000000 s</td></tr>\n<tr><th>last moment</th><td>0.000000 s</td></tr>\n</table>\n",
+        "<tr><th>first moment</th><td>0.000000 s, 1970-01-01T00:00:00.000000Z</td></tr>\n<tr><th>last moment</th><td>0.000000 s, 1970-01-01T00:00:00.000000Z</td></tr>\n</table>\n",
         "</defs>\n<g fill=\"url(#f0)\"></g>\n",
         "<g fill=\"url(#f8)\"></g>\n<path class=\"axis\" d=\"M36 20H396M36 80H396M36 140H396\"/>\n<text class=\"end\" x=\"33\" y=\"24\">1</text>",
-        "<path class=\"mark\" d=\"M36 12V140\"/><text class=\"mid\" x=\"36\" y=\"9\">1</text>\n</svg>\n",
+        "</svg>\n<h2>Frames by case</h2>\n<table class=\"figures\">\n</table>\n<h2>Frames by backend</h2>\n",
         "viewBox=\"0 0 400 4\">\n<title>Frames by backend</title>\n<desc>Bars: how many frames each backend got.</desc>\n</svg>\n",
-        "<tr><td>1</td><td>1</td><td>0.000000</td><td>up 1 192.0.2.2</td></tr>\n</table></div>\n<h2>Shares of the lookup table</h2>\n",
+        "<h2>Commands</h2>\n<p>1 commands before the first record</p>\n<div class=\"wide\"><table>\n",
+        "<th>command</th></tr>\n</table></div>\n<h2>Shares of the lookup table</h2>\n",
         "<h2>Moved frames, by reason</h2>\n<svg role=\"img\" viewBox=\"0 0 400 74\">\n",
         "<text class=\"end\" x=\"80\" y=\"12\">down</text>\
          <rect class=\"key\" x=\"84\" y=\"4\" width=\"0\" height=\"10\" fill=\"url(#f0)\"/><text x=\"88\" y=\"12\">0</text>\n",
@@ -76,44 +77,49 @@ static ROWS: [Row; 11] = [
         "<td>192.0.2.2</td><td>192.0.2.1</td><td>down</td></tr>\n", "<td>192.0.2.1</td><td>192.0.2.3</td><td>evicted</td></tr>\n",
         "<td>192.0.2.3</td><td>192.0.2.9</td><td>readdressed</td></tr>\n", "<td>192.0.2.9</td><td>192.0.2.7</td><td>evicted</td></tr>\n",
         "<td>192.0.2.7</td><td>192.0.2.1</td><td>unknown</td></tr>\n",
-        "<tr><td>8</td><td>8.000000</td><td>udp 10.0.0.1:1000 to 203.0.113.2:53</td><td>192.0.2.1</td><td>192.0.2.3</td><td>untracked</td></tr>\n</table>",
+        "<tr><td>8</td><td>8.000000 s, 1970-01-01T00:00:08.000000Z</td><td>udp 10.0.0.1:1000 to 203.0.113.2:53</td><td>192.0.2.1</td><td>192.0.2.3</td><td>untracked</td></tr>\n</table>",
     ]),
     ("three records: figures", THREE_COMMANDS, THREE_RECORDS, &[
         "<tr><th>records</th><td>3</td></tr>\n<tr><th>sent</th><td>1</td></tr>\n<tr><th>passed</th><td>1</td></tr>\n<tr><th>dropped</th><td>1</td></tr>\n",
         "<tr><th>short</th><td>0</td></tr>\n<tr><th>moves of flows</th><td>0</td></tr>\n",
-        "<tr><th>first moment</th><td>1.000000 s</td></tr>\n<tr><th>last moment</th><td>1.000120 s</td></tr>\n",
+        "<tr><th>first moment</th><td>1.000000 s, 1970-01-01T00:00:01.000000Z</td></tr>\n<tr><th>last moment</th><td>1.000120 s, 1970-01-01T00:00:01.000120Z</td></tr>\n",
     ]),
-    ("three records: slots are of 3 microseconds, and the records in the first, 20 and 40 further; the second command is in the slot of the first",
+    ("three records: slots are of 3 microseconds, and the records in the first, 20 and 40 further; only the last command has a mark",
         THREE_COMMANDS, THREE_RECORDS, &[
         "<h2>Frames over time, by backend</h2>\n",
         "<g fill=\"url(#f0)\"><rect x=\"36\" y=\"20\" width=\"5\" height=\"120\"/></g>\n<g fill=\"url(#f1)\"></g>\n",
-        "<path class=\"mark\" d=\"M36 12V140\"/><text class=\"mid\" x=\"36\" y=\"9\">1</text>\n\
-         <path class=\"mark\" d=\"M276 12V140\"/><text class=\"mid\" x=\"276\" y=\"9\">3</text>\n",
+        "153\">1.000120 s</text>\n<path class=\"mark\" d=\"M276 12V140\"/><text class=\"mid\" x=\"276\" y=\"9\">1</text>\n",
         "<rect class=\"key\" x=\"36\" y=\"162\" width=\"14\" height=\"9\" fill=\"url(#f0)\"/><text x=\"54\" y=\"170\">backend 1</text>\n</svg>\n",
         "<h2>Frames over time, by what became of them</h2>\n",
         "<g fill=\"url(#f0)\"><rect x=\"36\" y=\"20\" width=\"5\" height=\"120\"/></g>\n\
          <g fill=\"url(#f1)\"><rect x=\"276\" y=\"20\" width=\"5\" height=\"120\"/></g>\n\
          <g fill=\"url(#f2)\"><rect x=\"156\" y=\"20\" width=\"5\" height=\"120\"/></g>\n<g fill=\"url(#f3)\"></g>\n",
         "<text x=\"36\" y=\"153\">1.000000 s</text><text class=\"end\" x=\"396\" y=\"153\">1.000120 s</text>\n",
-        "<path class=\"mark\" d=\"M276 12V140\"/><text class=\"mid\" x=\"276\" y=\"9\">3</text>\n",
-        "<rect class=\"key\" x=\"280\" y=\"176\" width=\"14\" height=\"9\" fill=\"url(#f5)\"/><text x=\"298\" y=\"184\">short</text>\n</svg>\n",
+        "<path class=\"mark\" d=\"M276 12V140\"/><text class=\"mid\" x=\"276\" y=\"9\">1</text>\n",
+        "<rect class=\"key\" x=\"280\" y=\"176\" width=\"14\" height=\"9\" fill=\"url(#f5)\"/><text x=\"298\" y=\"184\">short</text>\n</svg>\n\
+         <h2>Frames by case</h2>\n<table class=\"figures\">\n<tr><th>sent</th><td>1</td></tr>\n<tr><th>no-backend</th><td>1</td></tr>\n\
+         <tr><th>arp</th><td>1</td></tr>\n</table>\n<h2>Frames by backend</h2>\n",
     ]),
     ("three records: the bar of the backend, and the commands", THREE_COMMANDS, THREE_RECORDS, &[
         "viewBox=\"0 0 400 18\">\n<title>Frames by backend</title>\n",
         "<text class=\"end\" x=\"80\" y=\"12\">backend 1</text>\
-         <rect class=\"key\" x=\"84\" y=\"4\" width=\"240\" height=\"10\" fill=\"url(#f0)\"/><text x=\"328\" y=\"12\">1</text>\n</svg>\n",
+         <rect class=\"key\" x=\"84\" y=\"4\" width=\"240\" height=\"10\" fill=\"url(#f0)\"/><text x=\"328\" y=\"12\">1</text>\n</svg>\n\
+         <h2>Frames by backend, before and behind the first command</h2>\n<p>The first command behind record 1 comes before record 3.</p>\n\
+         <table class=\"figures\">\n<tr><th>backend</th><th>before</th><th>behind</th></tr>\n\
+         <tr><th>backend 1</th><td>1</td><td>0</td></tr>\n<tr><th>none</th><td>1</td><td>1</td></tr>\n</table>\n\
+         <h2>Commands</h2>\n<p>2 commands before the first record</p>\n",
         "<tr><th>mark</th><th>before record</th><th>at</th><th>command</th></tr>\n\
-         <tr><td>1</td><td>1</td><td>1.000000</td><td>vip 203.0.113.1 80 tcp</td></tr>\n\
-         <tr><td>2</td><td>1</td><td>1.000000</td><td>up 1 192.0.2.2</td></tr>\n<tr><td>3</td><td>3</td><td>1.000120</td><td>down 1</td></tr>\n\
+         <tr><td>1</td><td>3</td><td>1.000120 s, 1970-01-01T00:00:01.000120Z</td><td>down 1</td></tr>\n\
          </table></div>\n<h2>Shares of the lookup table</h2>\n",
         "<tr><td>1</td><td>251</td><td>0</td><td>",
     ]),
     ("commands of each kind; one behind the last record is at the last moment",
-        "0 gateway 192.0.2.1 02:00:00:00:00:01 02:00:00:00:00:02\n1 vip 203.0.113.2 53 udp notrack\n9 down 7\n",
+        "1 gateway 192.0.2.1 02:00:00:00:00:01 02:00:00:00:00:02\n1 vip 203.0.113.2 53 udp notrack\n9 down 7\n",
         "1,1.000000,0,PASS,9,arp,,,,,,,\n2,3.000000,0,PASS,9,arp,,,,,,,\n", &[
-        "<tr><td>1</td><td>1</td><td>1.000000</td><td>gateway 192.0.2.1</td></tr>\n\
-         <tr><td>2</td><td>2</td><td>3.000000</td><td>vip 203.0.113.2 53 udp notrack</td></tr>\n\
-         <tr><td>3</td><td>10</td><td>3.000000</td><td>down 7</td></tr>\n",
+        "<h2>Commands</h2>\n<div class",
+        "<tr><td>1</td><td>2</td><td>3.000000 s, 1970-01-01T00:00:03.000000Z</td><td>gateway 192.0.2.1</td></tr>\n\
+         <tr><td>2</td><td>2</td><td>3.000000 s, 1970-01-01T00:00:03.000000Z</td><td>vip 203.0.113.2 53 udp notrack</td></tr>\n\
+         <tr><td>3</td><td>10</td><td>3.000000 s, 1970-01-01T00:00:03.000000Z</td><td>down 7</td></tr>\n",
     ]),
     ("two moves of one flow, and a frame between that was dropped", "",
         "1,1.000000,0,TX,99,sent,1,192.0.2.2,10.0.0.1,1000,203.0.113.1,80,tcp\n2,2.000000,0,TX,99,sent,1,192.0.2.2,10.0.0.1,1001,203.0.113.1,80,tcp\n\
@@ -122,8 +128,8 @@ static ROWS: [Row; 11] = [
         "<tr><th>moves of flows</th><td>2</td></tr>\n",
         "<rect class=\"key\" x=\"84\" y=\"4\" width=\"240\" height=\"10\" fill=\"url(#f0)\"/><text x=\"328\" y=\"12\">2</text>\n",
         "<th>to</th><th>reason</th></tr>\n\
-         <tr><td>4</td><td>4.000000</td><td>tcp 10.0.0.1:1000 to 203.0.113.1:80</td><td>192.0.2.2</td><td>192.0.2.3</td><td>down</td></tr>\n\
-         <tr><td>5</td><td>5.000000</td><td>tcp 10.0.0.1:1000 to 203.0.113.1:80</td><td>192.0.2.3</td><td>192.0.2.2</td><td>down</td></tr>\n</table></div>\n\
+         <tr><td>4</td><td>4.000000 s, 1970-01-01T00:00:04.000000Z</td><td>tcp 10.0.0.1:1000 to 203.0.113.1:80</td><td>192.0.2.2</td><td>192.0.2.3</td><td>down</td></tr>\n\
+         <tr><td>5</td><td>5.000000 s, 1970-01-01T00:00:05.000000Z</td><td>tcp 10.0.0.1:1000 to 203.0.113.1:80</td><td>192.0.2.3</td><td>192.0.2.2</td><td>down</td></tr>\n</table></div>\n\
          </body>\n",
     ]),
     ("a verdict of another word, and the verdicts that are rare", "",
@@ -132,19 +138,30 @@ static ROWS: [Row; 11] = [
         "<tr><th>sent</th><td>0</td></tr>\n<tr><th>passed</th><td>0</td></tr>\n<tr><th>dropped</th><td>0</td></tr>\n\
          <tr><th>aborted</th><td>1</td></tr>\n<tr><th>stopped</th><td>1</td></tr>\n<tr><th>short</th><td>2</td></tr>\n\
          <tr><th>other</th><td>1</td></tr>\n<tr><th>moves of flows</th>",
-        "<text x=\"54\" y=\"198\">other</text>\n</svg>\n",
+        "</table>\n<p>1 frames were stopped by full journals: what is said of flows is incomplete</p>\n<h2>Frames over time, by backend</h2>\n",
+        "<text x=\"54\" y=\"198\">other</text>\n</svg>\n<h2>Frames by case</h2>\n<table class=\"figures\">\n\
+         <tr><th>short</th><td>2</td></tr>\n<tr><th>other</th><td>3</td></tr>\n</table>\n",
     ]),
-    ("moments that do not rise, and backends in the order of their numbers", "",
+    ("dates: a leap day of a century, and the last microsecond of year 9999", "1 down 1\n2 down 2\n",
+        "1,951782400.000000,0,PASS,9,arp,,,,,,,\n2,1709210096.654321,0,PASS,9,arp,,,,,,,\n3,4107542400.000000,0,PASS,9,arp,,,,,,,\n4,253402300799.999999,0,PASS,9,arp,,,,,,,\n", &[
+        "<td>951782400.000000 s, 2000-02-29T00:00:00.000000Z</td></tr>\n<tr><th>last moment</th><td>253402300799.999999 s, 9999-12-31T23:59:59.999999Z</td></tr>\n",
+        "<td>1709210096.654321 s, 2024-02-29T12:34:56.654321Z</td><td>down 1</td>", "<td>4107542400.000000 s, 2100-03-01T00:00:00.000000Z</td><td>down 2</td>",
+    ]),
+    ("a moment that has no such form", "", "1,253402300800.000000,0,PASS,9,arp,,,,,,,\n", &[
+        "<td>253402300800.000000 s, later</td></tr>\n</table>\n",
+    ]),
+    ("moments that do not rise, backends in the order of their numbers, and one whose number no table has, which has no name", "",
         "1,9.000000,0,TX,99,sent,4294967295,192.0.2.2,10.0.0.1,1000,203.0.113.1,80,tcp\n\
          2,7.000000,0,TX,99,sent,0,192.0.2.3,10.0.0.2,1000,203.0.113.1,80,tcp\n3,8.000000,0,TX,99,sent,0,192.0.2.3,10.0.0.2,1000,203.0.113.1,80,tcp\n", &[
-        "<tr><th>first moment</th><td>7.000000 s</td></tr>\n<tr><th>last moment</th><td>9.000000 s</td></tr>\n",
+        "<tr><th>first moment</th><td>7.000000 s, 1970-01-01T00:00:07.000000Z</td></tr>\n<tr><th>last moment</th><td>9.000000 s, 1970-01-01T00:00:09.000000Z</td></tr>\n",
         "backend 0</text>\n\
-         <rect class=\"key\" x=\"158\" y=\"162\" width=\"14\" height=\"9\" fill=\"url(#f1)\"/><text x=\"176\" y=\"170\">backend 4294967295</text>\n\
+         <rect class=\"key\" x=\"280\" y=\"190\" width=\"14\" height=\"9\" fill=\"url(#f8)\"/><text x=\"298\" y=\"198\">others</text>\n\
          </svg>\n",
         "<text class=\"end\" x=\"80\" y=\"12\">backend 0</text>\
          <rect class=\"key\" x=\"84\" y=\"4\" width=\"240\" height=\"10\" fill=\"url(#f0)\"/><text x=\"328\" y=\"12\">2</text>\n\
          <text class=\"end\" x=\"80\" y=\"26\">backend 4294967295</text>\
-         <rect class=\"key\" x=\"84\" y=\"18\" width=\"120\" height=\"10\" fill=\"url(#f1)\"/><text x=\"208\" y=\"26\">1</text>\n</svg>\n",
+         <rect class=\"key\" x=\"84\" y=\"18\" width=\"120\" height=\"10\" fill=\"url(#f8)\"/><text x=\"208\" y=\"26\">1</text>\n</svg>\n\
+         <h2>Commands</h2>\n",
     ]),
 ];
 
@@ -152,7 +169,7 @@ static ROWS: [Row; 11] = [
 type Refusal = (&'static str, &'static [u8], NoRows);
 
 #[rattlefmt::skip]
-const REFUSED: [Refusal; 6] = [
+const REFUSED: [Refusal; 8] = [
     ("JSON lines", b"{\"number\":1}\n", NoRows::JsonLines),
     ("an empty file", b"", NoRows::NoReport { line: 1 }),
     ("a report without its head", b"1,1.000000,0,PASS,9,arp,,,,,,,\n", NoRows::NoReport { line: 1 }),
@@ -164,6 +181,14 @@ const REFUSED: [Refusal; 6] = [
         b"number,moment,worker,verdict,steps,case,backend,address,source,source_port,destination,destination_port,protocol\n\
              1,1.000000,0,PASS,9,arp,,,,,,,\n2,2.000000,0,PASS,9,arp,,,,,,,",
         NoRows::NoReport { line: 3 }),
+    ("marks of HTML",
+        b"number,moment,worker,verdict,steps,case,backend,address,source,source_port,destination,destination_port,protocol\n\
+             1,1.000000,0,PASS,9,arp,,,,,,,\n<b>,2.000000,0,PASS,9,arp,,,,,,,\n",
+        NoRows::WrongField { line: 3, column: 0 }),
+    ("a moment that a terminal would act on",
+        b"number,moment,worker,verdict,steps,case,backend,address,source,source_port,destination,destination_port,protocol\n\
+             1,1.0\x1b[2J,0,PASS,9,arp,,,,,,,\n",
+        NoRows::WrongField { line: 2, column: 1 }),
     ("bytes that are no text",
         b"number,moment,worker,verdict,steps,case,backend,address,source,source_port,destination,destination_port,protocol\n\
              1,1.000000,0,PASS,9,arp,,,,,,,\n\xff\n",
@@ -242,27 +267,33 @@ fn commands_in_turn(alloc: Global, count: u64) -> Result<String, AllocError> {
 }
 
 /// Parts of the page of 200 records over forty backends and 150 commands, one behind the other. A slot of 3.316667 seconds has three records or
-/// four; the first four are of four backends.
+/// four; the first four are of backends 0 to 3. The backends 1 to 8 have names: the commands behind record 1 name them first.
 #[rattlefmt::skip]
-static MANY: [&str; 17] = [
+static MANY: [&str; 22] = [
     "<tr><th>records</th><td>200</td></tr>\n<tr><th>sent</th><td>200</td></tr>\n",
-    "<tr><th>moves of flows</th><td>199</td></tr>\n<tr><th>first moment</th><td>1.000000 s</td></tr>\n<tr><th>last moment</th><td>200.000000 s</td></tr>\n",
+    "<tr><th>moves of flows</th><td>199</td></tr>\n<tr><th>first moment</th><td>1.000000 s, 1970-01-01T00:00:01.000000Z</td></tr>\n<tr><th>last moment</th><td>200.000000 s, 1970-01-01T00:03:20.000000Z</td></tr>\n",
     "<g fill=\"url(#f0)\"><rect x=\"36\" y=\"110\" width=\"5\" height=\"30\"/>",
     "<g fill=\"url(#f1)\"><rect x=\"36\" y=\"80\" width=\"5\" height=\"30\"/>",
-    "<g fill=\"url(#f8)\"><rect x=\"48\" y=\"50\" width=\"5\" height=\"60\"/><rect x=\"54\" y=\"20\" width=\"5\" height=\"120\"/>",
+    "<g fill=\"url(#f7)\"><rect x=\"48\" y=\"80\" width=\"5\" height=\"30\"/>",
+    "<g fill=\"url(#f8)\"><rect x=\"36\" y=\"20\" width=\"5\" height=\"30\"/><rect x=\"48\" y=\"50\" width=\"5\" height=\"30\"/>\
+     <rect x=\"54\" y=\"20\" width=\"5\" height=\"120\"/>",
     "<text class=\"end\" x=\"33\" y=\"24\">4</text>",
-    "<text class=\"mid\" x=\"36\" y=\"9\">1</text>\n<path class=\"mark\" d=\"M42 12V140\"/><text class=\"mid\" x=\"42\" y=\"9\">5</text>\n",
-    "backend 7</text>\n<rect class=\"key\" x=\"280\" y=\"190\" width=\"14\" height=\"9\" fill=\"url(#f8)\"/><text x=\"298\" y=\"198\">others</text>\n</svg>\n",
+    "<text class=\"mid\" x=\"36\" y=\"9\">1</text>\n<path class=\"mark\" d=\"M42 12V140\"/><text class=\"mid\" x=\"42\" y=\"9\">4</text>\n",
+    "backend 8</text>\n<rect class=\"key\" x=\"280\" y=\"190\" width=\"14\" height=\"9\" fill=\"url(#f8)\"/><text x=\"298\" y=\"198\">others</text>\n</svg>\n",
     "<g fill=\"url(#f0)\"><rect x=\"36\" y=\"20\" width=\"5\" height=\"120\"/><rect x=\"42\" y=\"50\" width=\"5\" height=\"90\"/>",
+    "<h2>Frames by case</h2>\n<table class=\"figures\">\n<tr><th>sent</th><td>200</td></tr>\n</table>\n",
     "viewBox=\"0 0 400 466\">\n<title>Frames by backend</title>\n",
     "<text class=\"end\" x=\"80\" y=\"446\">backend 31</text>\
      <rect class=\"key\" x=\"84\" y=\"438\" width=\"30\" height=\"10\" fill=\"url(#f8)\"/><text x=\"118\" y=\"446\">5</text>\n",
     "<text class=\"end\" x=\"80\" y=\"460\">others</text>\
      <rect class=\"key\" x=\"84\" y=\"452\" width=\"240\" height=\"10\" fill=\"url(#f8)\"/><text x=\"328\" y=\"460\">40</text>\n</svg>\n",
-    "<tr><td>100</td><td>100</td><td>100.000000</td><td>down 99</td></tr>\n</table></div>\n<p>and 50 more</p>\n",
+    "<p>The first command behind record 1 comes before record 2.</p>\n",
+    "<tr><th>backend 0</th><td>1</td><td>4</td></tr>\n<tr><th>backend 1</th><td>0</td><td>5</td></tr>\n",
+    "<tr><th>others</th><td>0</td><td>40</td></tr>\n</table>\n<h2>Commands</h2>\n<p>1 commands before the first record</p>\n",
+    "<tr><td>100</td><td>101</td><td>101.000000 s, 1970-01-01T00:01:41.000000Z</td><td>down 100</td></tr>\n</table></div>\n<p>and 49 more</p>\n",
     "<rect class=\"key\" x=\"84\" y=\"4\" width=\"240\" height=\"10\" fill=\"url(#f0)\"/><text x=\"328\" y=\"12\">199</text>\n",
-    "<tr><td>2</td><td>2.000000</td><td>tcp 10.0.0.1:1000 to 203.0.113.1:80</td><td>192.0.2.0</td><td>192.0.2.1</td><td>down</td></tr>\n",
-    "<tr><td>101</td><td>101.000000</td><td>tcp 10.0.0.1:1000 to 203.0.113.1:80</td><td>192.0.2.19</td><td>192.0.2.20</td><td>down</td></tr>\n\
+    "<tr><td>2</td><td>2.000000 s, 1970-01-01T00:00:02.000000Z</td><td>tcp 10.0.0.1:1000 to 203.0.113.1:80</td><td>192.0.2.0</td><td>192.0.2.1</td><td>down</td></tr>\n",
+    "<tr><td>101</td><td>101.000000 s, 1970-01-01T00:01:41.000000Z</td><td>tcp 10.0.0.1:1000 to 203.0.113.1:80</td><td>192.0.2.19</td><td>192.0.2.20</td><td>down</td></tr>\n\
      </table></div>\n\
      <p>and 99 more</p>\n",
     "</body>\n</html>\n",

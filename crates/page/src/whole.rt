@@ -1,24 +1,33 @@
 //! The page of a report and a script.
 
-ghost use Rattle.std.specs.Prelude.{◌≡◌, ◌≤◌, IfErr, IfOk, length, map, string_bytes};
+ghost use Rattle.std.specs.Prelude.{◌≡◌, ◌≤◌, IfErr, IfOk, count_by, length, map, string_bytes};
 ghost use Rattle.comparison.specs.Rows.{IsUnread};
 ghost use Rattle.flows.specs.FlowRecords.{moved_of};
+ghost use Rattle.page.specs.Commands.{is_first};
+ghost use Rattle.page.specs.Named.{named_keys};
 ghost use Rattle.page.specs.Page.{IsPage, IsPageOf, backends_in_time, by_backend, by_fate, command_marks, fates_in_time, figures_in, figures_of};
-ghost use Rattle.page.specs.Page.{commands_and_shares, moves_and_reasons, moves_in_rows};
+ghost use Rattle.page.specs.Page.{backends_and_halves, commands_and_shares, fates_and_cases, figures_noted, moves_and_reasons, moves_in_rows};
 ghost use Rattle.page.specs.Page.{of_backends, page_at};
 ghost use Rattle.page.specs.Reading.{keys_of};
 ghost use Rattle.page.specs.Tallies.{AreLeast};
 
+use crate::cases::cases_in;
 use crate::charts::{
     backends_over_time, backends_text, fates_named, fates_over_time, seconds_text,
 };
+use crate::commands::{first_count, later_ones, records_before};
+use crate::halves::halves_text;
 use crate::html::{COMMANDS, command_slots, commands_text, first_commands, whole_text};
+use crate::named::named_keys;
 use crate::reading::{fates_of, keys_of, moments_of};
 use crate::reasons::reasons_text;
 use crate::shares::shares_told;
+use crate::stamps::moment_text;
 use crate::svg::marks_of;
-use crate::tables::{fate_figures, figures_text, moves_text};
-use crate::tallies::{classes_of, counts_of, earliest, latest, lowest_keys, slot_length, slots_of};
+use crate::tables::{fate_figures, figures_text, moves_text, stopped_note};
+use crate::tallies::{
+    at, classes_of, counts_of, earliest, latest, lowest_keys, slot_length, slots_of,
+};
 use comparison::{NoRows, rows_in};
 use control::{Command, Script};
 use flows::{Move, moved_frames};
@@ -36,8 +45,8 @@ fn figures_of(
     ensures { IfOk result (λ text. string_bytes text ≡ figures_of records totals.now moves first last) }
 {
     let fates = fate_figures(alloc, totals, fates_named(totals))?;
-    let first = seconds_text(alloc, first)?;
-    let last = seconds_text(alloc, last)?;
+    let first = moment_text(alloc, first)?;
+    let last = moment_text(alloc, last)?;
     figures_text(
         alloc,
         records,
@@ -46,6 +55,23 @@ fn figures_of(
         first.as_str(),
         last.as_str(),
     )
+}
+
+/// The same, and that frames were stopped, if any were.
+fn figures_noted(
+    alloc: Global,
+    records: usize,
+    totals: &[usize],
+    moves: usize,
+    first: u64,
+    last: u64,
+) -> Result<String, AllocError>
+    ensures { IfOk result (λ text. string_bytes text ≡ figures_noted records totals.now moves first last) }
+{
+    let mut text = figures_of(alloc, records, totals, moves, first, last)?;
+    let note = stopped_note(alloc, at(totals, 4))?;
+    text.push_str(note.as_str())?;
+    Ok(text)
 }
 
 /// The marks of the first hundred commands.
@@ -73,20 +99,20 @@ fn command_marks(
 /// Frames over time by backend.
 fn by_backend(
     alloc: Global,
-    listed: &[u64],
+    named: &[u64],
     keys: &[u64],
     slots: &[usize],
     first: u64,
     last: u64,
     marks: &str,
 ) -> Result<String, AllocError>
-    ensures { IfOk result (λ text. string_bytes text ≡ by_backend listed.now keys.now slots.now first last marks.now) }
+    ensures { IfOk result (λ text. string_bytes text ≡ by_backend named.now keys.now slots.now first last marks.now) }
 {
     let first = seconds_text(alloc, first)?;
     let last = seconds_text(alloc, last)?;
     backends_over_time(
         alloc,
-        listed,
+        named,
         keys,
         slots,
         first.as_str(),
@@ -122,33 +148,55 @@ fn by_fate(
 
 /// Frames by backend.
 #[tactic(auto, unfolding(crate::specs::Page::of_backends))]
-fn of_backends(alloc: Global, listed: &[u64], keys: &[u64]) -> Result<String, AllocError>
+fn of_backends(
+    alloc: Global,
+    named: &[u64],
+    listed: &[u64],
+    keys: &[u64],
+) -> Result<String, AllocError>
     requires { length listed.now ≤ 32 }
-    ensures { IfOk result (λ text. string_bytes text ≡ of_backends listed.now keys.now) }
+    ensures { IfOk result (λ text. string_bytes text ≡ of_backends named.now listed.now keys.now) }
 {
     let classes = classes_of(alloc, listed, 33, keys)?;
     let totals = counts_of(alloc, &classes, 33)?;
-    backends_text(alloc, listed, &totals)
+    backends_text(alloc, named, listed, &totals)
+}
+
+/// Frames by backend, in all, and before and behind the first of the later commands.
+fn backends_and_halves(
+    alloc: Global,
+    named: &[u64],
+    listed: &[u64],
+    keys: &[u64],
+    later: &[Command],
+) -> Result<String, AllocError>
+    requires { length listed.now ≤ 32 }
+    ensures { IfOk result (λ text. string_bytes text ≡ backends_and_halves named.now listed.now keys.now later.now) }
+{
+    let mut text = of_backends(alloc, named, listed, keys)?;
+    let halves = halves_text(alloc, listed, keys, records_before(later))?;
+    text.push_str(halves.as_str())?;
+    Ok(text)
 }
 
 /// Frames over time by backend, of rows.
 #[tactic(auto, unfolding(crate::specs::Page::backends_in_time))]
 fn backends_in_time(
     alloc: Global,
-    listed: &[u64],
+    named: &[u64],
     rows: &[&str],
-    commands: &[Command],
+    later: &[Command],
     moments: &[u64],
     first: u64,
     last: u64,
 ) -> Result<String, AllocError>
     ensures { IfOk result
-        (λ text. string_bytes text ≡ backends_in_time listed.now (map (λ row. row.now) rows.now) commands.now moments.now first last) }
+        (λ text. string_bytes text ≡ backends_in_time named.now (map (λ row. row.now) rows.now) later.now moments.now first last) }
 {
     let slots = slots_of(alloc, first, slot_length(first, last), moments)?;
-    let marks = command_marks(alloc, first, last, moments, commands)?;
+    let marks = command_marks(alloc, first, last, moments, later)?;
     let keys = keys_of(alloc, rows)?;
-    by_backend(alloc, listed, &keys, &slots, first, last, marks.as_str())
+    by_backend(alloc, named, &keys, &slots, first, last, marks.as_str())
 }
 
 /// Frames over time by what became of them, of rows.
@@ -156,18 +204,36 @@ fn backends_in_time(
 fn fates_in_time(
     alloc: Global,
     rows: &[&str],
-    commands: &[Command],
+    later: &[Command],
     moments: &[u64],
     first: u64,
     last: u64,
 ) -> Result<String, AllocError>
     ensures { IfOk result
-        (λ text. string_bytes text ≡ fates_in_time (map (λ row. row.now) rows.now) commands.now moments.now first last) }
+        (λ text. string_bytes text ≡ fates_in_time (map (λ row. row.now) rows.now) later.now moments.now first last) }
 {
     let slots = slots_of(alloc, first, slot_length(first, last), moments)?;
-    let marks = command_marks(alloc, first, last, moments, commands)?;
+    let marks = command_marks(alloc, first, last, moments, later)?;
     let fates = fates_of(alloc, rows)?;
     by_fate(alloc, &fates, &slots, first, last, marks.as_str())
+}
+
+/// The same, and how many frames are of each case.
+fn fates_and_cases(
+    alloc: Global,
+    rows: &[&str],
+    later: &[Command],
+    moments: &[u64],
+    first: u64,
+    last: u64,
+) -> Result<String, AllocError>
+    ensures { IfOk result
+        (λ text. string_bytes text ≡ fates_and_cases (map (λ row. row.now) rows.now) later.now moments.now first last) }
+{
+    let mut text = fates_in_time(alloc, rows, later, moments, first, last)?;
+    let cases = cases_in(alloc, rows)?;
+    text.push_str(cases.as_str())?;
+    Ok(text)
 }
 
 /// The figures of rows.
@@ -183,16 +249,23 @@ fn figures_in(
 {
     let fates = fates_of(alloc, rows)?;
     let totals = counts_of(alloc, &fates, 7)?;
-    figures_of(alloc, rows.len(), &totals, moves, first, last)
+    figures_noted(alloc, rows.len(), &totals, moves, first, last)
 }
 
 /// Frames by backend, of rows.
-fn backends_in(alloc: Global, listed: &[u64], rows: &[&str]) -> Result<String, AllocError>
+fn backends_in(
+    alloc: Global,
+    named: &[u64],
+    listed: &[u64],
+    rows: &[&str],
+    later: &[Command],
+) -> Result<String, AllocError>
     requires { length listed.now ≤ 32 }
-    ensures { IfOk result (λ text. string_bytes text ≡ of_backends listed.now (keys_of (map (λ row. row.now) rows.now))) }
+    ensures { IfOk result
+        (λ text. string_bytes text ≡ backends_and_halves named.now listed.now (keys_of (map (λ row. row.now) rows.now)) later.now) }
 {
     let keys = keys_of(alloc, rows)?;
-    of_backends(alloc, listed, &keys)
+    backends_and_halves(alloc, named, listed, &keys, later)
 }
 
 /// Moved frames by reason, and the table of the first of them.
@@ -223,14 +296,15 @@ fn moves_told(
 /// The commands, and the shares of the lookup table.
 fn commands_and_shares(
     alloc: Global,
+    count: usize,
     moments: &[u64],
     last: u64,
-    commands: &[Command],
+    later: &[Command],
     shares: &str,
 ) -> Result<String, AllocError>
-    ensures { IfOk result (λ text. string_bytes text ≡ commands_and_shares moments.now last commands.now shares.now) }
+    ensures { IfOk result (λ text. string_bytes text ≡ commands_and_shares count moments.now last later.now shares.now) }
 {
-    let mut text = commands_text(alloc, moments, last, commands)?;
+    let mut text = commands_text(alloc, count, moments, last, later)?;
     text.push_str(shares)?;
     Ok(text)
 }
@@ -243,26 +317,39 @@ fn listed_of(alloc: Global, rows: &[&str]) -> Result<Vec<u64>, AllocError>
     lowest_keys(alloc, &keys, 32)
 }
 
-/// The page of rows with these moments, where the first and the last of them are known, and the listed backends.
+/// The keys of the backends with a name.
+fn named_in(alloc: Global, rows: &[&str], later: &[Command]) -> Result<Vec<u64>, AllocError>
+    ensures { IfOk result (λ named. named.items ≡ named_keys later.now (keys_of (map (λ row. row.now) rows.now))) }
+{
+    let keys = keys_of(alloc, rows)?;
+    named_keys(alloc, later, &keys)
+}
+
+/// The page of rows with these moments, where the first and the last of them are known, the backends with a name, those that are listed, and
+/// the later commands.
 #[tactic(auto, unfolding(crate::specs::Page::page_at))]
 fn page_at(
     alloc: Global,
+    named: &[u64],
     listed: &[u64],
     shares: &str,
     rows: &[&str],
     commands: &[Command],
+    later: &[Command],
     moments: &[u64],
     first: u64,
     last: u64,
 ) -> Result<String, AllocError>
     requires { length listed.now ≤ 32 }
     ensures { IfOk result
-        (λ text. string_bytes text ≡ page_at listed.now shares.now (map (λ row. row.now) rows.now) commands.now moments.now first last) }
+        (λ text. string_bytes text ≡
+        page_at named.now listed.now shares.now (map (λ row. row.now) rows.now) commands.now later.now moments.now first last) }
 {
-    let by_backend = backends_in_time(alloc, listed, rows, commands, moments, first, last)?;
-    let by_fate = fates_in_time(alloc, rows, commands, moments, first, last)?;
-    let backends = backends_in(alloc, listed, rows)?;
-    let listing = commands_and_shares(alloc, moments, last, commands, shares)?;
+    let by_backend = backends_in_time(alloc, named, rows, later, moments, first, last)?;
+    let by_fate = fates_and_cases(alloc, rows, later, moments, first, last)?;
+    let backends = backends_in(alloc, named, listed, rows, later)?;
+    let before = first_count(commands);
+    let listing = commands_and_shares(alloc, before, moments, last, later, shares)?;
     let (count, moves) = moves_told(alloc, rows, commands)?;
     let figures = figures_in(alloc, rows, count, first, last)?;
     whole_text(
@@ -281,22 +368,24 @@ fn page_of(alloc: Global, rows: &[&str], commands: &[Command]) -> Result<String,
     ensures { IfOk result (λ text. IsPageOf (map (λ row. row.now) rows.now) commands.now (string_bytes text)) }
 {
     let listed = listed_of(alloc, rows)?;
+    let later = later_ones(alloc, commands)?;
+    let named = named_in(alloc, rows, &later)?;
     let moments = moments_of(alloc, rows)?;
     let first = earliest(&moments);
     let last = latest(&moments);
     let shares = shares_told(alloc, commands)?;
     let shares = shares.as_str();
     let text = page_at(
-        alloc, &listed, shares, rows, commands, &moments, first, last,
+        alloc, &named, &listed, shares, rows, commands, &later, &moments, first, last,
     )?;
     Ok(text)
 }
 
 /// A page of HTML on a report of CSV and the script of its replay, which any browser shows without a network: figures; frames over time, by
-/// backend and by what became of them, with the commands as marks; frames by backend; the commands; the shares of the lookup table at the start
-/// of the script and at its end; how many frames were sent to another address than the sent frame of their flow before, by reason; and the
-/// first hundred of these. Its size is bounded, however long the report is, but for the lengths of
-/// numbers and of the report's own fields.
+/// backend and by what became of them, with the commands behind the first record as marks; frames by case and by backend, and those of each
+/// backend before and behind the first of these commands; the commands; the shares of the lookup table at the start of the script and at its
+/// end; how many frames were sent to another address than the sent frame of their flow before, by reason; and the first hundred of these. Its
+/// size is bounded, however long the report is.
 ///
 /// Refused where the file is no report of CSV, with the first line that shows it, and where memory is refused.
 pub fn page(alloc: Global, report: &[u8], script: &Script) -> Result<String, NoRows>

@@ -1,3 +1,4 @@
+pub mod shared
 pub mod BlockLemmas
 pub mod Keys
 pub mod Narrowing
@@ -8,3 +9,5 @@ pub mod Found
 pub mod Numbers
 pub mod Changes
 pub mod Tables
+pub mod Flagged
+pub mod IndexKeys

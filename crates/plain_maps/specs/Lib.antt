@@ -4,3 +4,4 @@ pub mod Buckets
 pub mod NumberBlocks
 pub mod HashTable
 pub mod ArrayTable
+pub mod Listed

@@ -1,10 +1,13 @@
 //! Array shards: the cell of each index.
 
-ghost use Rattle.std.specs.Prelude.{◌≡◌, ◌<◌, ◌≤◌, ◌/◌, length};
-ghost use Rattle.semantics.specs.LittleEndian.{number_of_bytes};
-ghost use Rattle.plain_maps.specs.ArrayTable.{cell_of_array_index};
+ghost use Rattle.std.specs.Prelude.{◌≡◌, ◌<◌, ◌≤◌, ◌/◌, ◌%◌, ◌^◌, length, IfOk};
+ghost use Rattle.semantics.specs.LittleEndian.{number_of_bytes, bytes_of_number};
+ghost use Rattle.plain_maps.specs.ArrayTable.{cell_of_array_index, cell_in_part};
+ghost use Rattle.plain_maps.specs.Listed.{ListsAll};
 
-use semantics::little_endian::number_of_bytes;
+use semantics::bytes::Key;
+use semantics::little_endian::{bytes_of_number, number_of_bytes};
+use std::alloc::{AllocError, Global};
 
 /// The indices of one shard of an array. All of them are there from the start, each with the cell whose id is its rank in the shard.
 #[derive(Drop)]
@@ -36,6 +39,45 @@ impl ArrayShard {
             None
         }
     }
+
+    /// Each index of the shard of this part as a key, with its cell, by rising indices. Fails only for lack of memory.
+    pub fn entries(&self, alloc: Global, part: u32) -> Result<Vec<(Key, u64)>, AllocError>
+        requires part { part < self.now.parts }
+        requires equal_parts { self.now.max_entries % self.now.parts ≡ 0 }
+        ensures { IfOk result (λ entries. ListsAll (cell_in_part self.now.max_entries self.now.parts part) entries.items) }
+    {
+        index_entries(alloc, self.max_entries, self.parts, part)
+    }
+}
+
+/// Each index of a part as a key, with its cell, by rising indices.
+fn index_entries(
+    alloc: Global,
+    max_entries: u32,
+    parts: u32,
+    part: u32,
+) -> Result<Vec<(Key, u64)>, AllocError>
+    requires part { part < parts }
+    requires equal_parts { max_entries % parts ≡ 0 }
+    ensures { IfOk result (λ entries. ListsAll (cell_in_part max_entries parts part) entries.items) }
+{
+    let mut entries = Vec::new(alloc);
+    let count = u64::from(max_entries / parts);
+    'ranks: for rank in 0..count {
+        let index = rank * u64::from(parts) + u64::from(part);
+        entries.push((key_of_index(index), rank))?;
+    }
+    Ok(entries)
+}
+
+/// The key of an index: its four bytes, the lowest first.
+fn key_of_index(index: u64) -> Key
+    requires { index < 2 ^ 32 }
+    ensures { result ≡ bytes_of_number 4 index }
+{
+    let mut key = Key::empty();
+    key.append(bytes_of_number(4, index).as_slice());
+    key
 }
 
 /// The index that a key represents. Most keys have four bytes, which are read in one step.

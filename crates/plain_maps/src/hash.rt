@@ -3,8 +3,10 @@
 ghost use Rattle.std.specs.Prelude.{◌≡◌, ◌<◌, ◌≤◌, ◌+◌, ℕ, List, [], length, IfOk, None, Some, cond, if◌then◌else◌, is_some, bytes_eq};
 ghost use Rattle.std.specs.Prelude.{slice_index_or, vec_capacity};
 ghost use Rattle.plain_maps.specs.HashTable.{HashTable, cell_of};
+ghost use Rattle.plain_maps.specs.Listed.{ListsAll};
 
 use crate::index::KeyIndex;
+use semantics::bytes::Key;
 use std::alloc::{AllocError, Global};
 use std::marker::Model;
 
@@ -65,6 +67,15 @@ impl HashShard {
             Some(number) => Some(self.ids[number as usize]),
             None => None,
         }
+    }
+
+    /// Each key with its cell, in no order that a contract names. Fails only for lack of memory.
+    pub fn entries(&self, alloc: Global) -> Result<Vec<(Key, u64)>, AllocError>
+        requires { self.now.size ≤ 32 }
+        ensures { IfOk result (λ entries. ListsAll (cell_of self.now) entries.items) }
+    {
+        let entries = self.index.entries(alloc, &self.ids)?;
+        Ok(entries)
     }
 
     /// Gives a new key this cell.

@@ -2,15 +2,19 @@
 
 ghost use Rattle.std.specs.Prelude.{◌≡◌, ◌<◌, ◌≤◌, ◌+◌, ◌*◌, ◌^◌, ◌≢◌, ℕ, List, [], length, IfOk, IfSome, None, Some};
 ghost use Rattle.std.specs.Prelude.{cond, if◌then◌else◌};
-ghost use Rattle.std.specs.Prelude.{is_some, bytes_eq};
+ghost use Rattle.std.specs.Prelude.{is_some, bytes_eq, map};
 ghost use Rattle.plain_maps.specs.Keyed.{KeyMap, entry_number_of, key_of_number, AreInverse};
 ghost use Rattle.plain_maps.specs.Hashing.{home_of};
 ghost use Rattle.plain_maps.specs.Buckets.{bucket_at};
+ghost use Rattle.plain_maps.specs.Keyed.{key_of, entries_of, numbers_there};
+ghost use Rattle.plain_maps.specs.HashTable.{with_id};
+ghost use Rattle.plain_maps.specs.Listed.{ListsAll, item_of};
 
 use crate::buckets::{Bucket, cleared, found_in, home_of, placed};
 use crate::number_list::NumberList;
 use crate::search::{key_at, search};
 use map_cells::blocks::write_at;
+use semantics::bytes::Key;
 use std::alloc::{AllocError, Global};
 use std::marker::Model;
 
@@ -95,6 +99,16 @@ impl KeyIndex {
         let _capacity = self.capacity;
     }
 
+    /// Each key, with what `items` has at its entry number. Fails only for lack of memory.
+    pub fn entries(&self, alloc: Global, items: &[u64]) -> Result<Vec<(Key, u64)>, AllocError>
+        requires size { self.now.size ≤ 32 }
+        requires items { length items.now ≡ self.now.capacity }
+        ensures { IfOk result (λ entries. ListsAll (item_of self.now items.now) entries.items) }
+    {
+        let entries = listed(alloc, &self.keys, self.size, &self.is_there, items)?;
+        Ok(entries)
+    }
+
     /// Gives a new key an entry number that no key has.
     pub fn insert(&mut self, key: &[u8], number: u32)
         requires size { length key.now ≡ self.old.size }
@@ -155,6 +169,41 @@ impl KeyIndex {
             Err(_) => None,
         }
     }
+}
+
+/// The keys of the entry numbers whose flags are set, each with the item of its number.
+fn listed(
+    alloc: Global,
+    keys: &[u8],
+    size: usize,
+    is_there: &[bool],
+    items: &[u64],
+) -> Result<Vec<(Key, u64)>, AllocError>
+    requires short { size ≤ 32 }
+    requires keys { length keys.now ≡ length is_there.now * size }
+    requires items { length items.now ≡ length is_there.now }
+    ensures { IfOk result
+        (λ entries. entries.items ≡ map (with_id items.now) (entries_of size keys.now (numbers_there 0 is_there.now))) }
+{
+    let mut entries = Vec::new(alloc);
+    'numbers: for number in 0..is_there.len() {
+        if is_there[number] {
+            entries.push((copied_key(keys, size, number), items[number]))?;
+        }
+    }
+    Ok(entries)
+}
+
+/// A copy of the key of an entry number.
+fn copied_key(keys: &[u8], size: usize, number: usize) -> Key
+    requires within { number * size + size ≤ length keys.now }
+    requires short { size ≤ 32 }
+    ensures { result ≡ key_of size keys.now number }
+{
+    let Some(key) = Key::of(key_at(keys, size, number)) else {
+        unreachable!()
+    };
+    key
 }
 
 /// The number of a key's bucket.

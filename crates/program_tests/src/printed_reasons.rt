@@ -5,6 +5,7 @@ use disasm::assemble;
 use reasons::explain;
 use std::alloc::Global;
 use std::process::Abort;
+use verifier::survey_of;
 
 const LOOKUP: &str =
     "version 1\nmap array 4 8 1\nstw [r10-4], 0\nmov r2, r10\nadd r2, -4\nldmap r1, 0\ncall 1\n";
@@ -13,7 +14,8 @@ const LOOKUP: &str =
 fn explained(rt: &impl Abort, alloc: Global, head: &str, code: &str) -> String {
     let text = format!(in alloc; "{head}{code}").expect(rt, "memory");
     let image = assemble(alloc, &text).expect(rt, "an image");
-    explain(alloc, &image).expect(rt, "memory")
+    let survey = survey_of(alloc, &image).expect(rt, "memory");
+    explain(alloc, &image, &survey).expect(rt, "memory")
 }
 
 /// A program, and the lines of what is printed of it up to the rule.

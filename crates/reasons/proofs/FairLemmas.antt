@@ -46,12 +46,12 @@ use Rattle.abstract_state.specs.declared.broken_rule.BrokenRule.TheVariants.{Uns
 use Rattle.abstract_state.specs.declared.state.State.{State}
 use Rattle.abstract_state.specs.States.{Checked, ◌>>=◌, kind_of, with_kind, word_of, stack_size, key_size_of, value_size_of}
 use Rattle.abstract_state.specs.Places.{place_within, range_within, aligned, stack_access, packet_access, offsets_within, value_range, value_access, atomic_access, at_offset}
-use Rattle.abstract_state.specs.Words.{loaded_number, are_bytes_set, narrow_loaded, spilled_loaded, word_loaded, narrow_storable, storable}
+use Rattle.abstract_state.specs.Words.{loaded_number, are_bytes_set, narrow_loaded, spilled_loaded, word_loaded, storable_number, storable}
 use Rattle.abstract_state.specs.Arithmetic.{source_kind, blamed, number_kind, moved_kind, delta_of, moves_pointers, moved_pointer, moved_address, moved_far, pointer_sum, is_movable, combined_pointer, combined_kind, alu_kind, after_alu_of}
 use Rattle.abstract_state.specs.Refinement.{is_null_test, is_order, against_scalar, against_end, against_packet, allowed_test, number_cut, fact_of, refined, refine_state}
 use Rattle.abstract_state.specs.Access.{field_kind, context_kind, context_loaded, loaded_kind, signed_loaded, load_of, signed_load_of, stack_stored, stored, store_of, with_fetched_kind, is_number, expects, checked_atomic, atomic_of}
 use Rattle.abstract_state.specs.Calls.{known_helper, helper_at, checked_map_argument, stack_argument, checked_number_argument, checked_context_argument, is_inside_stack, when_all, key_arguments, update_arguments, head_arguments, checked_call}
-use Rattle.abstract_state.specs.Flow.{writable, fetch_writable, is_set, reads, reads_source, reads_both, reads_operands, reads_expected, reads_atomic, reads_arguments, alu_flow, checked_number, operand_of, unary_flow, load_flow, store_flow, store_register_flow, atomic_flow, number_flow, known_map, map_flow, array_size, address_in, checked_value_address, address_flow, call_flow, test_flow, exit_kind, falls, flow_of}
+use Rattle.abstract_state.specs.Flow.{writable, fetch_writable, check_set, reads, reads_source, reads_both, reads_operands, reads_expected, reads_atomic, reads_arguments, alu_flow, checked_number, operand_of, unary_flow, load_flow, store_flow, store_register_flow, atomic_flow, number_flow, known_map, map_flow, array_size, address_in, checked_value_address, address_flow, call_flow, test_flow, exit_kind, falls, flow_of}
 
 -- ---- what is fair: a register is blamed for being unset only where it is, and what is made holds
 
@@ -141,7 +141,7 @@ word_fair : (state : State) (size : Size) (from : ℕ) (word : StackWord) → As
 word_fair state size from (Spilled kind) = spilled_fair state size kind
 word_fair state size from (Bytes set) = fair_if state (are_bytes_set state from (size_bytes size)) (Ok (loaded_number size)) (Err StackUnset) tt tt
 
-narrow_fair : (state : State) (kind : Kind) → Asks state (narrow_storable kind)
+narrow_fair : (state : State) (kind : Kind) → Asks state (storable_number kind)
 narrow_fair state (Scalar i) = tt
 narrow_fair state other = tt
 
@@ -298,13 +298,13 @@ store_kept maps state size (Stack place) distance dst kind =
     (λ from. fair_then state (λ after. after.version ≡ state.version) (storable size kind) (λ _. Ok (stack_stored state size from kind))
     (storable_fair state size kind) (λ _. refl))
 store_kept maps state size (Packet id off range) distance dst kind =
-    fair_then state (λ after. after.version ≡ state.version) (packet_access off range distance (size_bytes size)) (λ from. narrow_storable kind >>= (λ _. Ok state))
+    fair_then state (λ after. after.version ≡ state.version) (packet_access off range distance (size_bytes size)) (λ from. storable_number kind >>= (λ _. Ok state))
     (packet_fair state off range distance (size_bytes size))
-    (λ from. fair_then state (λ after. after.version ≡ state.version) (narrow_storable kind) (λ _. Ok state) (narrow_fair state kind) (λ _. refl))
+    (λ from. fair_then state (λ after. after.version ≡ state.version) (storable_number kind) (λ _. Ok state) (narrow_fair state kind) (λ _. refl))
 store_kept maps state size (Value map id off) distance dst kind =
-    fair_then state (λ after. after.version ≡ state.version) (value_access maps map off distance (size_bytes size)) (λ from. narrow_storable kind >>= (λ _. Ok state))
+    fair_then state (λ after. after.version ≡ state.version) (value_access maps map off distance (size_bytes size)) (λ from. storable_number kind >>= (λ _. Ok state))
     (value_fair state maps map off distance (size_bytes size))
-    (λ from. fair_then state (λ after. after.version ≡ state.version) (narrow_storable kind) (λ _. Ok state) (narrow_fair state kind) (λ _. refl))
+    (λ from. fair_then state (λ after. after.version ≡ state.version) (storable_number kind) (λ _. Ok state) (narrow_fair state kind) (λ _. refl))
 store_kept maps state size other distance dst kind = tt
 
 fetched_kept : (state : State) (register : Option Register) (width : Width) → (with_fetched_kind state register width).version ≡ state.version
@@ -319,9 +319,9 @@ atomic_kept : (maps : List MapDef) (state : State) (width : Width) (op : AtomicO
     Keeps state (checked_atomic maps state width op target distance dst src)
 atomic_kept maps state width op (Value map id off) distance dst src =
     fair_then state (λ after. after.version ≡ state.version) (atomic_access maps map off distance (size_bytes (width_size width))) (λ from.
-    narrow_storable (kind_of state src) >>= (λ _. expects op (kind_of state R0) >>= (λ _. Ok (with_fetched_kind state (fetched_register op src) width))))
+    storable_number (kind_of state src) >>= (λ _. expects op (kind_of state R0) >>= (λ _. Ok (with_fetched_kind state (fetched_register op src) width))))
     (atomic_place_fair state maps map off distance (size_bytes (width_size width)))
-    (λ from. fair_then state (λ after. after.version ≡ state.version) (narrow_storable (kind_of state src))
+    (λ from. fair_then state (λ after. after.version ≡ state.version) (storable_number (kind_of state src))
     (λ _. expects op (kind_of state R0) >>= (λ _. Ok (with_fetched_kind state (fetched_register op src) width))) (narrow_fair state (kind_of state src))
     (λ _. fair_then state (λ after. after.version ≡ state.version) (expects op (kind_of state R0)) (λ _. Ok (with_fetched_kind state (fetched_register op src) width))
     (expects_fair state op (kind_of state R0)) (λ _. fetched_kept state (fetched_register op src) width)))
@@ -401,7 +401,7 @@ fetch_fair : (state : State) (register : Option Register) → Asks state (fetch_
 fetch_fair state None = tt
 fetch_fair state (Some register) = writable_fair state register
 
-set_fair : (state : State) (kind : Kind) (register : Register) → kind_of state register ≡ kind → Asks state (is_set kind register)
+set_fair : (state : State) (kind : Kind) (register : Register) → kind_of state register ≡ kind → Asks state (check_set kind register)
 set_fair state Unset register e = e
 set_fair state kind register e = tt
 

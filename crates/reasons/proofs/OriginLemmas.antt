@@ -1,8 +1,8 @@
 -- What a look back from a slot at which a register is unset finds.
-use Rattle.std.proofs.Common.{◌≡◌, ℕ, zero, suc, ◌+◌, ◌<◌, ◌≤◌, Bool, true, false, List, length, take, Option, Some, None, Err, refl, sym, ap, subst, ◌∙◌, ⊎_elim, arith}
+use Rattle.std.proofs.Common.{◌≡◌, ℕ, ◌+◌, ◌<◌, ◌≤◌, Bool, true, false, List, length, take, Option, Some, None, Result, Err, refl, sym, ap, subst, ◌∙◌, ⊎_elim, arith}
 use Rattle.std.specs.Prelude.{slice_index_or, IsTrue, if◌then◌else◌}
 use Rattle.std.proofs.lemmas.Bool.{cases_lt}
-use Rattle.std.proofs.lemmas.List.{get_or_default, take-take}
+use Rattle.std.proofs.lemmas.List.{get_or_default, take-take, take_all}
 use Rattle.std.proofs.lemmas.List.Sums.{sum_by-take-le}
 use Rattle.isa.specs.declared.operation.Register.{Register}
 use Rattle.ebpf_decode.specs.declared.insn.Insn.{Insn}
@@ -12,20 +12,23 @@ use Rattle.ebpf_decode.specs.InstructionEncoding.{slot_count, total_slots}
 use Rattle.semantics.specs.Program.{instruction_at}
 use Rattle.abstract_state.specs.declared.kind.Kind.{Kind}
 use Rattle.abstract_state.specs.declared.kind.Kind.TheVariants.{Unset}
-use Rattle.abstract_state.specs.declared.broken_rule.BrokenRule.TheVariants.{UnsetRegister}
+use Rattle.abstract_state.specs.declared.broken_rule.BrokenRule.{BrokenRule}
+use Rattle.abstract_state.specs.declared.broken_rule.BrokenRule.TheVariants.{UnsetRegister, WrongKind, PacketBounds, StackBounds, StackUnset, ValueBounds, Misaligned, ContextAccess, ReadOnlyFp, UnknownHelper, BadArgument, PointerLeak, UnknownMap, NotArrayMap}
+use Rattle.abstract_state.specs.Flow.{flow_of}
 use Rattle.abstract_state.specs.declared.state.State.{State}
 use Rattle.image_shape.proofs.shared.SlotLemmas.{instruction_here, past_end}
-use Rattle.verifier.specs.declared.survey.Broken.{Broken}
+use Rattle.verifier.specs.declared.reject.Reject.{Reject}
 use Rattle.verifier.specs.declared.survey.Survey.{Survey}
-use Rattle.verifier.specs.Dataflow.{known_at, states_of, arriving_from, AreEntryStates}
-use Rattle.verifier.specs.Surveys.{slot_of_index, IsSurvey, IsBroken, IsLast, EndsSo}
-use Rattle.verifier.proofs.shared.EntryStates.{agree, are_entry_states}
+use Rattle.verifier.specs.Dataflow.{known_at, states_of, arriving_from, IsFirstBroken}
+use Rattle.verifier.specs.Rejects.{reject_of_rule, reject_slot}
+use Rattle.verifier.specs.Surveys.{slot_of_index, IsSurvey, IsBroken, IsRefusedAfter, has_no_structure, breaks_at_last, EndsSo}
 use Rattle.reasons.specs.declared.cause.Cause.{Cause}
 use Rattle.reasons.specs.declared.cause.Cause.TheVariants.{PathsDisagree}
 use Rattle.reasons.specs.declared.origin.Arrival.{Arrival}
 use Rattle.reasons.specs.declared.origin.Back.{Back}
 use Rattle.reasons.specs.declared.origin.Back.TheVariants.{Found, Further}
-use Rattle.reasons.specs.Origins.{is_unset, disagree, cleared_by, along, brought_from, IsArrival, Brings, IsUnsetAt, StaysUnset, stays_along, LooksBack, looks_at_paths, looks_at_clearing, looks_further, IsOrigin, paths_disagree, left_unset, CoversBefore}
+use Rattle.reasons.specs.Origins.{is_unset, disagree, cleared_by, along, brought_from, IsArrival, Brings, IsUnsetAt, StaysUnset, stays_along, LooksBack, looks_at_paths, looks_at_clearing, looks_further, IsOrigin, paths_disagree, left_unset}
+use Rattle.reasons.specs.Explanations.{IsRefusedAt}
 use Rattle.reasons.proofs.FairLemmas.{blamed_unset}
 
 -- what an instruction of the program brings, in its entry state
@@ -141,36 +144,24 @@ further_back version maps code register at slot from back stays (looks_further a
 
 -- ---- the slot that is refused
 
--- the entry states before a slot are those of the program
-same_states : (version : Version) (maps : List MapDef) (code : List Insn) (one two : List (Option State)) (end most k : ℕ) → AreEntryStates version maps code one end →
-    AreEntryStates version maps code two end → k < most → k < end → known_at one k ≡ known_at two k
-same_states version maps code one two end zero k first second h inside = absurd (omega arith)
-same_states version maps code one two end (suc most) k first second h inside =
-    first k inside ∙ agree version maps code one two k k (λ j g. same_states version maps code one two end most j first second (omega arith) (omega arith))
-    ∙ sym (second k inside)
-
 begins_inside : (code : List Insn) (slot : ℕ) (insn : Insn) → instruction_at code slot ≡ Some insn → slot < total_slots code
 begins_inside code slot insn e = ⊎_elim (λ h. h) (λ past. absurd (let none : instruction_at code slot ≡ None = past_end code slot past in cc))
     (cases_lt slot (total_slots code))
 
-pub record IsRefusedUnset (version : Version) (maps : List MapDef) (code : List Insn) (survey : Survey) (register : Register) (slot : ℕ) : Type 0 where
-  pub unset : IsUnsetAt version maps code register slot
-  pub inside : slot < total_slots code
-  pub covers : CoversBefore code survey slot
+-- the slot that is refused is one of the program
+pub refused_inside : (version : Version) (maps : List MapDef) (code : List Insn) (survey : Survey) (slot : ℕ) (insn : Insn) (state : State) →
+    IsRefusedAt version maps code survey slot insn state → slot < total_slots code
+refused_inside version maps code survey slot insn state refused = begins_inside code slot insn refused.here
 
 -- the register that a broken rule names is unset there
-refused_unset : (version : Version) (maps : List MapDef) (code : List Insn) (broken : Broken) (register : Register) → IsBroken version maps code broken →
-    broken.why ≡ UnsetRegister register → IsUnsetAt version maps code register broken.slot
-refused_unset version maps code broken register is why =
-    let inside : broken.slot < total_slots code = begins_inside code broken.slot broken.insn is.here
-    in let same : known_at is.first.states broken.slot ≡ known_at (states_of version maps code) broken.slot =
-    same_states version maps code is.first.states (states_of version maps code) (broken.slot + 1) (broken.slot + 1) broken.slot is.first.entry
-    (λ k h. are_entry_states version maps code k (omega arith)) (omega arith) (omega arith)
-    in record {
-      state = is.first.state;
-      known = sym same ∙ is.first.known;
-      unset = blamed_unset maps is.first.state broken.slot is.first.insn register (is.first.breaks ∙ ap Err why);
-    }
+pub refused_unset : (version : Version) (maps : List MapDef) (code : List Insn) (survey : Survey) (slot : ℕ) (insn : Insn) (state : State) (why : BrokenRule)
+    (register : Register) → IsRefusedAt version maps code survey slot insn state → flow_of maps state slot insn ≡ Err why → why ≡ UnsetRegister register →
+    IsUnsetAt version maps code register slot
+refused_unset version maps code survey slot insn state why register refused breaks is = record {
+  state = state;
+  known = refused.known;
+  unset = blamed_unset maps state slot insn register (breaks ∙ ap Err is);
+}
 
 earlier_slot : (code : List Insn) (index last : ℕ) → slot_of_index code index < slot_of_index code last → index < last
 earlier_slot code index last h = ⊎_elim (λ lt. lt)
@@ -180,21 +171,82 @@ earlier_slot code index last h = ⊎_elim (λ lt. lt)
     in absurd (let size : total_slots (take last (take index code)) ≡ total_slots (take last code) = ap total_slots same in omega arith))
     (cases_lt index last)
 
-ends_at : (version : Version) (maps : List MapDef) (code : List Insn) (count : ℕ) (end : Option Broken) (broken : Broken) → end ≡ Some broken →
-    EndsSo version maps code count end → IsBroken version maps code broken × IsLast code count broken.slot
-ends_at version maps code count end broken e ends = subst (EndsSo version maps code count) e ends
+rule_slot : (slot : ℕ) (why : BrokenRule) → reject_slot (reject_of_rule slot why) ≡ Some slot
+rule_slot slot (UnsetRegister register) = refl
+rule_slot slot (WrongKind register) = refl
+rule_slot slot PacketBounds = refl
+rule_slot slot StackBounds = refl
+rule_slot slot StackUnset = refl
+rule_slot slot ValueBounds = refl
+rule_slot slot Misaligned = refl
+rule_slot slot ContextAccess = refl
+rule_slot slot ReadOnlyFp = refl
+rule_slot slot UnknownHelper = refl
+rule_slot slot (BadArgument register) = refl
+rule_slot slot PointerLeak = refl
+rule_slot slot UnknownMap = refl
+rule_slot slot NotArrayMap = refl
 
-pub refused_here : (version : Version) (maps : List MapDef) (code : List Insn) (survey : Survey) (broken : Broken) (register : Register) →
-    IsSurvey version maps code survey → survey.broken ≡ Some broken → broken.why ≡ UnsetRegister register →
-    IsRefusedUnset version maps code survey register broken.slot
-refused_here version maps code survey broken register is told why =
-    let ends = ends_at version maps code (length survey.known.items) survey.broken broken told is.ends
-    in let last = ends.1
+refused_after : (version : Version) (maps : List MapDef) (code : List Insn) (count : ℕ) (verdict : Result Bool Reject) (reject : Reject) →
+    verdict ≡ Err reject → EndsSo version maps code count verdict → IsRefusedAfter version maps code count reject
+refused_after version maps code count verdict reject e ends = subst (EndsSo version maps code count) e ends
+
+-- what is kept of the last instruction
+pub record IsLast (version : Version) (maps : List MapDef) (code : List Insn) (survey : Survey) (reject : Reject) (last : ℕ) : Type 0 where
+  pub why : BrokenRule
+  pub broken : IsBroken version maps code (slot_of_index code last) why
+  pub slot_is : reject_slot reject ≡ Some (slot_of_index code last)
+  pub stands : slice_index_or survey.known.items last None ≡ Some broken.first.state
+  pub within : last < length code
+
+index_within : (code : List Insn) (last : ℕ) → slot_of_index code last < total_slots code → last < length code
+index_within code last h = ⊎_elim (λ lt. lt) (λ ge. absurd (let all : take last code ≡ code = take_all last code ge in let size : total_slots (take last code) ≡ total_slots code = ap total_slots all in omega arith))
+    (cases_lt last (length code))
+
+last_of : (version : Version) (maps : List MapDef) (code : List Insn) (survey : Survey) (reject : Reject) (count last : ℕ) →
+    IsSurvey version maps code survey → count ≡ length survey.known.items → count ≡ last + 1 →
+    IsRefusedAfter version maps code count reject → IsLast version maps code survey reject last
+last_of version maps code survey reject count last is counted size (has_no_structure fault first e none) = absurd (omega arith)
+last_of version maps code survey reject count last is counted size (breaks_at_last index why e broken told) =
+    let same : index ≡ last = omega arith
+    in let here : IsBroken version maps code (slot_of_index code last) why = subst (λ k. IsBroken version maps code (slot_of_index code k) why) same broken
     in record {
-      unset = refused_unset version maps code broken register ends.0 why;
-      inside = begins_inside code broken.slot broken.insn ends.0.here;
-      covers = λ index h before.
-          let count : length survey.known.items ≡ last.0 + 1 = last.1
-          in let first : index < last.0 = earlier_slot code index last.0 (subst (λ slot. slot_of_index code index < slot) (sym last.2) before)
-          in omega arith;
+      why = why;
+      broken = here;
+      slot_is = ap reject_slot told ∙ rule_slot (slot_of_index code index) why ∙ ap (λ k. Some (slot_of_index code k)) same;
+      stands = is.known last (omega arith) ∙ here.known;
+      within = index_within code last (begins_inside code (slot_of_index code last) here.first.insn here.first.here);
     }
+
+pub is_last : (version : Version) (maps : List MapDef) (code : List Insn) (survey : Survey) (reject : Reject) (last : ℕ) →
+    IsSurvey version maps code survey → survey.verdict ≡ Err reject → length survey.known.items ≡ last + 1 → IsLast version maps code survey reject last
+is_last version maps code survey reject last is verdict size =
+    last_of version maps code survey reject (length survey.known.items) last is refl size
+    (refused_after version maps code (length survey.known.items) survey.verdict reject verdict is.ends)
+
+-- the last instruction that was looked at is the one that is refused
+pub refused_at : (version : Version) (maps : List MapDef) (code other_code : List Insn) (survey : Survey) (reject : Reject) (last slot : ℕ) (d : Insn)
+    (state : State) (known : Option State) → IsSurvey version maps code survey → survey.verdict ≡ Err reject → length survey.known.items ≡ last + 1 → other_code ≡ code →
+    reject_slot reject ≡ Some slot → known ≡ slice_index_or survey.known.items last known → known ≡ Some state →
+    IsRefusedAt version maps code survey slot (slice_index_or other_code last d) state
+refused_at version maps code other_code survey reject last slot d state known is verdict size same_code names read known_is =
+    let it = is_last version maps code survey reject last is verdict size
+    in let at : slot ≡ slot_of_index code last = (let here = it.slot_is in cc)
+    in let first : IsFirstBroken version maps code slot it.why = subst (λ k. IsFirstBroken version maps code k it.why) (sym at) it.broken.first
+    in let whole : known ≡ slice_index_or survey.known.items last None = read ∙ get_or_default survey.known.items last known None (omega arith)
+    in let found : instruction_at code slot ≡ Some (slice_index_or code last d) = instruction_here code last d slot it.within at
+    in let insn_is : it.broken.first.insn ≡ slice_index_or code last d =
+    (let one : instruction_at code (slot_of_index code last) ≡ Some it.broken.first.insn = it.broken.first.here in let two : instruction_at code (slot_of_index code last) ≡ Some (slice_index_or code last d) = subst (λ k. instruction_at code k ≡ Some (slice_index_or code last d)) at found in cc)
+    in let state_is : it.broken.first.state ≡ state = (let one = it.stands in cc)
+    in subst (λ list. IsRefusedAt version maps code survey slot (slice_index_or list last d) state) (sym same_code) (record {
+      why = it.why;
+      first = first;
+      here = found;
+      known = ap (known_at (states_of version maps code)) at ∙ it.broken.known ∙ ap Some state_is;
+      breaks = ap (λ k. flow_of maps state k (slice_index_or code last d)) at
+          ∙ ap (λ here. flow_of maps state (slot_of_index code last) here) (sym insn_is)
+          ∙ ap (λ here. flow_of maps here (slot_of_index code last) it.broken.first.insn) (sym state_is) ∙ it.broken.first.breaks;
+      covers = λ index h before.
+          let first : index < last = earlier_slot code index last (subst (λ k. slot_of_index code index < k) at before)
+          in omega arith;
+    })

@@ -1,13 +1,11 @@
 -- What is printed of a cause: the numbers that the rule is about, the rule and the remedy.
-use Rattle.std.specs.Prelude.{ℕ, ◌==◌, List, [], ◌++◌, codes, decimal, if◌then◌else◌}
+use Rattle.std.specs.Prelude.{◌≡◌, ℕ, ◌==◌, List, [], ◌++◌, codes, decimal, if◌then◌else◌}
 use Rattle.abstract_state.specs.declared.kind.Kind.{Kind}
 use Rattle.reasons.specs.Wording.{kind_text}
-use Rattle.reasons.specs.declared.cause.Need.{Need}
 use Rattle.reasons.specs.declared.cause.Cause.{Cause}
 use Rattle.reasons.specs.declared.cause.Cause.TheVariants.{ClearedByCall, LeftUnset, PathsDisagree, NoTestShows, ComparedForFewer}
 use Rattle.reasons.specs.declared.cause.Cause.TheVariants.{PacketOffsetUnknown, OutsideValue, ValuePointerLeaves, AddressPastValue}
 use Rattle.reasons.specs.declared.cause.Cause.TheVariants.{StackMisaligned, ValueMisaligned, NoMap}
-use Rattle.reasons.specs.declared.advice.Advice.{Advice}
 
 abbrev pub size_text : ℕ → List ℕ
 size_text size = codes "the value has " ++ (decimal size ++ codes " bytes: ")
@@ -42,15 +40,16 @@ base_text base = if base == 0 then codes " from the packet's start" else codes "
 unfoldable pub standing_text : ℕ → List ℕ
 standing_text stands = if stands == 0 then [] else codes " (the register is at +" ++ (decimal stands ++ codes ")")
 
-unfoldable pub bytes_text : Need → List ℕ
-bytes_text need = count_text need.bytes ++ (base_text need.base ++ standing_text need.stands)
+-- how many bytes an access needs
+unfoldable pub bytes_text : ℕ → ℕ → ℕ → List ℕ
+bytes_text base stands bytes = count_text bytes ++ (base_text base ++ standing_text stands)
 
 unfoldable pub known_text : ℕ → List ℕ
 known_text known = codes ", known " ++ (decimal known ++ codes ": ")
 
 unfoldable pub need_text : Cause → List ℕ
-need_text (NoTestShows need) = bytes_text need ++ codes ": "
-need_text (ComparedForFewer need known) = bytes_text need ++ known_text known
+need_text (NoTestShows base stands bytes) = bytes_text base stands bytes ++ codes ": "
+need_text (ComparedForFewer base stands bytes known) = bytes_text base stands bytes ++ known_text known
 need_text (PacketOffsetUnknown high) = codes "the number may be up to " ++ (decimal high ++ codes ": ")
 need_text (OutsideValue size) = size_text size
 need_text (ValuePointerLeaves size) = size_text size
@@ -63,7 +62,11 @@ need_text (PathsDisagree slot first one second other) = brought_text first one +
 need_text (NoMap count) = codes "the image has " ++ (decimal count ++ codes " maps: ")
 need_text cause = []
 
--- the words of rule and remedy are those of the table
-unfoldable pub advice_text : Advice → List ℕ
-advice_text advice =
-    codes "  " ++ (need_text advice.cause ++ (advice.rule.now ++ (codes "\n  remedy: " ++ (advice.remedy.now ++ codes "\n"))))
+unfoldable pub advice_text : Cause → List ℕ → List ℕ → List ℕ
+advice_text cause rule remedy = codes "  " ++ (need_text cause ++ (rule ++ (codes "\n  remedy: " ++ (remedy ++ codes "\n"))))
+
+-- the lines, and below them the rule of the cause and the remedy, whose words are those of the table
+pub record IsAdvised (lines : List ℕ) (cause : Cause) (text : List ℕ) : Type 0 where
+  pub rule : List ℕ
+  pub remedy : List ℕ
+  pub told : text ≡ lines ++ advice_text cause rule remedy

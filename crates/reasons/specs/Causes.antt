@@ -10,8 +10,6 @@ use Rattle.ebpf_decode.specs.declared.insn.Insn.TheVariants.{Alu, Neg, Movsx, Mo
 use Rattle.ebpf_decode.specs.declared.insn.Insn.TheVariants.{CallHelper}
 use Rattle.ebpf_decode.specs.declared.map.MapDef.{MapDef}
 use Rattle.semantics.specs.Program.{value_size_of}
-use Rattle.image_shape.specs.declared.fault.ShapeFault.{ShapeFault}
-use Rattle.image_shape.specs.declared.fault.ShapeFault.TheVariants as shape
 use Rattle.abstract_scalar.specs.declared.interval.Interval.{Interval}
 use Rattle.abstract_scalar.specs.Intervals.{is_single}
 use Rattle.abstract_state.specs.declared.kind.Kind.{Kind}
@@ -23,8 +21,9 @@ use Rattle.abstract_state.specs.declared.broken_rule.BrokenRule.{BrokenRule}
 use Rattle.abstract_state.specs.declared.broken_rule.BrokenRule.TheVariants as rule
 use Rattle.abstract_state.specs.declared.state.State.{State}
 use Rattle.abstract_state.specs.States.{kind_of}
+use Rattle.verifier.specs.declared.reject.Reject.{Reject}
+use Rattle.verifier.specs.declared.reject.Reject.TheVariants.{JumpBackward, JumpOutside, JumpIntoWide, FallsOff}
 use Rattle.reasons.specs.declared.cause.Access.{Access}
-use Rattle.reasons.specs.declared.cause.Need.{Need}
 use Rattle.reasons.specs.declared.cause.Role.{Role}
 use Rattle.reasons.specs.declared.cause.Role.TheVariants.{Computes, Tests, Loads, Stores, Updates, Calls, Others}
 use Rattle.reasons.specs.declared.cause.Cause.{Cause}
@@ -112,14 +111,10 @@ wrong_kind role blamed base = addressed blamed
 
 -- ---- 37: the packet
 
--- how far past a base an access ends, and the register is
-abbrev pub need : ℕ → ℕ → ℕ → Need
-need base stands bytes = record { base = base; stands = stands; bytes = bytes }
-
 -- an access from a place on, where this many bytes from the base are known; where none are, no comparison shows any
 abbrev pub beyond : ℕ → ℕ → ℤ → ℕ → ℕ → Cause
 beyond base stands (pos from) count known =
-    if known == 0 then NoTestShows (need base stands (from + count)) else ComparedForFewer (need base stands (from + count)) known
+    if known == 0 then NoTestShows base stands (from + count) else ComparedForFewer base stands (from + count) known
 beyond base stands (negsuc below) count known = BeforeBase
 
 abbrev pub packet_cause_at : Kind → ℤ → ℕ → Cause
@@ -235,9 +230,10 @@ cause_of maps state insn rule.PointerLeak = pointer_leak (role_of insn) (base_of
 cause_of maps state insn rule.UnknownMap = NoMap (length maps)
 cause_of maps state insn rule.NotArrayMap = NoArray
 
-abbrev pub cause_of_shape : ShapeFault → Cause
-cause_of_shape (shape.JumpBackward slot) = JumpsBack
-cause_of_shape (shape.JumpOutside slot) = JumpsOutside
-cause_of_shape (shape.JumpIntoWide slot) = JumpsIntoWide
-cause_of_shape (shape.FallsOff slot) = RunsPastEnd
-cause_of_shape (shape.Unreachable slot) = NoPathLeads
+-- of a program without structure
+abbrev pub cause_of_structure : Reject → Cause
+cause_of_structure (JumpBackward slot) = JumpsBack
+cause_of_structure (JumpOutside slot) = JumpsOutside
+cause_of_structure (JumpIntoWide slot) = JumpsIntoWide
+cause_of_structure (FallsOff slot) = RunsPastEnd
+cause_of_structure reject = NoPathLeads

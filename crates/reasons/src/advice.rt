@@ -3,46 +3,37 @@
 ghost use Rattle.std.specs.Prelude.{◌≡◌, ◌++◌, string_bytes, OnOk};
 ghost use Rattle.reasons.specs.Advices.{unit_text, count_text, base_text, standing_text, bytes_text, known_text, size_text, access_text};
 ghost use Rattle.reasons.specs.Advices.{slot_text};
-ghost use Rattle.reasons.specs.Advices.{from_text, brought_text, meeting_text, need_text, advice_text};
+ghost use Rattle.reasons.specs.Advices.{from_text, brought_text, meeting_text, need_text, advice_text, IsAdvised};
 
-use crate::cause::{Cause, Need};
+use crate::cause::Cause;
 use crate::wording::put_kind;
 use abstract_state::Kind;
 use std::alloc::{AllocError, Global};
 
-/// What is printed of a cause.
-#[derive(Clone, Copy, Debug, PartialEq, Eq)]
-pub struct Advice {
-    pub cause: Cause,
-    /// The rule that is broken.
-    pub rule: &'static str,
-    /// What mostly helps.
-    pub remedy: &'static str,
+impl Cause {
+    /// Writes the rule that is broken, with the numbers that it is about, and what mostly helps.
+    pub(crate) fn put(self, alloc: Global, out: &mut String) -> Result<(), AllocError>
+        ensures { OnOk result (IsAdvised (string_bytes out.old) self (string_bytes out.new)) }
+    {
+        let (rule, remedy) = words_of(self);
+        put_words(alloc, out, self, rule, remedy)
+    }
 }
 
-impl Advice {
-    /// The row of a cause.
-    pub fn of(cause: Cause) -> Advice
-        ensures { result.cause ≡ cause }
-    {
-        let (rule, remedy) = words_of(cause);
-        Advice {
-            cause,
-            rule,
-            remedy,
-        }
-    }
-
-    /// Writes the rule, with the numbers that it is about, and the remedy.
-    #[tactic(auto, unfolding(crate::specs::Advices::advice_text))]
-    pub(crate) fn put(&self, alloc: Global, out: &mut String) -> Result<(), AllocError>
-        ensures { OnOk result (string_bytes out.new ≡ string_bytes out.old ++ advice_text self.now) }
-    {
-        out.push_str("  ")?;
-        put_need(alloc, out, self.cause)?;
-        let Advice { rule, remedy, .. } = self;
-        out.push_str(&format!(in alloc; "{rule}\n  remedy: {remedy}\n")?)
-    }
+/// Writes a rule, with the numbers that it is about, and a remedy.
+#[tactic(auto, unfolding(crate::specs::Advices::advice_text))]
+fn put_words(
+    alloc: Global,
+    out: &mut String,
+    cause: Cause,
+    rule: &str,
+    remedy: &str,
+) -> Result<(), AllocError>
+    ensures { OnOk result (string_bytes out.new ≡ string_bytes out.old ++ advice_text cause rule.now remedy.now) }
+{
+    out.push_str("  ")?;
+    put_need(alloc, out, cause)?;
+    out.push_str(&format!(in alloc; "{rule}\n  remedy: {remedy}\n")?)
 }
 
 /// The numbers that a rule is about.
@@ -51,12 +42,21 @@ fn put_need(alloc: Global, out: &mut String, cause: Cause) -> Result<(), AllocEr
     ensures { OnOk result (string_bytes out.new ≡ string_bytes out.old ++ need_text cause) }
 {
     match cause {
-        Cause::NoTestShows { need } => {
-            put_bytes(alloc, out, need)?;
+        Cause::NoTestShows {
+            base,
+            stands,
+            bytes,
+        } => {
+            put_bytes(alloc, out, base, stands, bytes)?;
             out.push_str(": ")
         }
-        Cause::ComparedForFewer { need, known } => {
-            put_bytes(alloc, out, need)?;
+        Cause::ComparedForFewer {
+            base,
+            stands,
+            bytes,
+            known,
+        } => {
+            put_bytes(alloc, out, base, stands, bytes)?;
             put_known(alloc, out, known)
         }
         Cause::PacketOffsetUnknown { high } => {
@@ -125,14 +125,15 @@ fn put_standing(alloc: Global, out: &mut String, stands: u16) -> Result<(), Allo
 
 /// How many bytes of the packet an access needs, and from where.
 #[tactic(auto, unfolding(crate::specs::Advices::bytes_text))]
-fn put_bytes(alloc: Global, out: &mut String, need: Need) -> Result<(), AllocError>
-    ensures { OnOk result (string_bytes out.new ≡ string_bytes out.old ++ bytes_text need) }
+fn put_bytes(
+    alloc: Global,
+    out: &mut String,
+    base: u16,
+    stands: u16,
+    bytes: u64,
+) -> Result<(), AllocError>
+    ensures { OnOk result (string_bytes out.new ≡ string_bytes out.old ++ bytes_text base stands bytes) }
 {
-    let Need {
-        base,
-        stands,
-        bytes,
-    } = need;
     put_count(alloc, out, bytes)?;
     put_base(alloc, out, base)?;
     put_standing(alloc, out, stands)
@@ -224,7 +225,19 @@ fn words_of(cause: Cause) -> (&'static str, &'static str) {
         | Cause::NoArray
         | Cause::NoHelper
         | Cause::FramePointerWritten => calls(cause),
-        _ => memory(cause),
+        Cause::OutsideStack
+        | Cause::StackPointerLeaves
+        | Cause::ArgumentOutsideStack
+        | Cause::LoadUnwritten
+        | Cause::ArgumentUnwritten
+        | Cause::OutsideValue { .. }
+        | Cause::ValuePointerLeaves { .. }
+        | Cause::AddressPastValue { .. }
+        | Cause::StackMisaligned { .. }
+        | Cause::ValueMisaligned { .. }
+        | Cause::AtomicOffsetUnknown
+        | Cause::ContextStore
+        | Cause::NoContextField => memory(cause),
     }
 }
 

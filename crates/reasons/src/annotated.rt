@@ -1,6 +1,6 @@
 //! A program with what is known before each instruction.
 
-ghost use Rattle.std.specs.Prelude.{◌≡◌, ◌++◌, ◌<◌, ◌≤◌, string_bytes, OnOk, IfOk, None, length};
+ghost use Rattle.std.specs.Prelude.{◌≡◌, ◌++◌, ◌<◌, ◌≤◌, string_bytes, IsOk, OnOk, IfOk, length};
 ghost use Rattle.verifier.specs.Dataflow.{states_of};
 ghost use Rattle.verifier.specs.Surveys.{IsSurvey};
 ghost use Rattle.reasons.specs.Annotations.{indexed_text, register_place, set_item, register_item, word_place, is_any, word_item_text};
@@ -181,7 +181,7 @@ pub(crate) fn program_text(
     survey: &Survey,
 ) -> Result<String, AllocError>
     requires survey { IsSurvey image.now.version image.now.maps image.now.code survey.now }
-    requires accepted { survey.now.broken ≡ None }
+    requires accepted { IsOk survey.now.verdict }
     ensures { IfOk result
         (λ text. string_bytes text ≡ program_text (states_of image.now.version image.now.maps image.now.code) image.now.code) }
 {

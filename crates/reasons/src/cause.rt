@@ -5,14 +5,14 @@ ghost use Rattle.semantics.specs.Program.{value_size_of};
 ghost use Rattle.reasons.specs.Causes.{role_of, access_of, base_of, source_interval, computed, updated, addressed, wrong_kind};
 ghost use Rattle.reasons.specs.Causes.{beyond, packet_cause, moved_packet, packet_bounds, stack_bounds, stack_unset};
 ghost use Rattle.reasons.specs.Causes.{value_size_at, named_size, value_bounds, misaligned, misaligned_at, context_access};
-ghost use Rattle.reasons.specs.Causes.{helper_called, bad_argument, pointer_stored, pointer_leak, cause_of, cause_of_shape};
+ghost use Rattle.reasons.specs.Causes.{helper_called, bad_argument, pointer_stored, pointer_leak, cause_of, cause_of_structure};
 
 use abstract_scalar::Interval;
 use abstract_state::{BrokenRule, Kind, State};
 use ebpf_decode::{Insn, MapDef};
-use image_shape::ShapeFault;
 use isa::{Register, SourceOperand};
 use semantics::Helper;
+use verifier::Reject;
 
 /// What an instruction does with its operands, as far as the rules distinguish instructions.
 #[derive(Clone, Copy, Debug, PartialEq, Eq)]
@@ -36,18 +36,11 @@ pub struct Access {
     pub count: u32,
 }
 
-/// How many bytes of the packet an access needs.
-#[derive(Clone, Copy, Debug, PartialEq, Eq)]
-pub struct Need {
-    /// What they count from: 0 is the packet's start, another number the base that the addition at this slot made.
-    pub base: u16,
-    /// How far past it the register is.
-    pub stands: u16,
-    /// How far past it the access ends.
-    pub bytes: u64,
-}
-
 /// Why an instruction breaks a rule.
+///
+/// Of an access to the packet `base` is what its bytes count from: 0 is the packet's start, another number the base that the addition at
+/// this slot made. `stands` is how far past it the register is, `bytes` how far past it the access ends, and `known` how many bytes from it
+/// are known to lie in the packet.
 #[derive(Clone, Copy, Debug, PartialEq, Eq)]
 pub enum Cause {
     // 30 to 34: the structure.
@@ -91,10 +84,14 @@ pub enum Cause {
     BeforeBase,
     /// No comparison with the packet's end shows any byte: some path has none, or its other edge leads here.
     NoTestShows {
-        need: Need,
+        base: u16,
+        stands: u16,
+        bytes: u64,
     },
     ComparedForFewer {
-        need: Need,
+        base: u16,
+        stands: u16,
+        bytes: u64,
         known: u32,
     },
     PacketOffsetLeaves,
@@ -259,15 +256,19 @@ fn beyond(base: u16, stands: u16, from: i64, count: u32, known: u32) -> Cause
         return Cause::BeforeBase;
     }
     let bytes = from as u64 + u64::from(count);
-    let need = Need {
-        base,
-        stands,
-        bytes,
-    };
     if known == 0 {
-        Cause::NoTestShows { need }
+        Cause::NoTestShows {
+            base,
+            stands,
+            bytes,
+        }
     } else {
-        Cause::ComparedForFewer { need, known }
+        Cause::ComparedForFewer {
+            base,
+            stands,
+            bytes,
+            known,
+        }
     }
 }
 
@@ -445,7 +446,7 @@ fn bad_argument(helper: Option<Helper>, register: Register) -> Cause
     }
 }
 
-/// 46 of a store.
+/// 46 of a store: on the stack only a part of a pointer is refused, so a new rule there needs a cause of its own.
 fn pointer_stored(base: Kind) -> Cause
     ensures { result ≡ pointer_stored base }
 {
@@ -495,15 +496,15 @@ impl Cause {
     }
 
     /// Why a program has no structure.
-    pub fn of_shape(fault: ShapeFault) -> Cause
-        ensures { result ≡ cause_of_shape fault }
+    pub(crate) fn of_structure(reject: Reject) -> Cause
+        ensures { result ≡ cause_of_structure reject }
     {
-        match fault {
-            ShapeFault::JumpBackward { .. } => Cause::JumpsBack,
-            ShapeFault::JumpOutside { .. } => Cause::JumpsOutside,
-            ShapeFault::JumpIntoWide { .. } => Cause::JumpsIntoWide,
-            ShapeFault::FallsOff { .. } => Cause::RunsPastEnd,
-            ShapeFault::Unreachable { .. } => Cause::NoPathLeads,
+        match reject {
+            Reject::JumpBackward { .. } => Cause::JumpsBack,
+            Reject::JumpOutside { .. } => Cause::JumpsOutside,
+            Reject::JumpIntoWide { .. } => Cause::JumpsIntoWide,
+            Reject::FallsOff { .. } => Cause::RunsPastEnd,
+            _ => Cause::NoPathLeads,
         }
     }
 }

@@ -11,7 +11,6 @@ mod reader;
 mod refused;
 mod wording;
 
-pub use advice::Advice;
-pub use cause::{Cause, Need};
+pub use cause::Cause;
 pub use explaining::explain;
 pub use reader::{Reason, reasons_are_those};

@@ -2,27 +2,17 @@
 
 ghost use Rattle.std.specs.Prelude.{◌≡◌, ◌++◌, string_bytes, IfOk, OnOk};
 ghost use Rattle.semantics.specs.Program.{instruction_at};
-ghost use Rattle.reasons.specs.Explanations.{slot_of_fault, begun_line, shape_text, broken_text};
+ghost use Rattle.verifier.specs.Rejects.{reject_slot};
+ghost use Rattle.reasons.specs.Advices.{IsAdvised};
+ghost use Rattle.reasons.specs.Causes.{cause_of_structure};
+ghost use Rattle.reasons.specs.Explanations.{begun_line, begun_at, broken_lines};
 
-use crate::advice::Advice;
+use crate::cause::Cause;
 use crate::instruction::{put_slot_line, put_used};
-use ebpf_decode::{Image, Insn};
-use image_shape::ShapeFault;
+use abstract_state::State;
+use ebpf_decode::{Insn, MapDef};
 use std::alloc::{AllocError, Global};
-use verifier::Broken;
-
-/// The slot of a fault of structure.
-fn slot_of_fault(fault: ShapeFault) -> u32
-    ensures { result ≡ slot_of_fault fault }
-{
-    match fault {
-        ShapeFault::JumpBackward { slot } => slot,
-        ShapeFault::JumpOutside { slot } => slot,
-        ShapeFault::JumpIntoWide { slot } => slot,
-        ShapeFault::FallsOff { slot } => slot,
-        ShapeFault::Unreachable { slot } => slot,
-    }
-}
+use verifier::Reject;
 
 /// The instruction that begins at a slot.
 fn instruction_at(code: &[Insn], slot: u32) -> Option<Insn>
@@ -58,35 +48,50 @@ fn put_begun(
     }
 }
 
-/// What is printed of a fault of structure.
-pub(crate) fn shape_text(
+/// The line of the instruction at a slot, if one is named and an instruction begins there.
+fn put_begun_at(
+    alloc: Global,
+    out: &mut String,
+    code: &[Insn],
+    slot: Option<u32>,
+) -> Result<(), AllocError>
+    ensures { OnOk result (string_bytes out.new ≡ string_bytes out.old ++ begun_at code.now slot) }
+{
+    match slot {
+        Some(slot) => put_begun(alloc, out, slot, instruction_at(code, slot)),
+        None => Ok(()),
+    }
+}
+
+/// What is printed of a program without structure.
+pub(crate) fn structure_text(
     alloc: Global,
     code: &[Insn],
-    fault: ShapeFault,
-    advice: &Advice,
+    reject: Reject,
 ) -> Result<String, AllocError>
-    ensures { IfOk result (λ text. string_bytes text ≡ shape_text code.now fault advice.now) }
+    ensures { IfOk result
+        (λ text. IsAdvised (begun_at code.now (reject_slot reject)) (cause_of_structure reject) (string_bytes text)) }
 {
-    let slot = slot_of_fault(fault);
     let mut out = String::new(alloc);
-    put_begun(alloc, &mut out, slot, instruction_at(code, slot))?;
-    advice.put(alloc, &mut out)?;
+    put_begun_at(alloc, &mut out, code, reject.slot())?;
+    Cause::of_structure(reject).put(alloc, &mut out)?;
     Ok(out)
 }
 
-/// What is printed of a broken rule.
+/// What is printed of an instruction that breaks a rule.
 pub(crate) fn broken_text(
     alloc: Global,
-    image: &Image,
-    broken: &Broken,
-    advice: &Advice,
+    maps: &[MapDef],
+    slot: u32,
+    insn: Insn,
+    state: &State,
+    cause: Cause,
 ) -> Result<String, AllocError>
-    ensures { IfOk result
-        (λ text. string_bytes text ≡ broken_text image.now.maps broken.now.slot broken.now.insn broken.now.state advice.now) }
+    ensures { IfOk result (λ text. IsAdvised (broken_lines maps.now slot insn state.now) cause (string_bytes text)) }
 {
     let mut out = String::new(alloc);
-    put_slot_line(alloc, &mut out, broken.slot, broken.insn)?;
-    put_used(alloc, &mut out, image.maps(), &broken.state, broken.insn)?;
-    advice.put(alloc, &mut out)?;
+    put_slot_line(alloc, &mut out, slot, insn)?;
+    put_used(alloc, &mut out, maps, state, insn)?;
+    cause.put(alloc, &mut out)?;
     Ok(out)
 }

@@ -91,13 +91,6 @@ run_goes : (count : ℕ) (plan : ℕ → ShardPlan) (program : Program) (worker 
 run_goes count plan program worker captured before Stopped after run = stop_goes program plan count worker captured before after run.frame run.stop run.run
 run_goes count plan program worker captured before (Exited steps fate) after run = exit_goes count program worker captured before (Exited steps fate) after run
 
--- ---- a run that ended is one
-
-pub exit_is_run : (count : ℕ) (plan : ℕ → ShardPlan) (program : Program) (worker : ℕ) (captured : Sent) (before : PassView) (end : RunEnd) (after : PassView)
-    → IsExit count program worker captured before end after → IsRunOf count plan program worker captured before end after
-exit_is_run count plan program worker captured before Stopped after exit = absurd exit.told
-exit_is_run count plan program worker captured before (Exited steps fate) after exit = exit
-
 -- ---- a run, held against the journals that began with what was seen after it
 
 -- each journal begins with what was seen

@@ -43,16 +43,6 @@ pub record ArePartedTo {S A : Type 0} (all : List (Handled S)) (done : ℕ) (lef
     pub moved : (j : ℕ) → get_elem? left j ≡ get_elem? all (done + j)
     pub parts : (place : ℕ) (it : Handled S) → get_elem? all place ≡ some it → place < done → IsPart (lists_of runs) states place it
 
-pub none_parted : {S A : Type 0} (all : List (Handled S)) (runs : List (Vec Ran A)) (states : List S) → runs ≡ [] → states ≡ []
-    → ArePartedTo all 0 all runs states
-none_parted {S} {A} all runs states no_runs no_states = record {
-  counted = ap (λ (l : List (Vec Ran A)). length l) no_runs;
-  states_counted = ap (λ (l : List S). length l) no_states;
-  together = omega arith;
-  moved = λ j. ap (λ n. get_elem? all n) (omega arith);
-  parts = λ place it there below. absurd (omega (arith, below));
-}
-
 pub one_parted : {S A : Type 0} (all left : List (Handled S)) (done : ℕ) (first : Handled S) (list : Vec Ran A) (runs : List (Vec Ran A)) (states : List S)
     → get_elem? left 0 ≡ some first → list.items ≡ first.runs.items → ArePartedTo all done left runs states → length (remove left 0) + 1 ≡ length left
     → ArePartedTo all (done + 1) (remove left 0) (runs ++ list ∷ []) (states ++ first.state ∷ [])

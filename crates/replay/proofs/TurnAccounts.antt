@@ -427,5 +427,7 @@ turns_are_done writes writes_refused program script options records outcome are 
 pub events_come_in_turns : WritesOwnSessions → WritesRefusedOwnSessions → (verified : Verified) → ReplaysInTurnsAreListed verified → EventsComeInTurns verified
 events_come_in_turns writes writes_refused verified are_listed script options records outcome fit captured sized turns =
     let done = turns_are_done writes writes_refused (program_of verified options.shards) script options records outcome fit turns in
-    let listed = are_listed script options records outcome (all_turns (starts_in script) (length records)) fit captured sized done.exact.accounted done.done in
-    record { headline = listed.kept.headline; in_turns = listed.in_turns }
+    record {
+      exact = done.exact;
+      listed = are_listed script options records outcome (all_turns (starts_in script) (length records)) fit captured sized done.exact.accounted done.done;
+    }

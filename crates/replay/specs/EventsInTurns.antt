@@ -1,4 +1,4 @@
--- The one list of events of an exact replay comes turn by turn.
+-- An exact replay is one list of events: the headline's, of what is accounted for, and it comes turn by turn.
 use Rattle.std.specs.Prelude.{List, length}
 use Rattle.std.specs.List.{AllByRecursion}
 use Rattle.wire.specs.declared.records.Sent.{Sent}
@@ -9,21 +9,32 @@ use Rattle.machine.specs.Running.{program_of}
 use Rattle.control.specs.declared.command.Command.{Command}
 use Rattle.control.specs.ScriptText.{CommandFits}
 use Rattle.actors.specs.declared.outcome.Outcome.{Outcome}
+use Rattle.actors.specs.declared.outcome.RecordEnd.{RecordEnd}
+use Rattle.actors.specs.Accounted.{IsAccounted}
 use Rattle.actors.specs.Captured.{IsCaptured}
-use Rattle.guarantees.specs.Headline.{Headline}
-use Rattle.guarantees.specs.ReplayOf.{asked_of}
-use Rattle.guarantees.specs.SystemRuns.{setting_of}
-use Rattle.guarantees.specs.TurnByTurn.{IsTurnByTurn}
+use Rattle.guarantees.specs.TurnByTurn.{HeadlineInTurns}
 use Rattle.replay.specs.ExactReplays.{IsInTurn, starts_in}
+use Rattle.replay.specs.Pieces.{IsReplayedInPieces}
+use Rattle.replay.specs.TurnOrder.{IsExact}
 use Rattle.replay.specs.Turns.{all_turns}
 
--- the headline's list is the updates' events, and then, turn after turn, the turn's: the calls of the command, the whole of the record's run, or
--- a round
+-- By this account the headline holds, and its list of events is the updates' and then, turn after turn, the turn's: the calls of the command,
+-- the whole of the record's run, or a round.
+abbrev pub HasListInTurns : (verified : Verified) (script : List Command) (options : Options) (records : List Sent) (outcome : Outcome) →
+    IsAccounted (program_of verified options.shards) script options records outcome → Type 0
+HasListInTurns verified script options records outcome accounted =
+    HeadlineInTurns verified script options records outcome accounted (all_turns (starts_in script) (length records))
+
+-- it is accounted for, in the order of its turns, and has one list of events
 pub record IsListedInTurns (verified : Verified) (script : List Command) (options : Options) (records : List Sent) (outcome : Outcome) : Type 0 where
-  pub headline : Headline verified script options records outcome
-  pub in_turns :
-      IsTurnByTurn (setting_of verified options) (asked_of verified script options records outcome headline.replay.done)
-      (all_turns (starts_in script) (length records)) headline.replay.events
+  pub exact : IsExact (program_of verified options.shards) script options records outcome
+  pub listed : HasListInTurns verified script options records outcome exact.accounted
+
+-- with the frames and the ends that were handed out, so it is of one in pieces
+pub record IsListedInPieces (verified : Verified) (script : List Command) (options : Options) (records sent : List Sent) (ends : List RecordEnd)
+    (rest : Outcome) : Type 0 where
+  pub replayed : IsReplayedInPieces (program_of verified options.shards) script options records sent ends rest
+  pub listed : HasListInTurns verified script options records replayed.whole replayed.accounted
 
 -- it holds of every replay that was made in turn
 abbrev pub EventsComeInTurns : Verified → Type 0

@@ -137,9 +137,9 @@ pub(crate) fn last_round<'x, B: Naming, R: Wait, G: Gate>(
     } = ended;
     let worked = workers_so_far(shards, &mut workers, first);
     let all = shards.so_far(&mut controller.pass, worked);
-    let (last, pass) = reclaimer.last_round(all);
+    let (before_last, pass) = reclaimer.last_round(all);
     (
-        last,
+        before_last,
         AllEnded {
             workers,
             controller,
@@ -158,7 +158,7 @@ pub(crate) fn closed<B: Naming, R: Wait>(
     script: &Script,
     size: u32,
     shards: Shards<B>,
-    last: First<B>,
+    before_last: First<B>,
     ended: AllEnded<Working<B>, Commanded<B>, Pass<B>>,
 ) -> Result<Outcome, AllocError>
     requires maps { shards.maps ≡ verified.now.maps }
@@ -168,9 +168,9 @@ pub(crate) fn closed<B: Naming, R: Wait>(
         shards.options.workers ended.workers.items }
     requires size { IsRingSize size }
     requires serves { ServesScript shards.maps size script.now }
-    requires script { (first : List Deed) × AreFirst first last × IsScriptRunBehind B.plan shards.maps shards.options updates.now script.now
+    requires script { (first : List Deed) × AreFirst first before_last × IsScriptRunBehind B.plan shards.maps shards.options updates.now script.now
         size ended.controller.noted.items ended.controller.pass first }
-    requires closed { IsRoundLast B.plan B.count last ended.workers.items ended.controller.pass ended.reclaimer }
+    requires closed { IsRoundLast B.plan B.count before_last ended.workers.items ended.controller.pass ended.reclaimer }
     requires rounds { AreReclaimed B.plan B.count (round_count (length capture.now.records.items)) ended.reclaimer ×
         (ended.reclaimer.who ≡ Reclaimer) }
     ensures accounted { IfOk result (IsAccounted (program_of verified.now shards.options.shards) script.now shards.options
@@ -191,6 +191,6 @@ pub(crate) fn closed<B: Naming, R: Wait>(
     let Commanded { pass, noted } = controller;
     let passes = all_passes(alloc, working, pass, reclaimer)?;
     let made = copied(alloc, updates)?;
-    let journals = shards.close_behind(rt, passes, last);
+    let journals = shards.close_behind(rt, passes, before_last);
     Ok(outcome_of(counts, made, noted, sent, ends, journals))
 }

@@ -13,14 +13,13 @@ ghost use Rattle.map_updates.specs.Misfits.{AreFitting};
 ghost use Rattle.map_updates.specs.declared.update.MapUpdate.{MapUpdate as Update};
 ghost use Rattle.wire.specs.declared.records.Sent.{Sent as Record};
 ghost use Rattle.actors.specs.Commands.{ServesScript};
-ghost use Rattle.replay.specs.EventsInTurns.{IsListedInTurns};
+ghost use Rattle.replay.specs.EventsInTurns.{IsListedInPieces};
 ghost use Rattle.replay.specs.ExactReplays.{HasBegun};
 ghost use Rattle.actors.specs.Parts.{AreBadOptions};
 ghost use Rattle.replay.specs.Pieces.{ReplayGoesOn, IsUnderway, IsReplayedInPieces};
 ghost use Rattle.actors.specs.UpdateFaults.{OfUpdate};
 ghost use Rattle.replay.specs.TurnFaults.{IsWhyInTurn};
 ghost use Rattle.actors.specs.Captured.{IsCaptured};
-ghost use Rattle.guarantees.specs.HeadlineOf.{HeadlineOf};
 ghost use Rattle.actors.specs.declared.fault.ReplayFault.TheVariants.{BadOptions, NoThread};
 ghost use Rattle.actors.specs.declared.outcome.RecordEnd.{RecordEnd as End};
 
@@ -30,7 +29,6 @@ use crate::single_thread::{Turns, begun};
 use crate::turn_shards::TurnShards;
 use actors::{Outcome, PieceOutcome, ReplayFault};
 use control::{Command, Script, commands_fit};
-use guarantees::headline;
 use map_updates::MapUpdate;
 use semantics::{Options, Recording};
 use shard_port::Gate;
@@ -188,7 +186,8 @@ impl PieceReplay {
     /// with.
     ///
     /// The outcome has no sent frames and no ends, since these were handed out. With them it is the outcome of an exact replay of the whole
-    /// capture, and is accounted for as what a replay on threads returns, also where no rows of journals are kept.
+    /// capture, and is accounted for as what a replay on threads returns, also where no rows of journals are kept (`replayed`). By such an
+    /// account the headline holds, and its list of events comes turn by turn (`one_list`).
     ///
     /// Fails only for lack of memory. Then nothing is left.
     pub fn finish(
@@ -205,19 +204,12 @@ impl PieceReplay {
         ensures one_list { IfOk result (λ rest. (options : Settings) (records sent : List Record) (ends : List End) →
             AllByRecursion IsCaptured records →
             IsUnderway (program_of verified.now options.shards) script.now options updates.now records sent ends self →
-            (replayed : IsReplayedInPieces (program_of verified.now options.shards) script.now options records sent ends rest) →
-            HeadlineOf verified.now script.now options records replayed.whole replayed.accounted) }
-        ensures turn_by_turn { IfOk result (λ rest. (options : Settings) (records sent : List Record) (ends : List End) →
-            AllByRecursion IsCaptured records →
-            IsUnderway (program_of verified.now options.shards) script.now options updates.now records sent ends self →
-            (replayed : IsReplayedInPieces (program_of verified.now options.shards) script.now options records sent ends rest) →
-            IsListedInTurns verified.now script.now options records replayed.whole) }
+            IsListedInPieces verified.now script.now options records sent ends rest) }
         ensures updates { IfOk result (λ rest. rest.updates.items ≡ updates.now) }
         ensures none_sent { IfOk result (λ rest. rest.sent.items ≡ []) }
         ensures no_ends { IfOk result (λ rest. rest.ends.items ≡ []) }
     {
         turns_are_accounted();
-        headline(verified);
         events_come_in_turns(verified);
         commands_fit(script);
         let PieceReplay {

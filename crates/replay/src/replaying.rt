@@ -116,7 +116,7 @@ fn replay_over<'x, B: Naming + Send + Sync, R: Threads + Wait + Sync, G: Gate + 
         Ok(pass) => pass,
         Err(unset) => return Err(given_up(rt, alloc, shards, dealer, unset, updates)),
     };
-    let (last, ended) = run_threads::<B, R, G>(
+    let (before_last, ended) = run_threads::<B, R, G>(
         rt,
         alloc,
         verified,
@@ -134,7 +134,16 @@ fn replay_over<'x, B: Naming + Send + Sync, R: Threads + Wait + Sync, G: Gate + 
         takes,
     )?;
     Ok(closed(
-        rt, alloc, verified, capture, updates, script, size, shards, last, ended,
+        rt,
+        alloc,
+        verified,
+        capture,
+        updates,
+        script,
+        size,
+        shards,
+        before_last,
+        ended,
     )?)
 }
 

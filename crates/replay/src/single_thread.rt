@@ -17,19 +17,16 @@ ghost use Rattle.journals.specs.JournalsView.{entries_at};
 ghost use Rattle.shards.specs.NewShards.{shard_at};
 ghost use Rattle.actors.specs.declared.fault.ReplayFault.TheVariants.{BadOptions, NoThread};
 ghost use Rattle.actors.specs.declared.outcome.RecordEnd.{RecordEnd as End};
-ghost use Rattle.actors.specs.Accounted.{IsAccounted};
 ghost use Rattle.actors.specs.Accounts.{frames_in, no_counts, counted};
 ghost use Rattle.actors.specs.Commands.{ServesScript};
 ghost use Rattle.actors.specs.RunsOverShards.{IsSentOf, IsTold, steps_in};
 ghost use Rattle.actors.specs.Shares.{worker_of_frame};
 ghost use Rattle.replay.specs.EventsInTurns.{IsListedInTurns};
 ghost use Rattle.replay.specs.ExactReplays.{IsInTurn, HasBegun, starts_in};
-ghost use Rattle.replay.specs.TurnOrder.{IsExact};
 ghost use Rattle.actors.specs.UpdateFaults.{OfUpdate};
 ghost use Rattle.replay.specs.TurnFaults.{IsWhyInTurn};
 ghost use Rattle.map_updates.specs.Misfits.{AreFitting};
 ghost use Rattle.guarantees.specs.Headline.{Headline};
-ghost use Rattle.guarantees.specs.HeadlineOf.{HeadlineOf};
 ghost use Rattle.replay.specs.InTurn.{TurnState as State, IsRunInTurn, IsHandledInTurn, IsAppliedInTurn, IsSameSetting};
 ghost use Rattle.replay.specs.InTurn.{IsRecordTurn, IsCommandTurn, IsRoundTurn, AreTurns};
 ghost use Rattle.actors.specs.Parts.{AreBadOptions, refused_of};
@@ -39,7 +36,7 @@ ghost use Rattle.replay.specs.Turns.{commands_between, rounds_at, due_before, tu
 
 use crate::closing::refused;
 use crate::in_pieces::PieceReplay;
-use crate::laws::{events_come_in_turns, turns_are_accounted};
+use crate::laws::events_come_in_turns;
 use crate::replaying::fault_of;
 use crate::setting::frame_of_runs;
 use crate::turn_shards::TurnShards;
@@ -52,7 +49,6 @@ use actors::{
     Applied, FrameFate, Outcome, PieceOutcome, RecordEnd, ReplayFault, RunEnd, all_are_captured,
 };
 use control::{Command, ControlFault, Controller, Script, commands_fit};
-use guarantees::headline;
 use machine::Exit;
 use map_updates::MapUpdate;
 use runs::closing::journals_of;
@@ -587,8 +583,10 @@ fn with_records(rest: Outcome, done: PieceOutcome) -> Outcome
 /// of its flow, if it has 14 bytes; and after every 64 records the reclaimer makes a round. Behind the last record come the commands that
 /// are left, and one more round. So a command finds what the runs of all frames before it left, and what it sets is found by every later
 /// one. Two such replays of the same input give the same outcome, unless memory was refused to a command (`laws::exact_replays_agree`).
-/// What is returned is accounted for as what a replay on threads returns, also where no rows of journals are kept; the one order of all deeds
-/// goes through the states of the turns (`in_turn`), and the headline holds (`headline`, `one_list`).
+///
+/// **The headline** holds of what it returns (`headline`). And what is returned is accounted for as what a replay on threads returns, also where
+/// no rows of journals are kept (`one_list`): the one order of all deeds goes through the states of the turns, and the headline's list of events
+/// is of this account and comes turn by turn, the events of a turn behind those of all earlier turns, those that write nothing too.
 ///
 /// The gate is called after each round that follows a record, as for a reply of the reclaimer, with the number of such rounds: it shows how
 /// far the replay is.
@@ -608,20 +606,13 @@ pub fn replay_in_turn<G: Gate>(
 ) -> Result<Outcome, ReplayFault>
     requires fit { AreFitting verified.now.maps updates.now }
     ensures headline { IfOk result (Headline verified.now script.now (recorded recording options) capture.now.records.items) }
-    ensures one_list { IfOk result (λ outcome. (accounted : IsAccounted (program_of verified.now options.shards) script.now
-        (recorded recording options) capture.now.records.items outcome) →
-        HeadlineOf verified.now script.now (recorded recording options) capture.now.records.items outcome accounted) }
-    ensures in_turn { IfOk result (IsExact (program_of verified.now options.shards) script.now (recorded recording options)
-        capture.now.records.items) }
-    ensures turn_by_turn { IfOk result (IsListedInTurns verified.now script.now (recorded recording options) capture.now.records.items) }
+    ensures one_list { IfOk result (IsListedInTurns verified.now script.now (recorded recording options) capture.now.records.items) }
     ensures updates { IfOk result (λ outcome. outcome.updates.items ≡ updates.now) }
     ensures refused { IfErr result (OfUpdate (IsWhyInTurn verified.now.maps (recorded recording options) updates.now)) }
     ensures served { OnOk result (KeepsRows options.journal) }
     ensures bad_options { IsErrOf result BadOptions ↔ AreBadOptions verified.now.maps options script.now }
     ensures no_thread { ¬ IsErrOf result NoThread }
 {
-    turns_are_accounted();
-    headline(verified);
     events_come_in_turns(verified);
     commands_fit(script);
     all_are_captured(capture);

@@ -28,8 +28,9 @@ use wire::{FlowKey, fnv1a64};
 /// How many jobs a queue holds at most.
 const CAPACITY: usize = 64;
 
-/// How often a thread that waits asks again at once. A job mostly goes in or out in this time where the other side is at work.
-const SPINS: u32 = 64;
+/// How often a thread that waits asks again, with longer pauses from question to question. A job mostly goes in or out in this time where the
+/// other side is at work. Each question reads words that the other side writes, so there are few of them.
+const QUESTIONS: u32 = 6;
 
 /// How often a worker then yields the processor before it sleeps: the dispatcher may be waking up.
 const WORKERS_YIELDS: u32 = 100;
@@ -171,13 +172,13 @@ impl Queues {
         ensures put { jobs_put pass.new ≡ with_job_at (queue_of (workers_of self.now) who) job (jobs_put pass.old) }
     {
         let place = self.place(who);
-        let mut spins = SPINS;
+        let mut asked = 0;
         'tries: for _ in rt.forever() {
             match self.put(rt, who, job, pass) {
                 Ok(()) => return,
-                Err(_) if spins > 0 => {
-                    spins -= 1;
-                    hint::spin_loop();
+                Err(_) if asked < QUESTIONS => {
+                    pause(asked);
+                    asked += 1;
                 }
                 Err(_) => self.bell.sleep(rt, place),
             }
@@ -277,10 +278,18 @@ fn pop<R: Wait>(rt: &R, queue: &Queue, pass: &mut QueuePass) -> Option<Job>
     queue.pop_as::<TakesJob, R>(rt, pass)
 }
 
-/// How a thread that takes from an empty queue waits: what is left before it sleeps, and how long it sleeps next.
+/// Pauses before the next question, once `asked` were asked in vain: twice as long from question to question.
+fn pause(asked: u32) {
+    'pauses: for _ in 0..1u32 << asked.min(QUESTIONS) {
+        hint::spin_loop();
+    }
+}
+
+/// How a thread that takes from an empty queue waits: how often it asked before it yields, what is left before it sleeps, and how long it
+/// sleeps next.
 #[derive(Drop)]
 struct Patience {
-    spins: u32,
+    asked: u32,
     yields: u32,
     micros: u64,
     /// Nobody wakes it, so that a sleep lasts until its time is over.
@@ -290,7 +299,7 @@ struct Patience {
 impl Patience {
     fn new(is_workers: bool) -> Patience {
         Patience {
-            spins: SPINS,
+            asked: 0,
             yields: if is_workers {
                 WORKERS_YIELDS
             } else {
@@ -303,9 +312,9 @@ impl Patience {
 
     /// Waits a little, the longer the more often it did.
     fn wait<R: Wait>(&mut self, rt: &R) {
-        if self.spins > 0 {
-            self.spins -= 1;
-            hint::spin_loop();
+        if self.asked < QUESTIONS {
+            pause(self.asked);
+            self.asked += 1;
         } else if self.yields > 0 {
             self.yields -= 1;
             thread::yield_now();

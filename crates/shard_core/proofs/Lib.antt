@@ -1,3 +1,4 @@
+pub mod shared
 mod FlagLemmas
 mod RoomLemmas
 mod EpochLemmas
@@ -12,3 +13,5 @@ mod StepLemmas
 mod ChangeLemmas
 mod OpeningLemmas
 mod FewHeldLemmas
+mod OwnKeyLemmas
+mod ListingLemmas

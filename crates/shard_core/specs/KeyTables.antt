@@ -1,5 +1,5 @@
 -- Which key of a shard has which cell, by the kind of its map.
-use Rattle.std.specs.Prelude.{◌≡◌, ℕ, ◌+◌, ◌<◌, ◌≤◌, Bool, nat_le, List, [], length, Option, Some, None, option_map, cond, is_some}
+use Rattle.std.specs.Prelude.{◌≡◌, ℕ, ◌+◌, ◌%◌, ◌<◌, ◌≤◌, Bool, nat_le, List, [], length, Option, Some, None, option_map, cond, is_some}
 use Rattle.std.specs.Prelude.{if◌then◌else◌, bytes_eq}
 use Rattle.ebpf_decode.specs.declared.map.MapKind.TheVariants.{Array, Hash, LruHash}
 use Rattle.semantics.specs.declared.call.Entry.{Entry}
@@ -8,7 +8,7 @@ use Rattle.semantics.specs.LittleEndian.{number_of_bytes}
 use Rattle.semantics.specs.declared.plan.ShardPlan.{ShardPlan}
 use Rattle.semantics.specs.ShardPlan.{capacity}
 use Rattle.semantics.specs.SequentialShard.{cell_of_present}
-use Rattle.plain_maps.specs.ArrayTable.{cell_of_array_index}
+use Rattle.plain_maps.specs.ArrayTable.{cell_of_array_index, cell_in_part}
 use Rattle.plain_maps.specs.HashTable.{HashTable, cell_of}
 use Rattle.lru_maps.specs.LruTable.{LruTable, cell_of_lru_key, touched, with_newest_key, table_without_key, victim, without_victim}
 use Rattle.lru_maps.specs.ByUse.{IsByUse}
@@ -20,6 +20,18 @@ abbrev pub cell_in : KeyTable → List ℕ → Option ℕ
 cell_in (Indices indices) key = cell_of_array_index indices.max_entries indices.parts (number_of_bytes key)
 cell_in (Hashed keys) key = cell_of keys key
 cell_in (Recent keys) key = cell_of_lru_key keys key
+
+-- the cell of a key that is there: of an array a key of this part
+abbrev pub cell_there : KeyTable → ℕ → List ℕ → Option ℕ
+cell_there (Indices indices) part key = cell_in_part indices.max_entries indices.parts part key
+cell_there (Hashed keys) part key = cell_of keys key
+cell_there (Recent keys) part key = cell_of_lru_key keys key
+
+-- all keys may be listed: an array's parts are alike, and other keys are short
+abbrev pub CanBeListed : KeyTable → ℕ → Type 0
+CanBeListed (Indices indices) part = (part < indices.parts) × (indices.max_entries % indices.parts ≡ 0)
+CanBeListed (Hashed keys) part = keys.size ≤ 32
+CanBeListed (Recent keys) part = Unit {0}
 
 -- how many keys are there; of an array none is counted
 abbrev pub key_count : KeyTable → ℕ

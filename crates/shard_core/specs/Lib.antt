@@ -6,3 +6,4 @@ pub mod Contents
 pub mod ShardFields
 pub mod Laws
 pub mod FewHeld
+pub mod Listing

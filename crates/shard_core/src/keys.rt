@@ -7,12 +7,14 @@ ghost use Rattle.semantics.specs.declared.plan.PresentKey.{PresentKey};
 ghost use Rattle.semantics.specs.PlanLimits.{IsPlan};
 ghost use Rattle.shard_core.specs.KeyTables.{cell_in, key_count, IsAskedSize, touched_in, victim_cell, without_victim_in, IsInserted};
 ghost use Rattle.shard_core.specs.KeyTables.{IsRemoved, FitsPlan, HasKeys, IsKeyed, HasRoomForKey, MayGrow, is_full_of};
+ghost use Rattle.shard_core.specs.KeyTables.{cell_there, CanBeListed};
+ghost use Rattle.plain_maps.specs.Listed.{ListsAll};
 ghost use Rattle.lru_maps.specs.LruTable.{cell_of_lru_key, victim, without_victim};
 
 use ebpf_decode::MapKind;
 use lru_maps::LruShard;
 use plain_maps::{ArrayShard, HashShard};
-use semantics::ShardPlan;
+use semantics::{Key, ShardPlan};
 use std::alloc::{AllocError, Global};
 
 /// The keys of a shard, each with its cell, as its map's kind keeps them.
@@ -57,6 +59,19 @@ impl KeyTable {
             KeyTable::Indices { indices } => indices.find(key),
             KeyTable::Hashed { keys } => keys.find(key),
             KeyTable::Recent { keys } => keys.find(key),
+        }
+    }
+
+    /// Each key that is there with its cell, of an array the indices of this part; in no order that a contract names. Fails only for lack of
+    /// memory.
+    pub(crate) fn entries(&self, alloc: Global, part: u32) -> Result<Vec<(Key, u64)>, AllocError>
+        requires { CanBeListed self.now part }
+        ensures { IfOk result (λ entries. ListsAll (cell_there self.now part) entries.items) }
+    {
+        match self {
+            KeyTable::Indices { indices } => indices.entries(alloc, part),
+            KeyTable::Hashed { keys } => keys.entries(alloc),
+            KeyTable::Recent { keys } => keys.entries(alloc),
         }
     }
 

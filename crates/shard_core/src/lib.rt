@@ -26,6 +26,7 @@ mod closing;
 mod contents;
 pub mod keys;
 pub mod laws;
+pub mod listing;
 mod ranges;
 pub mod readers;
 pub mod shard;

@@ -45,10 +45,10 @@ use std::marker::Model;
 /// A shard of a map, with the journal of its calls. Contracts see its plan and the list of its entries.
 #[derive(Drop)]
 pub struct Shard {
-    plan: ShardPlan,
+    pub(crate) plan: ShardPlan,
     pub(crate) journal: Journal,
-    cells: Cells,
-    keys: KeyTable,
+    pub(crate) cells: Cells,
+    pub(crate) keys: KeyTable,
     readers: Readers,
 }
 

@@ -57,6 +57,7 @@ impl<'a, B: Naming, W: Wait, G: Gate> ShardPort<'a, B, W, G> {
     }
 
     /// The shard of a map's key.
+    #[inline(always)]
     fn shard_of(&self, map: u32, key: &Key) -> u32
         requires { IsKeyOf (served_of self.now.shards.now).maps map key.now }
         ensures { result ≡ served_shard (served_of self.now.shards.now) map key.now }
@@ -67,6 +68,7 @@ impl<'a, B: Naming, W: Wait, G: Gate> ShardPort<'a, B, W, G> {
 
     /// Makes a run's call of a shard: entered before, if the worker is not inside. Refused where the shard's journal is full for the
     /// Enter or for the call.
+    #[inline(always)]
     fn ask<C: Ask>(&mut self, shard: u32, ask: C) -> Result<C::Answer, JournalFull>
         requires shard { shard < B.count }
         requires met { MayAskOnceInside (B.plan shard) shard self.old.pass.now (C.asks ask shard) }

@@ -39,6 +39,7 @@ impl<'a, G: Gate> Tally<'a, G> {
     }
 
     /// Counts a reply, and calls the gate for it.
+    #[inline(always)]
     pub fn replied(&mut self)
         ensures who { self.new.who ≡ self.old.who }
         ensures count { self.new.count ≡ next_count self.old.count }

@@ -1,6 +1,7 @@
 pub mod shared
 mod PlainOpenings
 mod PlanLemmas
+pub mod MapParts
 pub mod Callers
 pub mod Holding
 pub mod AddLemmas

@@ -1,5 +1,6 @@
 -- The definitions that the contracts of this crate cite, in reading order.
 pub mod Opening
+pub mod MapContents
 pub mod Lending
 pub mod CallerView
 pub mod GuardedView

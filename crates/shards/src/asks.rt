@@ -67,14 +67,17 @@ impl Ask for Enters {
 
     ghost replies = { λ number answer. Entered };
 
+    #[inline(always)]
     fn section(&self) -> SectionChange {
         SectionChange::Begins
     }
 
+    #[inline(always)]
     fn held(&self, _answer: &()) -> HeldChange {
         HeldChange::LetsGo
     }
 
+    #[inline(always)]
     fn make(self, shard: &mut Shard, who: Caller) -> Result<(), JournalFull> {
         shard.enter(who)
     }
@@ -94,14 +97,17 @@ impl Ask for Leaves {
 
     ghost replies = { λ number answer. Left };
 
+    #[inline(always)]
     fn section(&self) -> SectionChange {
         SectionChange::Ends
     }
 
+    #[inline(always)]
     fn held(&self, _answer: &()) -> HeldChange {
         HeldChange::LetsGo
     }
 
+    #[inline(always)]
     fn make(self, shard: &mut Shard, who: Caller) -> Result<(), JournalFull> {
         shard.leave(who);
         Ok(())
@@ -124,10 +130,12 @@ impl<'a> Ask for Looks<'a> {
 
     ghost replies = { found_reply };
 
+    #[inline(always)]
     fn section(&self) -> SectionChange {
         SectionChange::Stays
     }
 
+    #[inline(always)]
     fn held(&self, answer: &Option<u64>) -> HeldChange {
         match *answer {
             Some(id) => HeldChange::Finds { id },
@@ -157,10 +165,12 @@ impl<'a> Ask for Loads<'a> {
 
     ghost replies = { λ number value. Word value };
 
+    #[inline(always)]
     fn section(&self) -> SectionChange {
         SectionChange::Stays
     }
 
+    #[inline(always)]
     fn held(&self, _answer: &u64) -> HeldChange {
         HeldChange::Stays
     }
@@ -188,14 +198,17 @@ impl<'a> Ask for Stores<'a> {
 
     ghost replies = { λ number answer. Done };
 
+    #[inline(always)]
     fn section(&self) -> SectionChange {
         SectionChange::Stays
     }
 
+    #[inline(always)]
     fn held(&self, _answer: &()) -> HeldChange {
         HeldChange::Stays
     }
 
+    #[inline(always)]
     fn make(self, shard: &mut Shard, who: Caller) -> Result<(), JournalFull> {
         shard.store(who, self.range, self.value)
     }
@@ -218,14 +231,17 @@ impl<'a> Ask for Changes<'a> {
 
     ghost replies = { λ number old. Word old };
 
+    #[inline(always)]
     fn section(&self) -> SectionChange {
         SectionChange::Stays
     }
 
+    #[inline(always)]
     fn held(&self, _answer: &u64) -> HeldChange {
         HeldChange::Stays
     }
 
+    #[inline(always)]
     fn make(self, shard: &mut Shard, who: Caller) -> Result<u64, JournalFull> {
         shard.atomic(who, self.range, self.change)
     }
@@ -249,14 +265,17 @@ impl<'a> Ask for Updates<'a> {
 
     ghost replies = { λ number code. Answer code };
 
+    #[inline(always)]
     fn section(&self) -> SectionChange {
         SectionChange::Stays
     }
 
+    #[inline(always)]
     fn held(&self, _answer: &i32) -> HeldChange {
         HeldChange::Stays
     }
 
+    #[inline(always)]
     fn make(self, shard: &mut Shard, who: Caller) -> Result<i32, JournalFull> {
         shard.update(who, self.key, self.value, self.flags)
     }
@@ -278,14 +297,17 @@ impl<'a> Ask for Deletes<'a> {
 
     ghost replies = { λ number code. Answer code };
 
+    #[inline(always)]
     fn section(&self) -> SectionChange {
         SectionChange::Stays
     }
 
+    #[inline(always)]
     fn held(&self, _answer: &i32) -> HeldChange {
         HeldChange::Stays
     }
 
+    #[inline(always)]
     fn make(self, shard: &mut Shard, who: Caller) -> Result<i32, JournalFull> {
         shard.delete(who, self.key)
     }
@@ -305,14 +327,17 @@ impl Ask for Reclaims {
 
     ghost replies = { λ number count. Freed count };
 
+    #[inline(always)]
     fn section(&self) -> SectionChange {
         SectionChange::Stays
     }
 
+    #[inline(always)]
     fn held(&self, _answer: &u64) -> HeldChange {
         HeldChange::Stays
     }
 
+    #[inline(always)]
     fn make(self, shard: &mut Shard, who: Caller) -> Result<u64, JournalFull> {
         shard.reclaim(who)
     }
@@ -331,14 +356,17 @@ impl<'a> Ask for Calls<'a> {
 
     ghost replies = { λ number reply. reply };
 
+    #[inline(always)]
     fn section(&self) -> SectionChange {
         self.call.section_change()
     }
 
+    #[inline(always)]
     fn held(&self, answer: &Reply) -> HeldChange {
         HeldChange::of(self.call, answer)
     }
 
+    #[inline(always)]
     fn make(self, shard: &mut Shard, who: Caller) -> Result<Reply, JournalFull> {
         shard.apply(who, self.call)
     }

@@ -57,6 +57,7 @@ impl GuardedShard {
     }
 
     /// How many entries the journal has.
+    #[inline(always)]
     pub(crate) fn entries(&self) -> u64
         ensures count { result ≡ length self.now.journal }
         ensures few { result < 2 ^ 32 }
@@ -66,6 +67,7 @@ impl GuardedShard {
     }
 
     /// Makes a call on the shard for a caller that may make it by its own entries, and adds what the caller did to the order.
+    #[inline(always)]
     pub(crate) fn add<C: Ask>(
         &mut self,
         order: &Order,

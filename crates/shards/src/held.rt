@@ -41,6 +41,7 @@ impl HeldCells {
     }
 
     /// Notes what a call that was served makes of them.
+    #[inline(always)]
     pub(crate) fn note(&mut self, change: HeldChange)
         requires { HasRoomFor change self.old }
         ensures { self.new ≡ held_after change self.old }
@@ -58,13 +59,18 @@ impl HeldCells {
     }
 
     /// Whether this cell is among them.
+    #[inline(always)]
     pub(crate) fn has(&self, id: u64) -> bool
         ensures { result ≡ is_among id self.now.ids }
     {
+        if self.ids.is_empty() {
+            return false;
+        }
         self.is_hinted(id) || self.ids.contains(&id)
     }
 
     /// Whether this cell is where its hint says; if not, it may be elsewhere.
+    #[inline(always)]
     fn is_hinted(&self, id: u64) -> bool
         ensures { result ≡ true → is_among id self.now.ids ≡ true }
     {

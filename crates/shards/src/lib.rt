@@ -14,6 +14,7 @@ mod journal_room;
 pub mod laws;
 mod lock;
 mod lock_key;
+pub mod map_contents;
 mod naming;
 mod new_shard;
 mod opening;

@@ -19,8 +19,25 @@ pub(crate) const WORD: usize = 16;
 
 // ---- the lock
 
-/// Takes the shard. Waits while another has it: looks at its word for a while, and then sleeps.
+/// Takes the shard. Waits while another has it.
+#[inline(always)]
 pub(crate) fn take(rt: &impl Wait, lock: &Lock, seat: &mut LockSeat)
+    requires lock { IsLock lock.now }
+    requires seat { IsSeatOf lock.now.shared.table_id seat.old }
+    requires alone { has_shard seat.old.me ≡ false }
+    ensures seat { IsSeatOf lock.now.shared.table_id seat.new }
+    ensures taken { HasTaken seat.old.me seat.new.me }
+    ensures legal { IsLegalHistory seat.new.me.0.key.plan (view_of seat.new.me).seen }
+{
+    if !try_take(lock, seat, 1) {
+        take_later(rt, lock, seat);
+    }
+}
+
+/// Takes the shard, which another has: looks at its word for a while, and then sleeps. It stays out of its callers, which mostly find the
+/// shard free.
+#[inline(never)]
+fn take_later(rt: &impl Wait, lock: &Lock, seat: &mut LockSeat)
     requires lock { IsLock lock.now }
     requires seat { IsSeatOf lock.now.shared.table_id seat.old }
     requires alone { has_shard seat.old.me ≡ false }
@@ -55,6 +72,7 @@ fn pause(looks: u32) {
 }
 
 /// Takes the shard, if nobody has it.
+#[inline(always)]
 fn try_take(lock: &Lock, seat: &mut LockSeat, phase: u64) -> bool
     requires lock { IsLock lock.now }
     requires seat { IsSeatOf lock.now.shared.table_id seat.old }
@@ -76,6 +94,7 @@ fn try_take(lock: &Lock, seat: &mut LockSeat, phase: u64) -> bool
 }
 
 /// Whether nobody has the shard, by its word.
+#[inline(always)]
 fn is_free(word: u64) -> bool
     ensures { MatchBool result ((quarter : ℕ) × (word ≡ 4 * quarter)) (word % 4 ≢ 0) }
 {
@@ -101,6 +120,7 @@ fn wait(rt: &impl Wait, lock: &Lock, seat: &mut LockSeat)
 }
 
 /// Gives the shard back, with all entries that it has more: one step, however many they are. Wakes one that may wait for it.
+#[inline(always)]
 pub(crate) fn give(lock: &Lock, seat: &mut LockSeat)
     requires lock { IsLock lock.now }
     requires seat { IsSeatOf lock.now.shared.table_id seat.old }
@@ -120,6 +140,7 @@ pub(crate) fn give(lock: &Lock, seat: &mut LockSeat)
 // ---- single steps
 
 /// Takes the shard, where the word is still this one, by which nobody has it. Returns what the word was.
+#[inline(always)]
 fn take_from(lock: &Lock, seat: &mut LockSeat, free: u64, taken: u64) -> u64
     requires lock { IsLock lock.now }
     requires seat { IsSeatOf lock.now.shared.table_id seat.old }
@@ -147,6 +168,7 @@ fn mark(lock: &Lock, seat: &mut LockSeat, taken: u64) -> u64
 }
 
 /// Gives the shard back, whose journal has `entries` entries. Returns what the word was.
+#[inline(always)]
 fn give_to(lock: &Lock, seat: &mut LockSeat, entries: u64) -> u64
     requires lock { IsLock lock.now }
     requires seat { IsSeatOf lock.now.shared.table_id seat.old }
@@ -161,6 +183,7 @@ fn give_to(lock: &Lock, seat: &mut LockSeat, entries: u64) -> u64
 // ---- with the shard
 
 /// How many entries the journal has.
+#[inline(always)]
 pub(crate) fn count(lock: &Lock, seat: &mut LockSeat) -> u64
     requires lock { IsLock lock.now }
     requires seat { IsSeatOf lock.now.shared.table_id seat.old }

@@ -26,6 +26,7 @@ const LINE: [u64; 8] = [0; 8];
 
 /// Adds a deed to the order: to the account of its shard, whose seat rests in a place, and to that of its caller. The shard, the caller,
 /// the call and whether it was served are for the proof alone, which picks the deed by them.
+#[inline(always)]
 pub(crate) fn note<D: Item, C: Ask>(
     order: &Order,
     place: &mut OrderPlace,

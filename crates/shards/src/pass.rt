@@ -60,6 +60,7 @@ impl<B: Naming> Pass<B> {
 
     /// Whether the caller is inside the shard: it is a worker with an Enter that no Leave of its own follows. Asks nobody, takes no memory
     /// and cannot fail.
+    #[inline(always)]
     pub fn is_inside(&self, shard: u32) -> bool
         requires { shard < B.count }
         ensures { result ≡ is_inside_of self.now.who (own_at self.now shard) }

@@ -19,7 +19,7 @@ use std::marker::Model;
 /// The shards of an image's maps, by their numbers: map after map. Contracts see the list of them.
 #[derive(Drop)]
 pub struct PlainShards {
-    shards: Vec<Shard>,
+    pub(crate) shards: Vec<Shard>,
 }
 
 impl Model for PlainShards {

@@ -75,6 +75,7 @@ impl ShardPass {
     }
 
     /// Whether the caller is inside the shard.
+    #[inline(always)]
     pub(crate) fn is_inside(&self, who: Caller) -> bool
         requires { self.now.who ≡ who }
         ensures { result ≡ is_inside_of who self.now.view.own }
@@ -91,6 +92,7 @@ impl ShardPass {
     }
 
     /// Enters, and makes a call that the caller may make then: takes the shard once, and gives it back with both entries at once.
+    #[inline(always)]
     pub(crate) fn enter_then<C: Ask>(
         &mut self,
         rt: &impl Wait,
@@ -167,6 +169,7 @@ impl ShardPass {
     }
 
     /// Takes the shard.
+    #[inline(always)]
     pub(crate) fn take(&mut self, rt: &impl Wait, lock: &Lock)
         requires lock { IsLockOf self.old.table self.old.key lock.now }
         requires alone { self.old.has_it ≡ false }
@@ -178,6 +181,7 @@ impl ShardPass {
     }
 
     /// Gives the shard back.
+    #[inline(always)]
     pub(crate) fn give(&mut self, lock: &Lock)
         requires lock { IsLockOf self.old.table self.old.key lock.now }
         requires taken { self.old.has_it ≡ true }
@@ -190,6 +194,7 @@ impl ShardPass {
     }
 
     /// Makes a call on the shard that it has.
+    #[inline(always)]
     pub(crate) fn ask<C: Ask>(
         &mut self,
         lock: &Lock,
@@ -236,6 +241,7 @@ impl ShardPass {
 }
 
 /// Notes what a call that was served does to the caller's section.
+#[inline(always)]
 fn change<A>(inside: &mut bool, section: SectionChange, answer: &Result<A, JournalFull>)
     ensures { inside.new ≡ flag_after answer.now section inside.old }
 {
@@ -249,6 +255,7 @@ fn change<A>(inside: &mut bool, section: SectionChange, answer: &Result<A, Journ
 }
 
 /// Notes what a call that was served makes of the cells that its worker holds.
+#[inline(always)]
 fn keep<C: Ask>(held: &mut HeldCells, ask: &C, answer: &Result<C::Answer, JournalFull>)
     requires { (number : ℕ) × IfOk answer.now (λ done. HasRoomFor (held_change (C.asks ask.now number) (C.replies number done)) held.old) }
     ensures { (number : ℕ) →

@@ -153,6 +153,7 @@ impl<B: Naming> Shards<B> {
     ///
     /// Refused where the journal has no room for the call (never for a Leave); then nothing was changed, and the pass has seen the history
     /// whose journal is full.
+    #[inline(always)]
     pub fn ask<C: Ask>(
         &self,
         rt: &impl Wait,
@@ -185,6 +186,7 @@ impl<B: Naming> Shards<B> {
     ///
     /// Refused where the journal has no room for the Enter, and then nothing was changed; or none for the call, and then the Enter is
     /// served. Either way the pass has seen the history whose journal is full.
+    #[inline(always)]
     pub fn enter_then<C: Ask>(
         &self,
         rt: &impl Wait,
@@ -285,6 +287,7 @@ impl<B: Naming> Shards<B> {
     }
 
     /// The word of the shard of this number, with the shard.
+    #[inline(always)]
     fn lock(&self, shard: u32) -> &Lock
         requires { shard < B.count }
         ensures lock { IsLockOf (B.table shard) (keyed (B.plan shard) B.order) result.now }
@@ -294,6 +297,7 @@ impl<B: Naming> Shards<B> {
     }
 
     /// The order of all deeds, which knows the shard of this number.
+    #[inline(always)]
     fn order_at(&self, shard: u32) -> &Order
         requires { shard < B.count }
         ensures { KnowsShard (keyed (B.plan shard) B.order) result.now }

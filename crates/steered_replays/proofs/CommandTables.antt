@@ -30,13 +30,6 @@ is_at place number made = (made.update.map == place) && (is_success made.answer 
 four_back : (n : ℕ) → n < 2 ^ 32 → number_of_bytes (bytes_of_number 4 n) ≡ n
 four_back n small = omega arith
 
-other_map : (place at : ℕ) (rest : Bool) → at ≢ place → ((at == place) && rest) ≡ false
-other_map place at rest other = by (at == place) refl
-  where
-    by : (test : Bool) → (at == place) ≡ test → (test && rest) ≡ false
-    by true is = absurd (other (eqb-true at place is))
-    by false is = refl
-
 pub all_done_both : (changes more : List Change) → all_done (changes ++ more) ≡ all_done changes ++ all_done more
 all_done_both [] more = refl
 all_done_both (change ∷ changes) more = ap (λ l. done_update change ∷ l) (all_done_both changes more)

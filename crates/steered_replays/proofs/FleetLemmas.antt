@@ -193,9 +193,6 @@ found_one P test (one ∷ up) server found all = by (λ same. found_one P test u
 
 -- ---- what a run reads
 
-no_owner_back : (ring_of (ring_bytes (record { owner = None }))).owner ≡ None
-no_owner_back = refl
-
 pub owner_back : (n : ℕ) → n + 1 < 2 ^ 32 → (ring_of (ring_bytes (record { owner = Some n }))).owner ≡ Some n
 owner_back n small =
     let word : number_of_bytes (take 4 (drop 0 (ring_bytes (record { owner = Some n })))) ≡ n + 1 = omega (arith, small) in

@@ -6,10 +6,8 @@ use Rattle.ebpf_decode.specs.ImageContents.{Contents}
 use Rattle.wire.specs.declared.records.Sent.{Sent}
 use Rattle.semantics.specs.declared.options.Options.{Options}
 use Rattle.semantics.specs.Program.{Program}
-use Rattle.semantics.specs.ShardPlan.{AreOptions}
 use Rattle.verifier.specs.Verified.{Verified}
 use Rattle.machine.specs.Running.{program_of}
-use Rattle.conntrack.specs.SteeringMaps.{sized_maps}
 use Rattle.steer.specs.ShippedProgram.{sized_image}
 use Rattle.steer.specs.SteeringLaws.{of_size, shipped_program}
 use Rattle.control.specs.declared.command.Command.{Command}
@@ -35,11 +33,3 @@ pub of_shipped : (verified : Verified) (notes size : ℕ) (script : List Command
     IsAccounted (shipped_program notes (of_size options.shards size)) script options records outcome
 of_shipped verified notes size script options records outcome shipped accounted =
     subst (λ (program : Program). IsAccounted program script options records outcome) (program_is verified notes size options.shards shipped) accounted
-
--- the options fit the maps, since those of the journals do
-pub fit_of : (notes size : ℕ) (script : List Command) (options : Options) (records : List Sent) (outcome : Outcome) →
-    IsAccounted (shipped_program notes (of_size options.shards size)) script options records outcome → AreOptions outcome.journals.maps outcome.journals.options →
-    AreOptions (sized_maps notes size) options
-fit_of notes size script options records outcome accounted fit =
-    subst (λ (o : Options). AreOptions (sized_maps notes size) o) accounted.options_are
-    (subst (λ (maps : List MapDef). AreOptions maps outcome.journals.options) accounted.maps fit)

@@ -108,22 +108,22 @@ front_text form number micros worker verdict =
     (report_word form (verdict_word verdict))
 
 -- in how many steps, by which case, and where it was sent
-abbrev pub csv_back : List ℕ → List ℕ → List ℕ → List ℕ → List ℕ
-csv_back steps case backend address =
+abbrev pub csv_run : List ℕ → List ℕ → List ℕ → List ℕ → List ℕ
+csv_run steps case backend address =
     codes "," ++ (steps ++ (codes "," ++ (case ++ (codes "," ++ (backend ++ (codes "," ++ address))))))
 
-abbrev pub json_back : List ℕ → List ℕ → List ℕ → List ℕ → List ℕ
-json_back steps case backend address =
+abbrev pub json_run : List ℕ → List ℕ → List ℕ → List ℕ → List ℕ
+json_run steps case backend address =
     codes ",\"steps\":" ++ (steps ++ (codes ",\"case\":" ++ (case ++ (codes ",\"backend\":" ++ (backend ++ (codes ",\"address\":"
     ++ address))))))
 
-abbrev pub back_of_pieces : ReportForm → List ℕ → List ℕ → List ℕ → List ℕ → List ℕ
-back_of_pieces Csv steps case backend address = csv_back steps case backend address
-back_of_pieces Json steps case backend address = json_back steps case backend address
+abbrev pub run_of_pieces : ReportForm → List ℕ → List ℕ → List ℕ → List ℕ → List ℕ
+run_of_pieces Csv steps case backend address = csv_run steps case backend address
+run_of_pieces Json steps case backend address = json_run steps case backend address
 
-abbrev pub back_text : ReportForm → Option ℕ → List ℕ → Option ℕ → Option ℕ → List ℕ
-back_text form steps case backend address =
-    back_of_pieces form (number_text form steps) (report_word form case) (number_text form backend) (target_text form address)
+abbrev pub run_text : ReportForm → Option ℕ → List ℕ → Option ℕ → Option ℕ → List ℕ
+run_text form steps case backend address =
+    run_of_pieces form (number_text form steps) (report_word form case) (number_text form backend) (target_text form address)
 
 -- ---- the flow
 
@@ -163,11 +163,16 @@ flow_text form frame = if is_of_flow_kind (frame_kind_of frame) then known_flow 
 
 -- ---- the whole line
 
--- the line of a record with this frame
+-- the line of a record: its number, its moment in microseconds, its worker, its verdict; its steps, its case, its backend and the address
+-- to which it was sent; and the flow of its frame
+abbrev pub line_of_pieces : ReportForm → ℕ → ℕ → Option ℕ → LineVerdict → Option ℕ → List ℕ → Option ℕ → Option ℕ → List ℕ → List ℕ
+line_of_pieces form number micros worker verdict steps case backend address frame =
+    (front_text form number micros worker verdict ++ run_text form steps case backend address) ++ flow_text form frame
+
+-- that of a record with this frame
 abbrev pub record_line : ReportForm → RecordLine → List ℕ → List ℕ
 record_line form line frame =
-    (front_text form line.number line.micros line.worker line.verdict
-    ++ back_text form line.steps line.case_of.now line.backend line.address) ++ flow_text form frame
+    line_of_pieces form line.number line.micros line.worker line.verdict line.steps line.case_of.now line.backend line.address frame
 
 -- what comes before the first line
 abbrev pub report_head : ReportForm → List ℕ

@@ -1,7 +1,7 @@
 //! The line of a record in a report, as CSV (RFC 4180) or as JSON (RFC 8259).
 
 ghost use Rattle.std.specs.Prelude.{◌≡◌, IfOk, decimal, string_bytes};
-ghost use Rattle.traffic.specs.RecordLines.{back_text, case_word, csv_back, csv_front, front_text, report_head, json_back, json_front};
+ghost use Rattle.traffic.specs.RecordLines.{case_word, csv_front, csv_run, front_text, json_front, json_run, report_head, run_text};
 ghost use Rattle.traffic.specs.RecordLines.{kind_word, missing, moment_text};
 ghost use Rattle.traffic.specs.RecordLines.{number_text, quoted, record_line, six_digits, target_text, verdict_word, report_word};
 
@@ -212,27 +212,27 @@ fn json_front(
 }
 
 /// What a line of CSV says of the run.
-fn csv_back(
+fn csv_run(
     alloc: Global,
     steps: &str,
     case: &str,
     backend: &str,
     address: &str,
 ) -> Result<String, AllocError>
-    ensures { IfOk result (λ text. string_bytes text ≡ csv_back steps.now case.now backend.now address.now) }
+    ensures { IfOk result (λ text. string_bytes text ≡ csv_run steps.now case.now backend.now address.now) }
 {
     format!(in alloc; ",{steps},{case},{backend},{address}")
 }
 
 /// What a line of JSON says of the run.
-fn json_back(
+fn json_run(
     alloc: Global,
     steps: &str,
     case: &str,
     backend: &str,
     address: &str,
 ) -> Result<String, AllocError>
-    ensures { IfOk result (λ text. string_bytes text ≡ json_back steps.now case.now backend.now address.now) }
+    ensures { IfOk result (λ text. string_bytes text ≡ json_run steps.now case.now backend.now address.now) }
 {
     format!(in alloc;
         ",\"steps\":{steps},\"case\":{case},\"backend\":{backend},\"address\":{address}"
@@ -280,23 +280,23 @@ impl ReportForm {
     }
 
     /// In how many steps, by which case, and where it was sent.
-    fn back(self, alloc: Global, line: &RecordLine) -> Result<String, AllocError>
+    fn of_run(self, alloc: Global, line: &RecordLine) -> Result<String, AllocError>
         ensures { IfOk result
-            (λ text. string_bytes text ≡ back_text self line.now.steps line.now.case_of.now line.now.backend line.now.address) }
+            (λ text. string_bytes text ≡ run_text self line.now.steps line.now.case_of.now line.now.backend line.now.address) }
     {
         let steps = number_text(alloc, self, line.steps)?;
         let case = word_text(alloc, self, line.case_of)?;
         let backend = number_text(alloc, self, line.backend)?;
         let address = target_text(alloc, self, line.address)?;
         match self {
-            ReportForm::Csv => csv_back(
+            ReportForm::Csv => csv_run(
                 alloc,
                 steps.as_str(),
                 case.as_str(),
                 backend.as_str(),
                 address.as_str(),
             ),
-            ReportForm::Json => json_back(
+            ReportForm::Json => json_run(
                 alloc,
                 steps.as_str(),
                 case.as_str(),
@@ -311,8 +311,8 @@ impl ReportForm {
         ensures { IfOk result (λ text. string_bytes text ≡ record_line self line.now frame.now) }
     {
         let mut text = self.front(alloc, line)?;
-        let back = self.back(alloc, line)?;
-        text.push_str(back.as_str())?;
+        let of_run = self.of_run(alloc, line)?;
+        text.push_str(of_run.as_str())?;
         let flow = flow_text(alloc, self, frame)?;
         text.push_str(flow.as_str())?;
         Ok(text)

@@ -16,7 +16,7 @@ use Rattle.abstract_state.specs.declared.state.State.{State}
 use Rattle.abstract_state.specs.States.{Checked}
 use Rattle.abstract_state.specs.Flow.{flow_of}
 use Rattle.verifier.specs.Dataflow.{known_at, jumps, AreEntryStates, Accepts, MayAskMemory, passed_jump, passed_all, IsFirstBroken, has_no_shape, breaks_rule, wants_memory}
-use Rattle.verifier.specs.Rejects.{reject_of_shape, reject_of_refusal}
+use Rattle.verifier.specs.Rejects.{reject_of_shape, reject_of_rule}
 use Rattle.verifier.specs.Answers.{HasOneAnswer, FirstRejectIsOne, RuleBeforeJumpsIsTold}
 use Rattle.verifier.proofs.Distances.{stays}
 use Rattle.verifier.proofs.shared.EntryStates.{agree}
@@ -75,11 +75,11 @@ same_slot version maps code slot later why other first second = ⊎_elim
     (cases_lt slot later)
 
 one_rule : (version : Version) (maps : List MapDef) (code : List Insn) (slot later : ℕ) (why other : BrokenRule) → IsFirstBroken version maps code slot why → IsFirstBroken version maps code later other →
-    reject_of_refusal slot why ≡ reject_of_refusal later other
+    reject_of_rule slot why ≡ reject_of_rule later other
 one_rule version maps code slot later why other first second =
     let at : slot ≡ later = same_slot version maps code slot later why other first second
     in let here : IsFirstBroken version maps code slot other = subst (λ k. IsFirstBroken version maps code k other) (sym at) second
-    in ap (λ rule. reject_of_refusal slot rule) (same_rule version maps code slot why other first here) ∙ ap (λ k. reject_of_refusal k other) at
+    in ap (λ rule. reject_of_rule slot rule) (same_rule version maps code slot why other first here) ∙ ap (λ k. reject_of_rule k other) at
 
 pub first_reject_is_one : FirstRejectIsOne
 first_reject_is_one version maps code one other (has_no_shape fault is e) (has_no_shape fault2 is2 e2) neither nor = e ∙ ap reject_of_shape (one_fault code fault fault2 is is2) ∙ sym e2

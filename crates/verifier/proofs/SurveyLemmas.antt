@@ -1,25 +1,19 @@
--- What a survey keeps is what is known: of each instruction that was looked at, and of the one that breaks a rule.
-use Rattle.std.proofs.Common.{◌≡◌, ℕ, zero, suc, ◌<◌, Bool, true, false, List, [], ◌∷◌, ◌++◌, length, Option, Some, None, Err, sym, ap, ◌∙◌, arith}
-use Rattle.std.specs.Prelude.{slice_index_or}
+-- What a survey keeps is what is known, of each instruction that was looked at.
+use Rattle.std.proofs.Common.{◌≡◌, ℕ, zero, suc, ◌<◌, Bool, true, false, List, [], ◌∷◌, ◌++◌, length, length-append, Option, None, Result, Ok, Err, refl, sym, ap, ◌∙◌, arith}
+use Rattle.std.specs.Prelude.{slice_index_or, IfOk, IfErr}
 use Rattle.ebpf_decode.specs.declared.version.Version.{Version}
 use Rattle.ebpf_decode.specs.declared.insn.Insn.{Insn}
 use Rattle.ebpf_decode.specs.declared.map.MapDef.{MapDef}
-use Rattle.ebpf_decode.specs.InstructionEncoding.{total_slots}
-use Rattle.semantics.specs.Program.{instruction_at}
-use Rattle.image_shape.specs.Structure.{HasShape}
-use Rattle.abstract_state.specs.declared.broken_rule.BrokenRule.{BrokenRule}
 use Rattle.abstract_state.specs.declared.state.State.{State}
-use Rattle.verifier.specs.declared.pending.KnownHere.{KnownHere}
-use Rattle.verifier.specs.declared.pending.Pending.{Pending}
+use Rattle.verifier.specs.declared.reject.Reject.{Reject}
+use Rattle.verifier.specs.declared.reject.Reject.TheVariants.{Memory}
+use Rattle.verifier.specs.declared.resolved.Memory.{Memory as Touched}
 use Rattle.verifier.specs.Dataflow.{known_at, states_of}
-use Rattle.verifier.specs.Pending.{known_if, known_entry}
-use Rattle.verifier.specs.Stops.{BreaksRule}
-use Rattle.verifier.specs.Surveys.{IsBroken}
-use Rattle.verifier.proofs.shared.EntryStates.{are_entry_states}
-use Rattle.verifier.proofs.SweepLemmas.{IsHeld, held_here}
+use Rattle.verifier.specs.Surveys.{slot_of_index, known_along, EndsSo}
+use Rattle.verifier.specs.Swept.{PassesSweep, KeepsRefused, FailsSweep, lacks_memory}
 
 -- one more at the end of a list whose places are known
-pub noted : (f : ℕ → Option State) (items : List (Option State)) (one : Option State) →
+noted : (f : ℕ → Option State) (items : List (Option State)) (one : Option State) →
     ((index : ℕ) → index < length items → slice_index_or items index None ≡ f index) → one ≡ f (length items) →
     (index : ℕ) → index < length (items ++ one ∷ []) → slice_index_or (items ++ one ∷ []) index None ≡ f index
 noted f [] one each last zero h = last
@@ -28,40 +22,53 @@ noted f (x ∷ items) one each last zero h = each 0 (omega arith)
 noted f (x ∷ items) one each last (suc index) h =
     noted (λ i. f (suc i)) items one (λ i lt. each (suc i) (omega arith)) last index (omega arith)
 
--- the same of what is known at the slots of instructions
-pub noted_in : (slot : ℕ → ℕ) (states : List (Option State)) (items : List (Option State)) (one : Option State) (more : List (Option State)) →
-    more ≡ items ++ one ∷ [] →
-    ((index : ℕ) → index < length items → slice_index_or items index None ≡ known_at states (slot index)) → one ≡ known_at states (slot (length items)) →
-    (index : ℕ) → index < length more → slice_index_or more index None ≡ known_at states (slot index)
-noted_in slot states items one more is each last index h =
-    rw is (noted (λ i. known_at states (slot i)) items one each last index (let size = ap length is in omega arith))
+along_count : (version : Version) (maps : List MapDef) (code : List Insn) (count : ℕ) → length (known_along version maps code count) ≡ count
+unfolding known_along
+along_count version maps code zero = refl
+along_count version maps code (suc index) =
+    let before = along_count version maps code index
+    in let more = length-append (known_along version maps code index) (known_at (states_of version maps code) (slot_of_index code index) ∷ [])
+    in let next : length (known_along version maps code index ++ known_at (states_of version maps code) (slot_of_index code index) ∷ []) ≡ suc index = omega (arith, more, before)
+    in next
 
-known_is : (reached : Bool) (state other : State) → known_if reached state ≡ Some other → state ≡ other
-known_is true state other e = cc
-known_is false state other e = absurd cc
+each_along : (version : Version) (maps : List MapDef) (code : List Insn) (count index : ℕ) → index < length (known_along version maps code count) →
+    slice_index_or (known_along version maps code count) index None ≡ known_at (states_of version maps code) (slot_of_index code index)
+unfolding known_along
+each_along version maps code zero index h = absurd (omega arith)
+each_along version maps code (suc last) index h =
+    noted (λ i. known_at (states_of version maps code) (slot_of_index code i)) (known_along version maps code last)
+    (known_at (states_of version maps code) (slot_of_index code last)) (each_along version maps code last)
+    (ap (λ i. known_at (states_of version maps code) (slot_of_index code i)) (sym (along_count version maps code last))) index h
 
-pub entry_is : (entry : KnownHere) (state : State) → known_entry entry ≡ Some state → entry.state ≡ state
-entry_is entry state e = known_is entry.is_reached entry.state state e
+-- what is kept, by the index of an instruction
+pub record IsKept (version : Version) (maps : List MapDef) (code : List Insn) (items : List (Option State)) (verdict : Result Bool Reject) : Type 0 where
+  pub known : (index : ℕ) → index < length items → slice_index_or items index None ≡ known_at (states_of version maps code) (slot_of_index code index)
+  pub ends : EndsSo version maps code (length items) verdict
 
--- the instruction at which the sweep stops is the first that breaks a rule
-pub broken_here : (version : Version) (maps : List MapDef) (code : List Insn) (slot : ℕ) (insn : Insn) (entry : KnownHere) (pending : Pending) (why told : BrokenRule) → told ≡ why →
-    HasShape code → instruction_at code slot ≡ Some insn → slot < total_slots code → BreaksRule maps slot insn (known_entry entry) why →
-    IsHeld version maps code slot entry pending →
-    IsBroken version maps code (record { slot = slot; insn = insn; state = entry.state; why = told })
-broken_here version maps code slot insn entry pending why told same shape found within broken held =
-    let known = sym (held_here version maps code slot entry pending within held) ∙ broken.is
+counted : (version : Version) (maps : List MapDef) (code : List Insn) (items : List (Option State)) (count : ℕ) → items ≡ known_along version maps code count →
+    length items ≡ count
+counted version maps code items count is = ap length is ∙ along_count version maps code count
+
+known_of : (version : Version) (maps : List MapDef) (code : List Insn) (items : List (Option State)) (count : ℕ) → items ≡ known_along version maps code count →
+    (index : ℕ) → index < length items → slice_index_or items index None ≡ known_at (states_of version maps code) (slot_of_index code index)
+known_of version maps code items count is index h = rw is (each_along version maps code count index (let same = ap length is in omega arith))
+
+no_lack : (reject : Reject) → reject ≡ Memory → lacks_memory (Err reject) ≡ false → ⊥
+no_lack reject e other = let lack : lacks_memory (Err reject) ≡ true = rw e refl in absurd cc
+
+-- a sweep of which all was kept
+pub kept_all : (version : Version) (maps : List MapDef) (code : List Insn) (memories : List Touched) (items : List (Option State)) (verdict : Result Bool Reject)
+    (is_refused : Bool) → is_refused ≡ false → lacks_memory verdict ≡ false →
+    IfOk verdict (PassesSweep (λ known. is_refused ≡ false → items ≡ known) version maps code memories) →
+    IfErr verdict (FailsSweep (λ known. is_refused ≡ false → items ≡ known) version maps code) →
+    IsKept version maps code items verdict
+kept_all version maps code memories items (Ok reads) is_refused whole other passed refused = record {
+  known = known_of version maps code items (length code) (passed.kept whole);
+  ends = (passed.accepted, (counted version maps code items (length code) (passed.kept whole), passed.reader));
+}
+kept_all version maps code memories items (Err reject) is_refused whole other passed refused =
+    let keeps : KeepsRefused (λ known. is_refused ≡ false → items ≡ known) version maps code reject = refused.kept (λ e. no_lack reject e other)
     in record {
-      first = record {
-        shape = shape;
-        states = states_of version maps code;
-        entry = λ k h. are_entry_states version maps code k (omega arith);
-        earlier = held.passes;
-        insn = insn;
-        state = broken.state;
-        here = found;
-        known = known;
-        breaks = broken.breaks ∙ ap Err (sym same);
-      };
-      here = found;
-      known = known ∙ ap Some (sym (entry_is entry broken.state broken.is));
+      known = known_of version maps code items keeps.count (keeps.kept whole);
+      ends = rw (counted version maps code items keeps.count (keeps.kept whole)) keeps.refused;
     }

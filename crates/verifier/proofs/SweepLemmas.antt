@@ -1,5 +1,5 @@
 -- The sweep by rising slot: edges go up, so what is known at a slot is whole before the slot is looked at.
-use Rattle.std.proofs.Common.{◌≡◌, ℕ, suc, ◌+◌, ◌-◌, ◌<◌, ◌≤◌, Bool, true, false, cond, leb, ℤ, pos, negsuc, ◌+ℤ◌, List, length, take, get_or, Option, Some, None, refl, sym, ap, subst, ◌∙◌, ⊎_elim, arith}
+use Rattle.std.proofs.Common.{◌≡◌, ◌≢◌, ℕ, suc, ◌+◌, ◌-◌, ◌<◌, ◌≤◌, Bool, true, false, cond, leb, ℤ, pos, negsuc, ◌+ℤ◌, List, [], ◌∷◌, ◌++◌, length, take, get_or, Option, Some, None, refl, sym, ap, subst, ◌∙◌, ⊎_elim, arith}
 use Rattle.std.specs.Option.{option_or}
 use Rattle.std.specs.Prelude.{IsOk}
 use Rattle.std.proofs.lemmas.List.Sums.{sum_by_more_le}
@@ -16,7 +16,7 @@ use Rattle.image_shape.specs.declared.fault.ShapeFault.TheVariants.{JumpBackward
 use Rattle.ebpf_decode.specs.Jumps.{jump_distance}
 use Rattle.image_shape.specs.Edges.{is_begin}
 use Rattle.image_shape.specs.Layouts.{HasNoNegativeTarget}
-use Rattle.image_shape.specs.Structure.{jump_fault, fall_fault, instruction_fault, HasShape}
+use Rattle.image_shape.specs.Structure.{jump_fault, fall_fault, instruction_fault, HasShape, IsFirstFault}
 use Rattle.image_shape.proofs.shared.FaultLemmas.{fault_here, no_negative_target}
 use Rattle.image_shape.proofs.shared.SlotLemmas.{some_slots, past_end, instruction_here}
 use Rattle.abstract_state.specs.declared.broken_rule.BrokenRule.{BrokenRule}
@@ -26,12 +26,14 @@ use Rattle.abstract_state.specs.Flow.{flow_of}
 use Rattle.abstract_state.specs.Soundness.{JumpsForward}
 use Rattle.verifier.specs.declared.reject.Reject.{Reject}
 use Rattle.verifier.specs.declared.reject.Reject.TheVariants.{Memory}
-use Rattle.verifier.specs.Rejects.{reject_of_refusal}
+use Rattle.verifier.specs.Rejects.{reject_of_shape, reject_of_rule}
 use Rattle.verifier.specs.declared.pending.KnownHere.{KnownHere}
 use Rattle.verifier.specs.declared.pending.Pending.{Pending}
-use Rattle.verifier.specs.Dataflow.{known_at, arriving_from, arrived, states_of, PassesChecks, Accepts, IsFirstReject, breaks_rule, wants_memory, passed_jump}
+use Rattle.verifier.specs.Dataflow.{known_at, arriving_from, arrived, states_of, PassesChecks, Accepts, IsFirstReject, has_no_shape, breaks_rule, wants_memory, passed_jump}
 use Rattle.verifier.specs.Pending.{known_entry, pending_at}
-use Rattle.verifier.specs.Stops.{BreaksRule, WantsRoom}
+use Rattle.verifier.specs.Stops.{BreaksRule, WantsRoom, IsStop, stops_at_rule, stops_for_memory}
+use Rattle.verifier.specs.Surveys.{slot_of_index, known_along, IsBroken, has_no_structure, breaks_at_last}
+use Rattle.verifier.specs.Swept.{KeepsRefused, FailsSweep}
 use Rattle.verifier.proofs.shared.EntryStates.{quiet, are_entry_states}
 
 -- ---- edges go up
@@ -162,21 +164,25 @@ accepted version maps code slot entry pending shape end held = record {
       (cases_lt k slot);
 }
 
-pub rejected : (version : Version) (maps : List MapDef) (code : List Insn) (slot : ℕ) (insn : Insn) (entry : KnownHere) (pending : Pending) (why : BrokenRule) (reject : Reject) →
+pub broken_here : (version : Version) (maps : List MapDef) (code : List Insn) (slot : ℕ) (insn : Insn) (entry : KnownHere) (pending : Pending) (why : BrokenRule) →
     HasShape code → instruction_at code slot ≡ Some insn → slot < total_slots code → BreaksRule maps slot insn (known_entry entry) why →
-    reject ≡ reject_of_refusal slot why → IsHeld version maps code slot entry pending → IsFirstReject version maps code reject
-rejected version maps code slot insn entry pending why reject shape found within broken is held =
-    breaks_rule slot why (record {
-      shape = shape;
-      states = states_of version maps code;
-      entry = λ k h. are_entry_states version maps code k (omega arith);
-      earlier = held.passes;
-      insn = insn;
-      state = broken.state;
-      here = found;
-      known = sym (held_here version maps code slot entry pending within held) ∙ broken.is;
-      breaks = broken.breaks;
-    }) is
+    IsHeld version maps code slot entry pending → IsBroken version maps code slot why
+broken_here version maps code slot insn entry pending why shape found within broken held =
+    let known = sym (held_here version maps code slot entry pending within held) ∙ broken.is
+    in record {
+      first = record {
+        shape = shape;
+        states = states_of version maps code;
+        entry = λ k h. are_entry_states version maps code k (omega arith);
+        earlier = held.passes;
+        insn = insn;
+        state = broken.state;
+        here = found;
+        known = known;
+        breaks = broken.breaks;
+      };
+      known = known;
+    }
 
 pub wanting : (version : Version) (maps : List MapDef) (code : List Insn) (slot : ℕ) (insn : Insn) (entry : KnownHere) (pending : Pending) →
     HasShape code → instruction_at code slot ≡ Some insn → slot < total_slots code → WantsRoom maps slot insn (known_entry entry) →
@@ -201,3 +207,64 @@ wanting version maps code slot insn entry pending shape found within wants held 
     })) refl where
       flows_ok : (state : State) → known_entry entry ≡ Some state → IsOk (flow_of maps state slot insn)
       flows_ok state at = let same : state ≡ wants.state = (let known : known_entry entry ≡ Some wants.state = wants.is in cc) in rw (same, wants.flows) refl
+
+-- where a sweep stops at an instruction, the program is refused
+first_reject : (version : Version) (maps : List MapDef) (code : List Insn) (slot : ℕ) (insn : Insn) (entry : KnownHere) (pending : Pending) (reject : Reject) →
+    HasShape code → instruction_at code slot ≡ Some insn → slot < total_slots code → IsHeld version maps code slot entry pending →
+    IsStop maps slot insn (known_entry entry) reject → IsFirstReject version maps code reject
+first_reject version maps code slot insn entry pending reject shape found within held (stops_at_rule why broken is) =
+    breaks_rule slot why (broken_here version maps code slot insn entry pending why shape found within broken held).first is
+first_reject version maps code slot insn entry pending reject shape found within held (stops_for_memory wants is) =
+    subst (IsFirstReject version maps code) (sym is) (wanting version maps code slot insn entry pending shape found within wants held)
+
+kept_of_refused : (keeps : List (Option State) → Type 0) (version : Version) (maps : List MapDef) (code : List Insn) (index slot : ℕ) (insn : Insn)
+    (entry : KnownHere) (pending : Pending) (reject : Reject) →
+    HasShape code → instruction_at code slot ≡ Some insn → slot < total_slots code → slot ≡ slot_of_index code index →
+    IsHeld version maps code slot entry pending → IsStop maps slot insn (known_entry entry) reject →
+    keeps (known_along version maps code (index + 1)) → reject ≢ Memory → KeepsRefused keeps version maps code reject
+kept_of_refused keeps version maps code index slot insn entry pending reject shape found within at held (stops_at_rule why broken is) kept other = record {
+  count = index + 1;
+  refused = breaks_at_last index why refl
+      (subst (λ k. IsBroken version maps code k why) at (broken_here version maps code slot insn entry pending why shape found within broken held))
+      (is ∙ ap (λ k. reject_of_rule k why) at);
+  kept = kept;
+}
+kept_of_refused keeps version maps code index slot insn entry pending reject shape found within at held (stops_for_memory wants is) kept other = absurd (other is)
+
+-- what was known of the instructions that were looked at is kept, of the one at the slot too
+pub refused : (keeps : List (Option State) → Type 0) (version : Version) (maps : List MapDef) (code : List Insn) (index slot : ℕ) (insn : Insn)
+    (entry : KnownHere) (pending : Pending) (reject : Reject) →
+    HasShape code → instruction_at code slot ≡ Some insn → slot < total_slots code → slot ≡ slot_of_index code index →
+    IsHeld version maps code slot entry pending → IsStop maps slot insn (known_entry entry) reject →
+    keeps (known_along version maps code (index + 1)) → FailsSweep keeps version maps code reject
+refused keeps version maps code index slot insn entry pending reject shape found within at held stop kept = record {
+  first = first_reject version maps code slot insn entry pending reject shape found within held stop;
+  kept = kept_of_refused keeps version maps code index slot insn entry pending reject shape found within at held stop kept;
+}
+
+pub kept_none : (keeps : List (Option State) → Type 0) (version : Version) (maps : List MapDef) (code : List Insn) → keeps [] → keeps (known_along version maps code 0)
+unfolding known_along
+kept_none keeps version maps code none = none
+
+-- one more is kept
+more_known : (version : Version) (maps : List MapDef) (code : List Insn) (index : ℕ) →
+    known_along version maps code (suc index) ≡ known_along version maps code index ++ known_at (states_of version maps code) (slot_of_index code index) ∷ []
+unfolding known_along
+more_known version maps code index = refl
+
+pub kept_more : (keeps : List (Option State) → Type 0) (version : Version) (maps : List MapDef) (code : List Insn) (index slot : ℕ) (known : Option State) →
+    slot ≡ slot_of_index code index → known ≡ known_at (states_of version maps code) slot →
+    keeps (known_along version maps code index ++ known ∷ []) → keeps (known_along version maps code (index + 1))
+kept_more keeps version maps code index slot known at is kept =
+    let next : suc index ≡ index + 1 = omega arith
+    in subst (λ count. keeps (known_along version maps code count)) next
+    (subst keeps (sym (more_known version maps code index))
+    (subst (λ one. keeps (known_along version maps code index ++ one ∷ [])) (is ∙ ap (known_at (states_of version maps code)) at) kept))
+
+-- a program without structure: no instruction is looked at
+pub without_structure : (keeps : List (Option State) → Type 0) (version : Version) (maps : List MapDef) (code : List Insn) (fault : ShapeFault) (reject : Reject) →
+    IsFirstFault code fault → reject ≡ reject_of_shape fault → keeps [] → FailsSweep keeps version maps code reject
+without_structure keeps version maps code fault reject first is none = record {
+  first = has_no_shape fault first is;
+  kept = λ _. record { count = 0; refused = has_no_structure fault first is refl; kept = kept_none keeps version maps code none };
+}

@@ -12,7 +12,7 @@ use Rattle.abstract_state.specs.declared.state.State.{State}
 use Rattle.verifier.specs.declared.reject.Reject.{Reject}
 use Rattle.verifier.specs.declared.reject.Reject.TheVariants.{Memory}
 use Rattle.verifier.specs.Dataflow.{known_at, Accepts, IsFirstBroken, IsFirstReject}
-use Rattle.verifier.specs.Rejects.{reject_of_refusal}
+use Rattle.verifier.specs.Rejects.{reject_of_rule}
 
 -- a program that some entry states let through can be rejected only for lack of memory
 abbrev pub HasOneAnswer : Type 0
@@ -34,7 +34,7 @@ RuleBeforeJumpsIsTold =
     (version : Version) (maps : List MapDef) (code : List Insn) (slot : ℕ) (why : BrokenRule) (reject : Reject) →
     IsFirstBroken version maps code slot why →
     ((before : ℕ) (insn : Insn) → before < slot → instruction_at code before ≡ Some insn → jump_distance insn ≡ None) →
-    IsFirstReject version maps code reject → reject ≡ reject_of_refusal slot why
+    IsFirstReject version maps code reject → reject ≡ reject_of_rule slot why
 
 -- at each slot at which an instruction begins something is known: so what is said of the instructions with an entry state is said of all
 abbrev pub EachInstructionHasState : Type 0

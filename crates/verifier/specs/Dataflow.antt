@@ -18,7 +18,7 @@ use Rattle.abstract_state.specs.Join.{join_of}
 use Rattle.abstract_state.specs.Flow.{flow_of}
 use Rattle.verifier.specs.declared.reject.Reject.{Reject}
 use Rattle.verifier.specs.declared.reject.Reject.TheVariants.{Memory}
-use Rattle.verifier.specs.Rejects.{reject_of_shape, reject_of_refusal}
+use Rattle.verifier.specs.Rejects.{reject_of_shape, reject_of_rule}
 
 -- ---- what flows along edges
 
@@ -139,5 +139,5 @@ pub record IsFirstBroken (version : Version) (maps : List MapDef) (code : List I
 pub data IsFirstReject (version : Version) (maps : List MapDef) (code : List Insn) (reject : Reject) : Type 0 where
   has_no_shape : (fault : ShapeFault) → IsFirstFault code fault → reject ≡ reject_of_shape fault → IsFirstReject version maps code reject
   breaks_rule : (slot : ℕ) (why : BrokenRule) → IsFirstBroken version maps code slot why →
-      reject ≡ reject_of_refusal slot why → IsFirstReject version maps code reject
+      reject ≡ reject_of_rule slot why → IsFirstReject version maps code reject
   wants_memory : HasShape code → MayAskMemory version maps code → reject ≡ Memory → IsFirstReject version maps code reject

@@ -9,3 +9,4 @@ pub mod Pending
 pub mod Stops
 pub mod Answers
 pub mod Surveys
+pub mod Swept

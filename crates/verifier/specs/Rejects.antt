@@ -1,5 +1,5 @@
 -- Which reject is that of a fault below, and the numbers with which rejects are printed.
-use Rattle.std.specs.Prelude.{ℕ}
+use Rattle.std.specs.Prelude.{ℕ, Option, Some, None}
 use Rattle.faults.specs.declared.fields.Fields.{Fields}
 use Rattle.faults.specs.declared.fields.Fields.TheVariants as fields
 use Rattle.isa.specs.InstructionCodes.{register_number}
@@ -20,21 +20,21 @@ reject_of_shape (shape.JumpIntoWide slot) = JumpIntoWide slot
 reject_of_shape (shape.FallsOff slot) = FallsOff slot
 reject_of_shape (shape.Unreachable slot) = Unreachable slot
 
-abbrev pub reject_of_refusal : ℕ → BrokenRule → Reject
-reject_of_refusal slot (rule.UnsetRegister register) = UnsetRegister slot (register_number register)
-reject_of_refusal slot (rule.WrongKind register) = WrongKind slot (register_number register)
-reject_of_refusal slot rule.PacketBounds = PacketBounds slot
-reject_of_refusal slot rule.StackBounds = StackBounds slot
-reject_of_refusal slot rule.StackUnset = StackUnset slot
-reject_of_refusal slot rule.ValueBounds = ValueBounds slot
-reject_of_refusal slot rule.Misaligned = Misaligned slot
-reject_of_refusal slot rule.ContextAccess = ContextAccess slot
-reject_of_refusal slot rule.ReadOnlyFp = ReadOnlyFp slot
-reject_of_refusal slot rule.UnknownHelper = UnknownHelper slot
-reject_of_refusal slot (rule.BadArgument register) = BadArgument slot (register_number register)
-reject_of_refusal slot rule.PointerLeak = PointerLeak slot
-reject_of_refusal slot rule.UnknownMap = UnknownMap slot
-reject_of_refusal slot rule.NotArrayMap = NotArrayMap slot
+abbrev pub reject_of_rule : ℕ → BrokenRule → Reject
+reject_of_rule slot (rule.UnsetRegister register) = UnsetRegister slot (register_number register)
+reject_of_rule slot (rule.WrongKind register) = WrongKind slot (register_number register)
+reject_of_rule slot rule.PacketBounds = PacketBounds slot
+reject_of_rule slot rule.StackBounds = StackBounds slot
+reject_of_rule slot rule.StackUnset = StackUnset slot
+reject_of_rule slot rule.ValueBounds = ValueBounds slot
+reject_of_rule slot rule.Misaligned = Misaligned slot
+reject_of_rule slot rule.ContextAccess = ContextAccess slot
+reject_of_rule slot rule.ReadOnlyFp = ReadOnlyFp slot
+reject_of_rule slot rule.UnknownHelper = UnknownHelper slot
+reject_of_rule slot (rule.BadArgument register) = BadArgument slot (register_number register)
+reject_of_rule slot rule.PointerLeak = PointerLeak slot
+reject_of_rule slot rule.UnknownMap = UnknownMap slot
+reject_of_rule slot rule.NotArrayMap = NotArrayMap slot
 
 abbrev pub reject_number : Reject → ℕ
 reject_number (JumpBackward slot) = 30
@@ -58,7 +58,7 @@ reject_number (UnknownMap slot) = 47
 reject_number (NotArrayMap slot) = 49
 reject_number Memory = 48
 
--- the numbers of the fields that a fault is printed with
+-- the numbers of the fields that a fault is printed with: the slot, and where the rule is about one, the register
 abbrev pub reject_fields : Reject → Fields
 reject_fields (JumpBackward slot) = fields.One slot
 reject_fields (JumpOutside slot) = fields.One slot
@@ -80,3 +80,12 @@ reject_fields (PointerLeak slot) = fields.One slot
 reject_fields (UnknownMap slot) = fields.One slot
 reject_fields (NotArrayMap slot) = fields.One slot
 reject_fields Memory = fields.Empty
+
+-- the slot is the first of the fields, where there are any
+abbrev pub slot_of_fields : Fields → Option ℕ
+slot_of_fields (fields.One slot) = Some slot
+slot_of_fields (fields.Two slot register) = Some slot
+slot_of_fields other = None
+
+abbrev pub reject_slot : Reject → Option ℕ
+reject_slot reject = slot_of_fields (reject_fields reject)

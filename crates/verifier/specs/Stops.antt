@@ -6,7 +6,10 @@ use Rattle.abstract_state.specs.declared.flow.Flow.{Flow}
 use Rattle.abstract_state.specs.declared.broken_rule.BrokenRule.{BrokenRule}
 use Rattle.abstract_state.specs.declared.state.State.{State}
 use Rattle.abstract_state.specs.Flow.{flow_of}
+use Rattle.verifier.specs.declared.reject.Reject.{Reject}
+use Rattle.verifier.specs.declared.reject.Reject.TheVariants.{Memory}
 use Rattle.verifier.specs.Dataflow.{jumps}
+use Rattle.verifier.specs.Rejects.{reject_of_rule}
 
 -- the instruction breaks a rule in what is known
 pub record BreaksRule (maps : List MapDef) (slot : ℕ) (insn : Insn) (known : Option State) (why : BrokenRule) : Type 0 where
@@ -21,3 +24,9 @@ pub record WantsRoom (maps : List MapDef) (slot : ℕ) (insn : Insn) (known : Op
   pub flow : Flow
   pub flows : flow_of maps state slot insn ≡ Ok flow
   pub is_jump : IsTrue (jumps flow)
+
+-- the first rule that it breaks; or, where an edge leads past the next instruction, lack of memory
+pub data IsStop (maps : List MapDef) (slot : ℕ) (insn : Insn) (known : Option State) (reject : Reject) : Type 0 where
+  stops_at_rule : (why : BrokenRule) → BreaksRule maps slot insn known why → reject ≡ reject_of_rule slot why →
+      IsStop maps slot insn known reject
+  stops_for_memory : WantsRoom maps slot insn known → reject ≡ Memory → IsStop maps slot insn known reject

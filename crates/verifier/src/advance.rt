@@ -1,8 +1,7 @@
 //! From what is known at a slot to what is known at the next.
 
-ghost use Rattle.std.specs.Prelude.{◌≡◌, ◌<◌, ◌+◌, ℕ, Some, Err, IsOk, IsTrue, IfOk, IfErr};
+ghost use Rattle.std.specs.Prelude.{◌≡◌, ◌<◌, ◌+◌, ℕ, Some, IsOk, IsTrue, IfOk, IfErr};
 ghost use Rattle.abstract_state.specs.declared.flow.Flow.{Flow};
-ghost use Rattle.abstract_state.specs.declared.broken_rule.BrokenRule.{BrokenRule};
 ghost use Rattle.abstract_state.specs.declared.state.State.{State};
 ghost use Rattle.abstract_state.specs.Flow.{flow_of};
 ghost use Rattle.abstract_state.specs.InPlace.{flow_by};
@@ -10,21 +9,13 @@ ghost use Rattle.ebpf_decode.specs.InstructionEncoding.{slot_count};
 ghost use Rattle.image_shape.specs.Layouts.{HasNoNegativeTarget};
 ghost use Rattle.verifier.specs.Dataflow.{arriving, arriving_from, is_target, joined_where, jumps};
 ghost use Rattle.verifier.specs.Pending.{known_entry, pending_at};
-ghost use Rattle.verifier.specs.Stops.{BreaksRule, WantsRoom};
+ghost use Rattle.verifier.specs.Stops.{IsStop};
 
 use crate::pending::{KnownHere, Pending};
-use abstract_state::{BrokenRule, Site, State, Way};
+use crate::reject::Reject;
+use abstract_state::{Site, State, Way};
 use ebpf_decode::{Insn, MapDef};
 use std::alloc::{AllocError, Global};
-
-/// Why a sweep stops.
-#[derive(Clone, Copy)]
-pub(crate) enum Halt {
-    /// Memory was refused.
-    Memory,
-    /// The instruction breaks a rule.
-    Rule(BrokenRule),
-}
 
 /// Brings what is known after an instruction to where it jumps.
 fn jump(
@@ -102,7 +93,8 @@ fn lead_on(
     Ok(())
 }
 
-/// Looks at the instruction at a slot: from what is known there to what is known at the next, or why the sweep stops.
+/// Looks at the instruction at a slot: from what is known there to what is known at the next. Refused with the rule that the instruction
+/// breaks, or with 48 where it jumps and memory is refused.
 pub(crate) fn advance(
     alloc: Global,
     maps: &[MapDef],
@@ -110,7 +102,7 @@ pub(crate) fn advance(
     insn: Insn,
     pending: &mut Pending,
     entry: &mut KnownHere,
-) -> Result<(), Halt>
+) -> Result<(), Reject>
     requires within { slot < 4096 }
     requires not_negative { HasNoNegativeTarget slot insn }
     ensures later { IfOk result (λ _. (target : ℕ) → slot + slot_count insn < target →
@@ -120,8 +112,7 @@ pub(crate) fn advance(
         known_entry entry.new ≡ arriving_from maps.now slot (Some insn) (known_entry entry.old) (slot + slot_count insn)
         (pending_at pending.old (slot + slot_count insn))) }
     ensures passes { IfOk result (λ _. (state : State) → known_entry entry.old ≡ Some state → IsOk (flow_of maps.now state slot insn)) }
-    ensures broken { (why : BrokenRule) → result ≡ Err (Halt.Rule why) → BreaksRule maps.now slot insn (known_entry entry.old) why }
-    ensures asked { result ≡ Err Halt.Memory → WantsRoom maps.now slot insn (known_entry entry.old) }
+    ensures stopped { IfErr result (IsStop maps.now slot insn (known_entry entry.old)) }
 {
     if !entry.is_reached {
         pending.land(slot + insn.slot_count() as usize, entry);
@@ -133,10 +124,10 @@ pub(crate) fn advance(
     };
     let way = match entry.state.step(site, insn) {
         Ok(way) => way,
-        Err(why) => return Err(Halt::Rule(why)),
+        Err(why) => return Err(Reject::of_rule(slot as u32, why)),
     };
     match lead_on(alloc, slot, insn, way, pending, entry) {
         Ok(()) => Ok(()),
-        Err(_) => Err(Halt::Memory),
+        Err(_) => Err(Reject::Memory),
     }
 }

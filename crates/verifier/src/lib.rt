@@ -2,6 +2,7 @@
 #![tactic(auto)]
 
 mod advance;
+mod keeping;
 pub mod laws;
 mod op;
 mod pending;
@@ -15,5 +16,5 @@ mod verified;
 pub use op::Op;
 pub use reject::Reject;
 pub use resolved::{Memory, Resolved};
-pub use survey::{Broken, Survey, survey_of};
+pub use survey::{Survey, survey_of};
 pub use verified::{Verified, verify};

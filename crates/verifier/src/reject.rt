@@ -2,7 +2,7 @@
 
 ghost use Rattle.std.specs.Prelude.{◌≡◌, true};
 ghost use Rattle.faults.specs.Explanations.{is_fault};
-ghost use Rattle.verifier.specs.Rejects.{reject_of_shape, reject_of_refusal, reject_number, reject_fields};
+ghost use Rattle.verifier.specs.Rejects.{reject_of_shape, reject_of_rule, reject_slot, reject_number, reject_fields};
 
 use abstract_state::BrokenRule;
 use faults::Fields;
@@ -90,8 +90,8 @@ impl Reject {
     }
 
     /// The reject of a broken rule of kinds.
-    pub(crate) fn of_refusal(slot: u32, why: BrokenRule) -> Reject
-        ensures { result ≡ reject_of_refusal slot why }
+    pub(crate) fn of_rule(slot: u32, why: BrokenRule) -> Reject
+        ensures { result ≡ reject_of_rule slot why }
     {
         match why {
             BrokenRule::UnsetRegister(register) => Reject::UnsetRegister {
@@ -117,6 +117,34 @@ impl Reject {
             BrokenRule::PointerLeak => Reject::PointerLeak { slot },
             BrokenRule::UnknownMap => Reject::UnknownMap { slot },
             BrokenRule::NotArrayMap => Reject::NotArrayMap { slot },
+        }
+    }
+
+    /// The slot of the instruction that breaks the rule: none where memory was refused.
+    pub fn slot(self) -> Option<u32>
+        ensures { result ≡ reject_slot self }
+    {
+        match self {
+            Reject::JumpBackward { slot }
+            | Reject::JumpOutside { slot }
+            | Reject::JumpIntoWide { slot }
+            | Reject::FallsOff { slot }
+            | Reject::Unreachable { slot }
+            | Reject::UnsetRegister { slot, .. }
+            | Reject::WrongKind { slot, .. }
+            | Reject::PacketBounds { slot }
+            | Reject::StackBounds { slot }
+            | Reject::StackUnset { slot }
+            | Reject::ValueBounds { slot }
+            | Reject::Misaligned { slot }
+            | Reject::ContextAccess { slot }
+            | Reject::ReadOnlyFp { slot }
+            | Reject::UnknownHelper { slot }
+            | Reject::BadArgument { slot, .. }
+            | Reject::PointerLeak { slot }
+            | Reject::UnknownMap { slot }
+            | Reject::NotArrayMap { slot } => Some(slot),
+            Reject::Memory => None,
         }
     }
 

@@ -1,6 +1,6 @@
 -- What a later call did or refused, said of the files as they were before earlier calls that changed none.
 use Rattle.std.proofs.Common.{ℕ, Bool, List, Option, Some, None}
-use Rattle.abstract_state.specs.declared.state.State.{State}
+use Rattle.verifier.specs.Verified.{Verified}
 use Rattle.ebpf_decode.specs.ImageContents.{Contents}
 use Rattle.semantics.specs.declared.options.Options.{Options}
 use Rattle.semantics.specs.declared.options.Recording.{Recording}
@@ -79,11 +79,11 @@ pub broken_since : (failed since : Type 0) (fault : Fault) → (failed → since
 broken_since failed since fault so (no_piece unserved) = no_piece (unserved_since failed since fault so unserved)
 broken_since failed since fault so (no_replay_memory is) = no_replay_memory is
 
-pub report_before : (a b c : FileBytes) (files : ReplayFiles) (program : Contents) (states : List (Option State)) (script : List Command) (options : Options)
-    (recording : Recording) (ring : ℕ) (exact : Bool) (reading : Reading) (part : Option Part) (updates : List MapUpdate) (report : Report) → AreKept a b
-    → IsReplayReport b c files program states script options recording ring exact reading part updates report
-    → IsReplayReport a c files program states script options recording ring exact reading part updates report
-report_before a b c files program states script options recording ring exact reading part updates report kept is = record {
+pub report_before : (a b c : FileBytes) (files : ReplayFiles) (verified : Verified) (script : List Command) (options : Options) (recording : Recording)
+    (ring : ℕ) (exact : Bool) (reading : Reading) (part : Option Part) (updates : List MapUpdate) (report : Report) → AreKept a b
+    → IsReplayReport b c files verified script options recording ring exact reading part updates report
+    → IsReplayReport a c files verified script options recording ring exact reading part updates report
+report_before a b c files verified script options recording ring exact reading part updates report kept is = record {
   captured = is.captured;
   capture = capture_before a b kept reading files.capture.now is.captured is.capture;
   of_part = is.of_part;

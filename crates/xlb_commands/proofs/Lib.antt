@@ -3,6 +3,7 @@ pub mod AcceptedJournals
 pub mod Earlier
 pub mod EndsInPieces
 pub mod LongImages
+pub mod LookingBack
 pub mod Outcomes
 pub mod PartScripts
 pub mod PieceLemmas

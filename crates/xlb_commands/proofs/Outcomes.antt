@@ -1,24 +1,28 @@
 -- A replay that was made or given up, from the clauses of the one that makes it.
-use Rattle.std.proofs.Common.{◌≡◌, ◌∙◌, ◌↔◌, Bool, true, false, ℕ, List, Option, Some, None, Result, Ok, Err, ap, refl, subst, sym}
+use Rattle.std.proofs.Common.{◌≡◌, ◌∙◌, ◌↔◌, ◌⊎◌, inl, Bool, true, false, IsTrue, IsFalse, ℕ, List, Option, Some, None, Result, Ok, Err, ap, refl, subst, sym}
 use Rattle.std.specs.Prelude.{IfOk, IfErr, IsErrOf}
 use Rattle.ebpf_decode.specs.declared.map.MapDef.{MapDef}
 use Rattle.semantics.specs.Program.{Program}
-use Rattle.semantics.specs.ShardPlan.{AreOptions, recorded}
+use Rattle.semantics.specs.ShardPlan.{AreOptions, are_served_options, recorded}
 use Rattle.semantics.specs.declared.options.Options.{Options}
 use Rattle.semantics.specs.declared.options.Recording.{Recording}
 use Rattle.map_updates.specs.declared.update.MapUpdate.{MapUpdate}
 use Rattle.wire.specs.declared.records.Sent.{Sent}
 use Rattle.control.specs.declared.command.Command.{Command}
 use Rattle.actors.specs.Accounted.{IsAccounted}
-use Rattle.replay.specs.TurnOrder.{IsExact}
-use Rattle.actors.specs.Parts.{AreBadOptions}
+use Rattle.machine.specs.Running.{program_of}
+use Rattle.guarantees.specs.HeadlineOf.{HeadlineOf}
+use Rattle.replay.specs.EventsInTurns.{IsListedInTurns}
+use Rattle.actors.specs.Parts.{AreBadOptions, HasNoTable}
 use Rattle.actors.specs.UpdateFaults.{OfUpdate}
 use Rattle.replay.specs.TurnFaults.{IsWhyInTurn}
 use Rattle.actors.specs.declared.fault.ReplayFault.{ReplayFault}
 use Rattle.actors.specs.declared.fault.ReplayFault.TheVariants.{BadOptions, NoThread}
 use Rattle.actors.specs.declared.outcome.Outcome.{Outcome}
+use Rattle.xlb_commands.specs.AskedReplays.{IsOutcome}
+use Rattle.xlb_commands.specs.declared.replays.Asked.{Asked}
 use Rattle.xlb_commands.specs.Refused.{IsGivenUp}
-use Rattle.xlb_commands.specs.Replays.{FollowsRule, IsByRule, IsMade}
+use Rattle.xlb_commands.specs.Replays.{FollowsRule, IsByRule}
 
 abbrev pub Made : Type 0
 Made = Result Outcome ReplayFault
@@ -36,19 +40,26 @@ same_fault : (why other : ReplayFault) → failed why ≡ failed other → why �
 same_fault why other e = cc
 
 -- one on threads, and an exact one
-pub made : (exact : Bool) (program : Program) (updates : List MapUpdate) (script : List Command) (options : Options) (records : List Sent)
-    (result : Made) → exact ≡ false → IfOk result (IsAccounted program script options records) → IfOk result (λ outcome. outcome.updates.items ≡ updates)
-    → IfOk result (IsMade exact program updates script options records)
-made exact program updates script options records (Ok outcome) on_threads accounted are =
-    record { updates_are = are; accounted = accounted; in_turn = λ is. absurd (not_both exact is on_threads) }
-made exact program updates script options records (Err why) on_threads accounted are = tt
+pub made : (asked : Asked) (records : List Sent) (result : Made) → asked.exact ≡ false
+    → IfOk result (IsAccounted (program_of asked.verified.now asked.options.shards) asked.script.now (recorded asked.recording asked.options) records)
+    → IfOk result (λ outcome. (accounted : IsAccounted (program_of asked.verified.now asked.options.shards) asked.script.now
+    (recorded asked.recording asked.options) records outcome)
+    → HeadlineOf asked.verified.now asked.script.now (recorded asked.recording asked.options) records outcome accounted)
+    → IfOk result (λ outcome. outcome.updates.items ≡ asked.updates.now) → IfOk result (IsOutcome asked records)
+made asked records (Ok outcome) on_threads accounted kept are = record {
+  made = record { updates_are = are; accounted = accounted; in_turn = λ is. absurd (not_both asked.exact is on_threads) };
+  headline = record { kept = kept accounted; in_turns = λ is. absurd (not_both asked.exact is on_threads) };
+}
+made asked records (Err why) on_threads accounted kept are = tt
 
-pub made_exact : (exact : Bool) (program : Program) (updates : List MapUpdate) (script : List Command) (options : Options) (records : List Sent)
-    (result : Made) → IfOk result (IsExact program script options records) → IfOk result (λ outcome. outcome.updates.items ≡ updates)
-    → IfOk result (IsMade exact program updates script options records)
-made_exact exact program updates script options records (Ok outcome) in_turn are =
-    record { updates_are = are; accounted = in_turn.accounted; in_turn = λ is. in_turn.in_order }
-made_exact exact program updates script options records (Err why) in_turn are = tt
+pub made_exact : (asked : Asked) (records : List Sent) (result : Made)
+    → IfOk result (IsListedInTurns asked.verified.now asked.script.now (recorded asked.recording asked.options) records)
+    → IfOk result (λ outcome. outcome.updates.items ≡ asked.updates.now) → IfOk result (IsOutcome asked records)
+made_exact asked records (Ok outcome) listed are = record {
+  made = record { updates_are = are; accounted = listed.exact.accounted; in_turn = λ is. listed.exact.in_order };
+  headline = record { kept = listed.listed.kept; in_turns = λ is. listed.listed.in_turns };
+}
+made_exact asked records (Err why) listed are = tt
 
 pub given_up : (exact : Bool) (maps : List MapDef) (updates : List MapUpdate) (script : List Command) (options : Options) (recording : Recording)
     (result : Made) → (IsErrOf result BadOptions ↔ AreBadOptions maps options script) → (exact ≡ true → ¬ IsErrOf result NoThread)
@@ -98,6 +109,15 @@ no_failure made why e = cc
 pub had_good : {X : Type 0} (maps : List MapDef) (script : List Command) (options : Options) (result : Result X ReplayFault) (made : X)
     → result ≡ made_of X made → (IsErrOf result BadOptions ↔ AreBadOptions maps options script) → ¬ AreBadOptions maps options script
 had_good {X} maps script options result made is bad = λ are_bad. no_failure made BadOptions (sym is ∙ bad.1 are_bad)
+
+is_served : (X : Type 0) (test : Bool) → (¬ (IsFalse test ⊎ X)) → IsTrue test
+is_served X true neither = refl
+is_served X false neither = absurd (neither (inl refl))
+
+-- options that are not bad are served
+pub served_options : (maps : List MapDef) (script : List Command) (options : Options) → (¬ AreBadOptions maps options script)
+    → IsTrue (are_served_options maps options)
+served_options maps script options good = is_served (HasNoTable maps script) (are_served_options maps options) good
 
 -- of an image that is named nothing is said
 pub rule_of : (name : Option (List ℕ)) (ring : ℕ) (program : Program) (script : List Command) (options : Options) (records : List Sent)

@@ -8,7 +8,7 @@ use Rattle.wire.specs.declared.records.Sent.{Sent}
 use Rattle.traffic.specs.Counting.{one_if}
 use Rattle.traffic.specs.declared.record_line.ReportForm.{ReportForm}
 use Rattle.actors.specs.declared.outcome.RecordEnd.{RecordEnd}
-use Rattle.traffic.specs.RecordLines.{back_text, flow_text, front_text}
+use Rattle.traffic.specs.RecordLines.{line_of_pieces}
 use Rattle.xlb_commands.specs.RecordReports.{backend_at, case_in, end_of, is_sent, line_of_record, line_text, lines_until, sent_address, sent_before}
 use Rattle.xlb_commands.specs.RecordReports.{steps_of_end, target_in, verdict_in, worker_in}
 
@@ -84,9 +84,8 @@ same_target end one other same = by_test (is_sent end) same
 module _ (form : ReportForm) (is_shipped : Bool) (backends : List (ℕ × ℕ)) where
   line_with : ℕ → Sent → RecordEnd → Option ℕ → List ℕ
   line_with number captured end address =
-      (front_text form (number + 1) (captured.seconds * 1000000 + captured.micros) (worker_in end) (verdict_in end)
-      ++ back_text form (steps_of_end end) (case_in is_shipped captured.bytes.items end) (backend_at backends address) address)
-      ++ flow_text form captured.bytes.items
+      line_of_pieces form (number + 1) (captured.seconds * 1000000 + captured.micros) (worker_in end) (verdict_in end) (steps_of_end end)
+      (case_in is_shipped captured.bytes.items end) (backend_at backends address) address captured.bytes.items
 
   same_line : (number : ℕ) (captured : Sent) (end : RecordEnd) (one other : Option Sent) → (is_sent end ≡ true → one ≡ other)
       → line_text form is_shipped backends number captured end one ≡ line_text form is_shipped backends number captured end other

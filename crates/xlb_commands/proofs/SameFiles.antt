@@ -7,7 +7,7 @@ use Rattle.wire.specs.CaptureFormat.{header_bytes}
 use Rattle.control.specs.declared.command.Command.{Command}
 use Rattle.journals.specs.JournalText.{journals_text}
 use Rattle.traffic.specs.Counting.{target_of}
-use Rattle.traffic.specs.RecordLines.{back_text, flow_text, front_text, report_head}
+use Rattle.traffic.specs.RecordLines.{line_of_pieces, report_head}
 use Rattle.traffic.specs.declared.record_line.ReportForm.{ReportForm}
 use Rattle.actors.specs.Accounts.{SentFrame, sent_frame, sent_frames}
 use Rattle.actors.specs.declared.account.Counts.{Counts}
@@ -54,57 +54,56 @@ same_address end one other alike = ap (λ (target : Option ℕ). if is_sent end 
 
 -- the line of a record that was captured so, and that was sent to this address, if it was
 line_to : ReportForm → Bool → List (ℕ × ℕ) → ℕ → SentFrame → RecordEnd → Option ℕ → List ℕ
-line_to form is_steering backends number captured end address =
-    (front_text form (number + 1) (captured.seconds * 1000000 + captured.micros) (worker_in end) (verdict_in end)
-    ++ back_text form (steps_of_end end) (case_in is_steering captured.bytes end) (backend_at backends address) address)
-    ++ flow_text form captured.bytes
+line_to form is_shipped backends number captured end address =
+    line_of_pieces form (number + 1) (captured.seconds * 1000000 + captured.micros) (worker_in end) (verdict_in end) (steps_of_end end)
+    (case_in is_shipped captured.bytes end) (backend_at backends address) address captured.bytes
 
-same_text : (form : ReportForm) (is_steering : Bool) (backends : List (ℕ × ℕ)) (number : ℕ) (captured other : Sent) (end : RecordEnd)
+same_text : (form : ReportForm) (is_shipped : Bool) (backends : List (ℕ × ℕ)) (number : ℕ) (captured other : Sent) (end : RecordEnd)
     (sent others : Option Sent) → sent_frame captured ≡ sent_frame other → AreAlike sent others
-    → line_text form is_steering backends number captured end sent ≡ line_text form is_steering backends number other end others
+    → line_text form is_shipped backends number captured end sent ≡ line_text form is_shipped backends number other end others
 unfolding line_to
-same_text form is_steering backends number captured other end sent others same alike =
-    ap (λ (frame : SentFrame). line_to form is_steering backends number frame end (sent_address end sent)) same
-    ∙ ap (λ (address : Option ℕ). line_to form is_steering backends number (sent_frame other) end address) (same_address end sent others alike)
+same_text form is_shipped backends number captured other end sent others same alike =
+    ap (λ (frame : SentFrame). line_to form is_shipped backends number frame end (sent_address end sent)) same
+    ∙ ap (λ (address : Option ℕ). line_to form is_shipped backends number (sent_frame other) end address) (same_address end sent others alike)
 
-same_line : (form : ReportForm) (is_steering : Bool) (backends : List (ℕ × ℕ)) (ends : List RecordEnd) (sent others : List Sent) (number : ℕ)
+same_line : (form : ReportForm) (is_shipped : Bool) (backends : List (ℕ × ℕ)) (ends : List RecordEnd) (sent others : List Sent) (number : ℕ)
     (captured other : Option Sent) → AreAlike captured other → AreSameFrames sent others
-    → line_of_record form is_steering backends 0 ends sent number captured ≡ line_of_record form is_steering backends 0 ends others number other
-same_line form is_steering backends ends sent others number None None alike same = refl
-same_line form is_steering backends ends sent others number None (Some other) alike same = absurd alike
-same_line form is_steering backends ends sent others number (Some captured) None alike same = absurd alike
-same_line form is_steering backends ends sent others number (Some captured) (Some other) alike same =
-    same_text form is_steering backends (0 + number) captured other (end_of ends number) _ _ alike (alike_at sent others same (sent_before ends number))
+    → line_of_record form is_shipped backends 0 ends sent number captured ≡ line_of_record form is_shipped backends 0 ends others number other
+same_line form is_shipped backends ends sent others number None None alike same = refl
+same_line form is_shipped backends ends sent others number None (Some other) alike same = absurd alike
+same_line form is_shipped backends ends sent others number (Some captured) None alike same = absurd alike
+same_line form is_shipped backends ends sent others number (Some captured) (Some other) alike same =
+    same_text form is_shipped backends (0 + number) captured other (end_of ends number) _ _ alike (alike_at sent others same (sent_before ends number))
 
-same_lines : (form : ReportForm) (is_steering : Bool) (backends : List (ℕ × ℕ)) (records its : List Sent) (ends : List RecordEnd)
+same_lines : (form : ReportForm) (is_shipped : Bool) (backends : List (ℕ × ℕ)) (records its : List Sent) (ends : List RecordEnd)
     (sent others : List Sent) → AreSameFrames records its → AreSameFrames sent others → (number : ℕ)
-    → lines_until form is_steering backends 0 records ends sent number ≡ lines_until form is_steering backends 0 its ends others number
-same_lines form is_steering backends records its ends sent others captured same zero = refl
-same_lines form is_steering backends records its ends sent others captured same (suc number) =
-    ap (λ (text : List ℕ). text ++ line_of_record form is_steering backends 0 ends sent number (slice_get records number))
-    (same_lines form is_steering backends records its ends sent others captured same number)
-    ∙ ap (λ (text : List ℕ). lines_until form is_steering backends 0 its ends others number ++ text)
-    (same_line form is_steering backends ends sent others number _ _ (alike_at records its captured number) same)
+    → lines_until form is_shipped backends 0 records ends sent number ≡ lines_until form is_shipped backends 0 its ends others number
+same_lines form is_shipped backends records its ends sent others captured same zero = refl
+same_lines form is_shipped backends records its ends sent others captured same (suc number) =
+    ap (λ (text : List ℕ). text ++ line_of_record form is_shipped backends 0 ends sent number (slice_get records number))
+    (same_lines form is_shipped backends records its ends sent others captured same number)
+    ∙ ap (λ (text : List ℕ). lines_until form is_shipped backends 0 its ends others number ++ text)
+    (same_line form is_shipped backends ends sent others number _ _ (alike_at records its captured number) same)
 
 same_count : (one other : List Sent) → AreSameFrames one other → length one ≡ length other
 same_count one other same = sym (length-map one sent_frame) ∙ (ap (λ (frames : List SentFrame). length frames) same ∙ length-map other sent_frame)
 
-same_report : (form : ReportForm) (is_steering : Bool) (script : List Command) (records its : List Sent) (ends : List RecordEnd)
+same_report : (form : ReportForm) (is_shipped : Bool) (script : List Command) (records its : List Sent) (ends : List RecordEnd)
     (sent others : List Sent) → AreSameFrames records its → AreSameFrames sent others
-    → report_text form is_steering script records ends sent ≡ report_text form is_steering script its ends others
-same_report form is_steering script records its ends sent others captured same =
+    → report_text form is_shipped script records ends sent ≡ report_text form is_shipped script its ends others
+same_report form is_shipped script records its ends sent others captured same =
     ap (λ (text : List ℕ). report_head form ++ text)
-    (same_lines form is_steering (backends_in script) records its ends sent others captured same (length records)
-    ∙ ap (λ (count : ℕ). lines_until form is_steering (backends_in script) 0 its ends others count) (same_count records its captured))
+    (same_lines form is_shipped (backends_in script) records its ends sent others captured same (length records)
+    ∙ ap (λ (count : ℕ). lines_until form is_shipped (backends_in script) 0 its ends others count) (same_count records its captured))
 
 sent_alike : (script : List Command) (records others : List Sent) (one other : Outcome) → AreSameFrames records others
     → SendTheSame one other → SendTheSameBytes script records others one other
 sent_alike script records others one other captured same = record {
   sent = ap (λ (rest : List ℕ). header_bytes ++ rest)
       (records_are one.sent.items ∙ (ap (λ (frames : List SentFrame). frame_records frames) same.sent ∙ sym (records_are other.sent.items)));
-  report = λ form is_steering.
-      same_report form is_steering script records others one.ends.items one.sent.items other.sent.items captured same.sent
-      ∙ ap (λ (ends : List RecordEnd). report_text form is_steering script others ends other.sent.items) same.ends;
+  report = λ form is_shipped.
+      same_report form is_shipped script records others one.ends.items one.sent.items other.sent.items captured same.sent
+      ∙ ap (λ (ends : List RecordEnd). report_text form is_shipped script others ends other.sent.items) same.ends;
   printed = ap (λ (counts : Counts). counts_text counts ++ refusals_text one.refused.items) same.counts
       ∙ ap (λ (refused : List Applied). counts_text other.counts ++ refusals_text refused) same.refused;
 }

@@ -31,7 +31,7 @@ use Rattle.xlb_commands.specs.Files.{FileBytes, IsImageFile}
 use Rattle.xlb_commands.specs.Parts.{command_frames, numbers_of_part, records_in, script_in}
 use Rattle.xlb_commands.specs.RecordReports.{IsReportFile, form_of, report_text, runs_shipped}
 use Rattle.xlb_commands.specs.Replays.{AreAltered, AreLeft, AreWritten, IsCaptureIn, IsCaptureOf, IsMade, IsProgramOf}
-use Rattle.xlb_commands.specs.Replays.{IsScriptOf, capture_reading, counts_text, program_of_replay, recording_in, refusals_text}
+use Rattle.xlb_commands.specs.Replays.{IsScriptOf, capture_reading, counts_text, image_of, program_of_replay, recording_in, refusals_text}
 use Rattle.xlb_commands.specs.SameFiles.{ExactReplaysWriteTheSame, WriteTheSame}
 use Rattle.xlb_commands.specs.SameFolders.{AreSameFiles, HaveTheSame, SameFilesLeaveTheSame}
 
@@ -269,7 +269,8 @@ wrote_alike agree exact is chosen options updates p q same script its_script ali
 
 pub same_files_leave_the_same : {D : Type 0} (holds : D → FileBytes) → OneImage → OneScript → ExactReplaysWriteTheSame → SameFilesLeaveTheSame holds
 same_files_leave_the_same holds image script agree before after its_before its_after asked printed others refused its_refused exact same is its had has =
-    let program = same_program image (holds before) (holds its_before) same (text_of asked.files.image) asked.flows asked.ring is.program its.program is.program_is its.program_is in
+    let program = same_program image (holds before) (holds its_before) same (text_of asked.files.image) asked.flows asked.ring (image_of is.verified)
+    (image_of its.verified) is.program_is its.program_is in
     let commands = same_script script (holds before) (holds its_before) same (text_of asked.files.script) is.script its.script is.script_is its.script_is in
     let captured = same_capture (holds before) (holds its_before) same (capture_reading asked) asked.files.capture.now is.captured its.captured
     is.capture its.capture in
@@ -278,7 +279,8 @@ same_files_leave_the_same holds image script agree before after its_before its_a
     ∙ ap (λ (x : List Command). script_in asked.part its.captured x) commands in
     let one = is.replayed in
     let other = its.replayed in
-    let wrote = wrote_alike agree asked.exact exact asked.options (recorded (recording_in asked) asked.options) asked.updates.items is.program its.program program
+    let wrote = wrote_alike agree asked.exact exact asked.options (recorded (recording_in asked) asked.options) asked.updates.items
+    (image_of is.verified) (image_of its.verified) program
     (script_in asked.part is.captured is.script) (script_in asked.part its.captured its.script) in_part
     (records_in asked.part is.captured) (records_in asked.part its.captured) (part_alike asked.part is.captured its.captured captured)
     one.outcome other.outcome one.made other.made

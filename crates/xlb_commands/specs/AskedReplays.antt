@@ -19,7 +19,7 @@ use Rattle.xlb_commands.specs.declared.report.Report.{Report}
 use Rattle.xlb_commands.specs.Files.{FileBytes, AreAllButKept}
 use Rattle.xlb_commands.specs.Parts.{records_in, script_in}
 use Rattle.xlb_commands.specs.Refused.{IsGivenUp, IsUnmade, IsUnreplayed}
-use Rattle.xlb_commands.specs.Replays.{IsCaptureOf, IsMade, IsReplayReport, IsReportOf, image_of}
+use Rattle.xlb_commands.specs.Replays.{IsCaptureOf, IsMade, IsReplayReport, IsReportOf, KeepsHeadline, image_of}
 
 -- the parts of what is asked for belong together: the maps take the updates, journals that are written have rows, and where no image is named
 -- the program is the shipped one
@@ -32,8 +32,8 @@ pub record IsConsistent (asked : Asked) : Type 0 where
 -- it was made of these records, and this is its report
 abbrev pub IsAnsweredOf : FileBytes → Asked → List Sent → Report → Type 0
 IsAnsweredOf after asked records report =
-    IsReportOf after asked.files.now (image_of asked.verified.now) asked.verified.now.states asked.script.now asked.options asked.recording
-    asked.ring asked.exact asked.updates.now records report
+    IsReportOf after asked.files.now asked.verified.now asked.script.now asked.options asked.recording asked.ring asked.exact asked.updates.now
+    records report
 
 -- it was not made of these records, or not written down, and this is why
 abbrev pub IsDeniedOf : FileBytes → FileBytes → Type 0 → Asked → List Sent → Fault → Type 0
@@ -44,8 +44,8 @@ IsDeniedOf before after failed asked records fault =
 -- it was made with this script for the whole capture, and this is its report
 abbrev pub IsAnsweredBy : FileBytes → FileBytes → Asked → List Command → Report → Type 0
 IsAnsweredBy before after asked script report =
-    IsReplayReport before after asked.files.now (image_of asked.verified.now) asked.verified.now.states script asked.options
-    asked.recording asked.ring asked.exact asked.reading asked.part asked.updates.now report
+    IsReplayReport before after asked.files.now asked.verified.now script asked.options asked.recording asked.ring asked.exact asked.reading
+    asked.part asked.updates.now report
 
 -- it was made, and this is its report
 abbrev pub IsAnswered : FileBytes → FileBytes → Asked → Report → Type 0
@@ -66,11 +66,12 @@ abbrev pub LeavesOthers : FileBytes → FileBytes → Asked → Type 0
 LeavesOthers before after asked =
     AreAllButKept before after asked.files.now.sent.now (text_of asked.files.now.journals) (text_of asked.files.now.report)
 
--- it was made of these records, with this outcome
-abbrev pub IsOutcome : Asked → List Sent → Outcome → Type 0
-IsOutcome asked records outcome =
-    IsMade asked.exact (program_of asked.verified.now asked.options.shards) asked.updates.now asked.script.now
-    (recorded asked.recording asked.options) records outcome
+-- it was made of these records, with this outcome, and keeps the headline
+pub record IsOutcome (asked : Asked) (records : List Sent) (outcome : Outcome) : Type 0 where
+  pub made : IsMade asked.exact (program_of asked.verified.now asked.options.shards) asked.updates.now asked.script.now
+      (recorded asked.recording asked.options) records outcome
+  pub headline : KeepsHeadline asked.exact asked.verified.now asked.script.now (recorded asked.recording asked.options) records outcome
+      made.accounted
 
 -- it was given up, and this is why
 abbrev pub IsWhyNone : Asked → ReplayFault → Type 0

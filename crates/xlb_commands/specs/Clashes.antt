@@ -4,6 +4,7 @@ use Rattle.command_line.specs.Reading.{text_of}
 use Rattle.command_line.specs.declared.commands.ReplayFiles.{ReplayFiles}
 use Rattle.command_line.specs.declared.commands.Settings.{Settings}
 use Rattle.command_line.specs.declared.commands.Settings.TheVariants.{Run, Asm, Replay}
+use Rattle.xlb_commands.specs.Printable.{in_one_line}
 
 -- a replay reads the file of this name
 abbrev pub IsReplayInput : ReplayFiles → List ℕ → Type 0
@@ -32,7 +33,8 @@ AreApart settings = (written other : List ℕ) → IsOver settings written other
 -- the line of such a mistake
 abbrev pub clash_text : List ℕ → List ℕ → List ℕ
 clash_text written other =
-    codes "error: " ++ (written ++ (codes " would be written over " ++ (other ++ codes ": they are one file\n")))
+    codes "error: " ++ (in_one_line written
+    ++ (codes " would be written over " ++ (in_one_line other ++ codes ": they are one file\n")))
 
 -- ---- files that are there already
 
@@ -51,4 +53,4 @@ AreFree has settings = (name : List ℕ) → IsWrittenAnew settings name → has
 
 -- the line of such a mistake
 abbrev pub present_text : List ℕ → List ℕ
-present_text name = codes "error: " ++ (name ++ codes " is there already: --no-clobber writes over no file\n")
+present_text name = codes "error: " ++ (in_one_line name ++ codes " is there already: --no-clobber writes over no file\n")

@@ -5,6 +5,7 @@ use Rattle.comparison.specs.Mistakes.{unlike_text}
 use Rattle.comparison.specs.declared.fault.Unlike.{Unlike}
 use Rattle.comparison.specs.declared.fault.Unlike.TheVariants.{Memory}
 use Rattle.xlb_commands.specs.Files.{FileBytes}
+use Rattle.xlb_commands.specs.Printable.{in_one_line}
 use Rattle.xlb_commands.specs.declared.comparing.ComparisonAnswer.{ComparisonAnswer}
 use Rattle.xlb_commands.specs.declared.comparing.ComparisonAnswer.TheVariants as answers
 
@@ -25,13 +26,14 @@ pub record IsUnlikeTold (files : FileBytes) (first second text : List ℕ) : Typ
   pub unlike : Unlike
   pub why : IsUnlike first_bytes second_bytes unlike
   pub not_memory : unlike ≢ Memory
-  pub text_is : text ≡ unlike_text unlike first second
+  pub text_is : text ≡ unlike_text unlike (in_one_line first) (in_one_line second)
 
 -- what a comparison of the files' bytes comes to
 abbrev pub IsAnswerOf : List ℕ → List ℕ → List ℕ → List ℕ → ComparisonAnswer → Type 0
 IsAnswerOf first_name second_name first second (answers.Compared text differs) = AreCompared first second (string_bytes text) differs
 IsAnswerOf first_name second_name first second (answers.Unlike text) =
-    (unlike : Unlike) × IsUnlike first second unlike × (unlike ≢ Memory) × (string_bytes text ≡ unlike_text unlike first_name second_name)
+    (unlike : Unlike) × IsUnlike first second unlike × (unlike ≢ Memory)
+    × (string_bytes text ≡ unlike_text unlike (in_one_line first_name) (in_one_line second_name))
 
 -- what a comparison of two files comes to
 abbrev pub IsComparisonAnswer : FileBytes → List ℕ → List ℕ → ComparisonAnswer → Type 0

@@ -1,8 +1,6 @@
 -- An exact replay whose capture is read, and whose sent frames and report are written, in pieces.
 use Rattle.std.specs.Prelude.{◌≡◌, ◌≢◌, ◌↔◌, ◌+◌, ◌*◌, ◌^◌, ◌≤◌, ◌++◌, ℕ, true, false, List, [], Option, Some, length, string_bytes}
 use Rattle.std.specs.List.{AllByRecursion}
-use Rattle.ebpf_decode.specs.ImageContents.{Contents}
-use Rattle.abstract_state.specs.declared.state.State.{State}
 use Rattle.semantics.specs.Program.{Program}
 use Rattle.semantics.specs.ShardPlan.{recorded}
 use Rattle.semantics.specs.declared.options.Options.{Options}
@@ -15,6 +13,8 @@ use Rattle.control.specs.declared.command.Command.{Command}
 use Rattle.actors.specs.Captured.{IsCaptured}
 use Rattle.journals.specs.JournalText.{journals_text}
 use Rattle.fleet.specs.declared.part.Part.{Part}
+use Rattle.verifier.specs.Verified.{Verified}
+use Rattle.machine.specs.Running.{program_of}
 use Rattle.replay.specs.Pieces.{IsUnderway}
 use Rattle.replay.specs.declared.in_pieces.PieceReplay.{PieceReplay}
 use Rattle.actors.specs.declared.outcome.Outcome.{Outcome}
@@ -28,7 +28,7 @@ use Rattle.xlb_commands.specs.RecordReports.{backends_in, form_of, lines_until, 
 use Rattle.xlb_commands.specs.Parts.{command_frames, records_in, script_in}
 use Rattle.xlb_commands.specs.Taking.{AreNumbers}
 use Rattle.xlb_commands.specs.Replays.{AreAccepted, FollowsRule, IsCaptureOf, IsMade, KeepsHeadline, LeavesNothingOut, SendsAlike}
-use Rattle.xlb_commands.specs.Replays.{counts_text, program_of_replay, refusals_text}
+use Rattle.xlb_commands.specs.Replays.{counts_text, refusals_text}
 
 -- no reader counts too far: each record takes 16 bytes at least
 abbrev pub ReaderHasRoom : ℕ → ReaderView → Type 0
@@ -87,20 +87,19 @@ pub record IsGoing (program : Program) (script : List Command) (options : Option
 
 -- all that a replay promises holds for the outcome of an exact replay of these records, which sent these frames; and the bytes of the
 -- journals and the report are that outcome's
-pub record IsMadeOf (files : ReplayFiles) (program : Contents) (states : List (Option State)) (script : List Command) (options : Options)
-    (recording : Recording) (ring : ℕ) (updates : List MapUpdate) (records sent : List Sent) (ends : List RecordEnd) (report : Report)
-    (journals : List ℕ) : Type 0 where
+pub record IsMadeOf (files : ReplayFiles) (verified : Verified) (script : List Command) (options : Options) (recording : Recording) (ring : ℕ)
+    (updates : List MapUpdate) (records sent : List Sent) (ends : List RecordEnd) (report : Report) (journals : List ℕ) : Type 0 where
   pub whole : Outcome
   pub sent_are : whole.sent.items ≡ sent
   pub ends_are : whole.ends.items ≡ ends
-  pub made : IsMade true (program_of_replay program options) updates script (recorded recording options) records whole
-  pub headline : KeepsHeadline program script (recorded recording options) records whole made.accounted
+  pub made : IsMade true (program_of verified options.shards) updates script (recorded recording options) records whole
+  pub headline : KeepsHeadline true verified script (recorded recording options) records whole made.accounted
   pub by_rule :
       updates ≡ [] →
-      FollowsRule (text_of files.image) ring (program_of_replay program options) script (recorded recording options) records whole made.accounted
-  pub readers : updates ≡ [] → SendsAlike program states script (recorded recording options) records whole
+      FollowsRule (text_of files.image) ring (program_of verified options.shards) script (recorded recording options) records whole made.accounted
+  pub readers : updates ≡ [] → SendsAlike verified script (recorded recording options) records whole
   pub journals_are : (file : List ℕ) → text_of files.journals ≡ Some file → journals ≡ journals_text whole.journals
-  pub accepted : (file : List ℕ) → text_of files.journals ≡ Some file → AreAccepted program.maps whole.journals
+  pub accepted : (file : List ℕ) → text_of files.journals ≡ Some file → AreAccepted verified.maps whole.journals
   pub text : string_bytes report.text ≡ counts_text whole.counts ++ refusals_text whole.refused.items
   pub none_refused : (whole.refused.items ≡ []) ↔ (report.is_refused ≡ false)
   pub all : report.leaves_out ≡ false → LeavesNothingOut script records whole
@@ -120,9 +119,9 @@ pub record HasGoneThrough (files : FileBytes) (name : List ℕ) (part : Option P
 
 -- the file is a capture, in the part of which the commands of the script for the whole capture are those of this script; besides, the replay
 -- of the part came to its end, and the report and the bytes of the journals are its
-pub record IsReplayLeft (before made made' : FileBytes) (files : ReplayFiles) (part : Option Part) (whole : List Command) (program : Contents)
-    (states : List (Option State)) (script : List Command) (options : Options) (recording : Recording) (ring : ℕ) (updates : List MapUpdate)
-    (report : Report) (journals : List ℕ) : Type 0 where
+pub record IsReplayLeft (before made made' : FileBytes) (files : ReplayFiles) (part : Option Part) (whole : List Command) (verified : Verified)
+    (script : List Command) (options : Options) (recording : Recording) (ring : ℕ) (updates : List MapUpdate) (report : Report)
+    (journals : List ℕ) : Type 0 where
   pub captured : List Sent
   pub sent : List Sent
   pub ends : List RecordEnd
@@ -130,4 +129,4 @@ pub record IsReplayLeft (before made made' : FileBytes) (files : ReplayFiles) (p
   pub script_is : script_in part captured whole ≡ script
   pub added : AreApartInPieces files → AreAdded made made' files.sent.now (records_bytes sent)
   pub told : AreApartInPieces files → AreTold made made' files script 0 (records_in part captured) sent ends
-  pub made_of : IsMadeOf files program states script options recording ring updates (records_in part captured) sent ends report journals
+  pub made_of : IsMadeOf files verified script options recording ring updates (records_in part captured) sent ends report journals

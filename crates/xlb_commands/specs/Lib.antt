@@ -1,4 +1,5 @@
 -- The definitions that the contracts of this crate cite, in reading order.
+pub mod Printable
 pub mod Files
 pub mod Clashes
 pub mod RecordReports

@@ -12,6 +12,7 @@ use Rattle.flows.specs.declared.fault.NoFlows.{NoFlows}
 use Rattle.flows.specs.declared.fault.NoFlows.TheVariants as flows
 use Rattle.page.specs.Page.{IsPage}
 use Rattle.xlb_commands.specs.Files.{FileBytes}
+use Rattle.xlb_commands.specs.Printable.{in_one_line}
 use Rattle.xlb_commands.specs.Replays.{IsScriptFile}
 use Rattle.xlb_commands.specs.declared.looking_back.ReportAnswer.{ReportAnswer}
 use Rattle.xlb_commands.specs.declared.looking_back.ReportAnswer.TheVariants as answers
@@ -34,7 +35,7 @@ pub record AreNoFlows (files : FileBytes) (report script text : List ℕ) : Type
   pub why : NoFlows
   pub refused : AreFlowsRefused bytes why
   pub not_memory : why ≢ flows.Memory
-  pub text_is : text ≡ refusal_text why report
+  pub text_is : text ≡ refusal_text why (in_one_line report)
 
 -- the files are a report and a script, and this is the page of both
 pub record IsPageShown (files : FileBytes) (report script printed : List ℕ) : Type 0 where
@@ -53,13 +54,13 @@ pub record IsNoPage (files : FileBytes) (report script text : List ℕ) : Type 0
   pub why : NoRows
   pub unread : IsUnread bytes why
   pub not_memory : why ≢ Memory
-  pub text_is : text ≡ no_rows_text why report
+  pub text_is : text ≡ no_rows_text why (in_one_line report)
 
 -- what the flows of a report's bytes come to
 abbrev pub AreFlowsAnswered : List ℕ → List ℕ → List Command → ReportAnswer → Type 0
 AreFlowsAnswered name bytes commands (answers.Shown text notes) = (summary : List ℕ) × AreFlows bytes commands (string_bytes text) summary
 AreFlowsAnswered name bytes commands (answers.NoReport text) =
-    (why : NoFlows) × AreFlowsRefused bytes why × (why ≢ flows.Memory) × (string_bytes text ≡ refusal_text why name)
+    (why : NoFlows) × AreFlowsRefused bytes why × (why ≢ flows.Memory) × (string_bytes text ≡ refusal_text why (in_one_line name))
 
 -- and those of two files
 abbrev pub AreFlowsOfFiles : FileBytes → List ℕ → List ℕ → ReportAnswer → Type 0
@@ -70,7 +71,7 @@ AreFlowsOfFiles files report script (answers.NoReport text) = AreNoFlows files r
 abbrev pub IsPageAnswered : List ℕ → List ℕ → List Command → ReportAnswer → Type 0
 IsPageAnswered name bytes commands (answers.Shown text notes) = IsPage bytes commands (string_bytes text)
 IsPageAnswered name bytes commands (answers.NoReport text) =
-    (why : NoRows) × IsUnread bytes why × (why ≢ Memory) × (string_bytes text ≡ no_rows_text why name)
+    (why : NoRows) × IsUnread bytes why × (why ≢ Memory) × (string_bytes text ≡ no_rows_text why (in_one_line name))
 
 -- and one of two files
 abbrev pub IsPageOfFiles : FileBytes → List ℕ → List ℕ → ReportAnswer → Type 0

@@ -16,7 +16,7 @@ use Rattle.actors.specs.declared.outcome.RecordEnd.TheVariants.{Short, Stopped, 
 use Rattle.traffic.specs.Counting.{address_at, one_if, target_of}
 use Rattle.traffic.specs.Holders.{holder_among, holder_in, only_number}
 use Rattle.traffic.specs.Kinds.{frame_kind_of}
-use Rattle.traffic.specs.RecordLines.{back_text, case_word, flow_text, front_text, report_head}
+use Rattle.traffic.specs.RecordLines.{case_word, line_of_pieces, report_head}
 use Rattle.traffic.specs.declared.backends.Backends.{Backends}
 use Rattle.traffic.specs.declared.record_line.LineVerdict.{LineVerdict}
 use Rattle.traffic.specs.declared.record_line.LineVerdict.TheVariants as words
@@ -115,9 +115,8 @@ backend_at backends (Some address) = only_number (holder_among address backends)
 -- case, the backend and the address, and the flow of its frame
 abbrev pub line_text : ReportForm → Bool → List (ℕ × ℕ) → ℕ → Sent → RecordEnd → Option Sent → List ℕ
 line_text form is_shipped backends number captured end sent =
-    (front_text form (number + 1) (captured.seconds * 1000000 + captured.micros) (worker_in end) (verdict_in end)
-    ++ back_text form (steps_of_end end) (case_in is_shipped captured.bytes.items end) (backend_at backends (sent_address end sent))
-    (sent_address end sent)) ++ flow_text form captured.bytes.items
+    line_of_pieces form (number + 1) (captured.seconds * 1000000 + captured.micros) (worker_in end) (verdict_in end) (steps_of_end end)
+    (case_in is_shipped captured.bytes.items end) (backend_at backends (sent_address end sent)) (sent_address end sent) captured.bytes.items
 
 -- what became of the record of this number
 abbrev pub end_of : List RecordEnd → ℕ → RecordEnd

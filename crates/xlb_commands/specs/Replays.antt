@@ -1,17 +1,15 @@
 -- What it means that a replay is done: the files that it read and wrote, and its report.
 use Rattle.std.specs.Prelude.{◌≡◌, ◌≢◌, ◌↔◌, ◌⊎◌, ◌<◌, ◌+◌, ◌++◌, ◌∷◌, ℕ, Bool, true, false, List, [], Option, Some, None}
-use Rattle.std.specs.Prelude.{codes, decimal, length, string_bytes}
+use Rattle.std.specs.Prelude.{IsTrue, codes, decimal, length, string_bytes}
 use Rattle.std.specs.List.{AllByRecursion, flat_map}
-use mathlib.Core.Path.{subst}
 use Rattle.ebpf_decode.specs.ImageContents.{Contents}
 use Rattle.ebpf_decode.specs.declared.map.MapDef.{MapDef}
 use Rattle.semantics.specs.Safety.{IsSafeImage}
 use Rattle.semantics.specs.declared.options.Options.{Options}
 use Rattle.semantics.specs.declared.options.Recording.{Recording}
 use Rattle.semantics.specs.declared.options.Recording.TheVariants.{Rows, NoRows}
-use Rattle.semantics.specs.ShardPlan.{recorded}
+use Rattle.semantics.specs.ShardPlan.{are_served_options, recorded}
 use Rattle.semantics.specs.Program.{Program}
-use Rattle.abstract_state.specs.declared.state.State.{State}
 use Rattle.verifier.specs.Dataflow.{Accepts}
 use Rattle.verifier.specs.Readers.{IsReader}
 use Rattle.verifier.specs.Verified.{Verified}
@@ -25,6 +23,7 @@ use Rattle.control.specs.declared.command.Command.{Command}
 use Rattle.control.specs.declared.fault.ControlFault.{ControlFault}
 use Rattle.control.specs.FaultNumber.{control_fault_number}
 use Rattle.control.specs.ScriptText.{IsScriptText}
+use Rattle.map_updates.specs.Misfits.{AreFitting}
 use Rattle.map_updates.specs.declared.update.MapUpdate.{MapUpdate}
 use Rattle.journals.specs.JournalsView.{JournalsView}
 use Rattle.journals.specs.JournalText.{journals_text}
@@ -38,7 +37,12 @@ use Rattle.actors.specs.Accounted.{IsAccounted}
 use Rattle.machine.specs.Running.{program_of}
 use Rattle.guarantees.specs.HeadlineOf.{HeadlineOf}
 use Rattle.guarantees.specs.ReaderReplays.{all_sent_at_opening}
+use Rattle.guarantees.specs.ReplayOf.{asked_of}
+use Rattle.guarantees.specs.SystemRuns.{setting_of}
+use Rattle.guarantees.specs.TurnByTurn.{IsTurnByTurn}
+use Rattle.replay.specs.ExactReplays.{starts_in}
 use Rattle.replay.specs.TurnOrder.{IsInTurnOrder}
+use Rattle.replay.specs.Turns.{all_turns}
 use Rattle.steered_replays.specs.SteeredRuns.{IsSteeredReplay}
 use Rattle.steered_replays.specs.StickyReplays.{FlowsStay}
 use Rattle.steered_replays.specs.TablesAtEnd.{AreServices, AreTablesAtEnd, MetNoFullJournal, carried_out, maps_at_end}
@@ -212,9 +216,9 @@ reader_file program records = header_bytes ++ frame_records (all_sent_at_opening
 
 -- Of a program that only reads, where the script has no commands and no run was stopped, the bytes of the sent frames' file follow from
 -- the program, the number of shards and the capture: so they are the same for every number of workers.
-abbrev pub SendsAlike : Contents → List (Option State) → List Command → Options → List Sent → Outcome → Type 0
-SendsAlike image states script options records outcome = IsReader image.code states → script ≡ [] → outcome.counts.stopped ≡ 0 →
-    capture_bytes outcome.sent.items ≡ reader_file (program_of_replay image options) records
+abbrev pub SendsAlike : Verified → List Command → Options → List Sent → Outcome → Type 0
+SendsAlike verified script options records outcome = IsReader verified.code verified.states → script ≡ [] → outcome.counts.stopped ≡ 0 →
+    capture_bytes outcome.sent.items ≡ reader_file (program_of verified options.shards) records
 
 -- the replay made these updates before the commands of the script, and accounts for every record, every command and every entry of the
 -- journals; an exact one was made in turn, with the updates before the first frame, and its one order of all deeds is that of the turns
@@ -224,33 +228,33 @@ pub record IsMade (exact : Bool) (program : Program) (updates : List MapUpdate) 
   pub accounted : IsAccounted program script options records outcome
   pub in_turn : exact ≡ true → IsInTurnOrder program script options records outcome accounted
 
--- the headline, around what the verifier made of the image, by the runs, commands and rounds that are accounted for
-pub record KeepsHeadline (image : Contents) (script : List Command) (options : Options) (records : List Sent)
-    (outcome : Outcome) (made : IsAccounted (program_of_replay image options) script options records outcome) : Type 0 where
-  pub verified : Verified
-  pub image_is : image_of verified ≡ image
-  pub accounted : IsAccounted (program_of verified options.shards) script options records outcome
+-- the headline, by the runs, commands and rounds that are accounted for; the list of events of an exact replay comes turn by turn
+pub record KeepsHeadline (exact : Bool) (verified : Verified) (script : List Command) (options : Options) (records : List Sent)
+    (outcome : Outcome) (accounted : IsAccounted (program_of verified options.shards) script options records outcome) : Type 0 where
   pub kept : HeadlineOf verified script options records outcome accounted
-  -- what is accounted for is what was made
-  pub same :
-      subst (λ (one : Contents). IsAccounted (program_of_replay one options) script options records outcome) image_is accounted ≡ made
+  pub in_turns :
+      exact ≡ true →
+      IsTurnByTurn (setting_of verified options) (asked_of verified script options records outcome kept.headline.replay.done)
+      (all_turns (starts_in script) (length records)) kept.headline.replay.events
 
--- Of a program that may run, a script and the records of a capture: the replay was made, with these updates; it is one list of events, which
--- keeps the headline; without updates the shipped program follows the steering rule, and one that only reads sends the same for every number
--- of workers; the sent frames, the journals and the report are written to their files; and what is printed are the counts, and the commands
--- that were refused. The journals that are written are ones that `xlb audit` accepts. Where no rows of journals are kept, they are known to
--- proofs alone.
-pub record IsReplayedWith (after : FileBytes) (files : ReplayFiles) (program : Contents) (states : List (Option State))
-    (script : List Command) (options : Options) (recording : Recording) (ring : ℕ) (exact : Bool) (updates : List MapUpdate)
-    (records : List Sent) (printed : List ℕ) (refused : List Applied) : Type 0 where
+-- Of what the verifier made of an image, a script and the records of a capture: shards of the image's maps are opened with these options; the
+-- replay was made, with these updates; by one account it is one list of events, the headline's, which of an exact replay comes turn by turn;
+-- without updates the shipped program follows the steering rule, and one that only reads sends the same for every number of workers; the sent
+-- frames, the journals and the report are written to their files; and what is printed are the counts, and the commands that were refused. The
+-- journals that are written are ones that `xlb audit` accepts. Where no rows of journals are kept, they are known to proofs alone.
+pub record IsReplayedWith (after : FileBytes) (files : ReplayFiles) (verified : Verified) (script : List Command) (options : Options)
+    (recording : Recording) (ring : ℕ) (exact : Bool) (updates : List MapUpdate) (records : List Sent) (printed : List ℕ)
+    (refused : List Applied) : Type 0 where
+  -- how many workers and shards there are, and how long the journals are, are numbers that are served for the image's maps
+  pub options_are_served : IsTrue (are_served_options verified.maps options)
   pub outcome : Outcome
-  pub made : IsMade exact (program_of_replay program options) updates script (recorded recording options) records outcome
-  pub headline : KeepsHeadline program script (recorded recording options) records outcome made.accounted
+  pub made : IsMade exact (program_of verified options.shards) updates script (recorded recording options) records outcome
+  pub headline : KeepsHeadline exact verified script (recorded recording options) records outcome made.accounted
   pub by_rule :
       updates ≡ [] →
-      FollowsRule (text_of files.image) ring (program_of_replay program options) script (recorded recording options) records outcome
+      FollowsRule (text_of files.image) ring (program_of verified options.shards) script (recorded recording options) records outcome
       made.accounted
-  pub readers : updates ≡ [] → SendsAlike program states script (recorded recording options) records outcome
+  pub readers : updates ≡ [] → SendsAlike verified script (recorded recording options) records outcome
   pub refused_are : outcome.refused.items ≡ refused
   -- the journals are written after the sent frames, and the report after both; two of them have one name in no command that is done
   -- (Clashes)
@@ -258,7 +262,7 @@ pub record IsReplayedWith (after : FileBytes) (files : ReplayFiles) (program : C
       text_of files.journals ≢ Some files.sent.now → text_of files.report ≢ Some files.sent.now →
       after files.sent.now (capture_bytes outcome.sent.items)
   pub journals : text_of files.report ≢ text_of files.journals → AreWritten after (text_of files.journals) outcome.journals
-  pub accepted : (file : List ℕ) → text_of files.journals ≡ Some file → AreAccepted program.maps outcome.journals
+  pub accepted : (file : List ℕ) → text_of files.journals ≡ Some file → AreAccepted verified.maps outcome.journals
   pub report : IsReportFile after (text_of files.report) (runs_shipped files) script records outcome
   pub lines : printed ≡ counts_text outcome.counts ++ refusals_text refused
 
@@ -272,38 +276,40 @@ pub record LeavesNothingOut (script : List Command) (records : List Sent) (outco
   pub in_time : AllByRecursion (IsInTime (length records)) script
 
 -- the report is that of such a replay, and says whether a command was refused, and where nothing was left out
-abbrev pub IsReportOf : FileBytes → ReplayFiles → Contents → List (Option State) → List Command → Options → Recording → ℕ → Bool
-    → List MapUpdate → List Sent → Report → Type 0
-IsReportOf after files program states script options recording ring exact updates records report = (refused : List Applied)
-    × (replayed : IsReplayedWith after files program states script options recording ring exact updates records (string_bytes report.text) refused)
+abbrev pub IsReportOf : FileBytes → ReplayFiles → Verified → List Command → Options → Recording → ℕ → Bool → List MapUpdate → List Sent
+    → Report → Type 0
+IsReportOf after files verified script options recording ring exact updates records report = (refused : List Applied)
+    × (replayed : IsReplayedWith after files verified script options recording ring exact updates records (string_bytes report.text) refused)
     × ((refused ≡ []) ↔ (report.is_refused ≡ false))
     × (report.leaves_out ≡ false → LeavesNothingOut script records replayed.outcome)
 
 -- the capture is read from its file, and the report is that of a replay of this part of it, in which the script's commands have their
 -- numbers in the part
-pub record IsReplayReport (before after : FileBytes) (files : ReplayFiles) (program : Contents) (states : List (Option State))
-    (script : List Command) (options : Options) (recording : Recording) (ring : ℕ) (exact : Bool) (reading : Reading) (part : Option Part)
-    (updates : List MapUpdate) (report : Report) : Type 0 where
+pub record IsReplayReport (before after : FileBytes) (files : ReplayFiles) (verified : Verified) (script : List Command) (options : Options)
+    (recording : Recording) (ring : ℕ) (exact : Bool) (reading : Reading) (part : Option Part) (updates : List MapUpdate) (report : Report) :
+    Type 0 where
   pub captured : List Sent
   pub capture : IsCaptureOf before reading files.capture.now captured
-  pub of_part : IsReportOf after files program states (script_in part captured script) options recording ring exact updates
+  pub of_part : IsReportOf after files verified (script_in part captured script) options recording ring exact updates
       (records_in part captured) report
 
--- the program may run, the script and the capture are read from their files, and the replay was made with all three: of the part that is
--- asked for, with the script's commands at their numbers in it
+-- the program may run, and its maps take the updates; the script and the capture are read from their files, and the replay was made with all
+-- three: of the part that is asked for, with the script's commands at their numbers in it
 pub record IsReplayed (before after : FileBytes) (asked : ReplaySettings) (printed : List ℕ) (refused : List Applied) : Type 0 where
-  pub program : Contents
-  pub program_is : IsProgramOf before (text_of asked.files.image) asked.flows asked.ring program
+  -- what the verifier made of the image
+  pub verified : Verified
+  pub program_is : IsProgramOf before (text_of asked.files.image) asked.flows asked.ring (image_of verified)
   -- where it is the shipped one, its lookup table and its flow table have sizes that are served
   pub sizes : text_of asked.files.image ≡ None → AreServedSizes asked.flows asked.ring
-  pub states : List (Option State)
-  pub accepted : Accepts program.version program.maps program.code states
-  pub safe : IsSafeImage program.maps program.code
+  pub accepted : Accepts verified.version verified.maps verified.code verified.states
+  pub safe : IsSafeImage verified.maps verified.code
+  -- its maps take the updates
+  pub fits : AreFitting verified.maps asked.updates.items
   pub script : List Command
   pub script_is : IsScriptOf before (text_of asked.files.script) script
   pub captured : List Sent
   pub capture : IsCaptureOf before (capture_reading asked) asked.files.capture.now captured
-  pub replayed : IsReplayedWith after asked.files program states (script_in asked.part captured script) asked.options (recording_in asked)
+  pub replayed : IsReplayedWith after asked.files verified (script_in asked.part captured script) asked.options (recording_in asked)
       asked.ring asked.exact asked.updates.items (records_in asked.part captured) printed refused
 
 -- a strict replay left nothing out

@@ -29,7 +29,7 @@ use Rattle.mistakes.specs.Namesakes.{explained_text}
 use Rattle.faults.specs.Refusals.{AreNotes}
 use Rattle.reasons.specs.Explanations.{IsExplanation}
 use Rattle.command_line.specs.Reading.{text_of}
-use Rattle.map_updates.specs.Misfits.{IsFirstMisfit}
+use Rattle.map_updates.specs.Misfits.{AreFitting, IsFirstMisfit}
 use Rattle.map_updates.specs.declared.misfit.Misfit.{Misfit}
 use Rattle.map_updates.specs.declared.update.MapUpdate.{MapUpdate}
 use Rattle.xlb_commands.specs.declared.one_run.RunAnswer.{RunAnswer}
@@ -112,14 +112,19 @@ start_of_run bytes worker now = initial_state (record { bytes = bytes; headroom 
 abbrev pub setting_of_run : Contents → Setting
 setting_of_run image = record { maps = image.maps; code = image.code; options = run_options }
 
--- The image may run, the file of the frame is one, and there is such a worker. What is printed is what the program's run came to on the
--- frame, at this time and as this worker, over maps in which nothing had happened but these updates: its own trace on replies that are in
--- journals, which are legal and have nothing but the updates and this run's calls. Where a file is named for them, it has these journals.
--- The updates and the run are one list of events of the system.
+-- The image may run, its maps take the updates, the file of the frame is one, and there is such a worker. What is printed is what the
+-- program's run came to on the frame, at this time and as this worker, over maps in which nothing had happened but these updates: its own
+-- trace on replies that are in journals, which are legal and have nothing but the updates and this run's calls. Where a file is named for
+-- them, it has these journals. The updates and the run are one list of events of the system.
 pub record IsRun (before after : FileBytes) (files : RunFiles) (now worker : ℕ) (updates : List MapUpdate) (printed : List ℕ) : Type 0 where
   pub program : Contents
   pub file : IsImageFile before files.image.now program
+  -- the verifier accepts it, with these entry states
+  pub states : List (Option State)
+  pub accepted : Accepts program.version program.maps program.code states
   pub safe : IsSafeImage program.maps program.code
+  -- its maps take the updates
+  pub fits : AreFitting program.maps updates
   pub bytes : List ℕ
   pub read : before files.frame.now bytes
   pub size : IsInputFrame bytes

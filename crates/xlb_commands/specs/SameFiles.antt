@@ -18,9 +18,9 @@ use Rattle.xlb_commands.specs.Replays.{IsMade, counts_text, refusals_text}
 pub record SendTheSameBytes (script : List Command) (records others : List Sent) (one other : Outcome) : Type 0 where
   pub sent : capture_bytes one.sent.items ≡ capture_bytes other.sent.items
   pub report :
-      (form : ReportForm) (is_steering : Bool) →
-      report_text form is_steering script records one.ends.items one.sent.items
-      ≡ report_text form is_steering script others other.ends.items other.sent.items
+      (form : ReportForm) (is_shipped : Bool) →
+      report_text form is_shipped script records one.ends.items one.sent.items
+      ≡ report_text form is_shipped script others other.ends.items other.sent.items
   pub printed : counts_text one.counts ++ refusals_text one.refused.items ≡ counts_text other.counts ++ refusals_text other.refused.items
 
 -- and so have the files of the journals

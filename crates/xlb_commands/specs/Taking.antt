@@ -1,5 +1,5 @@
 -- What a replay takes of the records of a capture that is read in pieces.
-use Rattle.std.specs.Prelude.{◌≡◌, ◌+◌, ◌++◌, ◌<◌, ◌^◌, ℕ, List, Option, Some, None, length, map}
+use Rattle.std.specs.Prelude.{◌≡◌, ◌+◌, ◌++◌, ◌<◌, ◌^◌, ◌==◌, ◌⊎◌, ℕ, Bool, true, List, [], Option, Some, None, length, map}
 use Rattle.wire.specs.declared.records.Sent.{Sent}
 use Rattle.control.specs.declared.command.Command.{Command}
 use Rattle.control.specs.Renumbering.{at_frames}
@@ -23,6 +23,20 @@ pub record IsPartway (part : Option Part) (frames : List ℕ) (past : List Sent)
 abbrev pub HasPassed : Option Part → List ℕ → List Sent → Taking → Type 0
 HasPassed part frames past All = part ≡ None
 HasPassed part frames past (Of own numbering) = IsPartway part frames past own.items numbering
+
+-- all commands have their numbers
+abbrev pub knows_numbers : Taking → Bool
+knows_numbers All = true
+knows_numbers (Of own numbering) = length numbering.numbers.items == length own.items
+
+-- it is behind the first of these records, and the numbers of the commands are those behind all of them: none comes behind it, or all
+-- commands have their numbers
+pub record HasFound (part : Option Part) (frames : List ℕ) (records : List Sent) (taking : Taking) : Type 0 where
+  pub past : List Sent
+  pub beyond : List Sent
+  pub records_are : records ≡ past ++ beyond
+  pub passed : HasPassed part frames past taking
+  pub found : (beyond ≡ []) ⊎ (knows_numbers taking ≡ true)
 
 -- from the one to the other these records were passed
 abbrev pub GoesPast : Taking → Taking → List Sent → Type 0

@@ -4,6 +4,7 @@ ghost use Rattle.std.specs.Prelude.{◌≡◌, ◌≢◌, ◌⊎◌, ℕ, List, 
 ghost use Rattle.command_line.specs.Reading.{text_of};
 ghost use Rattle.xlb_commands.specs.Clashes.{AreApart, IsOver, IsOverInReplay, IsReplayInput, clash_text};
 
+use crate::printable::in_one_line;
 use command_line::{ReplayFiles, RunFiles, Settings};
 use folders::Folder;
 use std::alloc::{AllocError, Global};
@@ -18,11 +19,13 @@ pub(crate) struct Clash<'a> {
 }
 
 impl Clash<'_> {
-    /// The line that is printed of it.
+    /// The line that is printed of it. It can fail only for lack of memory.
     pub(crate) fn text(&self, alloc: Global) -> Result<String, AllocError>
         ensures { IfOk result (λ text. string_bytes text ≡ clash_text self.now.written.now self.now.other.now) }
     {
-        let Clash { written, other } = self;
+        let written = in_one_line(alloc, self.written)?;
+        let other = in_one_line(alloc, self.other)?;
+        let (written, other) = (written.as_str(), other.as_str());
         format!(in alloc; "error: {written} would be written over {other}: they are one file\n")
     }
 }

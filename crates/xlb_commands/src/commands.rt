@@ -35,7 +35,7 @@ use semantics::facts::frame_may_come_in;
 use source_form::{SourceFault, assemble_source, begins_as_source, source};
 use std::alloc::{AllocError, Global};
 use text_lines::text_or_line;
-use verifier::{Reject, Verified, verify};
+use verifier::{Reject, Verified, survey_of, verify};
 use wire::{Frame, FrameFault, MAX_FRAME};
 
 /// What is printed of legal journals.
@@ -267,13 +267,13 @@ pub fn check<D: Folder>(alloc: Global, folder: &mut D, image: &str) -> Result<St
 {
     let (image, source) = program_of_file(alloc, folder, image)?;
     match verify(alloc, image) {
-        Ok(verified) => Ok(accepted(alloc, &verified)?),
+        Ok(verified) => Ok(accepted(alloc, verified.image(), verified.is_reader())?),
         Err(reject) => Err(rejected(alloc, &source, reject)),
     }
 }
 
 /// Judges an image, or the image that a source means, and says why: of one that may not run in the notes of the refusal. Refused as by
-/// `check`, and with 8 where memory is refused for what is said, before the image is judged. No file changes.
+/// `check`, but with 8 and not with 48 where memory is refused, also for what is said. No file changes.
 pub fn check_explained<D: Folder>(
     alloc: Global,
     folder: &mut D,
@@ -286,10 +286,11 @@ pub fn check_explained<D: Folder>(
         (HasFailed (D.failure_count folder.old) (D.failure_count folder.new)) image.now refusal.fault) }
 {
     let (image, source) = program_of_file(alloc, folder, image)?;
-    let reasons = explain(alloc, &image)?;
-    match verify(alloc, image) {
-        Ok(verified) => {
-            let mut text = accepted(alloc, &verified)?;
+    let survey = survey_of(alloc, &image)?;
+    let reasons = explain(alloc, &image, &survey)?;
+    match survey.verdict {
+        Ok(is_reader) => {
+            let mut text = accepted(alloc, &image, is_reader)?;
             text.push_str(reasons.as_str())?;
             Ok(text)
         }

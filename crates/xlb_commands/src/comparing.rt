@@ -8,6 +8,7 @@ ghost use Rattle.xlb_commands.specs.declared.fault.Fault.TheVariants.{Memory};
 
 use crate::fault::{Fault, Refusal};
 use crate::files::bytes_of;
+use crate::printable::in_one_line;
 use comparison::{Unlike, compare};
 use folders::Folder;
 use std::alloc::Global;
@@ -37,7 +38,12 @@ fn compared(
             differs: comparison.differs,
         }),
         Err(Unlike::Memory) => Err(Refusal::from(Fault::Memory)),
-        Err(unlike) => Ok(ComparisonAnswer::Unlike(unlike.text(alloc, names.0, names.1)?)),
+        Err(unlike) => {
+            let first_name = in_one_line(alloc, names.0)?;
+            let second_name = in_one_line(alloc, names.1)?;
+            let text = unlike.text(alloc, first_name.as_str(), second_name.as_str())?;
+            Ok(ComparisonAnswer::Unlike(text))
+        }
     }
 }
 

@@ -11,7 +11,7 @@ ghost use Rattle.xlb_commands.specs.Refused.{HasFailed, IsUnserved, AreUnwritten
 ghost use Rattle.xlb_commands.specs.Replays.{HasBytes};
 
 use crate::fault::{Fault, Refusal};
-use crate::printable::printable;
+use crate::printable::in_one_line;
 use folders::{Folder, FolderFault, Front};
 use journals::{FileFault, Journals, write_journals};
 use std::alloc::{AllocError, Global};
@@ -20,7 +20,7 @@ use wire::MemorySink;
 /// The folder's line on its last failure, with escapes for what a terminal would not show of the name.
 fn complaint<D: Folder>(alloc: Global, folder: &D, name: &str) -> Result<String, AllocError> {
     let line = folder.complaint(alloc, name)?;
-    printable(alloc, line.as_str())
+    in_one_line(alloc, line.as_str())
 }
 
 /// Why a file was not read or written, with the system's word for it.

@@ -1,12 +1,11 @@
 //! Lines for people below a fault's line: what the file is, and where it is wrong.
 
-use crate::printable::printable;
+use crate::printable::in_lines;
 use audit::AuditFault;
 use conntrack::is_note_count;
 use control::ControlFault;
 use ebpf_decode::image::MAGIC;
 use ebpf_decode::{DecodeFault, MapDef};
-use faults::Fields;
 use journals::{FileFault, Journals};
 use maglev::is_ring_size;
 use mistakes::{
@@ -204,7 +203,7 @@ fn explained(
     fault: SourceFault,
 ) -> Result<Option<String>, AllocError> {
     let line = explain(alloc, source, fault)?;
-    Ok(Some(printable(alloc, line.as_str())?))
+    Ok(Some(in_lines(alloc, line.as_str())?))
 }
 
 /// Of a text that is right in the source form, or whose line is wrong there too.
@@ -233,21 +232,13 @@ pub(crate) fn of_source_fault(
     }
 }
 
-/// The slot that a reject names.
-fn slot_of(reject: Reject) -> Option<u32> {
-    match reject.fields() {
-        Fields::One(slot) | Fields::Two(slot, _) => u32::try_from(slot).ok(),
-        _ => None,
-    }
-}
-
 /// Of a program that may not run: where its instruction is in the source, if its file is one.
 pub(crate) fn of_reject(
     alloc: Global,
     source: &[u8],
     reject: Reject,
 ) -> Result<Option<String>, AllocError> {
-    match (slot_of(reject), str::from_utf8(source)) {
+    match (reject.slot(), str::from_utf8(source)) {
         (Some(slot), Ok(text)) if !text.is_empty() => Ok(Some(slot_note(alloc, text, slot)?)),
         _ => Ok(None),
     }
@@ -255,7 +246,7 @@ pub(crate) fn of_reject(
 
 /// Of a program that may not run, where there is no source of it: what says why.
 pub(crate) fn of_refused(alloc: Global, reject: Reject) -> Result<Option<String>, AllocError> {
-    match slot_of(reject) {
+    match reject.slot() {
         Some(_) => note(alloc, "  xlb check --explain IMAGE says why\n"),
         None => Ok(None),
     }

@@ -11,14 +11,14 @@ ghost use Rattle.std.specs.Prelude.{List, Some, None, IfErr, IfOk, IfSome, IfNon
 ghost use Rattle.std.specs.List.{AllByRecursion};
 ghost use Rattle.semantics.specs.Program.{Program};
 ghost use Rattle.semantics.specs.ShardPlan.{KeepsRows, recorded};
-ghost use Rattle.semantics.specs.declared.options.Options.{Options as Settings};
+ghost use Rattle.semantics.specs.declared.options.Options.{Options as ShardOptions};
 ghost use Rattle.machine.specs.Running.{program_of};
 ghost use Rattle.wire.specs.declared.records.Sent.{Sent as Record};
 ghost use Rattle.folders.specs.PieceReading.{IsReadTo, ReadsOn, ReadsToEnd};
-ghost use Rattle.guarantees.specs.HeadlineOf.{HeadlineOf};
 ghost use Rattle.actors.specs.Captured.{IsCaptured};
 ghost use Rattle.map_updates.specs.Misfits.{AreFitting};
 ghost use Rattle.actors.specs.Parts.{AreBadOptions};
+ghost use Rattle.replay.specs.EventsInTurns.{IsListedInPieces};
 ghost use Rattle.replay.specs.Pieces.{ReplayGoesOn, IsUnderway, IsReplayedInPieces};
 ghost use Rattle.actors.specs.declared.outcome.Outcome.{Outcome as Made};
 ghost use Rattle.actors.specs.declared.outcome.RecordEnd.{RecordEnd as End};
@@ -29,10 +29,10 @@ ghost use Rattle.xlb_commands.specs.InPieces.{AreApartInPieces, HasGoneThrough, 
 ghost use Rattle.xlb_commands.specs.InPieces.{IsReplayLeft, IsMadeOf};
 ghost use Rattle.xlb_commands.specs.RecordReports.{HasNamed, backends_in};
 ghost use Rattle.xlb_commands.specs.Parts.{command_frames, records_in, records_next};
-ghost use Rattle.xlb_commands.specs.Taking.{GoesPast, HasPassed, IsAbreast, script_at};
+ghost use Rattle.xlb_commands.specs.Taking.{GoesPast, HasFound, IsAbreast, script_at};
 ghost use Rattle.xlb_commands.specs.Refused.{HasFailed, IsBrokenOff, IsGivenUp, IsUnserved, LacksRoom};
 ghost use Rattle.traffic.specs.Readings.{unaltered};
-ghost use Rattle.xlb_commands.specs.Replays.{IsCaptureOf, IsMade, image_of};
+ghost use Rattle.xlb_commands.specs.Replays.{IsCaptureOf, IsMade};
 
 use crate::fault::{Fault, Refusal};
 use crate::files::journal_bytes;
@@ -40,7 +40,7 @@ use crate::left_out::is_left_out;
 use crate::made_in_pieces::{add_frames, add_lines, begin_files, write_pieces};
 use crate::next_records::{PieceStep, fill_piece, unserved_capture};
 use crate::notes::{Altered, Notes, first_stopped};
-use crate::progress::{Progress, Rounds};
+use crate::progress::{Distance, Progress};
 use crate::record_report::backends_in;
 use crate::replays::{Asked, given_up, readers_send_alike, steered_where_shipped};
 use crate::report::{Report, replayed};
@@ -51,7 +51,7 @@ use command_line::ReplayFiles;
 use control::Script;
 use folders::{CaptureReader, Folder, FolderFault, RecordBuffer};
 use replay::{Outcome, PieceReplay, ReplayFault};
-use shard_port::Gate;
+use shard_port::NoGate;
 use std::alloc::Global;
 use traffic::Backends;
 use wire::{Capture, MemorySink};
@@ -59,9 +59,9 @@ use wire::{Capture, MemorySink};
 /// A capture that was read once.
 #[derive(Drop)]
 struct Seen {
-    /// How many of its records are taken.
+    /// How many records it has.
     records: u64,
-    /// How many of all have fewer bytes than the frames that were captured.
+    /// How many of them have fewer bytes than the frames that were captured.
     cut: u64,
     taking: Taking,
 }
@@ -90,6 +90,21 @@ struct LeftInPieces {
     report: Report,
 }
 
+impl Seen {
+    /// What was seen of a capture that was read to its end.
+    fn of(reader: &CaptureReader, taking: Taking) -> Seen
+        ensures records { result.records ≡ reader.now.count }
+        ensures cut { result.cut ≡ reader.now.cut }
+        ensures taking { result.taking ≡ taking }
+    {
+        Seen {
+            records: reader.count(),
+            cut: reader.cut(),
+            taking,
+        }
+    }
+}
+
 /// Opens a capture, if it can be read in pieces and has a header.
 fn open_reader<D: Folder>(
     alloc: Global,
@@ -114,7 +129,8 @@ fn open_reader<D: Folder>(
     }
 }
 
-/// Reads a capture from its beginning to its end. None where it is not read in pieces, or is no capture.
+/// Reads a capture from its beginning to its end; behind the last command it looks into no record. None where it is not read in pieces, or is
+/// no capture.
 fn look_through<D: Folder>(
     alloc: Global,
     folder: &mut D,
@@ -123,8 +139,8 @@ fn look_through<D: Folder>(
     requires { D.failure_count folder.old < 2 ^ 64 - 1 }
     ensures capture { IfOk result (λ found. IfSome found (λ seen. (records : List Record)
         × IsCaptureOf (D.holds folder.old) unaltered asked.entry.files.now.capture.now records
-        × (seen.records ≡ length (records_in asked.entry.part records))
-        × HasPassed asked.entry.part (command_frames asked.entry.script.now) records seen.taking)) }
+        × (seen.records ≡ length records)
+        × HasFound asked.entry.part (command_frames asked.entry.script.now) records seen.taking)) }
     ensures kept { AreKept (D.holds folder.old) (D.holds folder.new) }
     ensures steady { OnOk result (D.failure_count folder.new ≡ D.failure_count folder.old) }
     ensures refused { IfErr result
@@ -135,22 +151,25 @@ fn look_through<D: Folder>(
         return Ok(None);
     };
     let mut taking = before_all(alloc, folder, name, asked.part, asked.script)?;
-    'records: loop {
+    'records: while !taking.knows_numbers() {
         match reader.find(folder) {
             Ok(Some(head)) => {
                 let _taken = go_past(alloc, folder, name, &mut taking, reader.frame(head))?;
                 reader.pass(head);
             }
-            Ok(None) => return Ok(Some(Seen {
-                records: taking.count(reader.count()),
-                cut: reader.cut(),
-                taking,
-            })),
+            Ok(None) => return Ok(Some(Seen::of(&reader, taking))),
             Err(fault) => return match unserved_capture(alloc, folder, name, fault) {
                 Some(refusal) => Err(refusal),
                 None => Ok(None),
             },
         }
+    }
+    match reader.pass_rest(folder) {
+        Ok(()) => Ok(Some(Seen::of(&reader, taking))),
+        Err(fault) => match unserved_capture(alloc, folder, name, fault) {
+            Some(refusal) => Err(refusal),
+            None => Ok(None),
+        },
     }
 }
 
@@ -209,14 +228,13 @@ fn opened(alloc: Global, asked: Asked<'_>) -> Result<Going, Refusal>
 }
 
 /// Runs the records of a piece, and adds what is sent to the file that is being made. No: there are too many records.
-fn run_piece<D: Folder, G: Gate>(
+fn run_piece<D: Folder>(
     alloc: Global,
     folder: &mut D,
     asked: Asked<'_>,
     table: &Backends,
     going: &mut Going,
     piece: &Capture,
-    gate: &G,
 ) -> Result<bool, Refusal>
     requires failures { D.failure_count folder.old < 2 ^ 64 - 1 }
     requires named { HasNamed table.now (backends_in asked.script.now) }
@@ -241,7 +259,7 @@ fn run_piece<D: Folder, G: Gate>(
     let before = going.replay.taken();
     match going
         .replay
-        .go_on(alloc, asked.verified, asked.script, piece, gate)
+        .go_on(alloc, asked.verified, asked.script, piece, &NoGate)
     {
         Ok(done) => {
             add_frames(alloc, folder, asked.files.sent, &done.sent)?;
@@ -255,7 +273,7 @@ fn run_piece<D: Folder, G: Gate>(
 }
 
 /// Reads a piece, and runs those of its records that are taken. They are in a buffer, whose memory the next piece uses again.
-fn take_piece<D: Folder, G: Gate>(
+fn take_piece<D: Folder>(
     alloc: Global,
     folder: &mut D,
     asked: Asked<'_>,
@@ -264,7 +282,6 @@ fn take_piece<D: Folder, G: Gate>(
     buffer: &mut RecordBuffer,
     table: &Backends,
     going: &mut Going,
-    gate: &G,
 ) -> Result<PieceStep, Refusal>
     requires failures { D.failure_count folder.old < 2 ^ 64 - 1 }
     requires named { HasNamed table.now (backends_in asked.script.now) }
@@ -298,7 +315,7 @@ fn take_piece<D: Folder, G: Gate>(
     if step == PieceStep::Changed {
         return Ok(step);
     }
-    if !run_piece(alloc, folder, asked, table, going, buffer.capture(), gate)? {
+    if !run_piece(alloc, folder, asked, table, going, buffer.capture())? {
         return Ok(PieceStep::Changed);
     }
     Ok(step)
@@ -306,14 +323,14 @@ fn take_piece<D: Folder, G: Gate>(
 
 /// Reads the capture once more, and runs those of its records that are taken. No: it is no capture any more, or one in which the commands have
 /// other numbers in the part.
-fn go_through<D: Folder, G: Gate>(
+fn go_through<D: Folder, P: Progress>(
     alloc: Global,
     folder: &mut D,
     asked: Asked<'_>,
     whole: WholeScript<'_>,
     table: &Backends,
     going: &mut Going,
-    gate: &G,
+    distance: Distance<'_, P>,
 ) -> Result<bool, Refusal>
     requires failures { D.failure_count folder.old < 2 ^ 64 - 1 }
     requires named { HasNamed table.now (backends_in asked.script.now) }
@@ -337,6 +354,7 @@ fn go_through<D: Folder, G: Gate>(
     let mut taking = before_all(alloc, folder, name, asked.part, whole.script)?;
     let mut buffer = RecordBuffer::new(alloc);
     'pieces: loop {
+        let before = reader.count();
         match take_piece(
             alloc,
             folder,
@@ -346,9 +364,8 @@ fn go_through<D: Folder, G: Gate>(
             &mut buffer,
             table,
             going,
-            gate,
         ) {
-            Ok(PieceStep::More) => {}
+            Ok(PieceStep::More) => distance.note(before, reader.count()),
             Ok(PieceStep::Last) => return has_numbers(alloc, folder, name, taking, whole.numbers),
             Ok(PieceStep::Changed) => return Ok(false),
             Err(refusal) => return Err(refusal),
@@ -359,14 +376,13 @@ fn go_through<D: Folder, G: Gate>(
 /// The outcome of a replay behind its last record; it has no sent frames and no ends.
 fn ended(alloc: Global, asked: Asked<'_>, replay: PieceReplay) -> Result<Outcome, Refusal>
     requires { ReplayGoesOn asked.script.now replay }
-    ensures replayed { IfOk result (λ rest. (program : Program) (options : Settings) (records sent : List Record) (ends : List End) →
+    ensures replayed { IfOk result (λ rest. (program : Program) (options : ShardOptions) (records sent : List Record) (ends : List End) →
         IsUnderway program asked.entry.script.now options asked.entry.updates.now records sent ends replay →
         IsReplayedInPieces program asked.entry.script.now options records sent ends rest) }
-    ensures one_list { IfOk result (λ rest. (options : Settings) (records sent : List Record) (ends : List End) →
+    ensures one_list { IfOk result (λ rest. (options : ShardOptions) (records sent : List Record) (ends : List End) →
         AllByRecursion IsCaptured records →
         IsUnderway (program_of asked.entry.verified.now options.shards) asked.entry.script.now options asked.entry.updates.now records sent
-        ends replay → (replayed : IsReplayedInPieces (program_of asked.entry.verified.now options.shards) asked.entry.script.now options records
-        sent ends rest) → HeadlineOf asked.entry.verified.now asked.entry.script.now options records replayed.whole replayed.accounted) }
+        ends replay → IsListedInPieces asked.entry.verified.now asked.entry.script.now options records sent ends rest) }
     ensures updates { IfOk result (λ rest. rest.updates.items ≡ asked.entry.updates.now) }
     ensures refused { IfErr result (λ refusal. refusal.fault ≡ Fault.Replay ReplayFault.Memory) }
 {
@@ -392,9 +408,7 @@ fn left_in_pieces(
         IsUnderway (program_of asked.entry.verified.now asked.entry.options.shards) asked.entry.script.now (recorded
         asked.entry.recording asked.entry.options)
         asked.entry.updates.now records sent ends going.replay → AllByRecursion IsCaptured records →
-        IsMadeOf asked.entry.files.now
-        (image_of asked.entry.verified.now)
-        asked.entry.verified.now.states asked.entry.script.now asked.entry.options asked.entry.recording asked.entry.ring
+        IsMadeOf asked.entry.files.now asked.entry.verified.now asked.entry.script.now asked.entry.options asked.entry.recording asked.entry.ring
         asked.entry.updates.now records sent ends
         left.report left.journals.bytes) }
     ensures refused { IfErr result (λ refusal. (refusal.fault ≡ Fault.Replay ReplayFault.Memory)
@@ -428,7 +442,7 @@ fn left_in_pieces(
 }
 
 /// Runs all that is taken of the capture, and what it leaves. None where the file is not that capture any more.
-fn left_by_pieces<D: Folder, G: Gate>(
+fn left_by_pieces<D: Folder, P: Progress>(
     alloc: Global,
     folder: &mut D,
     asked: Asked<'_>,
@@ -436,7 +450,7 @@ fn left_by_pieces<D: Folder, G: Gate>(
     cut: u64,
     table: &Backends,
     mut going: Going,
-    gate: &G,
+    distance: Distance<'_, P>,
 ) -> Result<Option<LeftInPieces>, Refusal>
     requires failures { D.failure_count folder.old < 2 ^ 64 - 1 }
     requires named { HasNamed table.now (backends_in asked.script.now) }
@@ -448,17 +462,15 @@ fn left_by_pieces<D: Folder, G: Gate>(
     requires served { KeepsRows asked.options.journal }
     requires consistent { IsConsistent asked }
     ensures left { IfOk result (λ found. IfSome found (λ left. IsReplayLeft (D.holds folder.old) (D.is_begun folder.old) (D.is_begun folder.new)
-        asked.entry.files.now asked.entry.part whole.entry.script.now (image_of asked.entry.verified.now)
-        asked.entry.verified.now.states asked.entry.script.now asked.entry.options asked.entry.recording asked.entry.ring
-        asked.entry.updates.now
-        left.report left.journals.bytes)) }
+        asked.entry.files.now asked.entry.part whole.entry.script.now asked.entry.verified.now asked.entry.script.now
+        asked.entry.options asked.entry.recording asked.entry.ring asked.entry.updates.now left.report left.journals.bytes)) }
     ensures kept { AreKept (D.holds folder.old) (D.holds folder.new) }
     ensures steady { OnOk result (D.failure_count folder.new ≡ D.failure_count folder.old) }
     ensures refused { IfErr result
         (λ refusal. IsBrokenOff (HasFailed (D.failure_count folder.old) (D.failure_count folder.new)) refusal.fault
         ⊎ IsMadeInTurn (D.holds folder.old) asked.entry whole.entry.script.now × LacksRoom (text_of asked.entry.files.now.journals) refusal.fault) }
 {
-    if !go_through(alloc, folder, asked, whole, table, &mut going, gate)? {
+    if !go_through(alloc, folder, asked, whole, table, &mut going, distance)? {
         return Ok(None);
     }
     let altered = Altered {
@@ -512,8 +524,11 @@ fn replay_seen<D: Folder, P: Progress + Sync>(
         folder.give_up();
         return Ok(None);
     }
-    let rounds = Rounds::of(progress, asked.verified, &asked.options, true, records);
-    match left_by_pieces(alloc, folder, asked, whole, cut, &table, going, &rounds) {
+    let distance = Distance {
+        progress,
+        all: records,
+    };
+    match left_by_pieces(alloc, folder, asked, whole, cut, &table, going, distance) {
         Ok(Some(left)) => {
             write_pieces(alloc, folder, asked.files, &left.journals)?;
             Ok(Some(left.report))

@@ -8,6 +8,7 @@ ghost use Rattle.xlb_commands.specs.declared.fault.Fault.TheVariants.{Memory};
 
 use crate::fault::{Fault, Refusal};
 use crate::files::bytes_of;
+use crate::printable::in_one_line;
 use crate::replays::script_file;
 use comparison::NoRows;
 use control::Script;
@@ -41,7 +42,10 @@ fn flows_told(
             notes: Some(told.summary),
         }),
         Err(NoFlows::Memory) => Err(Refusal::from(Fault::Memory)),
-        Err(none) => Ok(ReportAnswer::NoReport(none.text(alloc, name)?)),
+        Err(none) => {
+            let name = in_one_line(alloc, name)?;
+            Ok(ReportAnswer::NoReport(none.text(alloc, name.as_str())?))
+        }
     }
 }
 
@@ -58,7 +62,10 @@ fn page_shown(
     match page(alloc, report, script) {
         Ok(text) => Ok(ReportAnswer::Shown { text, notes: None }),
         Err(NoRows::Memory) => Err(Refusal::from(Fault::Memory)),
-        Err(none) => Ok(ReportAnswer::NoReport(none.text(alloc, name)?)),
+        Err(none) => {
+            let name = in_one_line(alloc, name)?;
+            Ok(ReportAnswer::NoReport(none.text(alloc, name.as_str())?))
+        }
     }
 }
 

@@ -4,6 +4,7 @@ ghost use Rattle.std.specs.Prelude.{◌≡◌, ℕ, List, Some, None, IfOk, IfSo
 ghost use Rattle.command_line.specs.Reading.{text_of};
 ghost use Rattle.xlb_commands.specs.Clashes.{AreFree, IsWrittenAnew, IsWrittenInReplay, present_text};
 
+use crate::printable::in_one_line;
 use command_line::{ReplayFiles, Settings};
 use folders::Folder;
 use std::alloc::{AllocError, Global};
@@ -12,6 +13,8 @@ use std::alloc::{AllocError, Global};
 pub(crate) fn present_text(alloc: Global, name: &str) -> Result<String, AllocError>
     ensures { IfOk result (λ text. string_bytes text ≡ present_text name.now) }
 {
+    let name = in_one_line(alloc, name)?;
+    let name = name.as_str();
     format!(in alloc; "error: {name} is there already: --no-clobber writes over no file\n")
 }
 

@@ -11,9 +11,12 @@ use verifier::Verified;
 /// After how many rounds of the reclaimer a replay reports its progress.
 const ROUNDS: u64 = 512;
 
+/// After how many records of a capture that is read in pieces.
+const RECORDS: u64 = 32_768;
+
 /// What a replay reports its progress to.
 pub trait Progress {
-    /// `frames` of `all` frames were handed to the workers.
+    /// `frames` of `all` frames were handed to the workers; where a capture is read in pieces, so many of its frames were gone past.
     fn handed(&self, frames: u64, all: u64);
 }
 
@@ -63,6 +66,24 @@ impl<R: Clock + Eprint> Progress for TerminalProgress<'_, R> {
     }
 }
 
+/// How far a replay is in a capture that is read in pieces.
+#[derive(Clone, Copy)]
+pub(crate) struct Distance<'a, P> {
+    pub progress: &'a P,
+    /// How many records the capture has.
+    pub all: u64,
+}
+
+impl<P: Progress> Distance<'_, P> {
+    /// Behind `passed` records, where it was behind `before` of them when this was called last: reports it, if a multiple of `RECORDS` is
+    /// among the new ones.
+    pub(crate) fn note(&self, before: u64, passed: u64) {
+        if before / RECORDS < passed / RECORDS {
+            self.progress.handed(passed, self.all);
+        }
+    }
+}
+
 /// A gate that holds nobody, and reports a replay's progress by the reclaimer's rounds.
 #[derive(Clone, Copy)]
 pub(crate) struct Rounds<'a, P> {
@@ -96,15 +117,27 @@ impl<'a, P> Rounds<'a, P> {
     }
 }
 
-impl<P: Progress> Gate for Rounds<'_, P> {
-    fn replied(&self, who: Caller, nth: u64) {
-        if who != Caller::Reclaimer || self.replies == 0 || nth % self.replies != 0 {
+impl<P: Progress> Rounds<'_, P> {
+    /// The reclaimer has had its `nth` reply.
+    #[inline(never)]
+    fn reclaimed(&self, nth: u64) {
+        if self.replies == 0 || nth % self.replies != 0 {
             return;
         }
         let rounds = nth / self.replies;
         if rounds % ROUNDS == 0 {
             self.progress
                 .handed(rounds.saturating_mul(ROUND_EVERY as u64), self.frames);
+        }
+    }
+}
+
+impl<P: Progress> Gate for Rounds<'_, P> {
+    #[inline(always)]
+    fn replied(&self, who: Caller, nth: u64) {
+        match who {
+            Caller::Reclaimer => self.reclaimed(nth),
+            _ => {}
         }
     }
 }

@@ -5,7 +5,7 @@ ghost use Rattle.std.specs.Prelude.{List, Some, None, IfErr, IfOk, IsErrOf, IsTr
 ghost use Rattle.semantics.specs.Safety.{IsSafeImage};
 ghost use Rattle.std.specs.List.{AllByRecursion};
 ghost use Rattle.semantics.specs.ShardPlan.{AreOptions, KeepsRows};
-ghost use Rattle.semantics.specs.declared.options.Options.{Options as Settings};
+ghost use Rattle.semantics.specs.declared.options.Options.{Options as ShardOptions};
 ghost use Rattle.wire.specs.declared.records.Sent.{Sent as Record};
 ghost use Rattle.actors.specs.declared.outcome.Outcome.{Outcome as Made};
 ghost use Rattle.actors.specs.Captured.{IsCaptured};
@@ -60,10 +60,9 @@ use crate::shipping::shipped_program;
 use crate::{hints, records};
 use actors::all_are_captured;
 use command_line::{ReplayFiles, ReplaySettings};
-use control::{Script, commands_fit, parse_script};
+use control::{Script, parse_script};
 use fleet::Part;
 use folders::Folder;
-use guarantees::headline;
 use guarantees::readers::readers_send_as_at_opening;
 use journals::Journals;
 use map_updates::{MapUpdate, Misfit, first_misfit};
@@ -334,20 +333,20 @@ pub(crate) fn readers_send_alike(verified: &Verified)
 /// What holds of every replay of the shipped program, where no image is named.
 pub(crate) fn steered_where_shipped(asked: Asked<'_>)
     requires consistent { IsConsistent asked }
-    ensures steered { text_of asked.entry.files.now.image ≡ None → (script : List Command) (options : Settings) (records : List Record)
+    ensures steered { text_of asked.entry.files.now.image ≡ None → (script : List Command) (options : ShardOptions) (records : List Record)
         (outcome : Made) → AreOptions asked.entry.verified.now.maps options → AllByRecursion IsCaptured records →
         (accounted : IsAccounted (program_with asked.entry.verified.now options.shards) script options records outcome) →
         IsSteeredReplay asked.entry.ring (program_with asked.entry.verified.now options.shards) script options records outcome accounted }
-    ensures totals { text_of asked.entry.files.now.image ≡ None → (script : List Command) (options : Settings) (records : List Record)
+    ensures totals { text_of asked.entry.files.now.image ≡ None → (script : List Command) (options : ShardOptions) (records : List Record)
         (outcome : Made) → AreOptions asked.entry.verified.now.maps options → AllByRecursion IsCaptured records →
         IsAccounted (program_with asked.entry.verified.now options.shards) script options records outcome →
         outcome.updates.items ≡ [] → outcome.counts.stopped ≡ 0 → AreTotals outcome }
-    ensures tables { text_of asked.entry.files.now.image ≡ None → (script : List Command) (options : Settings) (records : List Record)
+    ensures tables { text_of asked.entry.files.now.image ≡ None → (script : List Command) (options : ShardOptions) (records : List Record)
         (outcome : Made) → AreOptions asked.entry.verified.now.maps options → AllByRecursion IsCaptured records →
         IsAccounted (program_with asked.entry.verified.now options.shards) script options records outcome →
         outcome.updates.items ≡ [] → MetNoFullJournal outcome.refused.items →
         AreTablesAtEnd asked.entry.ring (carried_out outcome.refused.items 0 script) (maps_at_end outcome.journals) }
-    ensures services { text_of asked.entry.files.now.image ≡ None → (script : List Command) (options : Settings) (records : List Record)
+    ensures services { text_of asked.entry.files.now.image ≡ None → (script : List Command) (options : ShardOptions) (records : List Record)
         (outcome : Made) → AreOptions asked.entry.verified.now.maps options → AllByRecursion IsCaptured records →
         IsAccounted (program_with asked.entry.verified.now options.shards) script options records outcome →
         outcome.updates.items ≡ [] → MetNoFullJournal outcome.refused.items →
@@ -535,8 +534,6 @@ fn replay_records<R: Threads + Wait + Sync, D: Folder, P: Progress + Sync>(
         asked.exact,
         frames,
     );
-    headline(asked.verified);
-    commands_fit(asked.script);
     readers_send_alike(asked.verified);
     steered_where_shipped(asked);
     all_are_captured(capture);

@@ -2,17 +2,15 @@
 
 ghost use Rattle.std.specs.Prelude.{◌≡◌, ◌↔◌, ◌⊎◌, ◌≤◌, ◌++◌, [], true, false, IfOk, OnOk, Bool, IsTrue, string_bytes};
 ghost use Rattle.ebpf_decode.specs.InstructionEncoding.{total_slots};
-ghost use Rattle.verifier.specs.Readers.{IsReader};
 ghost use Rattle.actors.specs.Accounts.{frames_in};
 ghost use Rattle.xlb_commands.specs.Replays.{counts_text, frames_lines, refusal_line, refusal_text_of, refusals_text, verdicts_lines};
 ghost use Rattle.xlb_commands.specs.Results.{accepted_line, accepted_text, yes_or_no, verdict_name, run_lines, run_text};
 
-use ebpf_decode::Insn;
+use ebpf_decode::{Image, Insn};
 use machine::Exit;
 use replay::{Applied, Counts};
 use semantics::Verdict;
 use std::alloc::{AllocError, Global};
-use verifier::Verified;
 use wire::Frame;
 
 /// What a command prints when it is done, and whether a part of it was refused.
@@ -91,15 +89,12 @@ fn accepted_line(alloc: Global, slots: u32, maps: usize, reader: &str) -> Result
 }
 
 /// An accepted image: its slots and maps, and whether it only reads.
-pub fn accepted(alloc: Global, verified: &Verified) -> Result<String, AllocError>
-    ensures { IfOk result (λ line. (reader : Bool) × (IsTrue reader ↔ IsReader verified.now.code verified.now.states)
-        × (string_bytes line ≡ accepted_line
-        (record { version = verified.now.version; maps = verified.now.maps; code = verified.now.code }) reader)) }
+pub fn accepted(alloc: Global, image: &Image, is_reader: bool) -> Result<String, AllocError>
+    ensures { IfOk result (λ line. string_bytes line ≡ accepted_line image.now is_reader) }
 {
-    let image = verified.image();
     let slots = slots_of(image.code());
     let maps = image.maps().len();
-    let reader = yes_or_no(verified.is_reader());
+    let reader = yes_or_no(is_reader);
     accepted_line(alloc, slots, maps, reader)
 }
 

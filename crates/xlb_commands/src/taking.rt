@@ -5,8 +5,8 @@ ghost use Rattle.std.specs.Prelude.{IfErr, IfNone, IfOk, IfSome, OnErr, OnOk};
 ghost use Rattle.wire.specs.declared.records.Sent.{Sent as Record};
 ghost use Rattle.fleet.specs.declared.part.Part.{Part as OnePart};
 ghost use Rattle.control.specs.Renumbering.{at_frames};
-ghost use Rattle.xlb_commands.specs.Parts.{command_frames, records_in};
-ghost use Rattle.xlb_commands.specs.Taking.{AreNumbers, AreRecordsTaken, CanPass, GoesPast, HasPassed, IsBehindSome, IsBehindSomeOf};
+ghost use Rattle.xlb_commands.specs.Parts.{command_frames};
+ghost use Rattle.xlb_commands.specs.Taking.{AreNumbers, AreRecordsTaken, CanPass, GoesPast, HasPassed, IsBehindSome, IsBehindSomeOf, knows_numbers};
 
 use crate::fault::{Fault, Refusal};
 use crate::files::unserved;
@@ -69,14 +69,14 @@ impl Taking {
         }
     }
 
-    /// How many of the records are taken, of which it has passed so many.
-    pub(crate) fn count(&self, passed: u64) -> u64
-        ensures { (part : Option OnePart) (frames : List ℕ) (past : List Record) → HasPassed part frames past self.now →
-            passed ≡ length past → result ≡ length (records_in part past) }
+    /// Whether all commands have their numbers: no further record changes them.
+    #[inline(always)]
+    pub(crate) fn knows_numbers(&self) -> bool
+        ensures { result ≡ knows_numbers self.now }
     {
         match self {
-            Taking::All => passed,
-            Taking::Of { numbering, .. } => numbering.taken as u64,
+            Taking::All => true,
+            Taking::Of { frames, numbering } => numbering.numbers.len() == frames.len(),
         }
     }
 

@@ -38,7 +38,7 @@ use Rattle.abstract_state.specs.declared.state.State.{State}
 use Rattle.abstract_state.specs.States.{Checked, ◌>>=◌, kind_of, with_kind, word_of, with_word, no_bytes, stack_size, opening_state}
 use Rattle.abstract_state.specs.Join.{zip_with, spilled, bytes_of_kind, bytes_of_word, join_kind, join_word, join_of}
 use Rattle.abstract_state.specs.Places.{range_within, aligned, stack_access, packet_access, value_access, atomic_access}
-use Rattle.abstract_state.specs.Words.{storable, narrow_storable, with_set, word_stored}
+use Rattle.abstract_state.specs.Words.{storable, storable_number, with_set, word_stored}
 use Rattle.abstract_state.specs.Facts.{told_kind, told_word, told}
 use Rattle.abstract_state.specs.Arithmetic.{source_kind, blamed, alu_kind, after_alu_of}
 use Rattle.abstract_state.specs.Refinement.{allowed_test, number_cut, fact_of, refined, refine_state}
@@ -229,11 +229,11 @@ store_kept maps state size (Stack place) offset dst kind s =
     in keeps_then (storable size kind) (λ _. Ok (stack_stored state size from kind))
     (λ _ f. keeps_ok (stack_stored state size from kind) (stack_shaped state size from kind s at.low at.multiple)))
 store_kept maps state size (Packet id off range) offset dst kind s =
-    keeps_then (packet_access off range offset (size_bytes size)) (λ from. narrow_storable kind >>= (λ _. Ok state))
-    (λ from e. keeps_then (narrow_storable kind) (λ _. Ok state) (λ _ f. keeps_ok state s))
+    keeps_then (packet_access off range offset (size_bytes size)) (λ from. storable_number kind >>= (λ _. Ok state))
+    (λ from e. keeps_then (storable_number kind) (λ _. Ok state) (λ _ f. keeps_ok state s))
 store_kept maps state size (Value map id off) offset dst kind s =
-    keeps_then (value_access maps map off offset (size_bytes size)) (λ from. narrow_storable kind >>= (λ _. Ok state))
-    (λ from e. keeps_then (narrow_storable kind) (λ _. Ok state) (λ _ f. keeps_ok state s))
+    keeps_then (value_access maps map off offset (size_bytes size)) (λ from. storable_number kind >>= (λ _. Ok state))
+    (λ from e. keeps_then (storable_number kind) (λ _. Ok state) (λ _ f. keeps_ok state s))
 store_kept maps state size Unset offset dst kind s = keeps_err (WrongKind dst)
 store_kept maps state size (Scalar i) offset dst kind s = keeps_err (WrongKind dst)
 store_kept maps state size PacketEnd offset dst kind s = keeps_err (WrongKind dst)
@@ -256,8 +256,8 @@ atomic_kept maps state width op (Map map) offset dst src s = keeps_err (WrongKin
 atomic_kept maps state width op (ValueOrNull map id) offset dst src s = keeps_err (WrongKind dst)
 atomic_kept maps state width op (Value map id off) offset dst src s =
     keeps_then (atomic_access maps map off offset (size_bytes (width_size width))) (λ from.
-    narrow_storable (kind_of state src) >>= (λ _. expects op (kind_of state R0) >>= (λ _. Ok (with_fetched_kind state (fetched_register op src) width))))
-    (λ from e. keeps_then (narrow_storable (kind_of state src)) (λ _. expects op (kind_of state R0) >>= (λ _. Ok (with_fetched_kind state (fetched_register op src) width)))
+    storable_number (kind_of state src) >>= (λ _. expects op (kind_of state R0) >>= (λ _. Ok (with_fetched_kind state (fetched_register op src) width))))
+    (λ from e. keeps_then (storable_number (kind_of state src)) (λ _. expects op (kind_of state R0) >>= (λ _. Ok (with_fetched_kind state (fetched_register op src) width)))
     (λ _ f. keeps_then (expects op (kind_of state R0)) (λ _. Ok (with_fetched_kind state (fetched_register op src) width))
     (λ _ g. keeps_ok (with_fetched_kind state (fetched_register op src) width) (fetched_shaped state (fetched_register op src) width s))))
 

@@ -91,7 +91,7 @@ fn put_flows(port: &mut PlainPort, maps: &[MapDef], row: &FrameRow) -> Result<bo
 {
     'frames: for number in 0..FRAMES {
         let Some(flow) = flow_of(&frame_bytes(row, number)) else {
-            return Ok(true);
+            continue;
         };
         if let Some(put) = row.vip_put(&flow)
             && !put_one(port, maps, &put)?

@@ -73,29 +73,24 @@ fn look_and_load(shard: &mut Shard, key: u32) -> Result<u64, JournalFull>
     }
 }
 
-/// All lookups, up to a full journal, and the sum of what was loaded.
-fn work(shard: &mut Shard) -> u64
+/// All lookups, and the sum of what was loaded.
+fn work(shard: &mut Shard) -> Result<u64, JournalFull>
     requires planned { shard.old.plan ≡ alone_plan }
     requires opened { shard.old.journal ≡ [] }
 {
-    if enter(shard).is_err() {
-        return 0;
-    }
+    enter(shard)?;
     let mut sum = 0u64;
     'keys: for number in 0..LOOKUPS {
         let key = number.wrapping_mul(40503) & (KEYS - 1);
-        match look_and_load(shard, key) {
-            Ok(loaded) => sum = sum.wrapping_add(loaded),
-            Err(_) => return sum,
-        }
+        sum = sum.wrapping_add(look_and_load(shard, key)?);
     }
-    sum
+    Ok(sum)
 }
 
 /// The time of all of them.
 pub fn timed_core(rt: &impl Clock, alloc: Global) -> Result<u128, Error> {
     let mut shard = Shard::open(alloc, plan())?;
     let start = Instant::now(rt)?;
-    let _sum = work(&mut shard);
+    let _sum = work(&mut shard)?;
     Ok(start.elapsed(rt)?.as_nanos())
 }

@@ -137,21 +137,21 @@ fn look_and_load<B: Naming>(
     }
 }
 
-/// All lookups of a thread, up to a full journal, and the sum of what was loaded.
-pub fn work<B: Naming>(rt: &impl Wait, shards: &Shards<B>, task: CallTask<B>) -> u64
+/// All lookups of a thread, and the sum of what was loaded.
+pub fn work<B: Naming>(
+    rt: &impl Wait,
+    shards: &Shards<B>,
+    task: CallTask<B>,
+) -> Result<u64, JournalFull>
     requires { IsPassReady B.count B.plan task.pass task.shard }
 {
     let CallTask { mut pass, shard } = task;
-    if enter(rt, shards, &mut pass, shard).is_err() {
-        return 0;
-    }
+    enter(rt, shards, &mut pass, shard)?;
     let mut sum = 0u64;
     'keys: for number in 0..LOOKUPS {
         let key = number.wrapping_mul(40503) & (KEYS - 1);
-        match look_and_load(rt, shards, &mut pass, shard, key) {
-            Ok(loaded) => sum = sum.wrapping_add(loaded),
-            Err(_) => return sum,
-        }
+        let loaded = look_and_load(rt, shards, &mut pass, shard, key)?;
+        sum = sum.wrapping_add(loaded);
     }
-    sum
+    Ok(sum)
 }

@@ -61,6 +61,24 @@ fn writes_over_no_file_of_its_own(rt: HostRuntime) {
     }
 }
 
+/// A name that a terminal would not show as it is.
+const ODD: &str = "kept\u{1b}[31m\n";
+
+#[test]
+fn names_are_shown_in_one_line(rt: HostRuntime) {
+    let name = "an odd name";
+    let folder = assembled(&rt, rt.alloc(), name, PASSES, ("frame", ZEROS));
+    let folder = put(&rt, rt.alloc(), folder, ODD, KEPT);
+    let line = "xlb asm kept\u{1b}[31m\n kept\u{1b}[31m\n";
+    let wanted = Wanted {
+        status: 2,
+        out: "",
+        err: "error: kept\\u{1b}[31m\\u{a} would be written over kept\\u{1b}[31m\\u{a}: they are one file\n",
+    };
+    let folder = left_by(&rt, rt.alloc(), name, folder, line, wanted);
+    compare_file(&rt, rt.alloc(), name, folder, ODD, KEPT);
+}
+
 /// What a row shows, and a command that would write the file `kept`, which is there.
 #[rattlefmt::skip]
 const THERE: [(&str, &str); 5] = [

@@ -3,7 +3,7 @@
 ghost use Rattle.std.specs.Prelude.{◌≡◌};
 
 use super::replays::{MOVES, TWO_DATAGRAMS};
-use super::{Wanted, compare, compare_begins, done, put, put_digits};
+use super::{Wanted, compare, compare_begins, done, left_by, put, put_digits};
 use folders::MemoryFolder;
 use std::alloc::Global;
 use std::process::Abort;
@@ -160,7 +160,8 @@ fn files_that_are_looked_back_at_are_there(rt: HostRuntime) {
     }
 }
 
-/// Holds what became of the flow of a replay that is made here against what is wanted.
+/// Holds what is read of the report of a replay that is made here against what is wanted: what became of its flow, that it is like itself, and a
+/// page.
 fn compare_replayed<R: Abort + Threads + Wait + Sync>(rt: &R, alloc: Global, name: &str) {
     let folder = put_digits(
         rt,
@@ -177,10 +178,22 @@ fn compare_replayed<R: Abort + Threads + Wait + Sync>(rt: &R, alloc: Global, nam
         out: REPLAYED,
         err: ONE_DOWN,
     };
-    compare(rt, alloc, name, folder, "xlb flows report script", wanted);
+    let folder = left_by(rt, alloc, name, folder, "xlb flows report script", wanted);
+    let alike = Wanted {
+        status: 0,
+        out: "2 records in both, 0 treated differently\n",
+        err: "",
+    };
+    let folder = left_by(rt, alloc, name, folder, "xlb compare report report", alike);
+    let page = Wanted {
+        status: 0,
+        out: "<!DOCTYPE html>\n",
+        err: "",
+    };
+    compare_begins(rt, alloc, name, folder, "xlb page report script", page);
 }
 
 #[test]
-fn flows_of_a_report_that_a_replay_wrote(rt: HostRuntime) {
-    compare_replayed(&rt, rt.alloc(), "flows of a replay");
+fn reports_that_a_replay_wrote_are_read(rt: HostRuntime) {
+    compare_replayed(&rt, rt.alloc(), "the report of a replay");
 }

@@ -188,3 +188,8 @@ then_end holds first now was mid sents cut before end opened name records read =
 pub refused_on : {F : Type 0} (holds : F → List ℕ → List ℕ → Type 0) (first now : List ℕ → Type 0) (was mid : ReaderView) (fault : CaptureFault) → ReadsOn holds first now was mid [] → IsEnough now mid.unread → RefusesRecord mid.unread (mid.count + 1) fault → RefusesNext holds first was fault
 refused_on holds first now was mid fault before enough cause opened name records read =
     read_refused (holds opened name) now (records ++ []) mid fault (before opened name records read) enough cause
+
+-- records, and then one that is refused
+pub then_refused : {F : Type 0} (holds : F → List ℕ → List ℕ → Type 0) (first now : List ℕ → Type 0) (was mid : ReaderView) (sents : List Sent) (fault : CaptureFault) → ReadsOn holds first now was mid sents → RefusesNext holds now mid fault → RefusesNext holds first was fault
+then_refused holds first now was mid sents fault before refused opened name records read =
+    refused opened name (records ++ sents) (before opened name records read)

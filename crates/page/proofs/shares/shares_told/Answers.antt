@@ -8,7 +8,9 @@ pub returns : goal.returns
 returns c = record {
   start = c.in_ok-start.start.items;
   last = c.in_ok-last.last.items;
-  start_is = subst (λ (it : List Command). AreWordsAfter 251 it c.in_ok-start.start.items) (c.deref.ensures.value ∙ c.in_ok-firsts.ensures) c.in_ok-start.ensures;
+  start_is =
+      subst (λ (it : List Command). AreWordsAfter 251 it c.in_ok-start.start.items) (c.deref.ensures.value ∙ c.in_ok-firsts.ensures)
+      c.in_ok-start.ensures;
   last_is = c.in_ok-last.ensures;
   text_is = c.in_ok-text.ensures
       ∙ (ap (λ (it : List ℕ). shares_text it c.deref-3.result.now) c.deref-2.ensures.value

@@ -1,4 +1,4 @@
-use Rattle.std.proofs.Common.{arith, rules, sym}
+use Rattle.std.proofs.Common.{arith, rules}
 use Rattle.page.proofs.KeyLemmas.{all_searched, next_searched, none_searched}
 use Rattle.page.proofs.tallies.lowest_keys.Goals as goal
 

@@ -57,7 +57,7 @@ returns-clause-accounted g c =
     c.planned.ensures.options c.requires.size c.requires.serves
     (subst (λ (updates : List MapUpdate). IsScriptRunBehind g.B.Naming.plan c.args.shards.maps c.args.shards.options updates c.args.script.now c.args.size
     c.args.ended.controller.noted.items c.args.ended.controller.pass c.requires.script.0) (sym updates_are) c.requires.script.2)
-    settled.next owned.next told.refused (first_of_first c.requires.script.0 c.args.last one.deeds c.requires.script.1 did.begins)) in
+    settled.next owned.next told.refused (first_of_first c.requires.script.0 c.args.before_last one.deeds c.requires.script.1 did.begins)) in
     let later = did.begins.0 in
     subst (λ (outcome : Outcome). IsAccounted program c.args.script.now c.args.shards.options records outcome) (sym is) (record {
       maps = c.close_behind-journals.ensures.maps ∙ c.requires.maps;
@@ -83,11 +83,11 @@ returns-clause-accounted g c =
       begins = begun.begins;
       rounds = rounds_stand g.B.Naming.plan g.B.Naming.count (round_count (length records)) journals one.deeds c.args.ended.reclaimer c.requires.rounds.1
           settled.last owned.last c.requires.rounds.0;
-      closes = closes_behind g.B.Naming.plan g.B.Naming.count workers one.deeds c.args.last c.args.ended.reclaimer.deeds one.by did.begins
+      closes = closes_behind g.B.Naming.plan g.B.Naming.count workers one.deeds c.args.before_last c.args.ended.reclaimer.deeds one.by did.begins
           (no_work_later g.B.Naming.count g.B.Naming.plan program records workers c.args.ended.workers.items (lists_of lists) working (map pass_in working)
-          one.deeds later c.args.last c.requires.count c.requires.handled c.in_ok-runs.ensures.parts (λ worker below. refl)
+          one.deeds later c.args.before_last c.requires.count c.requires.handled c.in_ok-runs.ensures.parts (λ worker below. refl)
           (λ worker below. owned.first worker (omega (arith, below, workers_passes))) c.requires.closed.by_workers did.begins.1)
           (subst (λ (one : Caller). deeds_of (ByCaller one) later ≡ []) c.requires.script.2.run.who
-          (nothing_later one.deeds later c.args.last c.args.ended.controller.pass did.begins.1 c.requires.closed.by_controller owned.next))
+          (nothing_later one.deeds later c.args.before_last c.args.ended.controller.pass did.begins.1 c.requires.closed.by_controller owned.next))
           (owned.last ∙ ap (λ (one : Caller). deeds_of (ByCaller one) did.one.deeds) c.requires.rounds.1) c.requires.closed.last;
     })

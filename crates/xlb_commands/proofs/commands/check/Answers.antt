@@ -1,4 +1,4 @@
-use Rattle.std.proofs.Common.{◌∙◌, ◌↔◌, List, IsTrue, ap, subst, length}
+use Rattle.std.proofs.Common.{◌≡◌, ◌∙◌, ◌↔◌, List, IsTrue, ap, subst, length}
 use Rattle.ebpf_decode.specs.declared.insn.Insn.{Insn}
 use Rattle.ebpf_decode.specs.declared.map.MapDef.{MapDef}
 use Rattle.ebpf_decode.specs.InstructionEncoding.{total_slots}
@@ -12,10 +12,10 @@ pub returns-in-Ok-clause-done : goal.returns-in-Ok-clause-done
 returns-in-Ok-clause-done g c =
     let image = c.in_ok-image.image in
     let verified = c.in-Ok.verified in
-    let maps = c.in-Ok.ensures.accepted.0 in
-    let code = c.in-Ok.ensures.accepted.1 in
-    let shown = c.in_ok-accepted-in-Ok.ensures in
-    let reader = shown.0 in
+    let shown = c.image.result.now in
+    let reader = c.is_reader.result in
+    let maps : shown.maps ≡ image.maps = c.image.ensures.same.0 ∙ c.in-Ok.ensures.accepted.0 in
+    let code : shown.code ≡ image.code = c.image.ensures.same.1 ∙ c.in-Ok.ensures.accepted.1 in
     record {
       image = image;
       file = c.in_ok-image.ensures.file;
@@ -23,10 +23,11 @@ returns-in-Ok-clause-done g c =
       accepted = c.in-Ok.ensures.accepted.2;
       safe = c.in-Ok.ensures.safe;
       reader = reader;
-      reads = subst (λ (insns : List Insn). IsTrue reader ↔ IsReader insns verified.states) code shown.1;
+      reads = subst (λ (insns : List Insn). IsTrue reader ↔ IsReader insns verified.states) c.in-Ok.ensures.accepted.1
+          (c.is_reader.ensures.sound, c.is_reader.ensures.exact);
       line =
-          shown.2
-          ∙ (ap (λ (insns : List Insn). accepted_text (total_slots insns) (length verified.maps) (yes_or_no reader)) code
+          c.in_ok-accepted-in-Ok.ensures
+          ∙ (ap (λ (insns : List Insn). accepted_text (total_slots insns) (length shown.maps) (yes_or_no reader)) code
           ∙ ap (λ (defs : List MapDef). accepted_text (total_slots image.code) (length defs) (yes_or_no reader)) maps);
     }
 

@@ -1,7 +1,4 @@
-use Rattle.std.proofs.Common.{◌≡◌, ◌∙◌, ◌++◌, ◌↔◌, inl, inr, Bool, false, ℕ, List, [], ap, refl, subst, sym}
-use mathlib.Core.Path.{subst_refl}
-use Rattle.ebpf_decode.specs.ImageContents.{Contents}
-use Rattle.actors.specs.Accounted.{IsAccounted}
+use Rattle.std.proofs.Common.{◌≡◌, ◌∙◌, ◌++◌, ◌↔◌, inl, inr, Bool, false, ℕ, List, [], ap, subst, sym}
 use Rattle.std.proofs.lemmas.Result.{err_from_is_err_and}
 use Rattle.journals.specs.JournalsView.{JournalsView}
 use Rattle.journals.specs.JournalText.{journals_text}
@@ -16,7 +13,7 @@ use Rattle.semantics.specs.declared.options.Recording.{Recording}
 use Rattle.semantics.specs.declared.options.Options.{Options}
 use Rattle.command_line.specs.Reading.{text_of}
 use Rattle.std.specs.List.{AllByRecursion}
-use Rattle.xlb_commands.specs.Replays.{IsInTime, counts_text, image_of, program_of_replay, refusals_text}
+use Rattle.xlb_commands.specs.Replays.{IsInTime, counts_text, refusals_text}
 use Rattle.xlb_commands.specs.Refused.{no_report_room}
 use Rattle.xlb_commands.proofs.AcceptedJournals.{accepted_of}
 use Rattle.xlb_commands.proofs.Outcomes.{journals_fit, rule_of}
@@ -101,7 +98,8 @@ returns-clause-left c = λ records sent ends under captured.
     let asked = c.args.asked in
     let options : Options = recorded asked.recording asked.options in
     let program = program_of asked.verified.now asked.options.shards in
-    let replayed = c.in_ok-outcome.ensures.replayed program options records sent ends under in
+    let listed = c.in_ok-outcome.ensures.one_list options records sent ends captured under in
+    let replayed = listed.replayed in
     let whole = replayed.whole in
     let is = replayed.is_whole in
     let updated : whole.updates.items ≡ asked.updates.now = is.updates ∙ c.in_ok-outcome.ensures.updates in
@@ -111,14 +109,7 @@ returns-clause-left c = λ records sent ends under captured.
       sent_are = is.sent_are;
       ends_are = is.ends_are;
       made = record { updates_are = updated; accounted = account; in_turn = λ exact. replayed.in_order };
-      headline = record {
-        verified = asked.verified.now;
-        image_is = refl;
-        accounted = account;
-        kept = c.in_ok-outcome.ensures.one_list options records sent ends captured under replayed;
-        same = subst_refl (λ (one : Contents). IsAccounted (program_of_replay one options) asked.script.now options records whole)
-            {x = image_of asked.verified.now} account;
-      };
+      headline = record { kept = listed.listed.kept; in_turns = λ exact. listed.listed.in_turns };
       by_rule = λ none. rule_of (text_of asked.files.now.image) asked.ring program asked.script.now options records whole account
           (λ shipped.
           let steered = c.steered_where_shipped.ensures.steered shipped asked.script.now options records whole under.options_fit captured account in

@@ -1,10 +1,12 @@
-use Rattle.std.proofs.Common.{◌∙◌, ◌++◌, ◌∷◌, [], List, append-nil, arith, rules, subst, sym}
+use Rattle.std.proofs.Common.{◌≡◌, ◌∙◌, ◌++◌, ◌∷◌, [], List, append-nil, arith, inr, length-append, refl, rules, subst, sym, true}
 use Rattle.folders.specs.PieceReading.{IsReadWhole}
 use Rattle.folders.proofs.shared.ReadingLemmas.{sent_on}
 use Rattle.wire.specs.declared.records.Sent.{Sent}
 use Rattle.xlb_commands.specs.Parts.{command_frames}
+use Rattle.xlb_commands.specs.Taking.{HasFound, knows_numbers}
 use Rattle.xlb_commands.proofs.PieceLemmas.{capture_is}
 use Rattle.xlb_commands.proofs.Refusals.{kept_twice}
+use Rattle.xlb_commands.proofs.TakingLemmas.{found_none}
 use Rattle.xlb_commands.proofs.in_pieces.look_through.Goals as goal
 
 pub returns-in-Ok-None-clause-capture : goal.returns-in-Ok-None-clause-capture
@@ -15,9 +17,29 @@ returns-in-Ok-None-clause-capture g c =
     (append-nil so_far.records) (end c.args.folder.now c.args.asked.files.now.capture.now so_far.records so_far.read) in (
       so_far.records,
       capture_is (g.D.Folder.holds c.args.folder.now) c.args.asked.files.now.capture.now so_far.records _ whole,
-      c.count-in-Ok-None.ensures c.args.asked.part (command_frames c.args.asked.script.now) so_far.records so_far.passed
-          (c.count.ensures ∙ (c.in-Ok-None.ensures.count ∙ so_far.read.counted)),
-      so_far.passed,
+      c.of.ensures.records ∙ (c.in-Ok-None.ensures.count ∙ so_far.read.counted),
+      subst (HasFound c.args.asked.part (command_frames c.args.asked.script.now) so_far.records) (sym c.of.ensures.taking)
+          (found_none c.args.asked.part (command_frames c.args.asked.script.now) so_far.records _ so_far.passed),
+    )
+
+pub pass_rest-requires-clause-room : goal.pass_rest-requires-clause-room
+pass_rest-requires-clause-room g c = c.records.invariant.room
+
+pub returns-in-Ok-clause-capture : goal.returns-in-Ok-clause-capture
+returns-in-Ok-clause-capture g c =
+    let so_far = c.records.invariant in
+    let rest = c.in-Ok.ensures.whole in
+    let whole = rest.1 c.args.folder.now c.args.asked.files.now.capture.now so_far.records so_far.read in
+    let both = length-append so_far.records rest.0 in
+    let counted = so_far.read.counted in
+    let more = rest.2 in
+    let known : knows_numbers c.records.taking ≡ true = search rules in (
+      so_far.records ++ rest.0,
+      capture_is (g.D.Folder.holds c.args.folder.now) c.args.asked.files.now.capture.now (so_far.records ++ rest.0) _ whole,
+      c.of-in-Ok.ensures.records ∙ omega (arith, both, counted, more),
+      subst (HasFound c.args.asked.part (command_frames c.args.asked.script.now) (so_far.records ++ rest.0))
+          (sym c.of-in-Ok.ensures.taking)
+          (record { past = so_far.records; beyond = rest.0; records_are = refl; passed = so_far.passed; found = inr known }),
     )
 
 pub go_past-requires : goal.go_past-requires

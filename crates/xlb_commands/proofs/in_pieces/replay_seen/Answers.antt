@@ -24,6 +24,7 @@ use Rattle.xlb_commands.specs.Refused.{HasFailed, IsBrokenOff, IsGivenUp, IsUnma
 use Rattle.xlb_commands.specs.Refused.{broken_off, given_up, lacks_memory, no_piece, not_reported, not_written_down, unmade}
 use Rattle.xlb_commands.specs.Replays.{IsCaptureOf, IsMade, IsReportOf, image_of, program_of_replay}
 use Rattle.xlb_commands.proofs.Earlier.{all_but_kept, broken_since, capture_before, unfiled_before}
+use Rattle.xlb_commands.proofs.Outcomes.{served_options}
 use Rattle.xlb_commands.proofs.Refusals.{failed_since, kept_still, kept_twice, written_down}
 use Rattle.xlb_commands.proofs.TakingLemmas.{script_is}
 use Rattle.xlb_commands.proofs.in_pieces.replay_seen.Goals as goal
@@ -35,8 +36,8 @@ answer_by : (before after : FileBytes) (asked : Asked) (script : List Command) (
 answer_by before after asked script captured report capture same is = record {
   captured = captured;
   capture = capture;
-  of_part = subst (λ (them : List Command). IsReportOf after asked.files.now (image_of asked.verified.now) asked.verified.now.states them asked.options
-      asked.recording asked.ring asked.exact asked.updates.now (records_in asked.part captured) report) (sym same) is;
+  of_part = subst (λ (them : List Command). IsReportOf after asked.files.now asked.verified.now them asked.options asked.recording asked.ring
+      asked.exact asked.updates.now (records_in asked.part captured) report) (sym same) is;
 }
 
 -- the same of what was not made
@@ -123,13 +124,14 @@ returns-in-Ok-Some-clause-done g c =
     (sym c.requires.all) (capture_before _ _ before _ _ left.captured left.capture)) left.script_is (
       made_of.whole.refused.items,
       record {
+        options_are_served = served_options asked.verified.now.maps asked.script.now asked.options c.in_ok-going.ensures.good;
         outcome = made_of.whole;
         made = record {
           updates_are = made_of.made.updates_are;
           accounted = made_of.made.accounted;
           in_turn = λ exact. made_of.made.in_turn refl;
         };
-        headline = made_of.headline;
+        headline = record { kept = made_of.headline.kept; in_turns = λ exact. made_of.headline.in_turns refl };
         by_rule = made_of.by_rule;
         readers = made_of.readers;
         refused_are = refl;

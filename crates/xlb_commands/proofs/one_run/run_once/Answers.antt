@@ -73,6 +73,7 @@ pub returns-clause-done : goal.returns-clause-done
 returns-clause-done g c =
     let program : Contents =
     record { version = c.in_ok-verified.verified.version; maps = c.in_ok-verified.verified.maps; code = c.in_ok-verified.verified.code } in
+    let fits : AreFitting c.in_ok-verified.verified.maps c.args.updates.now = search rules in
     let below : c.args.worker < 8 = omega (arith, c.in_ok-moment.ensures.given.1, c.in_ok-moment.ensures.below) in
     let at : HasRunAlone (program_of_run program) (start_of_run c.in_ok-frame.frame.bytes c.in_ok-moment.moment.worker c.in_ok-moment.moment.now_ns) run_options
     c.in_ok-moment.moment.worker c.args.updates.now c.in-Ok.exit.verdict c.in-Ok.exit.steps c.run_over.new.frame c.in_ok-ended.field-0.journals = search rules in
@@ -81,7 +82,10 @@ returns-clause-done g c =
     record {
       program = program;
       file = c.in_ok-verified.ensures.file;
+      states = c.in_ok-verified.verified.states;
+      accepted = c.maps_of.ensures.accepted;
       safe = c.in_ok-verified.ensures.safe;
+      fits = fits;
       bytes = c.in_ok-frame.frame.bytes;
       read = (c.in_ok-verified.ensures.kept _ _).1 c.in_ok-frame.ensures.read;
       size = c.in_ok-frame.ensures.size;

@@ -2,22 +2,16 @@ use Rattle.std.proofs.Common.{◌≡◌, ◌∙◌, ◌≢◌, ◌<◌, ◌≤�
 use Rattle.ebpf_decode.specs.declared.map.MapDef.{MapDef}
 use Rattle.map_updates.specs.declared.update.MapUpdate.{MapUpdate}
 use Rattle.semantics.specs.ShardPlan.{are_served_options}
-use Rattle.map_rules.specs.declared.open_fault.OpenFault.{OpenFault}
-use Rattle.map_rules.specs.declared.open_fault.OpenFault.TheVariants.{BadOptions, Memory}
+use Rattle.map_rules.specs.declared.open_fault.OpenFault.TheVariants.{BadOptions}
 use Rattle.runs.specs.declared.fault.RunFault.{RunFault}
 use Rattle.runs.specs.declared.fault.RunFault.TheVariants.{Open, Refused, Full}
-use Rattle.wire.specs.FrameView.{FrameView}
 use Rattle.control.specs.declared.fault.ControlFault.TheVariants as scripts
 use Rattle.runs.specs.SingleRuns.{IsWhyNoRun}
 use Rattle.xlb_commands.specs.declared.fault.Fault.{Fault}
 use Rattle.xlb_commands.specs.declared.fault.Fault.TheVariants as faults
-use Rattle.xlb_commands.specs.Refused.{IsRunFault, not_served, no_map_memory, update_refused, update_full}
+use Rattle.xlb_commands.specs.Refused.{IsRunFault, update_refused, update_full}
 use Rattle.xlb_commands.specs.Results.{run_options}
 use Rattle.xlb_commands.proofs.one_run.run_over.Goals as goal
-
--- a frame with the usual room in front of it
-frame_is : (frame : FrameView) → frame.headroom ≡ 256 → frame ≡ record { bytes = frame.bytes; headroom = 256 }
-frame_is frame room = ap (λ (headroom : ℕ). record { bytes = frame.bytes; headroom = headroom }) room
 
 -- maps that are not refused are served
 served : (X : Type 0) (is_served : Bool) → ¬ (IsFalse is_served ⊎ X) → IsTrue is_served
@@ -27,26 +21,11 @@ served X false neither = absurd (neither (inl refl))
 abbrev result_of : (A : Type 0) → RunFault → Result A RunFault
 result_of A why = Err why
 
--- a worker that there is is not what was refused
-maps_alone : (X : Type 0) (worker : ℕ) → X ⊎ (8 ≤ worker) → worker < 8 → X
-maps_alone X worker (inl maps) below = maps
-maps_alone X worker (inr above) below = absurd (omega (arith, above, below))
-
-no_memory : {A : Type 0} → result_of A (Open Memory) ≢ result_of A (Open BadOptions)
-no_memory e = absurd cc
-
 no_refusal : {A : Type 0} (place : ℕ) (answer : ℤ) → result_of A (Refused place answer) ≢ result_of A (Open BadOptions)
 no_refusal place answer e = absurd cc
 
 not_full : {A : Type 0} (place : ℕ) → result_of A (Full place) ≢ result_of A (Open BadOptions)
 not_full place e = absurd cc
-
--- shards were not opened
-unopened : {A : Type 0} (maps : List MapDef) (updates : List MapUpdate) (worker : ℕ) (why : OpenFault) (fault : Fault)
-    → (result_of A (Open why) ≡ result_of A (Open BadOptions) ↔ (IsFalse (are_served_options maps run_options) ⊎ (8 ≤ worker))) → worker < 8
-    → fault ≡ faults.Options why → IsRunFault maps updates fault
-unopened maps updates worker BadOptions fault known below is = not_served (maps_alone _ worker (known.0 refl) below) is
-unopened maps updates worker Memory fault known below is = no_map_memory (served _ _ (λ broken. no_memory (known.1 broken))) is
 
 -- an update was refused
 refused_so : {A : Type 0} (maps : List MapDef) (updates : List MapUpdate) (worker place : ℕ) (answer reported : ℤ) (why : RunFault) (fault : Fault) → why ≡ Refused place answer → reported ≡ answer

@@ -1,13 +1,9 @@
-use Rattle.semantics.specs.ShardPlan.{recorded}
-use Rattle.machine.specs.Running.{program_of}
 use Rattle.xlb_commands.proofs.Outcomes.{made, made_exact, given_up, not_both}
 use Rattle.xlb_commands.proofs.replays.replay_at.Goals as goal
 
 pub returns-then-asked-clause-made : goal.returns-then-asked-clause-made
 returns-then-asked-clause-made g c =
-    made_exact c.args.asked.exact (program_of c.args.asked.verified.now c.args.asked.options.shards) c.args.asked.updates.now c.args.asked.script.now
-    (recorded c.args.asked.recording c.args.asked.options) c.args.capture.now.records.items c.replay_in_turn.result c.replay_in_turn.ensures.in_turn
-    c.replay_in_turn.ensures.updates
+    made_exact c.args.asked c.args.capture.now.records.items c.replay_in_turn.result c.replay_in_turn.ensures.one_list c.replay_in_turn.ensures.updates
 
 pub returns-then-asked-clause-given_up : goal.returns-then-asked-clause-given_up
 returns-then-asked-clause-given_up g c =
@@ -16,9 +12,8 @@ returns-then-asked-clause-given_up g c =
 
 pub returns-else-asked-clause-made : goal.returns-else-asked-clause-made
 returns-else-asked-clause-made g c =
-    made c.args.asked.exact (program_of c.args.asked.verified.now c.args.asked.options.shards) c.args.asked.updates.now c.args.asked.script.now
-    (recorded c.args.asked.recording c.args.asked.options) c.args.capture.now.records.items c.replay.result c.if-asked.false
-    c.replay.ensures.accounted c.replay.ensures.updates
+    made c.args.asked c.args.capture.now.records.items c.replay.result c.if-asked.false c.replay.ensures.accounted c.replay.ensures.one_list
+    c.replay.ensures.updates
 
 pub returns-else-asked-clause-given_up : goal.returns-else-asked-clause-given_up
 returns-else-asked-clause-given_up g c =

@@ -1,8 +1,8 @@
 use Rattle.std.proofs.Common.{rules, ◌≡◌, ◌∙◌, ◌++◌, ◌↔◌, ◌⊎◌, inl, inr, ℕ, Bool, true, false, List, [], Option, Some, None, ap, refl, subst, sym}
 use Rattle.std.proofs.Common.{string_bytes, true≢false}
 use Rattle.std.specs.Prelude.{◌≢◌}
-use Rattle.abstract_state.specs.declared.state.State.{State}
 use Rattle.verifier.specs.Dataflow.{Accepts}
+use Rattle.verifier.specs.Verified.{Verified}
 use Rattle.semantics.specs.Safety.{IsSafeImage}
 use Rattle.semantics.specs.declared.options.Recording.{Recording}
 use Rattle.semantics.specs.declared.options.Recording.TheVariants.{Rows}
@@ -57,16 +57,16 @@ some_of refused strict is_refused none (inl is) = inl (λ empty. true≢false (s
 some_of refused strict is_refused none (inr is) = inr is
 
 -- the report of a replay with what is asked for, by the same recording and the same updates
-as_asked : (before after : FileBytes) (asked : ReplaySettings) (program : Contents) (states : List (Option State)) (script : List Command)
+as_asked : (before after : FileBytes) (asked : ReplaySettings) (verified : Verified) (script : List Command)
     (recording : Recording) (updates : List MapUpdate) (report : Report) → recording ≡ recording_in asked → updates ≡ asked.updates.items
-    → IsReplayReport before after asked.files program states script asked.options recording asked.ring asked.exact (capture_reading asked) asked.part
+    → IsReplayReport before after asked.files verified script asked.options recording asked.ring asked.exact (capture_reading asked) asked.part
     updates report
-    → IsReplayReport before after asked.files program states script asked.options (recording_in asked) asked.ring asked.exact
+    → IsReplayReport before after asked.files verified script asked.options (recording_in asked) asked.ring asked.exact
     (capture_reading asked) asked.part asked.updates.items report
-as_asked before after asked program states script recording updates report recorded same is =
-    subst (λ (it : List MapUpdate). IsReplayReport before after asked.files program states script asked.options (recording_in asked) asked.ring
+as_asked before after asked verified script recording updates report recorded same is =
+    subst (λ (it : List MapUpdate). IsReplayReport before after asked.files verified script asked.options (recording_in asked) asked.ring
     asked.exact (capture_reading asked) asked.part it report) same
-    (subst (λ (it : Recording). IsReplayReport before after asked.files program states script asked.options it asked.ring asked.exact
+    (subst (λ (it : Recording). IsReplayReport before after asked.files verified script asked.options it asked.ring asked.exact
     (capture_reading asked) asked.part updates report) recorded is)
 
 -- why a replay with what is asked for was not made
@@ -82,13 +82,14 @@ unmade_as_asked before after failed asked program script recording updates fault
     asked.part updates fault) recorded is)
 
 -- the same replay, whose text and refused commands are said otherwise
-as_said : (after : FileBytes) (asked : ReplaySettings) (program : Contents) (states : List (Option State)) (script : List Command)
+as_said : (after : FileBytes) (asked : ReplaySettings) (verified : Verified) (script : List Command)
     (records : List Sent) (printed other : List ℕ) (refused others : List Applied) → other ≡ printed → refused ≡ others
-    → IsReplayedWith after asked.files program states script asked.options (recording_in asked) asked.ring asked.exact
+    → IsReplayedWith after asked.files verified script asked.options (recording_in asked) asked.ring asked.exact
     asked.updates.items records printed refused
-    → IsReplayedWith after asked.files program states script asked.options (recording_in asked) asked.ring asked.exact
+    → IsReplayedWith after asked.files verified script asked.options (recording_in asked) asked.ring asked.exact
     asked.updates.items records other others
-as_said after asked program states script records printed other refused others text same is = record {
+as_said after asked verified script records printed other refused others text same is = record {
+  options_are_served = is.options_are_served;
   outcome = is.outcome;
   made = is.made;
   headline = is.headline;
@@ -103,32 +104,33 @@ as_said after asked program states script records printed other refused others t
 }
 
 -- of a program that may run and a script, what is reported of a replay that was made with both: it was done whole, or in part
-answer_is : (before after : FileBytes) (asked : ReplaySettings) (program : Contents) (states : List (Option State)) (script : List Command)
-    (made report : Report) → IsProgramOf before (text_of asked.files.image) asked.flows asked.ring program
+answer_is : (before after : FileBytes) (asked : ReplaySettings) (verified : Verified) (script : List Command)
+    (made report : Report) → IsProgramOf before (text_of asked.files.image) asked.flows asked.ring (image_of verified)
     → (text_of asked.files.image ≡ None → AreServedSizes asked.flows asked.ring)
-    → Accepts program.version program.maps program.code states → IsSafeImage program.maps program.code
+    → Accepts verified.version verified.maps verified.code verified.states → IsSafeImage verified.maps verified.code
+    → AreFitting verified.maps asked.updates.items
     → IsScriptOf before (text_of asked.files.script) script
-    → IsReplayReport before after asked.files program states script asked.options (recording_in asked) asked.ring asked.exact
+    → IsReplayReport before after asked.files verified script asked.options (recording_in asked) asked.ring asked.exact
     (capture_reading asked) asked.part asked.updates.items made
     → string_bytes report.text ≡ string_bytes made.text
     → (report.is_refused ≡ false → (made.is_refused ≡ false) × (asked.strict ≡ true → made.leaves_out ≡ false))
     → (report.is_refused ≡ true → (made.is_refused ≡ true) ⊎ (asked.strict ≡ true))
     → IsReplayAnswer before after asked (replayed.Made report)
 unfolding as_said
-answer_is before after asked program states script made report program_is sizes accepted safe script_is is text whole part = (
+answer_is before after asked verified script made report program_is sizes accepted safe fits script_is is text whole part = (
   (λ done. record {
     replayed = record {
-      program = program;
+      verified = verified;
       program_is = program_is;
       sizes = sizes;
-      states = states;
       accepted = accepted;
       safe = safe;
+      fits = fits;
       script = script;
       script_is = script_is;
       captured = is.captured;
       capture = is.capture;
-      replayed = as_said after asked program states _ _ _ _ is.of_part.0 [] text (is.of_part.2.1 (whole done).0) is.of_part.1;
+      replayed = as_said after asked verified _ _ _ _ is.of_part.0 [] text (is.of_part.2.1 (whole done).0) is.of_part.1;
     };
     all = λ strict. is.of_part.3 ((whole done).1 strict);
   }),
@@ -136,17 +138,17 @@ answer_is before after asked program states script made report program_is sizes 
     refused = is.of_part.0;
     some = some_of is.of_part.0 asked.strict made.is_refused is.of_part.2 (part in_part);
     replayed = record {
-      program = program;
+      verified = verified;
       program_is = program_is;
       sizes = sizes;
-      states = states;
       accepted = accepted;
       safe = safe;
+      fits = fits;
       script = script;
       script_is = script_is;
       captured = is.captured;
       capture = is.capture;
-      replayed = as_said after asked program states _ _ _ _ is.of_part.0 is.of_part.0 text refl is.of_part.1;
+      replayed = as_said after asked verified _ _ _ _ is.of_part.0 is.of_part.0 text refl is.of_part.1;
     };
   }),
 )
@@ -154,16 +156,16 @@ answer_is before after asked program states script made report program_is sizes 
 pub returns-clause-done : goal.returns-clause-done
 returns-clause-done g c =
     let settings = c.args.settings.now in
-    let program = image_of c.in_ok-verified.verified in
-    let states = c.in_ok-verified.verified.states in
+    let verified = c.in_ok-verified.verified in
     let script = c.in_ok-script.script in
     let report = c.in_ok-report.report in
-    let made = report_before _ _ _ _ _ _ _ _ _ _ _ _ _ _ report
+    let fits : AreFitting c.in_ok-verified.verified.maps c.args.settings.now.updates.items = search rules in
+    let made = report_before _ _ _ _ _ _ _ _ _ _ _ _ _ report
     (kept_twice _ _ _ c.program_of.ensures.kept c.script_of.ensures.kept) c.in_ok-report.ensures.done in
-    answer_is (g.D.Folder.holds c.args.folder.now) (g.D.Folder.holds c.replay_once.new.folder) settings program states script report
-    c.of_strict.result c.in_ok-verified.ensures.program c.in_ok-verified.ensures.size c.maps_of.ensures.accepted c.in_ok-verified.ensures.safe
+    answer_is (g.D.Folder.holds c.args.folder.now) (g.D.Folder.holds c.replay_once.new.folder) settings verified script report
+    c.of_strict.result c.in_ok-verified.ensures.program c.in_ok-verified.ensures.size c.maps_of.ensures.accepted c.in_ok-verified.ensures.safe fits
     (script_before _ _ c.program_of.ensures.kept _ _ c.in_ok-script.ensures.script)
-    (as_asked (g.D.Folder.holds c.args.folder.now) (g.D.Folder.holds c.replay_once.new.folder) settings program states script _ _ report
+    (as_asked (g.D.Folder.holds c.args.folder.now) (g.D.Folder.holds c.replay_once.new.folder) settings verified script _ _ report
     c.recording_of.ensures c.deref-updates.ensures.value made)
     (ap string_bytes c.of_strict.ensures.text) c.of_strict.ensures.done c.of_strict.ensures.part
 

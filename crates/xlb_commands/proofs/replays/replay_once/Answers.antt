@@ -7,7 +7,7 @@ pub returns-in-Ok-None-clause-done : goal.returns-in-Ok-None-clause-done
 returns-in-Ok-None-clause-done g c =
     let none = rw c.in-Ok-None.field-0-is at c.in-Ok-None.ensures.none in
     IfOk-weaker c.replay_whole-in-Ok-None.result _ _
-    (λ report is. report_before _ _ _ _ _ _ _ _ _ _ _ _ _ _ report none is)
+    (λ report is. report_before _ _ _ _ _ _ _ _ _ _ _ _ _ report none is)
     c.replay_whole-in-Ok-None.ensures.done
 
 pub returns-in-Ok-None-clause-kept : goal.returns-in-Ok-None-clause-kept

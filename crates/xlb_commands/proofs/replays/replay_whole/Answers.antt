@@ -19,18 +19,18 @@ use Rattle.xlb_commands.proofs.replays.replay_whole.Goals as goal
 answer_of : (before after : FileBytes) (asked : Asked) (part : Option Part) (captured : List Sent) (script : List Command) (records : List Sent)
     (report : Report) → asked.part ≡ part → IsCaptureOf before asked.reading asked.files.now.capture.now captured
     → script ≡ script_in part captured asked.script.now → records ≡ records_in part captured
-    → IsReportOf after asked.files.now (image_of asked.verified.now) asked.verified.now.states script asked.options asked.recording asked.ring asked.exact
+    → IsReportOf after asked.files.now asked.verified.now script asked.options asked.recording asked.ring asked.exact
     asked.updates.now records report
     → IsAnswered before after asked report
 answer_of before after asked part captured script records report same capture commands taken is =
-    subst (λ (it : Option Part). IsReplayReport before after asked.files.now (image_of asked.verified.now) asked.verified.now.states asked.script.now
+    subst (λ (it : Option Part). IsReplayReport before after asked.files.now asked.verified.now asked.script.now
     asked.options asked.recording asked.ring asked.exact asked.reading it asked.updates.now report) (sym same)
     (record {
       captured = captured;
       capture = capture;
-      of_part = subst (λ (them : List Sent). IsReportOf after asked.files.now (image_of asked.verified.now) asked.verified.now.states
+      of_part = subst (λ (them : List Sent). IsReportOf after asked.files.now asked.verified.now
           (script_in part captured asked.script.now) asked.options asked.recording asked.ring asked.exact asked.updates.now them report) taken
-          (subst (λ (them : List Command). IsReportOf after asked.files.now (image_of asked.verified.now) asked.verified.now.states them asked.options
+          (subst (λ (them : List Command). IsReportOf after asked.files.now asked.verified.now them asked.options
           asked.recording asked.ring asked.exact asked.updates.now records report) commands is);
     })
 
@@ -55,7 +55,7 @@ pub returns-in-None-clause-done : goal.returns-in-None-clause-done
 returns-in-None-clause-done g c =
     let captured = capture_before _ _ (kept_back _ _ c.capture_of.ensures.kept) _ _ _ c.in_ok-capture.ensures.capture in
     IfOk-weaker c.replay_records.result _ _
-    (λ report is. report_before _ _ _ _ _ _ _ _ _ _ _ _ _ _ report c.capture_of.ensures.kept
+    (λ report is. report_before _ _ _ _ _ _ _ _ _ _ _ _ _ report c.capture_of.ensures.kept
     (answer_of _ _ c.args.asked None c.in_ok-capture.capture.records.items _ _ report c.in-None.is captured refl refl is))
     c.replay_records.ensures.done
 
@@ -75,7 +75,7 @@ pub returns-in_ok-script-in-Some-clause-done : goal.returns-in_ok-script-in-Some
 returns-in_ok-script-in-Some-clause-done g c =
     let captured = capture_before _ _ (kept_back _ _ c.capture_of.ensures.kept) _ _ _ c.in_ok-capture.ensures.capture in
     IfOk-weaker c.replay_records-in-Some.result _ _
-    (λ report is. report_before _ _ _ _ _ _ _ _ _ _ _ _ _ _ report c.capture_of.ensures.kept
+    (λ report is. report_before _ _ _ _ _ _ _ _ _ _ _ _ _ report c.capture_of.ensures.kept
     (answer_of _ _ c.args.asked (Some c.in-Some.part) c.in_ok-capture.capture.records.items _ _ report c.in-Some.is captured
     (c.in_ok-script-in-Some.ensures ∙ ap (λ (them : List Sent). script_in (Some c.in-Some.part) them c.args.asked.script.now) c.deref.ensures.value)
     c.taken_from-taken.ensures is))

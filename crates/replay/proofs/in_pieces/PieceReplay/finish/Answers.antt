@@ -1,6 +1,7 @@
 use Rattle.std.proofs.Common.{◌≡◌, ◌<◌, ◌++◌, ◌^◌, ℕ, List, length, refl, sym, ap, ◌∙◌, subst, arith}
 use Rattle.std.proofs.lemmas.List.{append-nil}
 use Rattle.map_updates.specs.declared.update.MapUpdate.{MapUpdate}
+use Rattle.machine.specs.Running.{program_of}
 use Rattle.control.specs.declared.command.Command.{Command}
 use Rattle.wire.specs.declared.records.Sent.{Sent}
 use Rattle.actors.specs.declared.account.Counts.{Counts}
@@ -85,9 +86,16 @@ returns-clause-replayed c = λ program options records sent ends under.
     }
 
 pub returns-clause-one_list : goal.returns-clause-one_list
-returns-clause-one_list c = λ options records sent ends captured under replayed.
-    c.headline.ensures c.args.script.now options records replayed.whole under.options_fit captured c.commands_fit.ensures replayed.accounted
-
-pub returns-clause-turn_by_turn : goal.returns-clause-turn_by_turn
-returns-clause-turn_by_turn c = λ options records sent ends captured under replayed.
-    c.events_come_in_turns.ensures c.args.script.now options records replayed.whole under.options_fit captured c.commands_fit.ensures replayed.in_order.turns
+returns-clause-one_list c = λ options records sent ends captured under.
+    let made = returns-clause-replayed c (program_of c.args.verified.now options.shards) options records sent ends under in
+    let listed = c.events_come_in_turns.ensures c.args.script.now options records made.whole under.options_fit captured c.commands_fit.ensures
+    made.in_order.turns in
+    record {
+      replayed = record {
+        whole = made.whole;
+        is_whole = made.is_whole;
+        accounted = listed.exact.accounted;
+        in_order = listed.exact.in_order;
+      };
+      listed = listed.listed;
+    }
