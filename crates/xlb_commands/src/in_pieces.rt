@@ -106,7 +106,7 @@ impl Seen {
 }
 
 /// Opens a capture, if it can be read in pieces and has a header.
-fn open_reader<D: Folder>(
+pub(crate) fn open_reader<D: Folder>(
     alloc: Global,
     folder: &mut D,
     name: &str,

@@ -2,6 +2,7 @@
 //! audited.
 #![tactic(auto)]
 
+mod captures;
 mod clashes;
 mod commands;
 mod comparing;
@@ -26,6 +27,7 @@ mod record_report;
 mod records;
 mod replays;
 mod report;
+mod sent_records;
 mod serving;
 mod shipping;
 mod summing;

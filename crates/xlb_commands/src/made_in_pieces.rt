@@ -1,7 +1,7 @@
 //! The files of an exact replay in pieces: the sent frames and the report are in the making while its records are run.
 
 ghost use Rattle.std.specs.Prelude.{◌≡◌, ◌≢◌, ◌↔◌, ◌+◌, ◌-◌, ◌<◌, ◌^◌, ℕ, List, Some, true, IfErr, IfOk, OnOk, length};
-ghost use Rattle.wire.specs.CaptureFormat.{header_bytes, records_bytes};
+ghost use Rattle.wire.specs.CaptureFormat.{capture_bytes, header_bytes, records_bytes};
 ghost use Rattle.journals.specs.JournalsView.{JournalsView};
 ghost use Rattle.journals.specs.JournalText.{journals_text};
 ghost use Rattle.command_line.specs.Reading.{text_of};
@@ -13,15 +13,19 @@ ghost use Rattle.xlb_commands.specs.Refused.{AreUnfiled, HasFailed, IsUnserved};
 ghost use Rattle.xlb_commands.specs.Replays.{HasBytes};
 
 use crate::fault::Refusal;
-use crate::files::{unserved, write_journals_to};
+use crate::files::{unserved, write_journals_to, write_to};
 use crate::record_report::{form_of, piece_lines};
 use crate::replays::{Asked, bytes_of_frames};
+use crate::sent_records::records_of_frames;
 use actors::PieceOutcome;
 use command_line::ReplayFiles;
 use folders::{Folder, FolderFault};
 use std::alloc::Global;
 use traffic::Backends;
-use wire::{CAPTURE_HEADER_LEN, MemorySink, Sent};
+use wire::{MemorySink, Sent};
+
+/// How many frames' records are in memory at a time.
+const AT_A_TIME: usize = 1024;
 
 /// Adds bytes to the file that is being made under this name.
 fn add_bytes<D: Folder>(
@@ -63,10 +67,10 @@ pub(crate) fn add_frames<D: Folder>(
     ensures refused { IfErr result
         (λ refusal. IsUnserved (HasFailed (D.failure_count folder.old) (D.failure_count folder.new)) refusal.fault) }
 {
-    let Ok(file) = bytes_of_frames(alloc, frames) else {
+    let Ok(records) = records_of_frames(alloc, frames) else {
         return Err(unserved(alloc, folder, name, FolderFault::Memory));
     };
-    add_bytes(alloc, folder, name, &file.bytes()[CAPTURE_HEADER_LEN..])
+    add_bytes(alloc, folder, name, &records)
 }
 
 /// Adds the header of a capture to the file that is being made under this name.
@@ -220,6 +224,89 @@ fn finish_file<D: Folder>(alloc: Global, folder: &mut D, name: &str) -> Result<(
         Ok(()) => Ok(()),
         Err(fault) => Err(unserved(alloc, folder, name, fault)),
     }
+}
+
+/// Adds the records of frames to the capture that is being made under this name, so many at a time that their bytes take little memory.
+fn add_all_frames<D: Folder>(
+    alloc: Global,
+    folder: &mut D,
+    name: &str,
+    frames: &[Sent],
+) -> Result<(), Refusal>
+    requires { D.failure_count folder.old < 2 ^ 64 - 1 }
+    ensures added { OnOk result (AreAdded (D.is_begun folder.old) (D.is_begun folder.new) name.now (records_bytes frames.now)) }
+    ensures kept { AreKept (D.holds folder.old) (D.holds folder.new) }
+    ensures steady { OnOk result (D.failure_count folder.new ≡ D.failure_count folder.old) }
+    ensures refused { IfErr result
+        (λ refusal. IsUnserved (HasFailed (D.failure_count folder.old) (D.failure_count folder.new)) refusal.fault) }
+{
+    let mut rest = frames;
+    'pieces: while !rest.is_empty() {
+        let (first, later) = rest.split_at(rest.len().min(AT_A_TIME));
+        add_frames(alloc, folder, name, first)?;
+        rest = later;
+    }
+    Ok(())
+}
+
+/// Makes the capture of these frames under a name under which it was begun.
+fn make_begun<D: Folder>(
+    alloc: Global,
+    folder: &mut D,
+    name: &str,
+    frames: &[Sent],
+) -> Result<(), Refusal>
+    requires { D.failure_count folder.old < 2 ^ 64 - 1 }
+    ensures made { OnOk result (D.is_begun folder.old name.now header_bytes → D.holds folder.new name.now (capture_bytes frames.now)) }
+    ensures others { AreOthersKept (D.holds folder.old) (D.holds folder.new) name.now }
+    ensures steady { OnOk result (D.failure_count folder.new ≡ D.failure_count folder.old) }
+    ensures refused { IfErr result
+        (λ refusal. IsUnserved (HasFailed (D.failure_count folder.old) (D.failure_count folder.new)) refusal.fault) }
+{
+    add_all_frames(alloc, folder, name, frames)?;
+    finish_file(alloc, folder, name)
+}
+
+/// Writes the capture of these frames with all its bytes in memory.
+fn write_whole<D: Folder>(
+    alloc: Global,
+    folder: &mut D,
+    name: &str,
+    frames: &[Sent],
+) -> Result<(), Refusal>
+    requires { D.failure_count folder.old < 2 ^ 64 - 1 }
+    ensures written { OnOk result (D.holds folder.new name.now (capture_bytes frames.now)) }
+    ensures others { AreOthersKept (D.holds folder.old) (D.holds folder.new) name.now }
+    ensures steady { OnOk result (D.failure_count folder.new ≡ D.failure_count folder.old) }
+    ensures refused { IfErr result
+        (λ refusal. IsUnserved (HasFailed (D.failure_count folder.old) (D.failure_count folder.new)) refusal.fault) }
+{
+    let Ok(file) = bytes_of_frames(alloc, frames) else {
+        return Err(unserved(alloc, folder, name, FolderFault::Memory));
+    };
+    write_to(alloc, folder, name, &file)
+}
+
+/// Writes the capture of these frames: in pieces, or whole where the folder makes no file of this name in pieces.
+pub(crate) fn write_frames<D: Folder>(
+    alloc: Global,
+    folder: &mut D,
+    name: &str,
+    frames: &[Sent],
+) -> Result<(), Refusal>
+    requires { D.failure_count folder.old < 2 ^ 64 - 1 }
+    ensures written { OnOk result (D.holds folder.new name.now (capture_bytes frames.now)) }
+    ensures others { AreOthersKept (D.holds folder.old) (D.holds folder.new) name.now }
+    ensures steady { OnOk result (D.failure_count folder.new ≡ D.failure_count folder.old) }
+    ensures refused { IfErr result
+        (λ refusal. IsUnserved (HasFailed (D.failure_count folder.old) (D.failure_count folder.new)) refusal.fault) }
+{
+    if !begin_sent(alloc, folder, name)? {
+        return write_whole(alloc, folder, name, frames);
+    }
+    let done = make_begun(alloc, folder, name, frames);
+    folder.give_up();
+    done
 }
 
 /// Gives the file of the sent frames its name, after it writes the journals, and after both gives the report its name, where files are named

@@ -45,11 +45,13 @@ ghost use Rattle.xlb_commands.specs.Replays.{IsProgramOf, IsScriptOf, IsScriptFi
 ghost use Rattle.xlb_commands.specs.Replays.{recording_of, counts_text, refusals_text, AreServedSizes, AreWritten};
 ghost use Rattle.xlb_commands.specs.RecordReports.{form_of, report_text, runs_shipped};
 
+use crate::captures::kept_capture;
 use crate::commands::judged_of;
 use crate::fault::{Fault, Refusal};
-use crate::files::{bytes_of, journal_bytes, write_journals_to, write_text_to, write_to};
+use crate::files::{bytes_of, journal_bytes, write_journals_to, write_text_to};
 use crate::in_pieces::replay_in_pieces;
 use crate::left_out::is_left_out;
+use crate::made_in_pieces::write_frames;
 use crate::notes::{Altered, Notes};
 use crate::one_run::maps_of;
 use crate::parts::script_of_part;
@@ -64,7 +66,6 @@ use control::{Script, parse_script};
 use fleet::Part;
 use folders::Folder;
 use guarantees::readers::readers_send_as_at_opening;
-use journals::Journals;
 use map_updates::{MapUpdate, Misfit, first_misfit};
 use replay::{Outcome, ReplayFault, replay, replay_in_turn};
 use semantics::{Options, Recording};
@@ -241,8 +242,8 @@ fn records_in(
     }
 }
 
-/// The capture of a file, and in `altered` which of its records are not as their frames were.
-pub(crate) fn capture_of<D: Folder>(
+/// The capture of a file whose bytes are in memory while it is read.
+fn capture_of_bytes<D: Folder>(
     alloc: Global,
     folder: &mut D,
     name: &str,
@@ -259,6 +260,30 @@ pub(crate) fn capture_of<D: Folder>(
     let bytes = bytes_of(alloc, folder, name)?;
     let capture = records_in(alloc, &bytes, reading, altered)?;
     Ok(capture)
+}
+
+/// The capture of a file, and in `altered` which of its records are not as their frames were.
+pub(crate) fn capture_of<D: Folder>(
+    alloc: Global,
+    folder: &mut D,
+    name: &str,
+    reading: Reading,
+    altered: &mut Altered,
+) -> Result<Capture, Refusal>
+    requires { D.failure_count folder.old < 2 ^ 64 - 1 }
+    ensures capture { IfOk result (λ capture. IsCaptureOf (D.holds folder.old) reading name.now capture.records.items) }
+    ensures kept { AreKept (D.holds folder.old) (D.holds folder.new) }
+    ensures steady { OnOk result (D.failure_count folder.new ≡ D.failure_count folder.old) }
+    ensures refused { IfErr result (λ refusal. IsCaptureRefusal (D.holds folder.old)
+        (HasFailed (D.failure_count folder.old) (D.failure_count folder.new)) reading name.now refusal.fault) }
+{
+    if reading.alters() {
+        return capture_of_bytes(alloc, folder, name, reading, altered);
+    }
+    match kept_capture(alloc, folder, name, altered)? {
+        Some(capture) => Ok(capture),
+        None => capture_of_bytes(alloc, folder, name, reading, altered),
+    }
 }
 
 /// The bytes of a capture file of these frames.
@@ -373,10 +398,9 @@ pub(crate) fn given_up(
     Refusal::hinted(Fault::Replay(fault), hint)
 }
 
-/// What a replay leaves, in memory: the bytes of its files, and its report.
+/// What a replay leaves besides the sent frames, in memory: the bytes of its files, and its report.
 #[derive(Drop)]
 struct Leavings {
-    sent: MemorySink,
     journals: MemorySink,
     /// The line of each record.
     lines: String,
@@ -397,7 +421,6 @@ fn left_of(
     requires frames { length capture.now.records.items ≡ frames_in outcome.now.counts }
     requires ends { length outcome.now.ends.items ≡ length capture.now.records.items }
     requires rows { (file : List ℕ) → text_of files.now.journals ≡ Some file → KeepsRows outcome.now.journals.options.journal }
-    ensures sent { IfOk result (λ left. left.sent.bytes ≡ capture_bytes outcome.now.sent.items) }
     ensures journals { IfOk result (λ left. (file : List ℕ) → text_of files.now.journals ≡ Some file →
         left.journals.bytes ≡ journals_text outcome.now.journals) }
     ensures reads_back { IfOk result (λ left. (file : List ℕ) → text_of files.now.journals ≡ Some file →
@@ -413,7 +436,6 @@ fn left_of(
         LeavesNothingOut script.now capture.now.records.items outcome.now) }
     ensures refused { IfErr result (λ refusal. LacksRoom (text_of files.now.journals) refusal.fault) }
 {
-    let sent = bytes_of_frames(alloc, &outcome.sent)?;
     let journals = journal_bytes(alloc, files.journals, &outcome.journals)?;
     let lines = report_for(
         alloc,
@@ -434,7 +456,6 @@ fn left_of(
         notes,
     )?;
     Ok(Leavings {
-        sent,
         journals,
         lines,
         report,
@@ -447,21 +468,23 @@ fn write_files<D: Folder>(
     folder: &mut D,
     files: &ReplayFiles<'_>,
     left: &Leavings,
-    journals: &Journals,
+    outcome: &Outcome,
 ) -> Result<(), Refusal>
     requires failures { D.failure_count folder.old < 2 ^ 64 - 1 }
-    requires journals { (file : List ℕ) → text_of files.now.journals ≡ Some file → left.now.journals.bytes ≡ journals_text journals.now }
+    requires journals { (file : List ℕ) → text_of files.now.journals ≡ Some file →
+        left.now.journals.bytes ≡ journals_text outcome.now.journals }
     ensures sent { OnOk result (text_of files.now.journals ≢ Some files.now.sent.now → text_of files.now.report ≢ Some files.now.sent.now →
-        D.holds folder.new files.now.sent.now left.now.sent.bytes) }
+        D.holds folder.new files.now.sent.now (capture_bytes outcome.now.sent.items)) }
     ensures journals { OnOk result (text_of files.now.report ≢ text_of files.now.journals →
-        AreWritten (D.holds folder.new) (text_of files.now.journals) journals.now) }
+        AreWritten (D.holds folder.new) (text_of files.now.journals) outcome.now.journals) }
     ensures report { OnOk result (HasBytes (D.holds folder.new) (text_of files.now.report) (string_bytes left.now.lines)) }
     ensures others { AreAllButKept (D.holds folder.old) (D.holds folder.new) files.now.sent.now (text_of files.now.journals)
         (text_of files.now.report) }
     ensures refused { IfErr result (λ refusal. AreUnfiled (D.holds folder.old) (D.holds folder.new)
-        (HasFailed (D.failure_count folder.old) (D.failure_count folder.new)) files.now left.now.sent.bytes journals.now refusal.fault) }
+        (HasFailed (D.failure_count folder.old) (D.failure_count folder.new)) files.now (capture_bytes outcome.now.sent.items)
+        outcome.now.journals refusal.fault) }
 {
-    write_to(alloc, folder, files.sent, &left.sent)?;
+    write_frames(alloc, folder, files.sent, &outcome.sent)?;
     write_journals_to(alloc, folder, files.journals, &left.journals)?;
     write_text_to(alloc, folder, files.report, left.lines.as_str())?;
     Ok(())
@@ -554,7 +577,7 @@ fn replay_records<R: Threads + Wait + Sync, D: Folder, P: Progress + Sync>(
         altered,
         notes,
     )?;
-    write_files(alloc, folder, files, &left, &outcome.journals)?;
+    write_files(alloc, folder, files, &left, &outcome)?;
     Ok(left.report)
 }
 
