@@ -1,16 +1,28 @@
 -- A capture file that is read in pieces: what was read of it, and what is left.
-use Rattle.std.specs.Prelude.{◌≡◌, ℕ, ◌+◌, nat_lt, if◌then◌else◌, List, [], ◌∷◌, ◌++◌, length, drop}
+use Rattle.std.specs.Prelude.{◌≡◌, ◌≤◌, ◌*◌, ◌^◌, ℕ, Option, ◌+◌, nat_lt, if◌then◌else◌, List, [], ◌∷◌, ◌++◌, length, drop}
 use Rattle.wire.specs.declared.records.Sent.{Sent}
 use Rattle.wire.specs.declared.capture_fault.CaptureFault.{CaptureFault}
 use Rattle.wire.specs.CaptureFormat.{le32_at, BeginsWithHeader, BeginsWithRecord, AreRecords, IsCaptureFile, RefusesCapture}
+use Rattle.traffic.specs.Readings.{unaltered}
+use Rattle.traffic.specs.declared.readings.Reading.{Reading}
+use Rattle.folders.specs.AlteredReading.{AlteringView, IsOf, raw_of, read_of, still_read}
 use Rattle.folders.specs.declared.record_head.RecordHead.{RecordHead}
 
--- what a contract sees of a reader: the bytes that its folder returned and that are still unread, how many records it read, and how many
--- of these were cut
+-- what a contract sees of a reader: the bytes that are unread, how many records it read, and how many of these were cut; and how the file is
+-- altered, if it is, of which the unread bytes are then what is read, and else what its folder returned
 pub record ReaderView : Type 0 where
   pub unread : List ℕ
   pub count : ℕ
   pub cut : ℕ
+  pub source : Option AlteringView
+
+-- no more bytes than these are still to be read where so many are left of the file: a record has 16 bytes at least, and gets 2048 zeros at most
+abbrev pub to_come : ℕ → ReaderView → ℕ
+to_come most reader = length reader.unread + 129 * (length (raw_of reader.source) + most)
+
+-- no reader counts too far
+abbrev pub HasRoom : ℕ → ReaderView → Type 0
+HasRoom most reader = 16 * reader.count + to_come most reader ≤ 2 ^ 48
 
 -- 1 for a record at the front of the bytes that keeps fewer bytes than its frame had, else 0
 abbrev pub cut_at_front : List ℕ → Sent → ℕ
@@ -22,6 +34,7 @@ behind_record reader sent = record {
   unread = drop (16 + length sent.bytes.items) reader.unread;
   count = reader.count + 1;
   cut = reader.cut + cut_at_front reader.unread sent;
+  source = reader.source;
 }
 
 -- a whole record is at the front of the bytes, and its head says this
@@ -47,18 +60,29 @@ pub record HasRecords (has : List ℕ → Type 0) (records : List Sent) (cut : �
   pub cut_is : cut ≡ cut_record_count (drop 24 all) records
 
 -- the file has these records so far: something is left of it, and whatever that is, it comes behind them and the unread bytes
-pub record IsReadTo (has : List ℕ → Type 0) (is_left : List ℕ → Type 0) (records : List Sent) (reader : ReaderView) : Type 0 where
+pub record IsReadUpTo (has : List ℕ → Type 0) (is_left : List ℕ → Type 0) (records : List Sent) (reader : ReaderView) : Type 0 where
   pub counted : reader.count ≡ length records
   pub rest : List ℕ
   pub left : is_left rest
   pub file : (behind : List ℕ) → is_left behind → HasRecords has records reader.cut (reader.unread ++ behind)
 
+-- the same of what this reading reads of the file
+pub record IsReadTo (reading : Reading) (has : List ℕ → Type 0) (is_left : List ℕ → Type 0) (records : List Sent) (reader : ReaderView) : Type 0 where
+  pub source_is : IsOf reading reader.source
+  pub up_to : IsReadUpTo (read_of reader.source has) (still_read reader.source is_left) records reader
+
 -- the file is a capture of these records, with this number of cut ones among them
-pub record IsReadWhole (has : List ℕ → Type 0) (records : List Sent) (cut : ℕ) : Type 0 where
+pub record IsWhole (has : List ℕ → Type 0) (records : List Sent) (cut : ℕ) : Type 0 where
   pub all : List ℕ
   pub held : has all
   pub capture : IsCaptureFile all records
   pub cut_is : cut ≡ cut_record_count (drop 24 all) records
+
+-- the same of what this reading reads of the file
+pub record IsReadWhole (reading : Reading) (has : List ℕ → Type 0) (records : List Sent) (cut : ℕ) : Type 0 where
+  pub source : Option AlteringView
+  pub source_is : IsOf reading source
+  pub whole : IsWhole (read_of source has) records cut
 
 -- the file is refused with this fault
 pub record IsFileRefused (has : List ℕ → Type 0) (fault : CaptureFault) : Type 0 where
@@ -70,17 +94,17 @@ pub record IsFileRefused (has : List ℕ → Type 0) (fault : CaptureFault) : Ty
 abbrev pub ReadsOn : {F : Type 0} → (F → List ℕ → List ℕ → Type 0) → (List ℕ → Type 0) → (List ℕ → Type 0) → ReaderView → ReaderView
     → List Sent → Type 0
 ReadsOn holds was_left is_left was now sents =
-    (opened : _) (name : List ℕ) (records : List Sent) → IsReadTo (holds opened name) was_left records was →
-    IsReadTo (holds opened name) is_left (records ++ sents) now
+    (reading : Reading) (opened : _) (name : List ℕ) (records : List Sent) → IsReadTo reading (holds opened name) was_left records was →
+    IsReadTo reading (holds opened name) is_left (records ++ sents) now
 
 -- behind whatever records a file has in this state come these, and then it ends; this number of all of them were cut
 abbrev pub ReadsToEnd : {F : Type 0} → (F → List ℕ → List ℕ → Type 0) → (List ℕ → Type 0) → ReaderView → List Sent → ℕ → Type 0
 ReadsToEnd holds was_left was sents cut =
-    (opened : _) (name : List ℕ) (records : List Sent) → IsReadTo (holds opened name) was_left records was →
-    IsReadWhole (holds opened name) (records ++ sents) cut
+    (reading : Reading) (opened : _) (name : List ℕ) (records : List Sent) → IsReadTo reading (holds opened name) was_left records was →
+    IsReadWhole reading (holds opened name) (records ++ sents) cut
 
--- whatever file has some records in this state is refused with this fault
+-- whatever file has some records in this state, and is read as it stands there, is refused with this fault
 abbrev pub RefusesNext : {F : Type 0} → (F → List ℕ → List ℕ → Type 0) → (List ℕ → Type 0) → ReaderView → CaptureFault → Type 0
 RefusesNext holds was_left was fault =
-    (opened : _) (name : List ℕ) (records : List Sent) → IsReadTo (holds opened name) was_left records was →
+    (opened : _) (name : List ℕ) (records : List Sent) → IsReadTo unaltered (holds opened name) was_left records was →
     IsFileRefused (holds opened name) fault

@@ -1,6 +1,6 @@
 //! The bytes of a file that were read and are not used yet.
 
-ghost use Rattle.std.specs.Prelude.{◌≡◌, ◌+◌, ◌-◌, ◌^◌, ◌<◌, ◌≤◌, ◌↔◌, ◌⊎◌, ℕ, [], List, length, take, drop};
+ghost use Rattle.std.specs.Prelude.{◌≡◌, ◌+◌, ◌-◌, ◌^◌, ◌<◌, ◌≤◌, ◌↔◌, ◌⊎◌, nat_le, ℕ, [], List, length, take, drop};
 ghost use Rattle.std.specs.Prelude.{IfErr, IfOk, OnErr, OnOk};
 ghost use Rattle.wire.specs.CaptureFormat.{le32_at, RefusesRecord};
 ghost use Rattle.folders.specs.Filling.{IsFilled};
@@ -138,9 +138,32 @@ impl Window {
         self.at += count;
     }
 
+    /// Takes these bytes in place of all that are there, and goes past so many of them.
+    pub(crate) fn put(&mut self, bytes: Vec<u8>, past: usize) -> Result<(), AllocError>
+        requires { past ≤ length bytes.items }
+        ensures put { OnOk result (self.new ≡ drop past bytes.items) }
+        ensures refused { OnErr result (self.new ≡ self.old) }
+    {
+        let end = bytes.len();
+        let mut room = bytes;
+        room.resize(end.max(MOST_OF_RECORD), 0)?;
+        self.bytes = room;
+        self.at = past;
+        self.end = end;
+        Ok(())
+    }
+
+    /// Whether a whole record must be unread.
+    #[inline(always)]
+    pub(crate) fn is_enough(&self) -> bool
+        ensures { result ≡ nat_le 2064 (length self.now) }
+    {
+        self.end - self.at >= MOST_OF_RECORD
+    }
+
     /// Moves the unread bytes to the front of the buffer, and reads on behind them, until a whole record must be unread or the file has ended.
     #[inline(never)]
-    fn read_more<D: Folder>(&mut self, folder: &mut D) -> Result<(), FolderFault>
+    pub(crate) fn read_more<D: Folder>(&mut self, folder: &mut D) -> Result<(), FolderFault>
         requires { D.failure_count folder.old < 2 ^ 64 - 1 }
         ensures filled { OnOk result (IsFilled (D.is_left folder.old) (D.is_left folder.new) self.old self.new) }
         ensures enough { OnOk result ((2064 ≤ length self.new) ⊎ D.is_left folder.new []) }

@@ -111,8 +111,8 @@ unreplayed_before a b c failed since names program script options recording exac
     (no_part captured taken still capture some is) =
     no_part captured taken (kept_twice a b c kept still) (capture_before a b kept reading names.capture.now captured capture) some is
 unreplayed_before a b c failed since names program script options recording exact reading part updates fault kept so
-    (broken_off captured is_exact all no_report still capture fit broken) =
-    broken_off captured is_exact all no_report (kept_twice a b c kept still)
+    (broken_off captured is_exact no_report still capture fit broken) =
+    broken_off captured is_exact no_report (kept_twice a b c kept still)
     (capture_before a b kept reading names.capture.now captured capture) fit (broken_since failed since fault so broken)
 unreplayed_before a b c failed since names program script options recording exact reading part updates fault kept so
     (unmade captured capture is) =

@@ -84,7 +84,7 @@ HasBadOptions asked = AreBadOptions asked.verified.now.maps asked.options asked.
 -- it was made in turn of the part that is asked for of the file's capture, or of all of it; this script is that for the whole capture
 pub record IsMadeInTurn (before : FileBytes) (asked : Asked) (script : List Command) : Type 0 where
   pub captured : List Sent
-  pub capture : IsCaptureOf before unaltered asked.files.now.capture.now captured
+  pub capture : IsCaptureOf before asked.reading asked.files.now.capture.now captured
   pub script_is : script_in asked.part captured script ≡ asked.script.now
   pub outcome : Outcome
   pub made : IsMade true (program_of asked.verified.now asked.options.shards) asked.updates.now asked.script.now

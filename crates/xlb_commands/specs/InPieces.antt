@@ -19,7 +19,7 @@ use Rattle.replay.specs.Pieces.{IsUnderway}
 use Rattle.replay.specs.declared.in_pieces.PieceReplay.{PieceReplay}
 use Rattle.actors.specs.declared.outcome.Outcome.{Outcome}
 use Rattle.actors.specs.declared.outcome.RecordEnd.{RecordEnd}
-use Rattle.traffic.specs.Readings.{unaltered}
+use Rattle.traffic.specs.declared.readings.Reading.{Reading}
 use Rattle.command_line.specs.Reading.{text_of}
 use Rattle.command_line.specs.declared.commands.ReplayFiles.{ReplayFiles}
 use Rattle.xlb_commands.specs.declared.report.Report.{Report}
@@ -104,28 +104,28 @@ pub record IsMadeOf (files : ReplayFiles) (verified : Verified) (script : List C
   pub none_refused : (whole.refused.items ≡ []) ↔ (report.is_refused ≡ false)
   pub all : report.leaves_out ≡ false → LeavesNothingOut script records whole
 
--- the file is a capture, in the part of which the commands of this script have these numbers
-pub record HasNumbers (files : FileBytes) (name : List ℕ) (part : Option Part) (whole : List Command) (numbers : List ℕ) : Type 0 where
+-- the file is under this reading a capture, in the part of which the commands of this script have these numbers
+pub record HasNumbers (files : FileBytes) (reading : Reading) (name : List ℕ) (part : Option Part) (whole : List Command) (numbers : List ℕ) : Type 0 where
   pub captured : List Sent
-  pub capture : IsCaptureOf files unaltered name captured
+  pub capture : IsCaptureOf files reading name captured
   pub numbers_are : AreNumbers part (command_frames whole) captured numbers
 
 -- besides, all records of the part were run, or where none is asked for all of the capture
-pub record HasGoneThrough (files : FileBytes) (name : List ℕ) (part : Option Part) (whole : List Command) (numbers : List ℕ)
+pub record HasGoneThrough (files : FileBytes) (reading : Reading) (name : List ℕ) (part : Option Part) (whole : List Command) (numbers : List ℕ)
     (program : Program) (script : List Command) (options : Options) (names : ReplayFiles) (before after : PieceReplay)
     (made made' : FileBytes) : Type 0 where
-  pub numbered : HasNumbers files name part whole numbers
+  pub numbered : HasNumbers files reading name part whole numbers
   pub have_run : HaveRun program script options names before after made made' (records_in part numbered.captured)
 
--- the file is a capture, in the part of which the commands of the script for the whole capture are those of this script; besides, the replay
+-- the file is under this reading a capture, in the part of which the commands of the script for the whole capture are those of this script; besides, the replay
 -- of the part came to its end, and the report and the bytes of the journals are its
-pub record IsReplayLeft (before made made' : FileBytes) (files : ReplayFiles) (part : Option Part) (whole : List Command) (verified : Verified)
-    (script : List Command) (options : Options) (recording : Recording) (ring : ℕ) (updates : List MapUpdate) (report : Report)
+pub record IsReplayLeft (before made made' : FileBytes) (files : ReplayFiles) (reading : Reading) (part : Option Part) (whole : List Command)
+    (verified : Verified) (script : List Command) (options : Options) (recording : Recording) (ring : ℕ) (updates : List MapUpdate) (report : Report)
     (journals : List ℕ) : Type 0 where
   pub captured : List Sent
   pub sent : List Sent
   pub ends : List RecordEnd
-  pub capture : IsCaptureOf before unaltered files.capture.now captured
+  pub capture : IsCaptureOf before reading files.capture.now captured
   pub script_is : script_in part captured whole ≡ script
   pub added : AreApartInPieces files → AreAdded made made' files.sent.now (records_bytes sent)
   pub told : AreApartInPieces files → AreTold made made' files script 0 (records_in part captured) sent ends

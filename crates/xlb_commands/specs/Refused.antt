@@ -448,7 +448,7 @@ pub data IsUnreplayed (files after : FileBytes) (failed : Type 0) (names : Repla
   no_part : (captured : List Sent) (taken : Part) → AreKept files after → IsCaptureOf files reading names.capture.now captured
       → part ≡ Some taken → fault ≡ faults.Memory
       → IsUnreplayed files after failed names program script options recording exact reading part updates fault
-  broken_off : (captured : List Sent) → exact ≡ true → reading ≡ unaltered → text_of names.report ≢ Some names.sent.now
+  broken_off : (captured : List Sent) → exact ≡ true → text_of names.report ≢ Some names.sent.now
       → AreKept files after → IsCaptureOf files reading names.capture.now captured
       → (¬ AreBadOptions program.maps options (script_in part captured script)) → IsBrokenOff failed fault
       → IsUnreplayed files after failed names program script options recording exact reading part updates fault

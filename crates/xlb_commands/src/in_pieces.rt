@@ -31,7 +31,6 @@ ghost use Rattle.xlb_commands.specs.RecordReports.{HasNamed, backends_in};
 ghost use Rattle.xlb_commands.specs.Parts.{command_frames, records_in, records_next};
 ghost use Rattle.xlb_commands.specs.Taking.{GoesPast, HasFound, IsAbreast, script_at};
 ghost use Rattle.xlb_commands.specs.Refused.{HasFailed, IsBrokenOff, IsGivenUp, IsUnserved, LacksRoom};
-ghost use Rattle.traffic.specs.Readings.{unaltered};
 ghost use Rattle.xlb_commands.specs.Replays.{IsCaptureOf, IsMade};
 
 use crate::fault::{Fault, Refusal};
@@ -53,7 +52,7 @@ use folders::{CaptureReader, Folder, FolderFault, RecordBuffer};
 use replay::{Outcome, PieceReplay, ReplayFault};
 use shard_port::NoGate;
 use std::alloc::Global;
-use traffic::Backends;
+use traffic::{Backends, Reading};
 use wire::{Capture, MemorySink};
 
 /// A capture that was read once.
@@ -61,8 +60,8 @@ use wire::{Capture, MemorySink};
 struct Seen {
     /// How many records it has.
     records: u64,
-    /// How many of them have fewer bytes than the frames that were captured.
-    cut: u64,
+    /// Which of them are not as their frames were.
+    altered: Altered,
     taking: Taking,
 }
 
@@ -94,12 +93,18 @@ impl Seen {
     /// What was seen of a capture that was read to its end.
     fn of(reader: &CaptureReader, taking: Taking) -> Seen
         ensures records { result.records ≡ reader.now.count }
-        ensures cut { result.cut ≡ reader.now.cut }
         ensures taking { result.taking ≡ taking }
     {
+        let done = reader.alterations();
         Seen {
             records: reader.count(),
-            cut: reader.cut(),
+            altered: Altered {
+                cut: reader.cut(),
+                long: done.skipped,
+                padded: done.padded,
+                left_over: done.left_over,
+                whole: reader.count().saturating_add(done.skipped),
+            },
             taking,
         }
     }
@@ -110,6 +115,7 @@ fn open_reader<D: Folder>(
     alloc: Global,
     folder: &mut D,
     name: &str,
+    reading: Reading,
 ) -> Result<Option<CaptureReader>, Refusal>
     requires { D.failure_count folder.old < 2 ^ 64 - 1 }
     ensures opened { IfOk result (λ found. IfSome found (IsReadTo (D.holds folder.old name.now) (D.is_left folder.new) [])) }
@@ -120,7 +126,7 @@ fn open_reader<D: Folder>(
     ensures refused { IfErr result
         (λ refusal. IsUnserved (HasFailed (D.failure_count folder.old) (D.failure_count folder.new)) refusal.fault) }
 {
-    match CaptureReader::open(alloc, folder, name) {
+    match CaptureReader::open(alloc, folder, name, reading) {
         Ok(found) => Ok(found),
         Err(fault) => match unserved_capture(alloc, folder, name, fault) {
             Some(refusal) => Err(refusal),
@@ -138,7 +144,7 @@ fn look_through<D: Folder>(
 ) -> Result<Option<Seen>, Refusal>
     requires { D.failure_count folder.old < 2 ^ 64 - 1 }
     ensures capture { IfOk result (λ found. IfSome found (λ seen. (records : List Record)
-        × IsCaptureOf (D.holds folder.old) unaltered asked.entry.files.now.capture.now records
+        × IsCaptureOf (D.holds folder.old) asked.entry.reading asked.entry.files.now.capture.now records
         × (seen.records ≡ length records)
         × HasFound asked.entry.part (command_frames asked.entry.script.now) records seen.taking)) }
     ensures kept { AreKept (D.holds folder.old) (D.holds folder.new) }
@@ -147,12 +153,12 @@ fn look_through<D: Folder>(
         (λ refusal. IsUnserved (HasFailed (D.failure_count folder.old) (D.failure_count folder.new)) refusal.fault) }
 {
     let name = asked.files.capture;
-    let Some(mut reader) = open_reader(alloc, folder, name)? else {
+    let Some(mut reader) = open_reader(alloc, folder, name, asked.reading)? else {
         return Ok(None);
     };
     let mut taking = before_all(alloc, folder, name, asked.part, asked.script)?;
     'records: while !taking.knows_numbers() {
-        match reader.find(folder) {
+        match reader.find(alloc, folder) {
             Ok(Some(head)) => {
                 let _taken = go_past(alloc, folder, name, &mut taking, reader.frame(head))?;
                 reader.pass(head);
@@ -164,7 +170,7 @@ fn look_through<D: Folder>(
             },
         }
     }
-    match reader.pass_rest(folder) {
+    match reader.pass_rest(alloc, folder) {
         Ok(()) => Ok(Some(Seen::of(&reader, taking))),
         Err(fault) => match unserved_capture(alloc, folder, name, fault) {
             Some(refusal) => Err(refusal),
@@ -336,7 +342,7 @@ fn go_through<D: Folder, P: Progress>(
     requires named { HasNamed table.now (backends_in asked.script.now) }
     requires goes_on { ReplayGoesOn asked.script.now going.old.replay }
     requires maps { going.old.replay.turns.all.maps ≡ asked.verified.now.maps }
-    ensures gone { IfOk result (λ gone. gone ≡ true → HasGoneThrough (D.holds folder.old) asked.entry.files.now.capture.now
+    ensures gone { IfOk result (λ gone. gone ≡ true → HasGoneThrough (D.holds folder.old) asked.entry.reading asked.entry.files.now.capture.now
         asked.entry.part whole.entry.script.now whole.entry.numbers.now
         (program_of asked.entry.verified.now asked.entry.options.shards) asked.entry.script.now
         (recorded asked.entry.recording asked.entry.options) asked.entry.files.now going.old.replay going.new.replay
@@ -347,7 +353,7 @@ fn go_through<D: Folder, P: Progress>(
     ensures refused { IfErr result
         (λ refusal. IsBrokenOff (HasFailed (D.failure_count folder.old) (D.failure_count folder.new)) refusal.fault) }
 {
-    let Some(mut reader) = open_reader(alloc, folder, asked.files.capture)? else {
+    let Some(mut reader) = open_reader(alloc, folder, asked.files.capture, asked.reading)? else {
         return Ok(false);
     };
     let name = asked.files.capture;
@@ -447,7 +453,7 @@ fn left_by_pieces<D: Folder, P: Progress>(
     folder: &mut D,
     asked: Asked<'_>,
     whole: WholeScript<'_>,
-    cut: u64,
+    altered: Altered,
     table: &Backends,
     mut going: Going,
     distance: Distance<'_, P>,
@@ -462,7 +468,7 @@ fn left_by_pieces<D: Folder, P: Progress>(
     requires served { KeepsRows asked.options.journal }
     requires consistent { IsConsistent asked }
     ensures left { IfOk result (λ found. IfSome found (λ left. IsReplayLeft (D.holds folder.old) (D.is_begun folder.old) (D.is_begun folder.new)
-        asked.entry.files.now asked.entry.part whole.entry.script.now asked.entry.verified.now asked.entry.script.now
+        asked.entry.files.now asked.entry.reading asked.entry.part whole.entry.script.now asked.entry.verified.now asked.entry.script.now
         asked.entry.options asked.entry.recording asked.entry.ring asked.entry.updates.now left.report left.journals.bytes)) }
     ensures kept { AreKept (D.holds folder.old) (D.holds folder.new) }
     ensures steady { OnOk result (D.failure_count folder.new ≡ D.failure_count folder.old) }
@@ -473,10 +479,6 @@ fn left_by_pieces<D: Folder, P: Progress>(
     if !go_through(alloc, folder, asked, whole, table, &mut going, distance)? {
         return Ok(None);
     }
-    let altered = Altered {
-        cut,
-        ..Altered::default()
-    };
     let left = left_in_pieces(alloc, asked, altered, going)?;
     Ok(Some(left))
 }
@@ -500,15 +502,14 @@ fn replay_seen<D: Folder, P: Progress + Sync>(
     asked: Asked<'_>,
     whole: WholeScript<'_>,
     records: u64,
-    cut: u64,
+    altered: Altered,
     progress: &P,
 ) -> Result<Option<Report>, Refusal>
     requires failures { D.failure_count folder.old < 2 ^ 64 - 1 }
     requires exact { asked.exact ≡ true }
-    requires all { asked.reading ≡ unaltered }
     requires apart { AreApartInPieces asked.files.now }
     requires consistent { IsConsistent asked }
-    requires numbered { HasNumbers (D.holds folder.old) asked.files.now.capture.now asked.part whole.script.now whole.numbers.now }
+    requires numbered { HasNumbers (D.holds folder.old) asked.reading asked.files.now.capture.now asked.part whole.script.now whole.numbers.now }
     requires script { asked.script.now ≡ script_at asked.part whole.numbers.now whole.script.now }
     ensures done { IfOk result (λ found. IfSome found
         (IsAnsweredBy (D.holds folder.old) (D.holds folder.new) asked.entry whole.entry.script.now)) }
@@ -528,7 +529,7 @@ fn replay_seen<D: Folder, P: Progress + Sync>(
         progress,
         all: records,
     };
-    match left_by_pieces(alloc, folder, asked, whole, cut, &table, going, distance) {
+    match left_by_pieces(alloc, folder, asked, whole, altered, &table, going, distance) {
         Ok(Some(left)) => {
             write_pieces(alloc, folder, asked.files, &left.journals)?;
             Ok(Some(left.report))
@@ -554,7 +555,6 @@ pub(crate) fn replay_in_pieces<D: Folder, P: Progress + Sync>(
 ) -> Result<Option<Report>, Refusal>
     requires failures { D.failure_count folder.old < 2 ^ 64 - 1 }
     requires exact { asked.exact ≡ true }
-    requires all { asked.reading ≡ unaltered }
     requires apart { AreApartInPieces asked.files.now }
     requires consistent { IsConsistent asked }
     ensures done { IfOk result (λ found. IfSome found (IsAnswered (D.holds folder.old) (D.holds folder.new) asked.entry)) }
@@ -569,7 +569,7 @@ pub(crate) fn replay_in_pieces<D: Folder, P: Progress + Sync>(
     };
     let Seen {
         records,
-        cut,
+        altered,
         taking,
     } = seen;
     let numbered = taking.numbered(alloc, asked.script)?;
@@ -579,7 +579,7 @@ pub(crate) fn replay_in_pieces<D: Folder, P: Progress + Sync>(
                 script: asked.script,
                 numbers: &[],
             };
-            replay_seen(alloc, folder, asked, whole, records, cut, progress)
+            replay_seen(alloc, folder, asked, whole, records, altered, progress)
         }
         Some(of_part) => {
             let whole = WholeScript {
@@ -590,7 +590,7 @@ pub(crate) fn replay_in_pieces<D: Folder, P: Progress + Sync>(
                 script: &of_part.script,
                 ..asked
             };
-            replay_seen(alloc, folder, asked_of_part, whole, records, cut, progress)
+            replay_seen(alloc, folder, asked_of_part, whole, records, altered, progress)
         }
     }
 }

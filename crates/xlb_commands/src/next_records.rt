@@ -111,7 +111,7 @@ pub(crate) fn fill_piece<D: Folder>(
 {
     buffer.clear();
     'records: while buffer.len() < PIECE {
-        match reader.find(folder) {
+        match reader.find(alloc, folder) {
             Ok(Some(head)) => {
                 take_record(alloc, folder, name, reader, taking, head, buffer)?;
             }

@@ -500,11 +500,11 @@ pub(crate) struct Asked<'a> {
 }
 
 impl Asked<'_> {
-    /// Whether the replay may be made in pieces: it is exact, the capture is read as it is, and the sent frames and the report have two names.
+    /// Whether the replay may be made in pieces: it is exact, and the sent frames and the report have two names.
     fn is_in_pieces(self) -> bool
-        ensures { IsTrue result → (self.entry.exact ≡ true) × (self.entry.reading ≡ unaltered) × AreApartInPieces self.entry.files.now }
+        ensures { IsTrue result → (self.entry.exact ≡ true) × AreApartInPieces self.entry.files.now }
     {
-        self.exact && !self.reading.alters() && self.files.report != Some(self.files.sent)
+        self.exact && self.files.report != Some(self.files.sent)
     }
 }
 
