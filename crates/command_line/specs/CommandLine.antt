@@ -68,7 +68,7 @@ abbrev pub two_files : Text → Text → Text → App
 two_files name first second = with_rule (with_rule (new_app name) (argument_rule first)) (argument_rule second)
 
 abbrev pub audit_command : App
-audit_command = two_files (codes "audit") (codes "IMAGE") (codes "JOURNALS")
+audit_command = with_rule (two_files (codes "audit") (codes "IMAGE") (codes "JOURNALS")) (switch_rule (codes "maps"))
 
 abbrev pub explain_command : App
 explain_command = with_rule (new_app (codes "explain")) (argument_rule (codes "FAULT"))

@@ -275,9 +275,10 @@ IsReadFrom name rows (Run files now worker updates) = is_named name (codes "run"
 IsReadFrom name rows (Disasm image source) = is_named name (codes "disasm")
     × (image.now ≡ argument_word (codes "IMAGE") rows)
     × IsSwitchOf (codes "source") rows source
-IsReadFrom name rows (Audit image journals) = is_named name (codes "audit")
+IsReadFrom name rows (Audit image journals maps) = is_named name (codes "audit")
     × (image.now ≡ argument_word (codes "IMAGE") rows)
     × (journals.now ≡ argument_word (codes "JOURNALS") rows)
+    × IsSwitchOf (codes "maps") rows maps
 IsReadFrom name rows (Explain about) = is_named name (codes "explain")
     × SaysFault (argument_word (codes "FAULT") rows) about.number
     × IsRowOf about.number about

@@ -31,10 +31,11 @@ pub enum Settings<'a> {
         image: &'a str,
         source: bool,
     },
-    /// Checks whether journals are legal for an image's maps.
+    /// Checks whether journals are legal for an image's maps, and prints what the maps hold after them if asked to.
     Audit {
         image: &'a str,
         journals: &'a str,
+        maps: bool,
     },
     /// Explains a fault.
     Explain {

@@ -34,6 +34,9 @@ pub const FAULT: &str = "FAULT";
 /// Whether a check explains its result.
 pub const EXPLAIN: &str = "explain";
 
+/// Whether an audit prints what the maps hold.
+pub const MAPS: &str = "maps";
+
 /// Whether a text is in the source form.
 pub const SOURCE: &str = "source";
 
@@ -332,6 +335,7 @@ fn audit<'a>(alloc: Global) -> Result<Command<'a>, AllocError>
     ensures app { IfOk result (λ command. app_of command ≡ line.audit_command) }
     ensures local { IfOk result (λ command. (out-Command command).has_globals ≡ false) }
 {
+    let maps = switch(alloc, MAPS, "Prints what the maps hold at the end");
     two_files(
         alloc,
         "audit",
@@ -339,7 +343,8 @@ fn audit<'a>(alloc: Global) -> Result<Command<'a>, AllocError>
         after_audit(),
         (IMAGE, "The image's file"),
         (JOURNALS, "The file of the journals"),
-    )
+    )?
+    .arg(maps)
 }
 
 fn explain<'a>(alloc: Global) -> Result<Command<'a>, AllocError>

@@ -60,7 +60,8 @@ journal. Otherwise the first entry that is not is reported, by its shard and its
 place there, counted from 0. Only the image's maps count: its program is not
 judged. They have to be those of the program that wrote the journals: for the
 shipped program, 'xlb shipped' writes its image for the --ring and the --flows of
-the replay."
+the replay. With --maps a line follows for each key that is in a map after all
+calls: the map's place, the key and its value, in hexadecimal."
 }
 
 pub fn after_explain<'a>() -> &'a str {

@@ -22,9 +22,9 @@ use crate::commands::{
 };
 use crate::grammar::{
     ALLOW_CUT, CAPTURE, EXACT, EXPLAIN, FAULT, FIRST, FLOWS, FRAME, IMAGE, JOURNAL, JOURNALS,
-    JOURNALS_OUT, LOST, NO_CLOBBER, NO_JOURNALS, NOW, OUT, PAD_CUT, PART, PROGRAM, REPLAY_IMAGE,
-    REPORT, RING, SCRIPT, SECOND, SENT, SHARDS, SKIP_LONG, SOURCE, STRICT, SUMMARY, TABLE_SCRIPT,
-    TEXT, TIMED, UPDATE, WORKER, WORKERS, WRITTEN_REPORT, program,
+    JOURNALS_OUT, LOST, MAPS, NO_CLOBBER, NO_JOURNALS, NOW, OUT, PAD_CUT, PART, PROGRAM,
+    REPLAY_IMAGE, REPORT, RING, SCRIPT, SECOND, SENT, SHARDS, SKIP_LONG, SOURCE, STRICT, SUMMARY,
+    TABLE_SCRIPT, TEXT, TIMED, UPDATE, WORKER, WORKERS, WRITTEN_REPORT, program,
 };
 use crate::part_word::{part_losing, part_said};
 use clap::{ArgMatches, Error};
@@ -625,6 +625,7 @@ fn command_of<'a>(name: &str, found: &ArgMatches<'a>) -> Settings<'a>
         return Settings::Audit {
             image: word(found, IMAGE),
             journals: word(found, JOURNALS),
+            maps: switch(found, MAPS),
         };
     }
     Settings::Asm {

@@ -5,6 +5,7 @@
 ghost use Rattle.std.specs.Prelude.{◌≡◌, ◌-◌, ◌<◌, ◌^◌};
 
 mod assembling;
+mod audited_maps;
 mod audits;
 mod changed_captures;
 mod checked_sources;

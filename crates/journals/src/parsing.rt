@@ -5,7 +5,7 @@ ghost use Rattle.std.specs.Prelude.{length, IfOk, IfErr, IfSome, OnOk};
 ghost use Rattle.std.specs.Option.{MatchOption};
 ghost use Rattle.std.specs.Str.{IsUtf8};
 ghost use Rattle.semantics.specs.Cells.{key_of_call, value_of_call};
-ghost use Rattle.semantics.specs.ShardPlan.{AreOptions};
+ghost use Rattle.semantics.specs.ShardPlan.{AreOptions, KeepsRows};
 ghost use Rattle.journals.specs.JournalsView.{JournalsView as Lists, AreImageMaps, AreJournals};
 ghost use Rattle.journals.specs.declared.fault.FileFault.TheVariants.{BadJournalFile, Memory};
 ghost use Rattle.journals.specs.EntryForm.{HasSizesOf, IsCallOn};
@@ -190,6 +190,7 @@ fn journals_from(
 ) -> Result<Journals, AllocError>
     requires maps { AreImageMaps maps.now }
     requires options { AreOptions maps.now options }
+    requires rows { KeepsRows options.journal }
     requires few { length done.items ≤ length maps.now * options.shards }
     ensures { IfOk result (λ journals. (journals.maps ≡ maps.now) × (journals.options ≡ options)
         × AreJournals maps.now options (length journals.shards)

@@ -23,7 +23,11 @@ fn shown(rt: &impl Abort, alloc: Global, settings: Settings<'_>) -> Result<Strin
             Ok(text)
         }
         Settings::Disasm { image, source } => format!(in alloc; "disasm {image} {source}"),
-        Settings::Audit { image, journals } => format!(in alloc; "audit {image} {journals}"),
+        Settings::Audit {
+            image,
+            journals,
+            maps,
+        } => format!(in alloc; "audit {image} {journals} {maps}"),
         Settings::Explain { about } => {
             let number = about.number;
             format!(in alloc; "explain {number}")
@@ -165,7 +169,8 @@ const READ: [(&str, &str); 62] = [
     ("xlb asm a b",                             "asm a b false"),
     ("xlb asm --source a b",                    "asm a b true"),
     ("xlb asm -- --source b",                   "asm --source b false"),
-    ("xlb audit a b",                           "audit a b"),
+    ("xlb audit a b",                           "audit a b false"),
+    ("xlb audit --maps a b",                    "audit a b true"),
     ("xlb explain 1",                           "explain 1"),
     ("xlb explain +095",                        "explain 95"),
     ("xlb explain PacketBounds",                "explain 37"),

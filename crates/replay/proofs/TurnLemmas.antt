@@ -32,7 +32,6 @@ use Rattle.map_port.specs.Served.{Maps, served_shard}
 use Rattle.shard_core.specs.JournaledShard.{JournaledShard, opened_shard}
 use Rattle.shards.specs.NewShards.{shard_at}
 use Rattle.shards.specs.Seats.{no_plan}
-use Rattle.shards.proofs.shared.Reserves.{reserve_of}
 use Rattle.shard_port.specs.Asking.{all_left}
 use Rattle.shard_port.specs.PortView.{PortView, IsGivenBy, IsRefusedBy, IsPortReady, AreShardsOf, ServesMaps}
 use Rattle.shard_port.specs.declared.plain.PlainPort.{PlainPort}
@@ -129,21 +128,6 @@ count_of maps options shards serve =
     ∥∥₁_elim serve le_prop (λ (are : AreShardsOf maps options shards). let n = are.count in omega (arith, n)) in
     let down : length maps * options.shards ≤ length shards =
     ∥∥₁_elim serve le_prop (λ (are : AreShardsOf maps options shards). let n = are.count in omega (arith, n)) in
-    omega (arith, up, down)
-
-some_at : {A : Type 0} (xs : List A) (place : ℕ) (d : A) → place < length xs → slice_get xs place ≡ Some (slice_index_or xs place d)
-some_at [] place d below = absurd (omega (arith, below))
-some_at (x ∷ xs) zero d below = refl
-some_at (x ∷ xs) (suc place) d below = some_at xs place d (omega (arith, below))
-
--- and each has the reserve of the options
-pub reserve_at : (maps : List MapDef) (options : Options) (shards : List JournaledShard) → ServesMaps maps options shards → (number : ℕ) → number < length shards →
-    (shard_at shards number).plan.reserve ≡ options.journal
-reserve_at maps options shards serve number below =
-    let same : AreShardsOf maps options shards → (shard_at shards number).plan.reserve ≡ options.journal =
-    λ are. reserve_of maps options number (shard_at shards number).plan (are.each number (shard_at shards number) (some_at shards number (opened_shard no_plan) below)).planned in
-    let up : (shard_at shards number).plan.reserve ≤ options.journal = ∥∥₁_elim serve le_prop (λ (are : AreShardsOf maps options shards). let n = same are in omega (arith, n)) in
-    let down : options.journal ≤ (shard_at shards number).plan.reserve = ∥∥₁_elim serve le_prop (λ (are : AreShardsOf maps options shards). let n = same are in omega (arith, n)) in
     omega (arith, up, down)
 
 -- the controller may make an update of a map that there is

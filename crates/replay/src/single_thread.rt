@@ -484,8 +484,7 @@ impl Turns {
         } = self;
         let (shards, maps, options) = all.into_parts();
         let made = copied(alloc, updates)?;
-        let room = Vec::with_capacity(alloc, shards.count())?;
-        let journals = journals_of(shards, maps, options, room);
+        let journals = journals_of(shards, maps, options);
         Ok(Outcome {
             counts,
             updates: made,

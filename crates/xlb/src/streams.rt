@@ -86,9 +86,14 @@ pub(crate) fn with_streams<'a>(settings: Settings<'a>) -> Settings<'a> {
             image: read_from(image),
             source,
         },
-        Settings::Audit { image, journals } => Settings::Audit {
+        Settings::Audit {
+            image,
+            journals,
+            maps,
+        } => Settings::Audit {
             image: read_from(image),
             journals: read_from(journals),
+            maps,
         },
         Settings::Explain { about } => Settings::Explain { about },
         Settings::Asm { text, out, source } => Settings::Asm {
@@ -136,11 +141,11 @@ fn inputs_of<'a>(settings: &Settings<'a>) -> [Named<'a>; 3] {
             ("FRAME", Some(files.frame)),
             NONE,
         ],
-        Settings::Audit { image, journals } => [
-            ("IMAGE", Some(*image)),
-            ("JOURNALS", Some(*journals)),
-            NONE,
-        ],
+        Settings::Audit {
+            image,
+            journals,
+            ..
+        } => [("IMAGE", Some(*image)), ("JOURNALS", Some(*journals)), NONE],
         Settings::Script { capture, timed } => [
             ("CAPTURE", Some(*capture)),
             ("TIMED", Some(*timed)),

@@ -1,6 +1,7 @@
 -- The definitions that the contracts of this crate cite, in reading order.
 pub mod Printable
 pub mod Files
+pub mod AuditedMaps
 pub mod Clashes
 pub mod RecordReports
 pub mod Parts

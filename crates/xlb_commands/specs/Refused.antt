@@ -485,7 +485,7 @@ IsRefusedWith before after failed (Check image true) fault = IsExplainRefusal be
 IsRefusedWith before after failed (Run files now worker updates) fault =
     IsRunRefusal before after failed files now worker updates.items fault
 IsRefusedWith before after failed (Disasm image source) fault = IsTextRefusal before failed image.now fault
-IsRefusedWith before after failed (Audit image journals) fault = IsAuditRefusal before failed image.now journals.now fault
+IsRefusedWith before after failed (Audit image journals maps) fault = IsAuditRefusal before failed image.now journals.now fault
 IsRefusedWith before after failed (Explain about) fault = fault ≡ faults.Memory
 IsRefusedWith before after failed (Asm text out false) fault = IsAsmRefusal before after failed text.now fault
 IsRefusedWith before after failed (Asm text out true) fault = IsSourceRefusal before after failed text.now fault

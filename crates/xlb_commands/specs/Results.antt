@@ -36,6 +36,7 @@ use Rattle.xlb_commands.specs.declared.one_run.RunAnswer.{RunAnswer}
 use Rattle.xlb_commands.specs.declared.one_run.RunAnswer.TheVariants.{Printed, Mistaken}
 use Rattle.xlb_commands.specs.declared.serving.CommandAnswer.{CommandAnswer}
 use Rattle.xlb_commands.specs.declared.serving.CommandAnswer.TheVariants as answers
+use Rattle.xlb_commands.specs.AuditedMaps.{AreMapsShown}
 use Rattle.xlb_commands.specs.Files.{FileBytes, AreKept, AreOthersKept, AreAllButKept, AreAllKeptBut, IsImageFile, IsJudged}
 use Rattle.xlb_commands.specs.declared.replays.ReplayAnswer.{ReplayAnswer}
 use Rattle.xlb_commands.specs.declared.replays.ReplayAnswer.TheVariants as replayed
@@ -219,7 +220,8 @@ IsDone before after (Check image true) printed = IsExplained before image.now pr
 IsDone before after (Run files now worker updates) printed = IsRun before after files now worker updates.items printed
 IsDone before after (Disasm image false) printed = IsDisassembled before image.now printed
 IsDone before after (Disasm image true) printed = IsSourceShown before image.now printed
-IsDone before after (Audit image journals) printed = IsAudited before image.now journals.now printed
+IsDone before after (Audit image journals false) printed = IsAudited before image.now journals.now printed
+IsDone before after (Audit image journals true) printed = AreMapsShown before image.now journals.now printed
 IsDone before after (Explain about) printed = printed ≡ explained_text about
 IsDone before after (Asm text out false) printed = IsAssembled before after text.now out.now × (printed ≡ [])
 IsDone before after (Asm text out true) printed = IsSourceAssembled before after text.now out.now × (printed ≡ [])
@@ -243,7 +245,7 @@ abbrev pub KeepsFiles : FileBytes → FileBytes → Settings → Type 0
 KeepsFiles before after (Check image explain) = AreKept before after
 KeepsFiles before after (Run files now worker updates) = AreAllKeptBut before after (text_of files.journals)
 KeepsFiles before after (Disasm image source) = AreKept before after
-KeepsFiles before after (Audit image journals) = AreKept before after
+KeepsFiles before after (Audit image journals maps) = AreKept before after
 KeepsFiles before after (Explain about) = AreKept before after
 KeepsFiles before after (Asm text out source) = AreOthersKept before after out.now
 KeepsFiles before after (Shipped out ring flows) = AreOthersKept before after out.now

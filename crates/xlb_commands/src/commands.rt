@@ -39,7 +39,7 @@ use verifier::{Reject, Verified, survey_of, verify};
 use wire::{Frame, FrameFault, MAX_FRAME};
 
 /// What is printed of legal journals.
-const LEGAL: &str = "legal\n";
+pub(crate) const LEGAL: &str = "legal\n";
 
 /// The most bytes that are kept of an image's file: two slots more than the longest image has.
 const MOST_OF_IMAGE: usize = MAX_LEN + 2 * SLOT_LEN;
@@ -355,7 +355,7 @@ pub fn audit_file<D: Folder>(
 }
 
 /// Bytes that are no journals of the image's maps.
-fn refused_journals(alloc: Global, bytes: &[u8], fault: FileFault) -> Refusal
+pub(crate) fn refused_journals(alloc: Global, bytes: &[u8], fault: FileFault) -> Refusal
     ensures { result.fault ≡ Fault.Journals fault }
 {
     Refusal::hinted(
@@ -365,7 +365,12 @@ fn refused_journals(alloc: Global, bytes: &[u8], fault: FileFault) -> Refusal
 }
 
 /// Journals that are not legal.
-fn illegal(alloc: Global, bytes: &[u8], journals: &Journals, fault: AuditFault) -> Refusal
+pub(crate) fn illegal(
+    alloc: Global,
+    bytes: &[u8],
+    journals: &Journals,
+    fault: AuditFault,
+) -> Refusal
     ensures { result.fault ≡ Fault.Audit fault }
 {
     Refusal::hinted(

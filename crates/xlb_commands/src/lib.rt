@@ -2,6 +2,7 @@
 //! audited.
 #![tactic(auto)]
 
+mod audited_maps;
 mod clashes;
 mod commands;
 mod comparing;

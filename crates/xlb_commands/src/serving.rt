@@ -11,6 +11,7 @@ ghost use Rattle.xlb_commands.specs.Refused.{HasFailed, IsMistaken, IsRefused, I
 ghost use Rattle.xlb_commands.specs.Refused.{PrintsPresent, PrintsRefusal};
 ghost use Rattle.xlb_commands.specs.Refused.{printed_notes};
 
+use crate::audited_maps::audit_with_maps;
 use crate::clashes::{Clash, clash_of};
 use crate::commands::{
     assemble_file, assemble_source_file, audit_file, check, check_explained, disassemble,
@@ -117,8 +118,16 @@ fn answer<R: Threads + Wait + Sync, D: Folder, P: Progress + Sync>(
                 Ok(CommandAnswer::reported(disassemble(alloc, folder, image)?))
             }
         }
-        Settings::Audit { image, journals } => {
-            Ok(CommandAnswer::reported(audit_file(alloc, folder, image, journals)?))
+        Settings::Audit {
+            image,
+            journals,
+            maps,
+        } => {
+            if *maps {
+                Ok(CommandAnswer::reported(audit_with_maps(alloc, folder, image, journals)?))
+            } else {
+                Ok(CommandAnswer::reported(audit_file(alloc, folder, image, journals)?))
+            }
         }
         Settings::Explain { about } => Ok(CommandAnswer::reported(explained(alloc, about)?)),
         Settings::Asm { text, out, source } => {

@@ -22,6 +22,11 @@ journals_from-requires-clause-few c =
     let headed = rw c.in-Some.is at c.in_ok-headed.ensures in
     done_within _ _ _ _ _ _ _ headed.fits.fit c.in_ok-done.ensures
 
+pub journals_from-requires-clause-rows : goal.journals_from-requires-clause-rows
+journals_from-requires-clause-rows c =
+    let headed = rw c.in-Some.is at c.in_ok-headed.ensures in
+    headed.fits.rows
+
 pub returns-clause-found : goal.returns-clause-found
 returns-clause-found c =
     let headed = rw c.in-Some.is at c.in_ok-headed.ensures in

@@ -1,0 +1,3 @@
+-- The lemmas that proofs of this crate share.
+pub mod Remaking
+pub mod Texts

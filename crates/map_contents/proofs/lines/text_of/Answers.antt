@@ -1,0 +1,13 @@
+use Rattle.std.proofs.Common.{refl}
+use Rattle.map_contents.proofs.Texts.{one_more_map}
+use Rattle.map_contents.proofs.lines.text_of.Goals as goal
+
+pub maps-preserved : goal.maps-preserved
+maps-preserved c =
+    let i = c.maps.invariant in
+    record {
+      end_is = i.end_is;
+      lines = one_more_map c.args.journals.now c.args.shards.now c.maps.map _ _ _ i.lines
+          (record { entries = c.in_ok-entries.entries.items; contents = c.in_ok-entries.ensures; lines_are = refl })
+          c.in_ok-put_map.ensures;
+    }
