@@ -64,6 +64,7 @@ pub enum Settings<'a> {
     Script {
         capture: &'a str,
         timed: &'a str,
+        reading: Reading,
     },
     /// Compares the reports of two replays.
     Compare {
@@ -102,7 +103,7 @@ pub struct ReplaySettings<'a> {
     pub reading: Reading,
     /// The part of the capture that is replayed; the whole capture where it is missing.
     pub part: Option<Part>,
-    /// Whether no rows of journals are kept, which then have room for 134,217,728 calls each; then no file is named for them.
+    /// Whether no rows of journals are kept, which then have room for 4,000,000,000 calls each; then no file is named for them.
     pub no_journals: bool,
     /// Whether a replay that leaves something out is done in part: a run that was stopped, a record that was skipped or cut, a command
     /// behind the last record.
@@ -131,6 +132,8 @@ pub struct RunFiles<'a> {
     pub frame: &'a str,
     /// Where the journals are written to.
     pub journals: Option<&'a str>,
+    /// Where what the maps hold at the end is written to.
+    pub maps: Option<&'a str>,
 }
 
 /// The files of a replay.
@@ -148,4 +151,6 @@ pub struct ReplayFiles<'a> {
     pub journals: Option<&'a str>,
     /// Where a line for each record is written to.
     pub report: Option<&'a str>,
+    /// Where what the maps hold at the end is written to.
+    pub maps: Option<&'a str>,
 }

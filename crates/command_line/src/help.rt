@@ -35,7 +35,10 @@ which may be given any number of times, the controller sets a key of a map to a
 value before the run: MAP is the map's place in the image, from 0, KEY and VALUE
 are bytes in hexadecimal, as many as the map's keys and values have. With
 --journals the calls that the controller and the run made on each map are
-written to the file, with their replies, if the run came to its end."
+written to the file, with their replies, if the run came to its end; with --maps
+what the maps hold then: for each key a line with the map's place, the key and
+its value, in hexadecimal, or as a JSON object if the file's name ends in .json
+or .jsonl."
 }
 
 pub fn after_disasm<'a>() -> &'a str {
@@ -132,6 +135,11 @@ as CSV, or as a JSON object if the file's name ends in .json or .jsonl, in upper
 or lower case. The case is that of the steering rule, and empty with --image and
 --program; backend and address are where the frame was sent; the last five are
 its flow.
+With --maps what the maps hold at the end is written to the file: for each key a
+line with the map's place in the image, from 0, the key and its value, in
+hexadecimal, or as a JSON object if the file's name ends in .json or .jsonl; of
+the maps of steering also what the entry means: a service, the backend of a flow
+or of a slot, a backend's slots, a verdict's frames.
 A capture with a record of more than 2048 bytes is refused; with --skip-long
 such records are skipped, and a line on the standard error gives their number.
 With --pad-cut a record that was cut when it was captured has zeros up to the
@@ -147,7 +155,7 @@ With --strict the status is 1 where a run was stopped, a record was skipped, cut
 or filled up, or a command comes behind the last record. With --no-clobber a
 file that is to be written and is there already is a mistake, with status 2.
 With --no-journals no rows of journals are kept: a frame costs less time and no
-memory for rows, and each shard may have 134217728 calls, whatever --journal is."
+memory for rows, and each shard may have 4000000000 calls, whatever --journal is."
 }
 
 pub fn after_script<'a>() -> &'a str {
@@ -159,7 +167,8 @@ first word of each is a moment in place of the number of a record:
   +180s                  from the moment of the first record
 It becomes the number of records before the first one that is not earlier. Blank
 lines, and what follows a #, are no part of it. A moment behind the last record
-is named on the standard error."
+is named on the standard error. With --skip-long, --pad-cut and --allow-cut the
+records are those of a replay with these options."
 }
 
 pub fn after_compare<'a>() -> &'a str {

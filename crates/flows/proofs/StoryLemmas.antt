@@ -18,7 +18,7 @@ use Rattle.flows.specs.FlowRecords.{HasRoomForFrame, story_of}
 use Rattle.flows.specs.Settings.{before, is_untracked}
 use Rattle.flows.specs.Stories.{Story, after, after_sent, after_unsent, story_begun, flow_of_row, row_has_flow, is_sent_row, move_by, one_if_some}
 use Rattle.flows.specs.Stories.{has_no_backend, is_dropped_row, one_if, service_of_row}
-use Rattle.flows.specs.Telling.{Moved, address_in, address_of_story, is_story_of, move_in, move_of, moved_at, moves_at_row, moves_until}
+use Rattle.flows.specs.Telling.{Moved, address_in, backend_in, address_of_story, is_story_of, move_in, move_of, moved_at, moves_at_row, moves_until}
 use Rattle.flows.specs.Telling.{stories_with, stories_until, stories_after}
 
 -- ---- places
@@ -376,14 +376,16 @@ module _ (rows : List (List ℕ)) (commands applied : List Command) (place : ℕ
         ∙ (ap (λ (it : List Story). stories_after (row_at rows place) (before place commands) it) stories_are
         ∙ sym (ap (λ (n : ℕ). stories_until rows commands n) (add-one place))))
 
-    pub moves_next : (from : List ℕ) (move : Option Reason) (old : List Moved) → from ≡ address_in (flow_of_row row) stories
-        → move ≡ move_of row applied stories → old ≡ moves_until rows commands place
-        → old ++ moved_at place from move ≡ moves_until rows commands (place + 1)
-    moves_next from move old from_is move_is moves_are =
-        ap (λ (it : List Moved). it ++ moved_at place from move) moves_are
-        ∙ (ap (λ (it : List ℕ). moves_until rows commands place ++ moved_at place it move) from_is
-        ∙ (ap (λ (it : Option Reason). moves_until rows commands place ++ moved_at place (address_in (flow_of_row row) stories) it) move_is
+    pub moves_next : (from backend : List ℕ) (move : Option Reason) (old : List Moved) → from ≡ address_in (flow_of_row row) stories
+        → backend ≡ backend_in (flow_of_row row) stories → move ≡ move_of row applied stories → old ≡ moves_until rows commands place
+        → old ++ moved_at place from backend move ≡ moves_until rows commands (place + 1)
+    moves_next from backend move old from_is backend_is move_is moves_are =
+        ap (λ (it : List Moved). it ++ moved_at place from backend move) moves_are
+        ∙ (ap (λ (it : List ℕ). moves_until rows commands place ++ moved_at place it backend move) from_is
+        ∙ (ap (λ (it : List ℕ). moves_until rows commands place ++ moved_at place (address_in (flow_of_row row) stories) it move) backend_is
+        ∙ (ap (λ (it : Option Reason). moves_until rows commands place
+        ++ moved_at place (address_in (flow_of_row row) stories) (backend_in (flow_of_row row) stories) it) move_is
         ∙ (ap (λ (it : List ℕ). moves_until rows commands place ++ moves_at_row place it applied stories) row_is
         ∙ (ap (λ (it : List Command). moves_until rows commands place ++ moves_at_row place (row_at rows place) it stories) applied_is
         ∙ (ap (λ (it : List Story). moves_until rows commands place ++ moves_at_row place (row_at rows place) (before place commands) it) stories_are
-        ∙ sym (ap (λ (n : ℕ). moves_until rows commands n) (add-one place)))))))
+        ∙ sym (ap (λ (n : ℕ). moves_until rows commands n) (add-one place))))))))

@@ -30,7 +30,7 @@ story_of flow = record {
 
 -- a move
 abbrev pub moved_of : Move → Moved
-moved_of move = record { place = move.place; from = move.from.now; reason = move.reason }
+moved_of move = record { place = move.place; from = move.from.now; backend = move.backend.now; reason = move.reason }
 
 -- one frame more can be counted
 pub record HasRoomForFrame (story : Story) : Type 0 where

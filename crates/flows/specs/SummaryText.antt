@@ -1,6 +1,7 @@
 -- What is said of all flows, for people.
-use Rattle.std.specs.Prelude.{ℕ, zero, suc, ◌==◌, ◌++◌, nat_lt, not, Bool, List, [], ◌∷◌, codes, decimal, count_by, length, take, if◌then◌else◌}
+use Rattle.std.specs.Prelude.{ℕ, zero, suc, ◌==◌, ◌++◌, ◌&&◌, nat_lt, not, Bool, List, [], ◌∷◌, codes, decimal, count_by, length, take, if◌then◌else◌}
 use Rattle.std.specs.List.{flat_map, fold}
+use Rattle.std.specs.Str.{bytes_eq}
 use Rattle.comparison.specs.Rows.{field}
 use Rattle.comparison.specs.ComparisonText.{flow_pieces}
 use Rattle.flows.specs.Stories.{Story, reason_word}
@@ -14,15 +15,24 @@ was_sent story = not (story.sent == 0)
 abbrev pub was_moved : Story → Bool
 was_moved story = not (story.changes == 0)
 
-abbrev pub flows_line : ℕ → ℕ → List ℕ
-flows_line sent moved = decimal sent ++ (codes " flows with a sent frame, " ++ (decimal moved ++ codes " of them moved\n"))
+-- a flow of TCP that moved: its connection is lost where the backends do not share their state
+abbrev pub was_moved_tcp : Story → Bool
+was_moved_tcp story = was_moved story && bytes_eq (field 4 story.flow) (codes "tcp")
+
+abbrev pub flows_line : ℕ → ℕ → ℕ → List ℕ
+flows_line sent moved tcp =
+    decimal sent ++ (codes " flows with a sent frame, " ++ (decimal moved ++ (codes " of them moved, " ++ (decimal tcp ++ codes " of these TCP\n"))))
 
 -- a frame of the flow was dropped behind a sent one
 abbrev pub has_lost : Story → Bool
 has_lost story = story.lost
 
-abbrev pub lost_line : ℕ → List ℕ
-lost_line lost = decimal lost ++ codes " flows lost frames\n"
+-- a frame of the flow was dropped for want of a backend that is up
+abbrev pub has_wanted : Story → Bool
+has_wanted story = not (story.no_backend == 0)
+
+abbrev pub lost_line : ℕ → ℕ → List ℕ
+lost_line wanting lost = decimal wanting ++ (codes " flows had no backend for a frame, " ++ (decimal lost ++ codes " lost a frame behind a sent one\n"))
 
 -- how many frames were stopped, if any were: what else would have become of them is not known
 abbrev pub stopped_line : ℕ → List ℕ
@@ -76,9 +86,11 @@ ranked_line story = ranked_pieces story.changes (flow_in_words story.flow) story
 
 -- ---- all
 
--- of flows: how many have a sent frame, how many of these moved, and how many lost frames
+-- of flows: how many have a sent frame, how many of these moved, how many of those are TCP, how many had no backend for a frame, and how many lost frames
 abbrev pub flow_counts : List Story → List ℕ
-flow_counts stories = flows_line (count_by was_sent stories) (count_by was_moved stories) ++ lost_line (count_by has_lost stories)
+flow_counts stories =
+    flows_line (count_by was_sent stories) (count_by was_moved stories) (count_by was_moved_tcp stories)
+    ++ lost_line (count_by has_wanted stories) (count_by has_lost stories)
 
 -- of frames: how many were moved, for which reason, and how many were stopped
 abbrev pub frame_counts : List Moved → ℕ → List ℕ

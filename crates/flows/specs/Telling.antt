@@ -39,10 +39,12 @@ stories_until rows commands (suc place) = stories_after (row_at rows place) (bef
 
 -- ---- moves
 
--- a moved frame: the place of its row, the address to which the sent frame of its flow before went, and why it is moved
+-- a moved frame: the place of its row, the address to which the sent frame of its flow before went, the number of the backend that got that
+-- one, which is empty where it is not known, and why it is moved
 pub record Moved : Type 0 where
   pub place : ℕ
   pub from : List ℕ
+  pub backend : List ℕ
   pub reason : Reason
 
 -- the address to which the last sent frame of a story went
@@ -58,13 +60,22 @@ story_at stories (Some place) = slice_get stories place
 abbrev pub address_in : List ℕ → List Story → List ℕ
 address_in flow stories = address_of_story (story_at stories (position (is_story_of flow) stories))
 
-abbrev pub moved_at : ℕ → List ℕ → Option Reason → List Moved
-moved_at place from None = []
-moved_at place from (Some reason) = record { place = place; from = from; reason = reason } ∷ []
+-- the number of the backend that got it
+abbrev pub backend_of_story : Option Story → List ℕ
+backend_of_story None = []
+backend_of_story (Some story) = story.backend
+
+abbrev pub backend_in : List ℕ → List Story → List ℕ
+backend_in flow stories = backend_of_story (story_at stories (position (is_story_of flow) stories))
+
+abbrev pub moved_at : ℕ → List ℕ → List ℕ → Option Reason → List Moved
+moved_at place from backend None = []
+moved_at place from backend (Some reason) = record { place = place; from = from; backend = backend; reason = reason } ∷ []
 
 -- the moves at a row, where these are the stories and the commands before it
 abbrev pub moves_at_row : ℕ → List ℕ → List Command → List Story → List Moved
-moves_at_row place row commands stories = moved_at place (address_in (flow_of_row row) stories) (move_of row commands stories)
+moves_at_row place row commands stories =
+    moved_at place (address_in (flow_of_row row) stories) (backend_in (flow_of_row row) stories) (move_of row commands stories)
 
 -- the moves among the first N rows, in their order
 abbrev pub moves_until : List (List ℕ) → List Command → ℕ → List Moved

@@ -4,7 +4,7 @@ ghost use Rattle.std.specs.Prelude.{◌≡◌, ◌≤◌, ◌<◌, ◌+◌, ◌^
 ghost use Rattle.std.specs.List.{AllByRecursion, position};
 ghost use Rattle.flows.specs.FlowRecords.{HasRoomForFrame, IsIndexed, place_in, stories_in, story_of};
 ghost use Rattle.flows.specs.Stories.{after, story_begun, flow_of_row, row_has_flow, move_by};
-ghost use Rattle.flows.specs.Telling.{address_in, address_of_story, story_at};
+ghost use Rattle.flows.specs.Telling.{address_in, address_of_story, backend_in, backend_of_story, story_at};
 ghost use Rattle.flows.specs.Telling.{is_story_of, move_in, move_of, stories_with, stories_after};
 ghost use Rattle.flows.specs.Walking.{KnowsSettings, applied};
 
@@ -60,6 +60,27 @@ impl<'a> FlowList<'a> {
         ensures { result.now ≡ address_in (flow_of_row row.now) (stories_in self.now) }
     {
         self.address_at(self.place_of(flow_of(row)))
+    }
+
+    /// The number of the backend that got the last sent frame of the flow at this place.
+    fn backend_at(&self, place: Option<usize>) -> &'a str
+        ensures { result.now ≡ backend_of_story (story_at (stories_in self.now) place) }
+    {
+        match place {
+            None => "",
+            Some(place) => match self.flows.get(place) {
+                None => "",
+                Some(flow) => flow.backend,
+            },
+        }
+    }
+
+    /// The number of the backend that got the last sent frame of the row's flow.
+    pub(crate) fn backend_of(&self, row: &'a str) -> &'a str
+        requires { IsIndexed self.now }
+        ensures { result.now ≡ backend_in (flow_of_row row.now) (stories_in self.now) }
+    {
+        self.backend_at(self.place_of(flow_of(row)))
     }
 
     /// Notes a frame of the flow at this place.

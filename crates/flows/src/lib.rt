@@ -16,6 +16,7 @@ mod tests;
 
 pub use fault::NoFlows;
 pub use moves::{Move, how_many};
+pub use reading::whole_report;
 pub use reason::Reason;
 pub use settings::address_text;
 pub use telling::{Flows, flows_in, moved_frames};

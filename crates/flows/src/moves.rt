@@ -14,6 +14,8 @@ pub struct Move<'a> {
     pub place: usize,
     /// The address to which the sent frame before went.
     pub from: &'a str,
+    /// The number of the backend that got it; empty where it is not known.
+    pub backend: &'a str,
     pub reason: Reason,
 }
 
@@ -22,14 +24,16 @@ pub(crate) fn put_move<'a>(
     moves: &mut Vec<Move<'a>>,
     place: usize,
     from: &'a str,
+    backend: &'a str,
     moved: Option<Reason>,
 ) -> Result<(), AllocError>
-    ensures { OnOk result (map moved_of moves.new.items ≡ map moved_of moves.old.items ++ moved_at place from.now moved) }
+    ensures { OnOk result (map moved_of moves.new.items ≡ map moved_of moves.old.items ++ moved_at place from.now backend.now moved) }
 {
     if let Some(reason) = moved {
         moves.push(Move {
             place,
             from,
+            backend,
             reason,
         })?;
     }

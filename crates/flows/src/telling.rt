@@ -14,7 +14,7 @@ use crate::printing::table_text;
 use crate::reading::whole_report;
 use crate::settings::Settings;
 use crate::summary::summary_text;
-use comparison::{field, row_at};
+use comparison::{columns, field, row_at};
 use control::{Command, Script};
 use std::alloc::{AllocError, Global};
 
@@ -46,8 +46,9 @@ fn told<'a>(
         settings.advance(alloc, place)?;
         let row = row_at(rows, place);
         let from = list.address_of(row);
+        let backend = list.backend_of(row);
         let moved = list.tell(alloc, row, &settings)?;
-        put_move(&mut moves, place, from, moved)?;
+        put_move(&mut moves, place, from, backend, moved)?;
     }
     Ok((list, moves))
 }
@@ -70,7 +71,7 @@ pub fn moved_frames<'a>(
 fn is_stopped(row: &str) -> bool
     ensures { result ≡ is_stopped_row row.now }
 {
-    field(row, 3) == "STOPPED"
+    field(row, columns::VERDICT) == "STOPPED"
 }
 
 /// How many of the rows' frames were stopped.

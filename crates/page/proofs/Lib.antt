@@ -1,5 +1,4 @@
 -- Lemmas for the answers of this crate.
 pub mod CountLemmas
-pub mod KeyLemmas
 pub mod PageLemmas
 pub mod TextLemmas

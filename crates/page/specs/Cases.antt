@@ -1,7 +1,9 @@
 -- How many frames are of each case, by the word in a row.
 use Rattle.std.specs.Prelude.{ℕ, zero, suc, ◌==◌, ◌++◌, List, [], codes, if◌then◌else◌, length, map, slice_index}
 use Rattle.std.specs.Str.{bytes_eq}
+use Rattle.comparison.specs.Columns.{case_column}
 use Rattle.comparison.specs.Rows.{field}
+use Rattle.page.specs.Reading.{fate_of_record}
 use Rattle.page.specs.Tables.{figure_text}
 use Rattle.page.specs.Tallies.{counts_by_cell}
 
@@ -19,18 +21,19 @@ case_of_packet word other =
     (if bytes_eq word (codes "fragment") then 7 else (if bytes_eq word (codes "icmp") then 8 else
     (if bytes_eq word (codes "other-protocol") then 9 else other))))
 
--- and of any other frame; a word that is none of these comes last, behind that of a case that is not known
+-- and of any other frame; a word that is none of these comes last, behind that of a stopped run and that of a case that is not known
 abbrev pub case_of_frame : List ℕ → ℕ
 case_of_frame word =
     if bytes_eq word (codes "ipv6") then 10 else (if bytes_eq word (codes "arp") then 11 else (if bytes_eq word (codes "vlan") then 12 else
     (if bytes_eq word (codes "other-type") then 13 else (if bytes_eq word (codes "short") then 14 else
-    (if length word == 0 then 15 else 16)))))
+    (if length word == 0 then 16 else 17)))))
 
 abbrev pub case_of_word : List ℕ → ℕ
 case_of_word word = case_of_flow word (case_of_packet word (case_of_frame word))
 
+-- a frame whose run was stopped has no other case
 abbrev pub case_of_record : List ℕ → ℕ
-case_of_record row = case_of_word (field 5 row)
+case_of_record row = if fate_of_record row == 4 then 15 else case_of_word (field case_column row)
 
 abbrev pub cases_of : List (List ℕ) → List ℕ
 cases_of rows = map case_of_record rows
@@ -43,7 +46,7 @@ case_name case =
     (if case == 6 then codes "options" else (if case == 7 then codes "fragment" else (if case == 8 then codes "icmp" else
     (if case == 9 then codes "other-protocol" else (if case == 10 then codes "ipv6" else (if case == 11 then codes "arp" else
     (if case == 12 then codes "vlan" else (if case == 13 then codes "other-type" else (if case == 14 then codes "short" else
-    (if case == 15 then codes "not known" else codes "other")))))))))))))))
+    (if case == 15 then codes "stopped" else (if case == 16 then codes "not known" else codes "other"))))))))))))))))
 
 -- the row of a case, if a frame is of it
 abbrev pub case_figure : List ℕ → ℕ → List ℕ
@@ -59,4 +62,4 @@ cases_table figures = codes "<h2>Frames by case</h2>\n<table class=\"figures\">\
 
 -- how many frames are of each case
 unfoldable pub cases_text : List ℕ → List ℕ
-cases_text cases = cases_table (case_figures (counts_by_cell cases 17) 17)
+cases_text cases = cases_table (case_figures (counts_by_cell cases 18) 18)

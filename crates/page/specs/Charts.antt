@@ -1,8 +1,10 @@
 -- The charts of a page: frames over time by backend and by what became of them, and frames by backend.
 use Rattle.std.specs.Prelude.{ℕ, zero, suc, ◌+◌, ◌-◌, ◌*◌, ◌/◌, ◌%◌, ◌==◌, ◌++◌, min, max, List, [], codes, decimal, fold, if◌then◌else◌, length}
-use Rattle.std.specs.Prelude.{nat_lt, slice_index}
+use Rattle.std.specs.Prelude.{slice_index}
+use Rattle.control.specs.declared.command.Command.{Command}
+use Rattle.page.specs.Labels.{backend_label}
 use Rattle.page.specs.Svg.{axis_text, groups_until, highest_of, legend_text, row_text, scaled}
-use Rattle.page.specs.Named.{classes_by_name, pattern_of}
+use Rattle.page.specs.Named.{classes_of, pattern_of}
 use Rattle.page.specs.Tallies.{counts_by_cell, slot_counts}
 
 -- ---- words
@@ -24,22 +26,20 @@ fate_word fate =
     (if fate == 3 then codes "aborted" else (if fate == 4 then codes "stopped" else
     (if fate == 5 then codes "short" else codes "other")))))
 
--- the listed backend of this rank, of which so many have their own name
-unfoldable pub backend_label : List ℕ → ℕ → ℕ → List ℕ
-backend_label listed own place = if nat_lt place own then codes "backend " ++ decimal (slice_index listed place - 1) else codes "others"
-
 -- ---- legends
 
-abbrev pub name_legend : List ℕ → ℕ → List ℕ
-name_legend named zero = []
-name_legend named (suc place) = name_legend named place ++ legend_text place (backend_label named 8 place)
+-- the first N of the backends with a name
+abbrev pub name_legend : List Command → List ℕ → ℕ → List ℕ
+name_legend commands named zero = []
+name_legend commands named (suc place) =
+    name_legend commands named place ++ legend_text place (backend_label commands (slice_index named place))
 
 -- all backends without a name, if one of them has a frame
 abbrev pub others_legend : ℕ → List ℕ
 others_legend count = if count == 0 then [] else legend_text 8 (codes "others")
 
-abbrev pub backend_legend : List ℕ → ℕ → List ℕ
-backend_legend named others = name_legend named (min (length named) 8) ++ others_legend others
+abbrev pub backend_legend : List Command → List ℕ → ℕ → List ℕ
+backend_legend commands named others = name_legend commands named (min (length named) 8) ++ others_legend others
 
 abbrev pub fate_legend : ℕ → List ℕ
 fate_legend zero = []
@@ -106,14 +106,15 @@ fate_chart body marks legend =
     fate_opening ++ (body ++ (marks ++ (legend ++ codes "</svg>\n")))
 
 -- frames over time by backend, of rows with these slots and classes, between two moments
-unfoldable pub classes_over_time : List ℕ → List ℕ → List ℕ → List ℕ → List ℕ → List ℕ → List ℕ
-classes_over_time named classes slots first last marks =
+unfoldable pub classes_over_time : List Command → List ℕ → List ℕ → List ℕ → List ℕ → List ℕ → List ℕ → List ℕ
+classes_over_time commands named classes slots first last marks =
     backend_chart patterns_text (body_text (slot_counts 9 slots classes) 9 first last) marks
-    (backend_legend named (slice_index (counts_by_cell classes 9) 8))
+    (backend_legend commands named (slice_index (counts_by_cell classes 9) 8))
 
 -- the same of rows with these keys, where these backends have a name
-abbrev pub backends_over_time : List ℕ → List ℕ → List ℕ → List ℕ → List ℕ → List ℕ → List ℕ
-backends_over_time named keys slots first last marks = classes_over_time named (classes_by_name named keys) slots first last marks
+abbrev pub backends_over_time : List Command → List ℕ → List ℕ → List ℕ → List ℕ → List ℕ → List ℕ → List ℕ
+backends_over_time commands named keys slots first last marks =
+    classes_over_time commands named (classes_of named 8 keys) slots first last marks
 
 unfoldable pub fates_over_time : List ℕ → List ℕ → List ℕ → List ℕ → List ℕ → List ℕ → List ℕ
 fates_over_time totals fates slots first last marks =
@@ -121,19 +122,24 @@ fates_over_time totals fates slots first last marks =
 
 -- ---- frames by backend
 
--- how many backends have a bar: those that are listed, and one for all others, if there are any
-abbrev pub backend_count : List ℕ → List ℕ → ℕ
-backend_count listed totals = if slice_index totals 32 == 0 then length listed else 33
+-- the bar of the listed backend at this place
+unfoldable pub backend_row : List Command → List ℕ → List ℕ → List ℕ → ℕ → ℕ → List ℕ
+backend_row commands named listed totals highest place =
+    row_text place (pattern_of named (slice_index listed place)) (backend_label commands (slice_index listed place))
+    (scaled 240 highest (slice_index totals place)) (slice_index totals place)
 
-unfoldable pub backend_row : List ℕ → List ℕ → List ℕ → ℕ → ℕ → List ℕ
-backend_row named listed totals highest place =
-    row_text place (pattern_of named (slice_index listed place)) (backend_label listed 32 place) (scaled 240 highest (slice_index totals place))
-    (slice_index totals place)
+-- the bars of the first N
+abbrev pub backend_rows : List Command → List ℕ → List ℕ → List ℕ → ℕ → ℕ → List ℕ
+backend_rows commands named listed totals highest zero = []
+backend_rows commands named listed totals highest (suc place) =
+    backend_rows commands named listed totals highest place ++ backend_row commands named listed totals highest place
 
-abbrev pub backend_rows : List ℕ → List ℕ → List ℕ → ℕ → ℕ → List ℕ
-backend_rows named listed totals highest zero = []
-backend_rows named listed totals highest (suc place) =
-    backend_rows named listed totals highest place ++ backend_row named listed totals highest place
+-- the bar of all other backends, at this place, if one of them has a frame
+abbrev pub others_row : ℕ → ℕ → ℕ → List ℕ
+others_row highest place count = if count == 0 then [] else row_text place 8 (codes "others") (scaled 240 highest count) count
+
+abbrev pub one_if_any : ℕ → ℕ
+one_if_any count = if count == 0 then 0 else 1
 
 -- the most frames that a backend got, and 1 where none got any
 abbrev pub most_of : List ℕ → ℕ
@@ -144,6 +150,12 @@ rows_chart height rows =
     codes "<h2>Frames by backend</h2>\n<svg role=\"img\" viewBox=\"0 0 400 " ++ (decimal height
     ++ (codes "\">\n<title>Frames by backend</title>\n<desc>Bars: how many frames each backend got.</desc>\n" ++ (rows ++ codes "</svg>\n")))
 
-unfoldable pub backends_text : List ℕ → List ℕ → List ℕ → List ℕ
-backends_text named listed totals =
-    rows_chart (4 + 14 * backend_count listed totals) (backend_rows named listed totals (most_of totals) (backend_count listed totals))
+-- the bars of so many listed backends, and of all others
+abbrev pub all_rows : List Command → List ℕ → List ℕ → List ℕ → ℕ → ℕ → List ℕ
+all_rows commands named listed totals highest count =
+    backend_rows commands named listed totals highest count ++ others_row highest count (slice_index totals 32)
+
+unfoldable pub backends_text : List Command → List ℕ → List ℕ → List ℕ → List ℕ
+backends_text commands named listed totals =
+    rows_chart (4 + 14 * (min (length listed) 32 + one_if_any (slice_index totals 32)))
+    (all_rows commands named listed totals (most_of totals) (min (length listed) 32))

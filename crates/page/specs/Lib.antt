@@ -2,6 +2,7 @@
 pub mod Reading
 pub mod Tallies
 pub mod Commands
+pub mod Labels
 pub mod Named
 pub mod Svg
 pub mod Charts

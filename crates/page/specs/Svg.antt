@@ -104,7 +104,7 @@ legend_text class label =
 -- a bar with a name at its left, and its pattern with a number at its right
 unfoldable pub row_front : ℕ → ℕ → List ℕ → ℕ → List ℕ
 row_front y text_y label width =
-    codes "<text class=\"end\" x=\"80\" y=\"" ++ (decimal text_y ++ (codes "\">" ++ (label ++ (codes "</text><rect class=\"key\" x=\"84\" y=\""
+    codes "<text class=\"end\" x=\"104\" y=\"" ++ (decimal text_y ++ (codes "\">" ++ (label ++ (codes "</text><rect class=\"key\" x=\"108\" y=\""
     ++ (decimal y ++ (codes "\" width=\"" ++ decimal width))))))
 
 unfoldable pub row_back : ℕ → ℕ → ℕ → ℕ → List ℕ
@@ -119,4 +119,4 @@ row_at_height y text_y pattern label width after count = row_front y text_y labe
 -- the bar of a backend, with its name at its left and the number of its frames at its right
 unfoldable pub row_text : ℕ → ℕ → List ℕ → ℕ → ℕ → List ℕ
 row_text place pattern label width count =
-    row_at_height (4 + place * 14) (12 + place * 14) pattern label width (88 + width) count
+    row_at_height (4 + place * 14) (12 + place * 14) pattern label width (112 + width) count

@@ -1,12 +1,14 @@
 -- The tables of a page: figures, and frames of flows that moved. Fields of a report have no mark of HTML.
 use Rattle.std.specs.Prelude.{ℕ, zero, suc, ◌-◌, ◌==◌, ◌++◌, List, [], codes, decimal, if◌then◌else◌, length, slice_index, take}
 use Rattle.std.specs.List.{flat_map}
+use Rattle.comparison.specs.Columns.{number_column, address_column, backend_column}
 use Rattle.comparison.specs.Rows.{field, row_at}
 use Rattle.comparison.specs.ComparisonText.{flow_phrase}
 use Rattle.flows.specs.Stories.{reason_word}
 use Rattle.flows.specs.Telling.{Moved}
 use Rattle.flows.specs.declared.reason.Reason.{Reason}
 use Rattle.page.specs.Charts.{fate_word}
+use Rattle.page.specs.Labels.{backend_phrase}
 use Rattle.page.specs.Reading.{micros_of_row}
 use Rattle.page.specs.Stamps.{moment_text}
 
@@ -44,13 +46,17 @@ move_back before after reason = before ++ (codes "</td><td>" ++ (after ++ (codes
 unfoldable pub move_text : List ℕ → List ℕ → List ℕ → List ℕ → List ℕ → List ℕ → List ℕ
 move_text record_number moment flow before after reason = move_front record_number moment flow ++ move_back before after reason
 
--- the row of a record whose flow was sent to this address before, and why it moved
+-- the backend that got the frame of a row, as far as it is known
+abbrev pub target_phrase : List ℕ → List ℕ
+target_phrase row = backend_phrase (field backend_column row) (field address_column row)
+
+-- the row of a record whose flow was sent to this backend before, and why it moved
 unfoldable pub move_row : List ℕ → Reason → List ℕ → List ℕ
-move_row from reason row =
-    move_text (field 0 row) (moment_text (micros_of_row row)) (flow_phrase row) from (field 7 row) (reason_word reason)
+move_row before reason row =
+    move_text (field number_column row) (moment_text (micros_of_row row)) (flow_phrase row) before (target_phrase row) (reason_word reason)
 
 abbrev pub move_line : List (List ℕ) → Moved → List ℕ
-move_line rows move = move_row move.from move.reason (row_at rows move.place)
+move_line rows move = move_row (backend_phrase move.backend move.from) move.reason (row_at rows move.place)
 
 abbrev pub move_lines : List (List ℕ) → List Moved → List ℕ
 move_lines rows moves = flat_map (move_line rows) moves

@@ -1,8 +1,6 @@
 -- Counts of rows: by slot of time and class, and by class alone.
 use Rattle.std.specs.Prelude.{ℕ, zero, suc, ◌+◌, ◌-◌, ◌*◌, ◌/◌, ◌==◌, ◌++◌, ◌∷◌, min, max, List, [], count_by, fold, if◌then◌else◌, length, map}
-use Rattle.std.specs.Prelude.{◌≡◌, ◌⊎◌, ◌<◌, ◌≤◌, All, Contains, nat_le, nat_lt, slice_index}
-use Rattle.std.specs.List.Sorted.{IsStrictlyIncreasing}
-use Rattle.page.specs.Reading.{greatest}
+use Rattle.std.specs.Prelude.{nat_lt, slice_index}
 
 -- ---- slots of time
 
@@ -23,37 +21,6 @@ time_slot first long moment = min ((moment - first) / long) 59
 
 abbrev pub time_slots : ℕ → ℕ → List ℕ → List ℕ
 time_slots first long moments = map (λ moment. time_slot first long moment) moments
-
--- ---- backends
-
--- the least of the keys that are not below the floor
-abbrev pub lower_from : ℕ → ℕ → ℕ → ℕ
-lower_from floor best key = if nat_le floor key then min best key else best
-
-abbrev pub lowest_from : ℕ → List ℕ → ℕ
-lowest_from floor keys = fold (lower_from floor) greatest keys
-
-abbrev pub if_found : ℕ → List ℕ
-if_found key = if nat_lt key greatest then key ∷ [] else []
-
--- The least keys, rising, each once: so many, or all that are keys of backends, which 0 is not and the greatest number stands for none.
-pub record AreLeast (keys : List ℕ) (count : ℕ) (listed : List ℕ) : Type 0 where
-  pub few : length listed ≤ count
-  pub rising : IsStrictlyIncreasing listed
-  pub are_keys : All (λ key. (1 ≤ key) × Contains keys key) listed
-  pub least : (key : ℕ) → 1 ≤ key → key < greatest → Contains keys key
-      → Contains listed key ⊎ ((length listed ≡ count) × All (λ other. other < key) listed)
-
--- which of the listed backends has this key, counted from 0; those behind the last come after it
-abbrev pub rank_of : List ℕ → ℕ → ℕ
-rank_of listed key = count_by (λ other. nat_lt other key) listed
-
--- the class of a frame among so many: the rank of its backend, the last class for all backends of higher rank; none for a frame without one
-abbrev pub class_of_backend : List ℕ → ℕ → ℕ → ℕ
-class_of_backend listed count key = if key == 0 then count else min (rank_of listed key) (count - 1)
-
-abbrev pub classes_of : List ℕ → ℕ → List ℕ → List ℕ
-classes_of listed count keys = map (λ key. class_of_backend listed count key) keys
 
 -- ---- counts
 

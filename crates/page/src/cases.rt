@@ -4,13 +4,17 @@ ghost use Rattle.std.specs.Prelude.{◌≡◌, IfOk, map, string_bytes};
 ghost use Rattle.page.specs.Cases.{case_figure, case_figures, case_name, case_of_flow, case_of_frame, case_of_packet, case_of_record};
 ghost use Rattle.page.specs.Cases.{case_of_word, cases_of, cases_table, cases_text};
 
+use crate::reading::fate_of;
 use crate::tables::figure_text;
 use crate::tallies::{at, counts_of};
-use comparison::field;
+use comparison::{columns, field};
 use std::alloc::{AllocError, Global};
 
-/// So many cases have a row: fifteen words, a case that is not known, and any other word.
-const CASES: usize = 17;
+/// So many cases have a row: fifteen words, a run that was stopped, a case that is not known, and any other word.
+const CASES: usize = 18;
+
+/// What became of a frame whose run was stopped.
+const STOPPED: usize = 4;
 
 /// The case of a frame of a flow, or another one.
 fn case_of_flow(word: &str, other: usize) -> usize
@@ -65,9 +69,9 @@ fn case_of_frame(word: &str) -> usize
     } else if word == "short" {
         14
     } else if word.len() == 0 {
-        15
-    } else {
         16
+    } else {
+        17
     }
 }
 
@@ -82,7 +86,11 @@ fn case_of_word(word: &str) -> usize
 fn case_of(row: &str) -> usize
     ensures { result ≡ case_of_record row.now }
 {
-    case_of_word(field(row, 5))
+    if fate_of(row) == STOPPED {
+        15
+    } else {
+        case_of_word(field(row, columns::CASE))
+    }
 }
 
 /// The cases of rows, row by row.
@@ -120,7 +128,8 @@ fn case_name(case: usize) -> &'static str
         12 => "vlan",
         13 => "other-type",
         14 => "short",
-        15 => "not known",
+        15 => "stopped",
+        16 => "not known",
         _ => "other",
     }
 }

@@ -1,16 +1,18 @@
 //! The charts of a page.
 
-ghost use Rattle.std.specs.Prelude.{◌≡◌, ◌^◌, ◌<◌, ◌≤◌, IfOk, length, slice_index, string_bytes};
-ghost use Rattle.page.specs.Charts.{backend_chart, backend_count, backend_legend, backend_opening, backend_row, backend_rows};
-ghost use Rattle.page.specs.Charts.{backends_over_time, classes_over_time, name_legend, others_legend};
+ghost use Rattle.std.specs.Prelude.{◌≡◌, ◌^◌, ◌<◌, ◌≤◌, IfOk, slice_index, string_bytes};
+ghost use Rattle.page.specs.Charts.{all_rows, backend_chart, backend_legend, backend_opening, backend_row, backend_rows};
+ghost use Rattle.page.specs.Charts.{backends_over_time, classes_over_time, name_legend, one_if_any, others_legend, others_row};
 ghost use Rattle.page.specs.Charts.{backends_text, body_text, fate_chart, fate_legend, fate_opening, fate_word, fates_named, fates_over_time};
-ghost use Rattle.page.specs.Charts.{backend_label, most_of};
+ghost use Rattle.page.specs.Charts.{most_of};
 ghost use Rattle.page.specs.Charts.{patterns_text, rows_chart, seconds_text, six_last_digits};
 ghost use Rattle.page.specs.Tallies.{counts_by_cell};
 
-use crate::named::{classes_by_name, pattern_of};
+use crate::labels::backend_label;
+use crate::named::{classes_of, pattern_of};
 use crate::svg::{axis_text, groups_of, highest_of, legend_text, row_text, scaled};
 use crate::tallies::{at, counts_of, key_at, slot_counts};
+use control::Command;
 use std::alloc::{AllocError, Global};
 
 /// The last six digits of a number.
@@ -52,32 +54,19 @@ pub(crate) fn fate_word(fate: usize) -> &'static str
     }
 }
 
-/// The name of the listed backend of this rank, of which so many have their own name.
-#[tactic(auto, unfolding(crate::specs::Charts::backend_label))]
-pub(crate) fn label_of(
-    alloc: Global,
-    listed: &[u64],
-    own: usize,
-    place: usize,
-) -> Result<String, AllocError>
-    ensures { IfOk result (λ text. string_bytes text ≡ backend_label listed.now own place) }
-{
-    if place < own {
-        let number = key_at(listed, place).saturating_sub(1);
-        format!(in alloc; "backend {number}")
-    } else {
-        String::from_str(alloc, "others")
-    }
-}
-
 /// The legend of so many backends with a name.
-fn name_legend(alloc: Global, named: &[u64], count: usize) -> Result<String, AllocError>
+fn name_legend(
+    alloc: Global,
+    commands: &[Command],
+    named: &[u64],
+    count: usize,
+) -> Result<String, AllocError>
     requires { count < 2 ^ 15 }
-    ensures { IfOk result (λ text. string_bytes text ≡ name_legend named.now count) }
+    ensures { IfOk result (λ text. string_bytes text ≡ name_legend commands.now named.now count) }
 {
     let mut text = String::new(alloc);
     'names: for place in 0..count {
-        let label = label_of(alloc, named, 8, place)?;
+        let label = backend_label(alloc, commands, key_at(named, place))?;
         let entry = legend_text(alloc, place, label.as_str())?;
         text.push_str(entry.as_str())?;
     }
@@ -95,10 +84,15 @@ fn others_legend(alloc: Global, count: usize) -> Result<String, AllocError>
 }
 
 /// The legend of backends.
-fn backend_legend(alloc: Global, named: &[u64], others: usize) -> Result<String, AllocError>
-    ensures { IfOk result (λ text. string_bytes text ≡ backend_legend named.now others) }
+fn backend_legend(
+    alloc: Global,
+    commands: &[Command],
+    named: &[u64],
+    others: usize,
+) -> Result<String, AllocError>
+    ensures { IfOk result (λ text. string_bytes text ≡ backend_legend commands.now named.now others) }
 {
-    let mut text = name_legend(alloc, named, named.len().min(8))?;
+    let mut text = name_legend(alloc, commands, named, named.len().min(8))?;
     let legend = others_legend(alloc, others)?;
     text.push_str(legend.as_str())?;
     Ok(text)
@@ -222,6 +216,7 @@ fn others_of(alloc: Global, classes: &[usize]) -> Result<usize, AllocError>
 /// Frames over time by backend, of rows with these slots and keys, between two moments, where these backends have a name.
 pub(crate) fn backends_over_time(
     alloc: Global,
+    commands: &[Command],
     named: &[u64],
     keys: &[u64],
     slots: &[usize],
@@ -229,16 +224,17 @@ pub(crate) fn backends_over_time(
     last: &str,
     marks: &str,
 ) -> Result<String, AllocError>
-    ensures { IfOk result (λ text. string_bytes text ≡ backends_over_time named.now keys.now slots.now first.now last.now marks.now) }
+    ensures { IfOk result (λ text. string_bytes text ≡ backends_over_time commands.now named.now keys.now slots.now first.now last.now marks.now) }
 {
-    let classes = classes_by_name(alloc, named, keys)?;
-    classes_over_time(alloc, named, &classes, slots, first, last, marks)
+    let classes = classes_of(alloc, named, 8, keys)?;
+    classes_over_time(alloc, commands, named, &classes, slots, first, last, marks)
 }
 
 /// The same of rows with these classes.
 #[tactic(auto, unfolding(crate::specs::Charts::classes_over_time))]
 fn classes_over_time(
     alloc: Global,
+    commands: &[Command],
     named: &[u64],
     classes: &[usize],
     slots: &[usize],
@@ -246,12 +242,12 @@ fn classes_over_time(
     last: &str,
     marks: &str,
 ) -> Result<String, AllocError>
-    ensures { IfOk result (λ text. string_bytes text ≡ classes_over_time named.now classes.now slots.now first.now last.now marks.now) }
+    ensures { IfOk result (λ text. string_bytes text ≡ classes_over_time commands.now named.now classes.now slots.now first.now last.now marks.now) }
 {
     let others = others_of(alloc, classes)?;
     let counts = slot_counts(alloc, 9, slots, classes)?;
     let body = body_text(alloc, &counts, 9, first, last)?;
-    let legend = backend_legend(alloc, named, others)?;
+    let legend = backend_legend(alloc, commands, named, others)?;
     backend_chart(
         alloc,
         patterns_text(),
@@ -280,23 +276,11 @@ pub(crate) fn fates_over_time(
     fate_chart(alloc, body.as_str(), marks, legend.as_str())
 }
 
-/// How many backends have a bar.
-fn backend_count(listed: &[u64], totals: &[usize]) -> usize
-    requires { length listed.now ≤ 32 }
-    ensures count { result ≡ backend_count listed.now totals.now }
-    ensures few { result ≤ 33 }
-{
-    if at(totals, 32) == 0 {
-        listed.len()
-    } else {
-        33
-    }
-}
-
 /// The bar of a backend.
 #[tactic(auto, unfolding(crate::specs::Charts::backend_row))]
 fn backend_row(
     alloc: Global,
+    commands: &[Command],
     named: &[u64],
     listed: &[u64],
     totals: &[usize],
@@ -306,18 +290,20 @@ fn backend_row(
     requires place { place < 2 ^ 15 }
     requires some { 1 ≤ highest }
     requires highest { highest ≤ 2 ^ 80 }
-    ensures { IfOk result (λ text. string_bytes text ≡ backend_row named.now listed.now totals.now highest place) }
+    ensures { IfOk result (λ text. string_bytes text ≡ backend_row commands.now named.now listed.now totals.now highest place) }
 {
     let count = at(totals, place);
-    let label = label_of(alloc, listed, 32, place)?;
+    let key = key_at(listed, place);
+    let label = backend_label(alloc, commands, key)?;
     let width = scaled(240, highest, count as u128);
-    let pattern = pattern_of(named, key_at(listed, place));
+    let pattern = pattern_of(named, key);
     row_text(alloc, place, pattern, label.as_str(), width, count)
 }
 
 /// The bars of so many backends.
 fn backend_rows(
     alloc: Global,
+    commands: &[Command],
     named: &[u64],
     listed: &[u64],
     totals: &[usize],
@@ -327,14 +313,62 @@ fn backend_rows(
     requires count { count < 2 ^ 15 }
     requires some { 1 ≤ highest }
     requires highest { highest ≤ 2 ^ 80 }
-    ensures { IfOk result (λ text. string_bytes text ≡ backend_rows named.now listed.now totals.now highest count) }
+    ensures { IfOk result (λ text. string_bytes text ≡ backend_rows commands.now named.now listed.now totals.now highest count) }
 {
     let mut text = String::new(alloc);
     'backends: for place in 0..count {
-        let row = backend_row(alloc, named, listed, totals, highest, place)?;
+        let row = backend_row(alloc, commands, named, listed, totals, highest, place)?;
         text.push_str(row.as_str())?;
     }
     Ok(text)
+}
+
+/// The bar of all other backends, at this place, if one of them has a frame.
+fn others_row(
+    alloc: Global,
+    highest: u128,
+    place: usize,
+    count: usize,
+) -> Result<String, AllocError>
+    requires place { place < 2 ^ 15 }
+    requires some { 1 ≤ highest }
+    requires highest { highest ≤ 2 ^ 80 }
+    ensures { IfOk result (λ text. string_bytes text ≡ others_row highest place count) }
+{
+    if count == 0 {
+        return Ok(String::new(alloc));
+    }
+    let width = scaled(240, highest, count as u128);
+    row_text(alloc, place, 8, "others", width, count)
+}
+
+/// The bars of so many listed backends, and of all others.
+fn all_rows(
+    alloc: Global,
+    commands: &[Command],
+    named: &[u64],
+    listed: &[u64],
+    totals: &[usize],
+    highest: u128,
+    count: usize,
+) -> Result<String, AllocError>
+    requires count { count < 2 ^ 15 }
+    requires some { 1 ≤ highest }
+    requires highest { highest ≤ 2 ^ 80 }
+    ensures { IfOk result (λ text. string_bytes text ≡ all_rows commands.now named.now listed.now totals.now highest count) }
+{
+    let mut text = backend_rows(alloc, commands, named, listed, totals, highest, count)?;
+    let others = others_row(alloc, highest, count, at(totals, 32))?;
+    text.push_str(others.as_str())?;
+    Ok(text)
+}
+
+/// One bar for all of these, if there are any.
+fn one_if_any(count: usize) -> usize
+    ensures one { result ≡ one_if_any count }
+    ensures few { result ≤ 1 }
+{
+    if count == 0 { 0 } else { 1 }
 }
 
 /// The most frames that a backend got, and 1 where none got any.
@@ -364,14 +398,16 @@ fn rows_chart(alloc: Global, height: usize, rows: &str) -> Result<String, AllocE
 #[tactic(auto, unfolding(crate::specs::Charts::backends_text))]
 pub(crate) fn backends_text(
     alloc: Global,
+    commands: &[Command],
     named: &[u64],
     listed: &[u64],
     totals: &[usize],
 ) -> Result<String, AllocError>
-    requires { length listed.now ≤ 32 }
-    ensures { IfOk result (λ text. string_bytes text ≡ backends_text named.now listed.now totals.now) }
+    ensures { IfOk result (λ text. string_bytes text ≡ backends_text commands.now named.now listed.now totals.now) }
 {
-    let count = backend_count(listed, totals);
-    let rows = backend_rows(alloc, named, listed, totals, most_of(totals) as u128, count)?;
-    rows_chart(alloc, 4 + 14 * count, rows.as_str())
+    let count = listed.len().min(32);
+    let most = most_of(totals) as u128;
+    let rows = all_rows(alloc, commands, named, listed, totals, most, count)?;
+    let height = 4 + 14 * (count + one_if_any(at(totals, 32)));
+    rows_chart(alloc, height, rows.as_str())
 }

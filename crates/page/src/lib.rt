@@ -6,6 +6,7 @@ mod charts;
 mod commands;
 mod halves;
 mod html;
+mod labels;
 mod named;
 mod reading;
 mod reasons;
@@ -18,4 +19,4 @@ mod tallies;
 mod tests;
 mod whole;
 
-pub use whole::page;
+pub use whole::whole_page;

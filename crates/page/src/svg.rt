@@ -282,7 +282,7 @@ fn row_front(
     ensures { IfOk result (λ text. string_bytes text ≡ row_front y text_y label.now width) }
 {
     format!(in alloc;
-        "<text class=\"end\" x=\"80\" y=\"{text_y}\">{label}</text><rect class=\"key\" x=\"84\" y=\"{y}\" width=\"{width}"
+        "<text class=\"end\" x=\"104\" y=\"{text_y}\">{label}</text><rect class=\"key\" x=\"108\" y=\"{y}\" width=\"{width}"
     )
 }
 
@@ -343,7 +343,7 @@ pub(crate) fn row_text(
         pattern,
         label,
         width,
-        88 + width,
+        112 + width,
         count,
     )
 }

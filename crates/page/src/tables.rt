@@ -4,13 +4,14 @@ ghost use Rattle.std.specs.Prelude.{◌≡◌, IfOk, map, string_bytes, take};
 ghost use Rattle.std.specs.List.{flat_map};
 ghost use Rattle.flows.specs.FlowRecords.{moved_of};
 ghost use Rattle.page.specs.Tables.{fate_figures, figure_text, figures_text, more_text, move_back};
-ghost use Rattle.page.specs.Tables.{move_front, move_line, move_row, move_text, moves_table, moves_text, stopped_note};
+ghost use Rattle.page.specs.Tables.{move_front, move_line, move_row, move_text, moves_table, moves_text, stopped_note, target_phrase};
 
 use crate::charts::fate_word;
+use crate::labels::backend_phrase;
 use crate::reading::moment_of;
 use crate::stamps::moment_text;
 use crate::tallies::at;
-use comparison::{field, flow_phrase, row_at};
+use comparison::{columns, field, flow_phrase, row_at};
 use flows::{Move, Reason};
 use std::alloc::{AllocError, Global};
 
@@ -106,20 +107,32 @@ fn move_text(
     Ok(text)
 }
 
-/// The row of a record whose flow was sent to this address before, and why it moved.
+/// The backend that got the frame of a row, as far as it is known.
+fn target_phrase(alloc: Global, row: &str) -> Result<String, AllocError>
+    ensures { IfOk result (λ text. string_bytes text ≡ target_phrase row.now) }
+{
+    backend_phrase(
+        alloc,
+        field(row, columns::BACKEND),
+        field(row, columns::ADDRESS),
+    )
+}
+
+/// The row of a record whose flow was sent to this backend before, and why it moved.
 #[tactic(auto, unfolding(crate::specs::Tables::move_row))]
-fn move_row(alloc: Global, from: &str, reason: Reason, row: &str) -> Result<String, AllocError>
-    ensures { IfOk result (λ text. string_bytes text ≡ move_row from.now reason row.now) }
+fn move_row(alloc: Global, before: &str, reason: Reason, row: &str) -> Result<String, AllocError>
+    ensures { IfOk result (λ text. string_bytes text ≡ move_row before.now reason row.now) }
 {
     let moment = moment_text(alloc, moment_of(row))?;
     let flow = flow_phrase(alloc, row)?;
+    let target = target_phrase(alloc, row)?;
     move_text(
         alloc,
-        field(row, 0),
+        field(row, columns::NUMBER),
         moment.as_str(),
         flow.as_str(),
-        from,
-        field(row, 7),
+        before,
+        target.as_str(),
         reason.word(),
     )
 }
@@ -128,7 +141,9 @@ fn move_row(alloc: Global, from: &str, reason: Reason, row: &str) -> Result<Stri
 fn move_line(alloc: Global, rows: &[&str], moved: &Move) -> Result<String, AllocError>
     ensures { IfOk result (λ text. string_bytes text ≡ move_line (map (λ row. row.now) rows.now) (moved_of moved.now)) }
 {
-    move_row(alloc, moved.from, moved.reason, row_at(rows, moved.place))
+    let before = backend_phrase(alloc, moved.backend, moved.from)?;
+    let row = row_at(rows, moved.place);
+    move_row(alloc, before.as_str(), moved.reason, row)
 }
 
 /// The rows of moves.

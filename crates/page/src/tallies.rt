@@ -1,8 +1,8 @@
 //! Counts of rows by slot of time and class, and by class alone.
 
-ghost use Rattle.std.specs.Prelude.{◌≡◌, ◌+◌, ◌^◌, ◌<◌, ◌++◌, IfOk, OnOk, length, slice_index, slice_set};
-ghost use Rattle.page.specs.Tallies.{cell_of_class, cells_until, class_of_backend, classes_of, counts_by_cell, earliest, latest, lower_from};
-ghost use Rattle.page.specs.Tallies.{AreLeast, if_found, lowest_from, rank_of, slot_counts, slot_length, time_slot, time_slots};
+ghost use Rattle.std.specs.Prelude.{◌≡◌, ◌+◌, ◌^◌, ◌<◌, IfOk, length, slice_index, slice_set};
+ghost use Rattle.page.specs.Tallies.{cell_of_class, cells_until, counts_by_cell, earliest, latest, slot_counts, slot_length, time_slot};
+ghost use Rattle.page.specs.Tallies.{time_slots};
 
 use std::alloc::{AllocError, Global};
 
@@ -56,80 +56,6 @@ pub(crate) fn slots_of(
     moments
         .iter()
         .map(|moment| slot_of(first, long, *moment))
-        .collect(alloc)
-}
-
-/// The lesser of two keys, if the second is not below the floor.
-fn lower_from(floor: u64, best: u64, key: u64) -> u64
-    ensures { result ≡ lower_from floor best key }
-{
-    if floor <= key { key.min(best) } else { best }
-}
-
-/// The least of the keys that are not below the floor.
-fn lowest_from(floor: u64, keys: &[u64]) -> u64
-    ensures { result ≡ lowest_from floor keys.now }
-{
-    let mut best = u64::MAX;
-    'keys: for key in keys {
-        best = lower_from(floor, best, *key);
-    }
-    best
-}
-
-/// Appends a key that was found.
-fn put_found(listed: &mut Vec<u64>, key: u64) -> Result<(), AllocError>
-    ensures { OnOk result (listed.new.items ≡ listed.old.items ++ if_found key) }
-{
-    if key < u64::MAX {
-        listed.push(key)?;
-    }
-    Ok(())
-}
-
-/// The least keys of backends, each once, rising: this many at most.
-pub(crate) fn lowest_keys(alloc: Global, keys: &[u64], count: usize) -> Result<Vec<u64>, AllocError>
-    ensures { IfOk result (λ listed. AreLeast keys.now count listed.items) }
-{
-    let mut listed = Vec::new(alloc);
-    let mut floor = 1;
-    'keys: for _found in 0..count {
-        let key = lowest_from(floor, keys);
-        put_found(&mut listed, key)?;
-        floor = key.saturating_add(1);
-    }
-    Ok(listed)
-}
-
-/// Which of the listed backends has this key, counted from 0.
-fn rank_of(listed: &[u64], key: u64) -> usize
-    ensures { result ≡ rank_of listed.now key }
-{
-    listed.iter().filter(|other| **other < key).count()
-}
-
-/// The class of a frame by its backend, among so many.
-fn class_of(listed: &[u64], count: usize, key: u64) -> usize
-    ensures { result ≡ class_of_backend listed.now count key }
-{
-    if key == 0 {
-        count
-    } else {
-        rank_of(listed, key).min(count.saturating_sub(1))
-    }
-}
-
-/// The classes of frames by their backends, among so many.
-pub(crate) fn classes_of(
-    alloc: Global,
-    listed: &[u64],
-    count: usize,
-    keys: &[u64],
-) -> Result<Vec<usize>, AllocError>
-    ensures { IfOk result (λ classes. classes.items ≡ classes_of listed.now count keys.now) }
-{
-    keys.iter()
-        .map(|key| class_of(listed, count, *key))
         .collect(alloc)
 }
 

@@ -1,16 +1,12 @@
 -- The report of a replay beside its script: what became of each flow, and a page.
 use Rattle.std.specs.Prelude.{◌≡◌, ◌≢◌, ℕ, List, string_bytes}
-use Rattle.comparison.specs.Mistakes.{no_rows_text}
-use Rattle.comparison.specs.Rows.{IsUnread}
-use Rattle.comparison.specs.declared.fault.NoRows.{NoRows}
-use Rattle.comparison.specs.declared.fault.NoRows.TheVariants.{Memory}
 use Rattle.control.specs.declared.command.Command.{Command}
 use Rattle.flows.specs.FlowTexts.{AreFlows}
 use Rattle.flows.specs.Mistakes.{refusal_text}
 use Rattle.flows.specs.Reports.{AreFlowsRefused}
 use Rattle.flows.specs.declared.fault.NoFlows.{NoFlows}
 use Rattle.flows.specs.declared.fault.NoFlows.TheVariants as flows
-use Rattle.page.specs.Page.{IsPage}
+use Rattle.page.specs.Page.{IsWholePage}
 use Rattle.xlb_commands.specs.Files.{FileBytes}
 use Rattle.xlb_commands.specs.Printable.{in_one_line}
 use Rattle.xlb_commands.specs.Replays.{IsScriptFile}
@@ -43,18 +39,18 @@ pub record IsPageShown (files : FileBytes) (report script printed : List ℕ) : 
   pub commands : List Command
   pub read : files report bytes
   pub spelled : IsScriptFile files script commands
-  pub page : IsPage bytes commands printed
+  pub page : IsWholePage bytes commands printed
 
--- the second file is a script, the first one is no report, and the text says why
+-- the second file is a script, the first one is no report whose rows are records 1, 2, 3 and so on, and the text says why
 pub record IsNoPage (files : FileBytes) (report script text : List ℕ) : Type 0 where
   pub bytes : List ℕ
   pub commands : List Command
   pub read : files report bytes
   pub spelled : IsScriptFile files script commands
-  pub why : NoRows
-  pub unread : IsUnread bytes why
-  pub not_memory : why ≢ Memory
-  pub text_is : text ≡ no_rows_text why (in_one_line report)
+  pub why : NoFlows
+  pub unread : AreFlowsRefused bytes why
+  pub not_memory : why ≢ flows.Memory
+  pub text_is : text ≡ refusal_text why (in_one_line report)
 
 -- what the flows of a report's bytes come to
 abbrev pub AreFlowsAnswered : List ℕ → List ℕ → List Command → ReportAnswer → Type 0
@@ -69,9 +65,9 @@ AreFlowsOfFiles files report script (answers.NoReport text) = AreNoFlows files r
 
 -- what a page of a report's bytes comes to
 abbrev pub IsPageAnswered : List ℕ → List ℕ → List Command → ReportAnswer → Type 0
-IsPageAnswered name bytes commands (answers.Shown text notes) = IsPage bytes commands (string_bytes text)
+IsPageAnswered name bytes commands (answers.Shown text notes) = IsWholePage bytes commands (string_bytes text)
 IsPageAnswered name bytes commands (answers.NoReport text) =
-    (why : NoRows) × IsUnread bytes why × (why ≢ Memory) × (string_bytes text ≡ no_rows_text why (in_one_line name))
+    (why : NoFlows) × AreFlowsRefused bytes why × (why ≢ flows.Memory) × (string_bytes text ≡ refusal_text why (in_one_line name))
 
 -- and one of two files
 abbrev pub IsPageOfFiles : FileBytes → List ℕ → List ℕ → ReportAnswer → Type 0

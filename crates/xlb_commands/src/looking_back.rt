@@ -10,11 +10,10 @@ use crate::fault::{Fault, Refusal};
 use crate::files::bytes_of;
 use crate::printable::in_one_line;
 use crate::replays::script_file;
-use comparison::NoRows;
 use control::Script;
 use flows::{NoFlows, flows_in};
 use folders::Folder;
-use page::page;
+use page::whole_page;
 use std::alloc::Global;
 
 /// What a command over a report comes to.
@@ -59,9 +58,9 @@ fn page_shown(
     ensures answered { IfOk result (IsPageAnswered name.now report.now script.now) }
     ensures refused { IfErr result (λ refusal. refusal.fault ≡ Memory) }
 {
-    match page(alloc, report, script) {
+    match whole_page(alloc, report, script) {
         Ok(text) => Ok(ReportAnswer::Shown { text, notes: None }),
-        Err(NoRows::Memory) => Err(Refusal::from(Fault::Memory)),
+        Err(NoFlows::Memory) => Err(Refusal::from(Fault::Memory)),
         Err(none) => {
             let name = in_one_line(alloc, name)?;
             Ok(ReportAnswer::NoReport(none.text(alloc, name.as_str())?))

@@ -31,15 +31,15 @@ const EVICTED: &str = "\
     198.51.100.7,40000,203.0.113.1,80,udp,1.000002,2.000000,2,2,0,0,1,0 >evicted 1\n";
 
 /// What is said of the first of these.
-const ONE_DOWN: &str = "  1 flows with a sent frame, 1 of them moved
-  0 flows lost frames
+const ONE_DOWN: &str = "  1 flows with a sent frame, 1 of them moved, 0 of these TCP
+  0 flows had no backend for a frame, 0 lost a frame behind a sent one
   1 frames moved: 1 down, 0 evicted, 0 untracked, 0 readdressed, 0 unknown
   1 changes of udp 198.51.100.7:40000 to 203.0.113.1:80: 0 >down 1
 ";
 
 /// What is said of the second of these.
-const ONE_EVICTED: &str = "  1 flows with a sent frame, 1 of them moved
-  0 flows lost frames
+const ONE_EVICTED: &str = "  1 flows with a sent frame, 1 of them moved, 0 of these TCP
+  0 flows had no backend for a frame, 0 lost a frame behind a sent one
   1 frames moved: 0 down, 1 evicted, 0 untracked, 0 readdressed, 0 unknown
   1 changes of udp 198.51.100.7:40000 to 203.0.113.1:80: 0 >evicted 1
 ";
@@ -74,7 +74,7 @@ type Row = (
 );
 
 #[rattlefmt::skip]
-static ROWS: [Row; 9] = [
+static ROWS: [Row; 10] = [
     ("a backend that went down",       "flows", MOVED, MOVES, 0, DOWN, ONE_DOWN),
     ("a note that was gone",           "flows", MOVED, STAY,  0, EVICTED, ONE_EVICTED),
     ("flows of another file",          "flows", "a,b\n", STAY, 2, "", "error: report is no report of CSV: line 1\n"),
@@ -82,6 +82,7 @@ static ROWS: [Row; 9] = [
     ("a page of it",                   "page",  NO_MOMENT, STAY, 2, "", "error: report is no report of CSV: line 2, column moment\n"),
     ("flows of JSON lines",            "flows", "{}\n", STAY, 2, "", "error: report has JSON lines, and a report of CSV is needed\n"),
     ("flows of a report with a gap",   "flows", LEFT_OUT, STAY, 2, "", "error: report is not of all records of a replay: line 2\n"),
+    ("a page of a report with a gap",  "page",  LEFT_OUT, STAY, 2, "", "error: report is not of all records of a replay: line 2\n"),
     ("a page of another file",         "page",  "a,b\n", STAY, 2, "", "error: report is no report of CSV: line 1\n"),
     ("a page of JSON lines",           "page",  "{}\n", STAY, 2, "", "error: report has JSON lines, and a report of CSV is needed\n"),
 ];

@@ -27,6 +27,6 @@ rows-preserved c =
           (stories_in c.rows.list) c.row_at-row.ensures applied_is c.rows.invariant.stories;
       moves = c.in_ok-put_move.ensures
           ∙ moves_next (map (λ row. row.now) c.args.rows.now) c.args.commands.now (applied c.advance.new.self) c.rows.place c.row_at-row.result.now
-          (stories_in c.rows.list) c.row_at-row.ensures applied_is c.rows.invariant.stories _ _ _ c.address_of-from.ensures
-          c.in_ok-moved.ensures.moved c.rows.invariant.moves;
+          (stories_in c.rows.list) c.row_at-row.ensures applied_is c.rows.invariant.stories _ _ _ _ c.address_of-from.ensures
+          c.backend_of-backend.ensures c.in_ok-moved.ensures.moved c.rows.invariant.moves;
     }

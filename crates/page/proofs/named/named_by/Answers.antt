@@ -6,13 +6,13 @@ use Rattle.page.proofs.named.named_by.Goals as goal
 
 -- one command more
 next_named : (commands : List Command) (index : ℕ) (missing : Command) (named new : List ℕ) (key : ℕ) → index < length commands
-    → named ≡ named_by (take index commands) → key ≡ key_in ((get_or commands index missing).action) → new ≡ with_key named key
+    → named ≡ named_by (take index commands) → key ≡ key_in ((get_or commands index missing).action) → new ≡ with_key 8 named key
     → new ≡ named_by (take (index + 1) commands)
 next_named commands index missing named new key inside before is_key put =
     put
-    ∙ (ap (λ (it : ℕ). with_key named it) is_key
-    ∙ (ap (λ (it : List ℕ). with_key it (key_in ((get_or commands index missing).action))) before
-    ∙ sym (fold_more (λ so_far (it : Command). with_key so_far (key_in it.action)) [] commands index missing inside)))
+    ∙ (ap (λ (it : ℕ). with_key 8 named it) is_key
+    ∙ (ap (λ (it : List ℕ). with_key 8 it (key_in ((get_or commands index missing).action))) before
+    ∙ sym (fold_more (λ so_far (it : Command). with_key 8 so_far (key_in it.action)) [] commands index missing inside)))
 
 pub commands-preserved : goal.commands-preserved
 commands-preserved c =

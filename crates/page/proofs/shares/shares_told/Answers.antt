@@ -13,6 +13,6 @@ returns c = record {
       c.in_ok-start.ensures;
   last_is = c.in_ok-last.ensures;
   text_is = c.in_ok-text.ensures
-      ∙ (ap (λ (it : List ℕ). shares_text it c.deref-3.result.now) c.deref-2.ensures.value
-      ∙ ap (λ (it : List ℕ). shares_text c.in_ok-start.start.items it) c.deref-3.ensures.value);
+      ∙ (ap (λ (it : List ℕ). shares_text c.args.commands.now it c.deref-3.result.now) c.deref-2.ensures.value
+      ∙ ap (λ (it : List ℕ). shares_text c.args.commands.now c.in_ok-start.start.items it) c.deref-3.ensures.value);
 }

@@ -1,0 +1,4 @@
+-- The definitions that the contracts of this crate cite, in reading order.
+pub mod Remade
+pub mod Told
+pub mod ContentsText

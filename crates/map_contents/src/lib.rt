@@ -1,0 +1,8 @@
+//! What maps hold after legal journals: a line for each key that is there then.
+#![tactic(auto)]
+
+mod lines;
+mod making;
+mod told;
+
+pub use lines::contents_text;
