@@ -1,4 +1,8 @@
 -- Lemmas that other crates cite.
+pub mod EveryEntry
+pub mod DeedLemmas
+pub mod Callers
+pub mod RingSizes
 pub mod ShareLemmas
 pub mod AccountLemmas
 pub mod PutLemmas
@@ -6,6 +10,7 @@ pub mod RunLemmas
 pub mod HandLemmas
 pub mod DispatchLemmas
 pub mod TakingOut
+pub mod ShareOrder
 pub mod Moving
 pub mod FullStays
 pub mod SetLemmas

@@ -1,5 +1,5 @@
 -- What a replay accounts for: each record, and each entry of the journals.
-use Rattle.std.specs.Prelude.{◌≡◌, ◌<◌, ℕ, List, length, reverse, take}
+use Rattle.std.specs.Prelude.{◌≡◌, ◌<◌, ℕ, List, [], ◌∷◌, length, reverse, take}
 use Rattle.wire.specs.declared.records.Sent.{Sent}
 use Rattle.semantics.specs.declared.call.Caller.TheVariants.{Worker}
 use Rattle.semantics.specs.declared.options.Options.{Options}
@@ -14,9 +14,9 @@ use Rattle.shards.specs.Deeds.{deeds_of, made_on, AreMet, AreDeedsWithin, AreFir
 use Rattle.shards.specs.Passes.{PassView, own_at}
 use Rattle.shards.specs.SharedMaps.{ArePlans}
 use Rattle.actors.specs.declared.runner.Ran.{Ran}
-use Rattle.actors.specs.Accounts.{runs_at, counts_of, frames_in, sent_of, sent_frames, ends_of}
-use Rattle.actors.specs.RunsInOrder.{IsRunAt, HasHandled}
-use Rattle.actors.specs.Shares.{frames_of, share}
+use Rattle.actors.specs.Accounts.{runs_at, counts_of, frames_in, sent_of, ends_of}
+use Rattle.actors.specs.RunsInOrder.{IsRunAt, IsChainOfRuns, HasHandled}
+use Rattle.actors.specs.Shares.{frames_of, share, all_captured}
 use Rattle.control.specs.declared.command.Command.{Command}
 use Rattle.actors.specs.declared.outcome.Outcome.{Outcome}
 use Rattle.actors.specs.Parts.{IsScriptAccounted, AreRoundsAccounted, round_count, first_commands, first_deeds}
@@ -31,6 +31,30 @@ pub record IsWorkOf (IsRun : PassView → Ran → PassView → Type 0) (records 
   pub handled : HasHandled (IsNewPass worker) IsRun records runs after
   pub own : (number : ℕ) → number < count → own_at after number ≡ own_entries (Worker worker) (reverse (entries_at journals number))
   pub did : after.deeds ≡ deeds_of (ByCaller (Worker worker)) order
+
+-- a run among others: the pass as the runs before it left it, the run, and the pass as it left it
+pub record RunInPlace (IsRun : PassView → Ran → PassView → Type 0) : Type 0 where
+  pub before : PassView
+  pub ran : Ran
+  pub after : PassView
+  pub run : IsRun before ran after
+
+-- the runs of a chain, each in its place
+abbrev pub runs_in_chain : (IsRun : PassView → Ran → PassView → Type 0) (before : PassView) (runs : List Ran) (after : PassView)
+    → IsChainOfRuns IsRun before runs after → List (RunInPlace IsRun)
+runs_in_chain IsRun before [] after chain = []
+runs_in_chain IsRun before (ran ∷ later) after chain =
+    record { before = before; ran = ran; after = chain.0; run = chain.1 } ∷ runs_in_chain IsRun chain.0 later after chain.2
+
+-- the runs that a worker made
+abbrev pub runs_in_work : {IsRun : PassView → Ran → PassView → Type 0} {records : List ℕ} {worker : ℕ} {runs : List Ran} {count : ℕ}
+    {journals : JournalsView} {order : List Deed} → IsWorkOf IsRun records worker runs count journals order → List (RunInPlace IsRun)
+runs_in_work {IsRun} {records} {worker} {runs} {count} {journals} {order} work =
+    runs_in_chain IsRun work.handled.before runs work.after work.handled.chain
+
+-- a run that is accounted for, among those of its worker
+abbrev pub PlacedRun : (ℕ → ShardPlan) → ℕ → Program → ℕ → JournalsView → List Sent → Type 0
+PlacedRun plan count program worker journals records = RunInPlace (IsRunAt (IsRunIn plan count program worker journals) records)
 
 -- one order of all deeds on N shards, newest first: shard by shard it is the journal, and each look at a full journal met one
 pub record IsOrderOfJournals (plan : ℕ → ShardPlan) (count : ℕ) (journals : JournalsView) (order : List Deed) : Type 0 where
@@ -61,7 +85,7 @@ pub record IsAccounted (program : Program) (script : List Command) (options : Op
   pub counts : outcome.counts ≡ counts_of (frames_of records) options.workers runs (length records)
   pub each_once : frames_in outcome.counts ≡ length records
   -- what is sent, in the capture's order
-  pub sent : sent_frames outcome.sent.items ≡ sent_of (frames_of records) options.workers runs (length records)
+  pub sent : all_captured outcome.sent.items ≡ sent_of (frames_of records) options.workers runs (length records)
   -- what became of each record, in the capture's order
   pub ends : outcome.ends.items ≡ ends_of (frames_of records) options.workers runs (length records)
   -- the updates before the first record, the commands of the script, and those that were refused

@@ -1,18 +1,18 @@
 -- What became of each record, by the runs of the workers, and what is counted and sent of it.
 use Rattle.std.specs.Prelude.{◌≡◌, ℕ, zero, suc, ◌+◌, List, [], ◌∷◌, ◌++◌, length, map, Option, Some, None, Vec, slice_index}
 use Rattle.std.specs.Prelude.{slice_index_or, ◌<◌, ◌≤◌, if◌then◌else◌}
-use Rattle.wire.specs.declared.records.Sent.{Sent}
 use Rattle.semantics.specs.declared.verdict.Verdict.{Verdict}
 use Rattle.semantics.specs.declared.verdict.Verdict.TheVariants as verdicts
+use Rattle.semantics.specs.Replay.{Captured}
 use Rattle.actors.specs.declared.account.Counts.{Counts}
-use Rattle.actors.specs.declared.outcome.RecordEnd.{RecordEnd}
-use Rattle.actors.specs.declared.outcome.RecordEnd.TheVariants as ends
+use Rattle.actors.specs.declared.outcome.ToldEnd.{ToldEnd}
+use Rattle.actors.specs.declared.outcome.ToldEnd.TheVariants as ends
 use Rattle.actors.specs.declared.runner.FrameFate.{FrameFate}
 use Rattle.actors.specs.declared.runner.RunEnd.{RunEnd}
 use Rattle.actors.specs.declared.runner.RunEnd.TheVariants.{Stopped, Exited}
 use Rattle.actors.specs.declared.runner.FrameFate.TheVariants.{Aborted, Dropped, Passed, Sent as IsSent}
 use Rattle.actors.specs.declared.runner.Ran.{Ran}
-use Rattle.actors.specs.Shares.{frame_at, is_short, worker_of_frame, share}
+use Rattle.actors.specs.Shares.{captured_of, frame_at, is_short, worker_of_frame, share}
 use Rattle.actors.specs.RunJobs.{records_of}
 
 -- ---- what became of a record
@@ -60,24 +60,12 @@ counts_of frames workers runs (suc number) = counted (counts_of frames workers r
 
 -- ---- what is sent
 
--- a sent frame by what a capture has of it
-pub record SentFrame : Type 0 where
-  pub seconds : ℕ
-  pub micros : ℕ
-  pub bytes : List ℕ
-
-abbrev pub sent_frame : Sent → SentFrame
-sent_frame sent = record { seconds = sent.seconds; micros = sent.micros; bytes = sent.bytes.items }
-
-abbrev pub sent_frames : List Sent → List SentFrame
-sent_frames list = map sent_frame list
-
-abbrev pub sent_by : Option RunEnd → List SentFrame
-sent_by (Some (Exited steps (IsSent sent))) = sent_frame sent ∷ []
+abbrev pub sent_by : Option RunEnd → List Captured
+sent_by (Some (Exited steps (IsSent sent))) = captured_of sent ∷ []
 sent_by fate = []
 
 -- what is sent of the first N records, in the capture's order
-abbrev pub sent_of : List (List ℕ) → ℕ → List (List Ran) → ℕ → List SentFrame
+abbrev pub sent_of : List (List ℕ) → ℕ → List (List Ran) → ℕ → List Captured
 sent_of frames workers runs zero = []
 sent_of frames workers runs (suc number) = sent_of frames workers runs number ++ sent_by (fate_of frames workers runs number)
 
@@ -91,13 +79,13 @@ verdict_for Passed = verdicts.Pass
 verdict_for (IsSent sent) = verdicts.Tx
 
 -- a record of this worker: it is short, or how its run ended
-abbrev pub record_end : ℕ → Option RunEnd → RecordEnd
+abbrev pub record_end : ℕ → Option RunEnd → ToldEnd
 record_end worker None = ends.Short
 record_end worker (Some Stopped) = ends.Stopped worker
 record_end worker (Some (Exited steps fate)) = ends.Exited worker (verdict_for fate) steps
 
 -- of the first N records, in the capture's order
-abbrev pub ends_of : List (List ℕ) → ℕ → List (List Ran) → ℕ → List RecordEnd
+abbrev pub ends_of : List (List ℕ) → ℕ → List (List Ran) → ℕ → List ToldEnd
 ends_of frames workers runs zero = []
 ends_of frames workers runs (suc number) =
     ends_of frames workers runs number ++

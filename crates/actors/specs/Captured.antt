@@ -1,5 +1,5 @@
 -- What each record of a capture is.
-use Rattle.std.specs.Prelude.{ℕ, ◌≤◌, ◌<◌, ◌^◌, All, length}
+use Rattle.std.specs.Prelude.{◌≤◌, ◌<◌, ◌^◌, All, length}
 use Rattle.wire.specs.declared.records.Sent.{Sent}
 use Rattle.actors.specs.RunsOverShards.{time_of}
 

@@ -108,28 +108,32 @@ pub record IsFullInJournal (plan : ℕ → ShardPlan) (maps : List MapDef) (opti
       IsJournalFull (plan (shard_of maps options update)) (reverse (entries_at journals (shard_of maps options update)))
       (controller_update (shard_of maps options update) update)
 
--- Each command of the script was applied once, in the script's order, and did what it says in the state that the one before it left, for a
--- lookup table of a size that is served, the one that the maps have (without commands any served size does); the controller's entries in
--- each journal are the first updates to that shard, each answered 0, and behind them those of the commands, in order; where one met a full
--- journal, that journal is full for it at its end. In the one order of all deeds those of the controller are the first updates, then the
--- updates of all commands, in order over all shards, each with its answer, and behind those of a command that a full journal stopped the
--- look at that journal.
-pub record IsScriptAccounted (plan : ℕ → ShardPlan) (maps : List MapDef) (options : Options) (count : ℕ) (updates : List MapUpdate)
-    (script : List Command) (journals : JournalsView) (order : List Deed) (refused : List Applied) : Type 0 where
+-- Each command of the script was carried out once, in the script's order, from the state of the controller that the one before it left; those
+-- that were refused are these. The controller is for a lookup table of a size that is served, the one that the maps have (without commands any
+-- served size does).
+pub record AreOfScript (maps : List MapDef) (script : List Command) (refused : List Applied) (done : List CommandDone) : Type 0 where
   pub size : ℕ
   pub size_is_served : IsRingSize size
   pub serves : ServesScript maps size script
   pub noted : List Applied
   pub each_once : numbers_of noted ≡ numbers_from 0 (length script)
-  pub done : List CommandDone
   pub are_noted : AreNotedOf script noted done
   pub state : ControllerState
   pub are_done : AreDone (opened_controller size) done state
+  pub refused_are : refused ≡ refused_of noted
+
+-- The commands that were carried out are the script's; the controller's entries in each journal are the first updates to that shard, each
+-- answered 0, and behind them those of the commands, in order; where one met a full journal, that journal is full for it at its end. In the
+-- one order of all deeds those of the controller are the first updates, then the updates of all commands, in order over all shards, each with
+-- its answer, and behind those of a command that a full journal stopped the look at that journal.
+pub record IsScriptAccounted (plan : ℕ → ShardPlan) (maps : List MapDef) (options : Options) (count : ℕ) (updates : List MapUpdate)
+    (script : List Command) (journals : JournalsView) (order : List Deed) (refused : List Applied) : Type 0 where
+  pub done : List CommandDone
+  pub of_script : AreOfScript maps script refused done
   pub own : (number : ℕ) → number < count →
       own_entries Controller (reverse (entries_at journals number)) ≡ with_updates maps options number (all_set updates ++ made_in done) []
   pub full : AllByRecursion (λ (one : CommandDone). IfSome one.stopped (IsFullInJournal plan maps options count journals)) done
   pub did : deeds_of (ByCaller Controller) order ≡ reverse (made_deeds maps options (all_set updates) ++ commands_deeds maps options done)
-  pub refused_are : refused ≡ refused_of noted
 
 -- the rounds of a replay: one after every 64 records, and one behind all that the others do
 abbrev pub round_count : ℕ → ℕ

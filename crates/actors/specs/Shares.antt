@@ -2,8 +2,16 @@
 use Rattle.std.specs.Prelude.{ℕ, zero, suc, ◌+◌, ◌%◌, ◌==◌, Bool, not, ◌&&◌, ◌||◌, nat_lt, List, [], ◌∷◌, ◌++◌, length, slice_index}
 use Rattle.std.specs.Prelude.{slice_index_or, bit_and, map, if◌then◌else◌}
 use Rattle.wire.specs.declared.records.Sent.{Sent}
+use Rattle.semantics.specs.Replay.{Captured}
 use Rattle.wire.specs.FlowForm.{be_word_at, flow_bytes_of}
 use Rattle.wire.specs.Fnv.{fnv1a64_of}
+
+-- a record of a capture, or a frame that is sent, in the model's words
+abbrev pub captured_of : Sent → Captured
+captured_of sent = record { seconds = sent.seconds; micros = sent.micros; bytes = sent.bytes.items }
+
+abbrev pub all_captured : List Sent → List Captured
+all_captured list = map captured_of list
 
 -- the bytes of each record
 abbrev pub frames_of : List Sent → List (List ℕ)

@@ -1,13 +1,13 @@
 //! What became of the records, counted and gathered in the capture's order.
 
 ghost use Rattle.std.specs.Prelude.{◌≡◌, ◌<◌, ◌≤◌, ◌+◌, ◌++◌, ℕ, Some, length, IfOk, OnOk, ◌^◌};
-ghost use Rattle.actors.specs.Shares.{frames_of, frame_at, worker_of_frame};
+ghost use Rattle.actors.specs.Shares.{frames_of, frame_at, worker_of_frame, all_captured};
 ghost use Rattle.actors.specs.RunJobs.{records_of};
 ghost use Rattle.actors.specs.Accounts.{lists_of, end_at, fate_of, counts_of, frames_in, sent_of, sent_by, AreFatesFrom};
-ghost use Rattle.actors.specs.Accounts.{sent_frames, AreRunsOfShares, AreNext, no_counts, counted, verdict_for, record_end, ends_of};
+ghost use Rattle.actors.specs.Accounts.{AreRunsOfShares, AreNext, no_counts, counted, verdict_for, record_end, ends_of};
 
 use crate::dispatch::{is_short, worker_of};
-use crate::outcome::RecordEnd;
+use crate::outcome::ToldEnd;
 use crate::runner::{FrameFate, Ran, RunEnd};
 use semantics::Verdict;
 use std::alloc::{AllocError, Global};
@@ -17,7 +17,7 @@ use wire::{Capture, Sent};
 /// Puts a frame behind those that are sent, if it is sent.
 #[inline(always)]
 pub fn send(all: &mut Vec<Sent>, fate: Option<RunEnd>) -> Result<(), AllocError>
-    ensures { OnOk result (sent_frames all.new.items ≡ sent_frames all.old.items ++ sent_by fate) }
+    ensures { OnOk result (all_captured all.new.items ≡ all_captured all.old.items ++ sent_by fate) }
 {
     match fate {
         Some(
@@ -64,13 +64,13 @@ fn verdict_for(fate: &FrameFate) -> Verdict
 }
 
 /// The report on a record of this worker: that it is short, or how its run ended.
-pub fn record_end(worker: u8, fate: &Option<RunEnd>) -> RecordEnd
+pub fn record_end(worker: u8, fate: &Option<RunEnd>) -> ToldEnd
     ensures { result ≡ record_end worker fate.now }
 {
     match fate {
-        None => RecordEnd::Short,
-        Some(RunEnd::Stopped) => RecordEnd::Stopped { worker },
-        Some(RunEnd::Exited { steps, frame }) => RecordEnd::Exited {
+        None => ToldEnd::Short,
+        Some(RunEnd::Stopped) => ToldEnd::Stopped { worker },
+        Some(RunEnd::Exited { steps, frame }) => ToldEnd::Exited {
             worker,
             verdict: verdict_for(frame),
             steps: *steps,
@@ -119,7 +119,7 @@ pub fn account(
     alloc: Global,
     capture: &Capture,
     mut runs: Vec<Vec<Ran>>,
-) -> Result<(Counts, Vec<Sent>, Vec<RecordEnd>), AllocError>
+) -> Result<(Counts, Vec<Sent>, Vec<ToldEnd>), AllocError>
     requires workers { (0 < length runs.items) × (length runs.items ≤ 8) }
     requires runs { AreRunsOfShares (frames_of capture.now.records.items) (length runs.items) (length capture.now.records.items)
         (lists_of runs.items) }
@@ -127,7 +127,7 @@ pub fn account(
         runs.items)
         (length capture.now.records.items)) }
     ensures frames { IfOk result (λ account. frames_in account.0 ≡ length capture.now.records.items) }
-    ensures sent { IfOk result (λ account. sent_frames account.1.items ≡ sent_of (frames_of capture.now.records.items) (length
+    ensures sent { IfOk result (λ account. all_captured account.1.items ≡ sent_of (frames_of capture.now.records.items) (length
         runs.items) (lists_of runs.items)
         (length capture.now.records.items)) }
     ensures ends { IfOk result (λ account. account.2.items ≡ ends_of (frames_of capture.now.records.items) (length runs.items) (lists_of

@@ -43,7 +43,7 @@ pub use actor::{Actor, ActorEnded};
 pub use controller::{Commanded, Commander};
 pub use dispatch::ROUND_EVERY;
 pub use fault::ReplayFault;
-pub use outcome::{Applied, Outcome, PieceOutcome, RecordEnd};
+pub use outcome::{Applied, Outcome, PieceOutcome, ToldEnd};
 pub use reclaimer::Reclaiming;
 pub use records::all_are_captured;
 pub use runner::{FrameFate, Ran, RunEnd, Runner};

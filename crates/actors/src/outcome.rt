@@ -18,7 +18,7 @@ pub struct Outcome {
     /// The frames that were sent, in the capture's order, each with the moment of its record.
     pub sent: Vec<Sent>,
     /// What became of each record, in the capture's order.
-    pub ends: Vec<RecordEnd>,
+    pub ends: Vec<ToldEnd>,
     /// Of each shard, all that was called.
     pub journals: Journals,
 }
@@ -29,12 +29,12 @@ pub struct PieceOutcome {
     /// The frames that were sent, in the capture's order, each with the moment of its record.
     pub sent: Vec<Sent>,
     /// What became of each record, in the capture's order.
-    pub ends: Vec<RecordEnd>,
+    pub ends: Vec<ToldEnd>,
 }
 
 /// What became of a record of the capture.
 #[derive(Clone, Copy, Debug, PartialEq, Eq)]
-pub enum RecordEnd {
+pub enum ToldEnd {
     /// It has fewer than 14 bytes, and was not run.
     Short,
     /// The worker of its flow began a run, which a full journal stopped.

@@ -9,7 +9,7 @@ use Rattle.semantics.specs.ShardPlan.{plan_at}
 use Rattle.semantics.specs.History.{IsLegalStep, IsLegalHistory, IsLegalJournal}
 use Rattle.journals.specs.JournalsView.{JournalsView, entries_at}
 use Rattle.shard_core.specs.JournaledShard.{JournaledShard, shard_with_entry}
-use Rattle.audit.specs.declared.held_cells.HeldSoFar.{HeldSoFar}
+use Rattle.audit.specs.declared.held_cells.HeldCells.{HeldCells}
 use Rattle.audit.specs.HeldCells.{AreHeld}
 use Rattle.journals.specs.LegalJournals.{IsLegalShard, AreLegal}
 use Rattle.audit.specs.Audited.{IsFirstIllegal, IsFirstIllegalShard}
@@ -99,11 +99,11 @@ first_fault journals number place plan entries exists before is same illegal = (
 -- ---- held cells
 
 -- the shard's history is that of the journal's beginning
-pub held_of : (plan : ShardPlan) (xs : List Entry) (i : ℕ) (shard : JournaledShard) (held : HeldSoFar) → shard ≡ record { plan = plan; journal = take i xs } → AreHeld held (reverse (take i xs)) → AreHeld held (reverse shard.journal)
+pub held_of : (plan : ShardPlan) (xs : List Entry) (i : ℕ) (shard : JournaledShard) (held : HeldCells) → shard ≡ record { plan = plan; journal = take i xs } → AreHeld held (reverse (take i xs)) → AreHeld held (reverse shard.journal)
 held_of plan xs i shard held is are = subst (λ (s : JournaledShard). AreHeld held (reverse s.journal)) (sym is) are
 
 -- one entry more was noted
-pub held_more : (xs : List Entry) (i : ℕ) (entry : Entry) (held : HeldSoFar) → i < length xs → slice_get xs i ≡ Some entry → (i + 1 ≡ length (reverse (take i xs)) + 1 → AreHeld held (entry ∷ reverse (take i xs))) → AreHeld held (reverse (take (i + 1) xs))
+pub held_more : (xs : List Entry) (i : ℕ) (entry : Entry) (held : HeldCells) → i < length xs → slice_get xs i ≡ Some entry → (i + 1 ≡ length (reverse (take i xs)) + 1 → AreHeld held (entry ∷ reverse (take i xs))) → AreHeld held (reverse (take (i + 1) xs))
 held_more xs i entry held within is noted =
     let same : reverse (take (i + 1) xs) ≡ entry ∷ reverse (take i xs) = ap reverse (take_one xs i entry is) ∙ reverse-append (take i xs) (entry ∷ []) in
     let counted : length (reverse (take i xs)) ≡ i = length-reverse (take i xs) ∙ length-take-le i xs (omega (arith, within)) in

@@ -12,7 +12,7 @@ ghost use Rattle.audit.specs.Audited.{IsFirstIllegal, ExplainsJournals};
 ghost use Rattle.audit.specs.HeldCells.{AreHeld};
 
 use crate::fault::AuditFault;
-use crate::held_cells::HeldSoFar;
+use crate::held_cells::HeldCells;
 use crate::plans::plan_at;
 use crate::standings::may_call;
 use journals::{Journals, ShardJournal};
@@ -22,7 +22,7 @@ use std::alloc::{AllocError, Global};
 
 /// Makes the entry's call on the shard, if its caller may make it and the journal has room for it, and says whether the reply is the
 /// entry's.
-fn is_made_again(shard: &mut Shard, held: &HeldSoFar, entry: &Entry) -> bool
+fn is_made_again(shard: &mut Shard, held: &HeldCells, entry: &Entry) -> bool
     requires { AreHeld held.now (reverse shard.old.journal) }
     ensures legal { IsLegalJournal shard.old.plan shard.old.journal }
     ensures made { result ≡ true → shard.new ≡ shard_with_entry shard.old entry.now }
@@ -48,7 +48,7 @@ fn first_illegal(
     ensures { IfOk result (λ found. MatchOption found (IsLegalJournal plan journal.now) (λ place. IsFirstIllegal plan journal.now place)) }
 {
     let mut shard = Shard::open(alloc, plan)?;
-    let mut held = HeldSoFar::new(alloc)?;
+    let mut held = HeldCells::new(alloc)?;
     'places: for place in 0..journal.len() {
         let entry = journal.entry(place);
         if !is_made_again(&mut shard, &held, &entry) {

@@ -1,28 +1,29 @@
-//! Which cells each worker holds, by places in the journal, so that nothing has to be read twice.
+//! Which cells each worker holds while a journal is audited. Each entry is looked at once: kept are the serial of a worker's newest Enter or Leave, and by
+//! cell that of its newest Lookup that found it; it holds the cell if the Lookup is newer.
 
 ghost use Rattle.std.specs.Prelude.{◌≡◌, ◌+◌, ◌<◌, ◌==◌, ℕ, List, [], ◌∷◌, IfOk, OnOk, length, cond};
 ghost use Rattle.semantics.specs.declared.call.Entry.{Entry as Told};
 ghost use Rattle.semantics.specs.Reclamation.{holds};
-ghost use Rattle.audit.specs.HeldCells.{place_found, is_found_since, since_after, found_after, Tells, AreHeld};
+ghost use Rattle.audit.specs.HeldCells.{serial_found, is_found_since, since_after, found_after, Tells, AreHeld};
 
 use semantics::{Caller, Entry, HeldChange, MOST_WORKERS};
 use std::alloc::{AllocError, Global};
 
-/// What a worker's own entries so far say of the cells that it holds. Places are counted from 1; 0 is none.
+/// What a worker's own entries so far say of the cells that it holds. A serial is an entry's place counted from 1; 0 is none.
 #[derive(Drop)]
-pub(crate) struct Findings {
-    /// The place of its newest Enter or Leave.
+pub(crate) struct WorkerCells {
+    /// The serial of its newest Enter or Leave.
     since: u64,
-    /// Of each cell, by its id, the place of its newest Lookup that found the cell.
+    /// Of each cell, by its id, the serial of its newest Lookup that found the cell.
     found: Vec<u64>,
 }
 
-impl Findings {
-    /// Nothing was found. It takes no memory.
-    fn new(alloc: Global) -> Findings
+impl WorkerCells {
+    /// No cell is held. Allocates nothing.
+    fn new(alloc: Global) -> WorkerCells
         ensures { (worker : ℕ) → Tells worker [] result }
     {
-        Findings {
+        WorkerCells {
             since: 0,
             found: Vec::new(alloc),
         }
@@ -33,15 +34,15 @@ impl Findings {
         ensures { result ≡ is_found_since self.now cell }
     {
         match self.found.get(cell as usize) {
-            Some(place) => self.since < *place,
+            Some(serial) => self.since < *serial,
             None => false,
         }
     }
 
-    /// Makes room for a cell's place.
+    /// Makes room for a cell's serial.
     fn extend_to(&mut self, cell: usize) -> Result<(), AllocError>
         ensures since { self.new.since ≡ self.old.since }
-        ensures same { OnOk result ((other : ℕ) → place_found self.new other ≡ place_found self.old other) }
+        ensures same { OnOk result ((other : ℕ) → serial_found self.new other ≡ serial_found self.old other) }
         ensures reached { OnOk result (cell < length self.new.found.items) }
     {
         'places: while self.found.len() <= cell {
@@ -50,28 +51,28 @@ impl Findings {
         Ok(())
     }
 
-    /// A Lookup at this place found the cell.
-    fn put(&mut self, cell: u64, place: u64) -> Result<(), AllocError>
+    /// Records that the Lookup with this serial found the cell.
+    fn put(&mut self, cell: u64, serial: u64) -> Result<(), AllocError>
         ensures since { self.new.since ≡ self.old.since }
-        ensures found { OnOk result ((other : ℕ) → place_found self.new other ≡ cond (cell == other) place (place_found self.old other)) }
+        ensures found { OnOk result ((other : ℕ) → serial_found self.new other ≡ cond (cell == other) serial (serial_found self.old other)) }
     {
         let at = cell as usize;
         self.extend_to(at)?;
-        self.found[at] = place;
+        self.found[at] = serial;
         Ok(())
     }
 
-    /// The worker's entry at this place makes this of the cells that it holds.
-    fn note(&mut self, change: HeldChange, place: u64) -> Result<(), AllocError>
-        ensures since { OnOk result (self.new.since ≡ since_after change place self.old.since) }
-        ensures found { OnOk result ((cell : ℕ) → place_found self.new cell ≡ found_after change place cell (place_found self.old cell)) }
+    /// Applies the effect of the worker's entry with this serial.
+    fn note(&mut self, change: HeldChange, serial: u64) -> Result<(), AllocError>
+        ensures since { OnOk result (self.new.since ≡ since_after change serial self.old.since) }
+        ensures found { OnOk result ((cell : ℕ) → serial_found self.new cell ≡ found_after change serial cell (serial_found self.old cell)) }
     {
         match change {
             HeldChange::LetsGo => {
-                self.since = place;
+                self.since = serial;
                 Ok(())
             }
-            HeldChange::Finds { id } => self.put(id, place),
+            HeldChange::Finds { id } => self.put(id, serial),
             HeldChange::Stays => Ok(()),
         }
     }
@@ -79,21 +80,21 @@ impl Findings {
 
 /// Which cells each worker holds after the entries that were noted.
 #[derive(Drop)]
-pub(crate) struct HeldSoFar {
+pub(crate) struct HeldCells {
     /// Of each worker, by its number.
-    workers: Vec<Findings>,
+    workers: Vec<WorkerCells>,
 }
 
-impl HeldSoFar {
+impl HeldCells {
     /// Nothing was noted.
-    pub(crate) fn new(alloc: Global) -> Result<HeldSoFar, AllocError>
+    pub(crate) fn new(alloc: Global) -> Result<HeldCells, AllocError>
         ensures { IfOk result (λ held. AreHeld held []) }
     {
         let mut workers = Vec::new(alloc);
         'numbers: for _ in 0..MOST_WORKERS {
-            workers.push(Findings::new(alloc))?;
+            workers.push(WorkerCells::new(alloc))?;
         }
-        Ok(HeldSoFar { workers })
+        Ok(HeldCells { workers })
     }
 
     /// Whether the worker holds the cell.
@@ -102,19 +103,19 @@ impl HeldSoFar {
         ensures { (history : List Told) → AreHeld self.now history → result ≡ holds worker cell history }
     {
         match self.workers.get(usize::from(worker)) {
-            Some(findings) => findings.has(cell),
+            Some(cells) => cells.has(cell),
             None => false,
         }
     }
 
-    /// The entry is at this place, counted from 1, after those that were noted.
-    pub(crate) fn note(&mut self, entry: &Entry, place: u64) -> Result<(), AllocError>
-        ensures { (history : List Told) → AreHeld self.old history → place ≡ length history + 1 →
+    /// Records an entry; its serial is one more than that of the one before.
+    pub(crate) fn note(&mut self, entry: &Entry, serial: u64) -> Result<(), AllocError>
+        ensures { (history : List Told) → AreHeld self.old history → serial ≡ length history + 1 →
             OnOk result (AreHeld self.new (entry.now ∷ history)) }
     {
         match &entry.who {
             Caller::Worker { number } => match self.workers.get_mut(usize::from(*number)) {
-                Some(findings) => findings.note(HeldChange::of(&entry.call, &entry.reply), place),
+                Some(cells) => cells.note(HeldChange::of(&entry.call, &entry.reply), serial),
                 None => Ok(()),
             },
             Caller::Controller => Ok(()),

@@ -4,7 +4,7 @@ ghost use Rattle.std.specs.Prelude.{◌≡◌, reverse};
 ghost use Rattle.semantics.specs.History.{meets};
 ghost use Rattle.audit.specs.HeldCells.{AreHeld};
 
-use crate::held_cells::HeldSoFar;
+use crate::held_cells::HeldCells;
 use map_rules::sections::{Sections, meets};
 use semantics::{Call, Caller, ShardPlan};
 use shard_core::Shard;
@@ -14,7 +14,7 @@ use std::marker::Model;
 #[derive(Drop)]
 struct Noted<'a> {
     shard: &'a Shard,
-    held: &'a HeldSoFar,
+    held: &'a HeldCells,
 }
 
 impl<'a> Model for Noted<'a> {
@@ -50,7 +50,7 @@ impl<'a> Sections for Noted<'a> {
 }
 
 /// Whether the caller may make this call on this shard now.
-pub(crate) fn may_call(shard: &Shard, held: &HeldSoFar, who: &Caller, call: &Call) -> bool
+pub(crate) fn may_call(shard: &Shard, held: &HeldCells, who: &Caller, call: &Call) -> bool
     requires { AreHeld held.now (reverse shard.now.journal) }
     ensures { result ≡ meets shard.now.plan (reverse shard.now.journal) who.now call.now }
 {

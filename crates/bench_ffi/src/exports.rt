@@ -1,6 +1,6 @@
 //! What C calls. A result is 0, or the number of the fault that stopped the call.
 
-use crate::accept::{accept, decoded};
+use crate::accept::{decode_image, verify_image};
 use crate::running::{prepare_once, run_once};
 use std::alloc::Global;
 
@@ -20,9 +20,9 @@ pub struct LastRun {
 #[unsafe(no_mangle)]
 pub extern "C" fn bench_ffi_decode(alloc: Global, image: &[u8], count: u32) -> u8 {
     for _ in 0..count {
-        match decoded(alloc, image) {
+        match decode_image(alloc, image) {
             Ok(_) => {}
-            Err(fault) => return fault,
+            Err(refusal) => return refusal.number(),
         }
     }
     0
@@ -32,9 +32,9 @@ pub extern "C" fn bench_ffi_decode(alloc: Global, image: &[u8], count: u32) -> u
 #[unsafe(no_mangle)]
 pub extern "C" fn bench_ffi_verify(alloc: Global, image: &[u8], count: u32) -> u8 {
     for _ in 0..count {
-        match accept(alloc, image) {
+        match verify_image(alloc, image) {
             Ok(_) => {}
-            Err(fault) => return fault,
+            Err(refusal) => return refusal.number(),
         }
     }
     0
@@ -51,9 +51,9 @@ pub extern "C" fn bench_ffi_run(
     journal: u32,
     outcome: &mut LastRun,
 ) -> u8 {
-    let verified = match accept(alloc, image) {
+    let verified = match verify_image(alloc, image) {
         Ok(verified) => verified,
-        Err(fault) => return fault,
+        Err(refusal) => return refusal.number(),
     };
     for _ in 0..runs {
         match run_once(alloc, &verified, frame, journal) {
@@ -78,9 +78,9 @@ pub extern "C" fn bench_ffi_prepare(
     journal: u32,
     outcome: &mut LastRun,
 ) -> u8 {
-    let verified = match accept(alloc, image) {
+    let verified = match verify_image(alloc, image) {
         Ok(verified) => verified,
-        Err(fault) => return fault,
+        Err(refusal) => return refusal.number(),
     };
     for _ in 0..runs {
         match prepare_once(alloc, &verified, frame, journal) {

@@ -96,9 +96,7 @@ fn timed(rt: &HostRuntime, verified: &Verified, row: &FrameRow) -> Result<(u128,
     let alloc = rt.alloc();
     let mut shards = PlainShards::open(alloc, verified.image(), options())?;
     opened_serve();
-    if !put_session(verified.image(), &mut shards, row)? {
-        return Ok((u128::MAX, 0));
-    }
+    put_session(verified.image(), &mut shards, row)?;
     let start = Instant::now(rt)?;
     let sent = run_all(alloc, verified, &mut shards, row)?;
     let time = start.elapsed(rt)?.as_nanos();

@@ -3,6 +3,7 @@
 ghost use Rattle.std.specs.Prelude.{◌≡◌, ◌<◌, ℕ, List, None, length};
 ghost use Rattle.lru_maps.specs.LruTable.{cell_of_lru_key};
 
+use crate::scattered::scattered;
 use anyhow::Error;
 use lru_maps::LruShard;
 use plain_maps::HashShard;
@@ -50,7 +51,7 @@ fn colliding_key(number: u64, kind: u64) -> KeyBytes {
 fn keys(alloc: Global, count: u32, kind: u64, chosen: bool) -> Result<Vec<KeyBytes>, AllocError> {
     let mut keys = Vec::new(alloc);
     for i in 0..count {
-        let number = u64::from(i.wrapping_mul(40503) & count.wrapping_sub(1));
+        let number = u64::from(scattered(i, count));
         keys.push(if chosen {
             colliding_key(number, kind)
         } else {

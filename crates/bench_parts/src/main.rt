@@ -1,5 +1,4 @@
-//! Measures single parts of xlb for `bench/run`: `bench_parts PART` prints the rows of a part. Without the name of a part it prints
-//! nothing.
+//! Measures single parts of xlb for `bench/run`: `bench_parts PART` prints the rows of a part. Fails at a word that names none.
 #![tactic(auto)]
 
 mod audit_times;
@@ -7,14 +6,15 @@ mod command_times;
 mod frame_times;
 mod job_times;
 mod key_times;
+mod scattered;
 mod shard_times;
 mod thread_times;
 
-use anyhow::Error;
+use anyhow::{Error, bail};
 use std::env;
 
 fn main(rt: HostRuntime) -> Result<(), Error> {
-    for word in env::args(&rt)? {
+    for word in env::args(&rt)?.skip(1) {
         match word.as_str() {
             "audit" => audit_times::measure_all(&rt)?,
             "control" => command_times::measure_all(&rt)?,
@@ -23,7 +23,7 @@ fn main(rt: HostRuntime) -> Result<(), Error> {
             "shards" => shard_times::measure_all(&rt)?,
             "steer" => frame_times::measure_all(&rt)?,
             "threads" => thread_times::measure_all(&rt, rt.alloc())?,
-            _ => (),
+            word => bail!("no part {word}"),
         }
     }
     Ok(())

@@ -4,6 +4,7 @@ ghost use Rattle.std.specs.Prelude.{◌≡◌, ◌≤◌, [], IfOk, IfSome, OnOk
 ghost use Rattle.semantics.specs.PlanLimits.{IsPlan};
 ghost use Rattle.bench_parts.specs.AtWork.{bench_plan, IsAtWork, HoldsThere};
 
+use crate::scattered::scattered;
 use anyhow::Error;
 use ebpf_decode::{MapDef, MapKind};
 use isa::AtomicOp;
@@ -43,7 +44,7 @@ fn plan(kind: MapKind, count: u32) -> ShardPlan
     }
 }
 
-/// Enters.
+/// The worker enters the shard, in which nothing has happened.
 fn enter(shard: &mut Shard) -> Result<(), JournalFull>
     requires planned { shard.old.plan ≡ bench_plan shard.old.plan.definition.kind shard.old.plan.definition.max_entries }
     requires opened { shard.old.journal ≡ [] }
@@ -150,7 +151,7 @@ fn pass(shard: &mut Shard, count: u32, adds: bool) -> Result<u64, JournalFull>
 {
     let mut sum = 0u64;
     'keys: for number in 0..count {
-        let key = number.wrapping_mul(40503) & count.wrapping_sub(1);
+        let key = scattered(number, count);
         let loaded = if adds {
             look_add_and_load(shard, key)?
         } else {

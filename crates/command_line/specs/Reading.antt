@@ -117,6 +117,7 @@ abbrev pub AreRunFiles : List Row → RunFiles → Type 0
 AreRunFiles rows files = (files.image.now ≡ argument_word (codes "IMAGE") rows)
     × (files.frame.now ≡ argument_word (codes "FRAME") rows)
     × (text_of files.journals ≡ first_of (codes "journals") rows)
+    × (text_of files.maps ≡ first_of (codes "maps") rows)
 
 -- the words of an option that may be given any number of times, those of all uses
 abbrev pub words_of : Text → List Row → List Text
@@ -151,6 +152,7 @@ AreReplayFiles rows files = (files.capture.now ≡ argument_word (codes "CAPTURE
     × (text_of files.script ≡ first_of (codes "script") rows)
     × (text_of files.journals ≡ first_of (codes "journals") rows)
     × (text_of files.report ≡ first_of (codes "report") rows)
+    × (text_of files.maps ≡ first_of (codes "maps") rows)
 
 -- and so are its options
 abbrev pub AreReplayOptions : List Row → Options → Type 0
@@ -293,9 +295,10 @@ IsReadFrom name rows (Shipped out ring flows) = is_named name (codes "shipped")
 IsReadFrom name rows (Table script ring) = is_named name (codes "table")
     × (script.now ≡ argument_word (codes "SCRIPT") rows)
     × IsNumberOf 32 (codes "ring") rows ring
-IsReadFrom name rows (Script capture timed) = is_named name (codes "script")
+IsReadFrom name rows (Script capture timed reading) = is_named name (codes "script")
     × (capture.now ≡ argument_word (codes "CAPTURE") rows)
     × (timed.now ≡ argument_word (codes "TIMED") rows)
+    × IsReadingOf rows reading
 IsReadFrom name rows (Compare first second) = is_named name (codes "compare")
     × (first.now ≡ argument_word (codes "FIRST") rows)
     × (second.now ≡ argument_word (codes "SECOND") rows)

@@ -64,6 +64,7 @@ pub enum Settings<'a> {
     Script {
         capture: &'a str,
         timed: &'a str,
+        reading: Reading,
     },
     /// Compares the reports of two replays.
     Compare {
@@ -131,6 +132,8 @@ pub struct RunFiles<'a> {
     pub frame: &'a str,
     /// Where the journals are written to.
     pub journals: Option<&'a str>,
+    /// Where what the maps hold at the end is written to.
+    pub maps: Option<&'a str>,
 }
 
 /// The files of a replay.
@@ -148,4 +151,6 @@ pub struct ReplayFiles<'a> {
     pub journals: Option<&'a str>,
     /// Where a line for each record is written to.
     pub report: Option<&'a str>,
+    /// Where what the maps hold at the end is written to.
+    pub maps: Option<&'a str>,
 }

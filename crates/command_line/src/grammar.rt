@@ -127,6 +127,9 @@ pub const UPDATE: &str = "update";
 /// The file of journals that a run or a replay writes.
 pub const JOURNALS_OUT: &str = "journals";
 
+/// The file of what the maps hold after a run or a replay, which it writes.
+pub const MAPS_OUT: &str = "maps";
+
 const ABOUT: &str =
     "Replays captures through eBPF programs; checks, runs, audits, prints and assembles them";
 
@@ -222,6 +225,14 @@ fn number<'a>(alloc: Global, id: &'a str, most: u64, default: &'a str, help: &'a
         .help(help)
 }
 
+/// A number of 32 bits that may be given.
+fn count<'a>(alloc: Global, id: &'a str, default: &'a str, help: &'a str) -> Arg<'a>
+    ensures rule { rule_of result ≡ line.count_rule id.entry.now default.entry.now }
+    ensures local { result.global ≡ false }
+{
+    number(alloc, id, u32::MAX as u64, default, help)
+}
+
 /// A switch, which is off where it is not given.
 fn switch<'a>(alloc: Global, id: &'a str, help: &'a str) -> Arg<'a>
     ensures rule { rule_of result ≡ line.switch_rule id.entry.now }
@@ -252,39 +263,41 @@ fn check<'a>(alloc: Global) -> Result<Command<'a>, AllocError>
         .arg(explain)
 }
 
-/// The words of a run that name files and updates.
-fn run_named<'a>(alloc: Global) -> Result<Command<'a>, AllocError>
-    ensures app { IfOk result (λ command. app_of command ≡ line.run_named) }
+/// The command with the file of what the maps hold at the end.
+fn with_maps<'a>(alloc: Global, command: Command<'a>) -> Result<Command<'a>, AllocError>
+    requires local { (out-Command command).has_globals ≡ false }
+    ensures app { IfOk result (λ added. app_of added ≡ line.with_maps (app_of command.entry)) }
+    ensures local { IfOk result (λ added. (out-Command added).has_globals ≡ false) }
+{
+    let maps = option(alloc, MAPS_OUT, "The file to write the maps' entries to");
+    command.arg(maps)
+}
+
+/// The words of a run that name files.
+fn run_files<'a>(alloc: Global) -> Result<Command<'a>, AllocError>
+    ensures app { IfOk result (λ command. app_of command ≡ line.run_files) }
     ensures local { IfOk result (λ command. (out-Command command).has_globals ≡ false) }
 {
-    let image = file(alloc, IMAGE, "The image's file");
-    let frame = file(
+    let files = two_files(
         alloc,
-        FRAME,
-        "The file of the frame's bytes, 14 to 2048 of them",
-    );
+        "run",
+        "Runs an image on one frame",
+        after_run(),
+        (IMAGE, "The image's file"),
+        (FRAME, "The file of the frame's bytes, 14 to 2048 of them"),
+    )?;
     let journals = option(alloc, JOURNALS_OUT, "The file to write the journals to");
-    let updates = update(alloc, "Sets a value before the run");
-    command(alloc, "run", "Runs an image on one frame", after_run())
-        .arg(image)?
-        .arg(frame)?
-        .arg(journals)?
-        .arg(updates)
+    with_maps(alloc, files.arg(journals)?)
 }
 
 fn run<'a>(alloc: Global) -> Result<Command<'a>, AllocError>
     ensures app { IfOk result (λ command. app_of command ≡ line.run_command) }
     ensures local { IfOk result (λ command. (out-Command command).has_globals ≡ false) }
 {
+    let updates = update(alloc, "Sets a value before the run");
     let now = number(alloc, NOW, u64::MAX, "0", "The time in nanoseconds");
-    let worker = number(
-        alloc,
-        WORKER,
-        u32::MAX as u64,
-        "0",
-        "The worker's number, 0 to 7",
-    );
-    run_named(alloc)?.arg(now)?.arg(worker)
+    let worker = count(alloc, WORKER, "0", "The worker's number, 0 to 7");
+    run_files(alloc)?.arg(updates)?.arg(now)?.arg(worker)
 }
 
 fn disasm<'a>(alloc: Global) -> Result<Command<'a>, AllocError>
@@ -350,17 +363,9 @@ fn explain<'a>(alloc: Global) -> Result<Command<'a>, AllocError>
     command(alloc, "explain", "Explains a fault", after_explain()).arg(fault)
 }
 
-/// A number of 32 bits that may be given.
-fn count<'a>(alloc: Global, id: &'a str, default: &'a str, help: &'a str) -> Arg<'a>
-    ensures rule { rule_of result ≡ line.count_rule id.entry.now default.entry.now }
-    ensures local { result.global ≡ false }
-{
-    number(alloc, id, u32::MAX as u64, default, help)
-}
-
 /// The size of the shipped program's ring.
 fn ring<'a>(alloc: Global) -> Arg<'a>
-    ensures rule { rule_of result ≡ line.count_rule (codes "ring") (codes "251") }
+    ensures rule { rule_of result ≡ line.ring_rule }
     ensures local { result.global ≡ false }
 {
     count(
@@ -373,7 +378,7 @@ fn ring<'a>(alloc: Global) -> Arg<'a>
 
 /// The size of the shipped program's flow table.
 fn flow_notes<'a>(alloc: Global) -> Arg<'a>
-    ensures rule { rule_of result ≡ line.count_rule (codes "flows") (codes "4096") }
+    ensures rule { rule_of result ≡ line.flows_rule }
     ensures local { result.global ≡ false }
 {
     count(
@@ -415,26 +420,11 @@ fn table<'a>(alloc: Global) -> Result<Command<'a>, AllocError>
     .arg(ring(alloc))
 }
 
-/// The words of a replay that name a capture and the file of what is sent. Its other words are added in steps, two to four in each: a new one
-/// goes into the step of its kind, and into the definition of the same name in specs/CommandLine.
-fn replay_named<'a>(alloc: Global) -> Result<Command<'a>, AllocError>
-    ensures app { IfOk result (λ command. app_of command ≡ line.replay_named) }
-    ensures local { IfOk result (λ command. (out-Command command).has_globals ≡ false) }
-{
-    two_files(
-        alloc,
-        "replay",
-        "Runs the frames of a capture by some workers",
-        after_replay(),
-        (CAPTURE, "The capture's file, in the pcap format"),
-        (SENT, "The file to write the sent frames to"),
-    )
-}
-
-/// The words of a replay up to its files that need not be named.
-fn replay_files<'a>(alloc: Global) -> Result<Command<'a>, AllocError>
-    ensures app { IfOk result (λ command. app_of command ≡ line.replay_files) }
-    ensures local { IfOk result (λ command. (out-Command command).has_globals ≡ false) }
+/// The command with the words of a replay that name the other files that it reads.
+fn with_inputs<'a>(alloc: Global, command: Command<'a>) -> Result<Command<'a>, AllocError>
+    requires local { (out-Command command).has_globals ≡ false }
+    ensures app { IfOk result (λ added. app_of added ≡ line.with_inputs (app_of command.entry)) }
+    ensures local { IfOk result (λ added. (out-Command added).has_globals ≡ false) }
 {
     let image = option(
         alloc,
@@ -447,36 +437,44 @@ fn replay_files<'a>(alloc: Global) -> Result<Command<'a>, AllocError>
         "The image's file, over the maps of steering; not with --image",
     );
     let script = option(alloc, SCRIPT, "The controller's script; not with --image");
-    let journals = option(alloc, JOURNALS_OUT, "The file to write the journals to");
-    replay_named(alloc)?
-        .arg(image)?
-        .arg(program)?
-        .arg(script)?
-        .arg(journals)
+    command.arg(image)?.arg(program)?.arg(script)
 }
 
-/// The same with the file of a line for each record, and with updates.
-fn replay_reported<'a>(alloc: Global) -> Result<Command<'a>, AllocError>
-    ensures app { IfOk result (λ command. app_of command ≡ line.replay_reported) }
-    ensures local { IfOk result (λ command. (out-Command command).has_globals ≡ false) }
+/// The command with the words of a replay that name the other files that it writes.
+fn with_outputs<'a>(alloc: Global, command: Command<'a>) -> Result<Command<'a>, AllocError>
+    requires local { (out-Command command).has_globals ≡ false }
+    ensures app { IfOk result (λ added. app_of added ≡ line.with_outputs (app_of command.entry)) }
+    ensures local { IfOk result (λ added. (out-Command added).has_globals ≡ false) }
 {
+    let journals = option(alloc, JOURNALS_OUT, "The file to write the journals to");
     let report = option(
         alloc,
         REPORT,
         "The file to write a line for each record to; JSON if named .json or .jsonl",
     );
+    with_maps(alloc, command.arg(journals)?.arg(report)?)
+}
+
+/// The command with the words of a replay that name its other files.
+fn with_files<'a>(alloc: Global, command: Command<'a>) -> Result<Command<'a>, AllocError>
+    requires local { (out-Command command).has_globals ≡ false }
+    ensures app { IfOk result (λ added. app_of added ≡ line.with_files (app_of command.entry)) }
+    ensures local { IfOk result (λ added. (out-Command added).has_globals ≡ false) }
+{
+    let inputs = with_inputs(alloc, command)?;
+    with_outputs(alloc, inputs)
+}
+
+/// The command with the words that set values, and say how the shards are opened.
+fn with_shards<'a>(alloc: Global, command: Command<'a>) -> Result<Command<'a>, AllocError>
+    requires local { (out-Command command).has_globals ≡ false }
+    ensures app { IfOk result (λ added. app_of added ≡ line.with_shards (app_of command.entry)) }
+    ensures local { IfOk result (λ added. (out-Command added).has_globals ≡ false) }
+{
     let updates = update(
         alloc,
         "Sets a value before the first frame; with --image only",
     );
-    replay_files(alloc)?.arg(report)?.arg(updates)
-}
-
-/// The same with the numbers by which its shards are opened.
-fn replay_opened<'a>(alloc: Global) -> Result<Command<'a>, AllocError>
-    ensures app { IfOk result (λ command. app_of command ≡ line.replay_opened) }
-    ensures local { IfOk result (λ command. (out-Command command).has_globals ≡ false) }
-{
     let workers = count(alloc, WORKERS, "1", "How many workers, 1 to 8");
     let shards = count(
         alloc,
@@ -490,26 +488,27 @@ fn replay_opened<'a>(alloc: Global) -> Result<Command<'a>, AllocError>
         "65536",
         "How many calls each shard may have, 16 to 1048576",
     );
-    replay_reported(alloc)?
+    command
+        .arg(updates)?
         .arg(workers)?
         .arg(shards)?
         .arg(journal)
 }
 
-/// The same with the sizes of the lookup table and the flow table.
-fn replay_sized<'a>(alloc: Global) -> Result<Command<'a>, AllocError>
-    ensures app { IfOk result (λ command. app_of command ≡ line.replay_sized) }
-    ensures local { IfOk result (λ command. (out-Command command).has_globals ≡ false) }
+/// The command with the sizes of the lookup table and of the flow table.
+fn with_tables<'a>(alloc: Global, command: Command<'a>) -> Result<Command<'a>, AllocError>
+    requires local { (out-Command command).has_globals ≡ false }
+    ensures app { IfOk result (λ added. app_of added ≡ line.with_tables (app_of command.entry)) }
+    ensures local { IfOk result (λ added. (out-Command added).has_globals ≡ false) }
 {
-    replay_opened(alloc)?
-        .arg(ring(alloc))?
-        .arg(flow_notes(alloc))
+    command.arg(ring(alloc))?.arg(flow_notes(alloc))
 }
 
-/// The same with the moments of commands and the summary.
-fn replay_noted<'a>(alloc: Global) -> Result<Command<'a>, AllocError>
-    ensures app { IfOk result (λ command. app_of command ≡ line.replay_noted) }
-    ensures local { IfOk result (λ command. (out-Command command).has_globals ≡ false) }
+/// The command with the switches for exact moments and for a summary.
+fn with_moments<'a>(alloc: Global, command: Command<'a>) -> Result<Command<'a>, AllocError>
+    requires local { (out-Command command).has_globals ≡ false }
+    ensures app { IfOk result (λ added. app_of added ≡ line.with_moments (app_of command.entry)) }
+    ensures local { IfOk result (λ added. (out-Command added).has_globals ≡ false) }
 {
     let exact = switch(
         alloc,
@@ -521,19 +520,15 @@ fn replay_noted<'a>(alloc: Global) -> Result<Command<'a>, AllocError>
         SUMMARY,
         "Prints the kinds of frames and where frames were sent, on the standard error",
     );
-    replay_sized(alloc)?.arg(exact)?.arg(summary)
+    command.arg(exact)?.arg(summary)
 }
 
-/// The same with how the capture's records are read.
-fn replay_read<'a>(alloc: Global) -> Result<Command<'a>, AllocError>
-    ensures app { IfOk result (λ command. app_of command ≡ line.replay_read) }
-    ensures local { IfOk result (λ command. (out-Command command).has_globals ≡ false) }
+/// The command with the switches that say how what is cut is read.
+fn with_cuts<'a>(alloc: Global, command: Command<'a>) -> Result<Command<'a>, AllocError>
+    requires local { (out-Command command).has_globals ≡ false }
+    ensures app { IfOk result (λ added. app_of added ≡ line.with_cuts (app_of command.entry)) }
+    ensures local { IfOk result (λ added. (out-Command added).has_globals ≡ false) }
 {
-    let skip_long = switch(
-        alloc,
-        SKIP_LONG,
-        "Skips records of more than 2048 bytes in place of refusing the capture",
-    );
     let pad_cut = switch(
         alloc,
         PAD_CUT,
@@ -544,29 +539,38 @@ fn replay_read<'a>(alloc: Global) -> Result<Command<'a>, AllocError>
         ALLOW_CUT,
         "Reads a capture that ends within a record up to there",
     );
-    replay_noted(alloc)?
-        .arg(skip_long)?
-        .arg(pad_cut)?
-        .arg(allow_cut)
+    command.arg(pad_cut)?.arg(allow_cut)
 }
 
-/// The same with which part of the records is replayed, and which part is lost.
-fn replay_parted<'a>(alloc: Global) -> Result<Command<'a>, AllocError>
-    ensures app { IfOk result (λ command. app_of command ≡ line.replay_parted) }
-    ensures local { IfOk result (λ command. (out-Command command).has_globals ≡ false) }
+/// The command with the switches that say how the records of a capture are read.
+fn with_reading<'a>(alloc: Global, command: Command<'a>) -> Result<Command<'a>, AllocError>
+    requires local { (out-Command command).has_globals ≡ false }
+    ensures app { IfOk result (λ added. app_of added ≡ line.with_reading (app_of command.entry)) }
+    ensures local { IfOk result (λ added. (out-Command added).has_globals ≡ false) }
 {
-    replay_read(alloc)?.arg(part(alloc))?.arg(lost(alloc))
-}
-
-fn replay<'a>(alloc: Global) -> Result<Command<'a>, AllocError>
-    ensures app { IfOk result (λ command. app_of command ≡ line.replay_command) }
-    ensures local { IfOk result (λ command. (out-Command command).has_globals ≡ false) }
-{
-    let no_journals = switch(
+    let skip_long = switch(
         alloc,
-        NO_JOURNALS,
-        "Keeps no rows of journals, so that each shard may have 134217728 calls",
+        SKIP_LONG,
+        "Skips records of more than 2048 bytes in place of refusing the capture",
     );
+    with_cuts(alloc, command.arg(skip_long)?)
+}
+
+/// The command with the words that say which part of the records is replayed, and which part is lost.
+fn with_parts<'a>(alloc: Global, command: Command<'a>) -> Result<Command<'a>, AllocError>
+    requires local { (out-Command command).has_globals ≡ false }
+    ensures app { IfOk result (λ added. app_of added ≡ line.with_parts (app_of command.entry)) }
+    ensures local { IfOk result (λ added. (out-Command added).has_globals ≡ false) }
+{
+    command.arg(part(alloc))?.arg(lost(alloc))
+}
+
+/// The command with the switches that refuse omissions, and keep files that are there.
+fn with_cares<'a>(alloc: Global, command: Command<'a>) -> Result<Command<'a>, AllocError>
+    requires local { (out-Command command).has_globals ≡ false }
+    ensures app { IfOk result (λ added. app_of added ≡ line.with_cares (app_of command.entry)) }
+    ensures local { IfOk result (λ added. (out-Command added).has_globals ≡ false) }
+{
     let strict = switch(
         alloc,
         STRICT,
@@ -577,24 +581,58 @@ fn replay<'a>(alloc: Global) -> Result<Command<'a>, AllocError>
         NO_CLOBBER,
         "Refuses to write a file that is there already",
     );
-    replay_parted(alloc)?
-        .arg(no_journals)?
-        .arg(strict)?
-        .arg(no_clobber)
+    command.arg(strict)?.arg(no_clobber)
+}
+
+/// The command with the switch that leaves out journals, and these.
+fn with_limits<'a>(alloc: Global, command: Command<'a>) -> Result<Command<'a>, AllocError>
+    requires local { (out-Command command).has_globals ≡ false }
+    ensures app { IfOk result (λ added. app_of added ≡ line.with_limits (app_of command.entry)) }
+    ensures local { IfOk result (λ added. (out-Command added).has_globals ≡ false) }
+{
+    let no_journals = switch(
+        alloc,
+        NO_JOURNALS,
+        "Keeps no rows of journals, so that each shard may have 134217728 calls",
+    );
+    with_cares(alloc, command.arg(no_journals)?)
+}
+
+/// A new word of a replay goes into the function of its kind, and into the definition of that name in specs/CommandLine.
+fn replay<'a>(alloc: Global) -> Result<Command<'a>, AllocError>
+    ensures app { IfOk result (λ command. app_of command ≡ line.replay_command) }
+    ensures local { IfOk result (λ command. (out-Command command).has_globals ≡ false) }
+{
+    let named = two_files(
+        alloc,
+        "replay",
+        "Runs the frames of a capture by some workers",
+        after_replay(),
+        (CAPTURE, "The capture's file, in the pcap format"),
+        (SENT, "The file to write the sent frames to"),
+    )?;
+    let files = with_files(alloc, named)?;
+    let shards = with_shards(alloc, files)?;
+    let tables = with_tables(alloc, shards)?;
+    let moments = with_moments(alloc, tables)?;
+    let reading = with_reading(alloc, moments)?;
+    let parts = with_parts(alloc, reading)?;
+    with_limits(alloc, parts)
 }
 
 fn script<'a>(alloc: Global) -> Result<Command<'a>, AllocError>
     ensures app { IfOk result (λ command. app_of command ≡ line.script_command) }
     ensures local { IfOk result (λ command. (out-Command command).has_globals ≡ false) }
 {
-    two_files(
+    let files = two_files(
         alloc,
         "script",
         "Prints the script that a timed script means for a capture",
         after_script(),
         (CAPTURE, "The capture's file, in the pcap format"),
         (TIMED, "The file of the timed script"),
-    )
+    )?;
+    with_reading(alloc, files)
 }
 
 fn compare<'a>(alloc: Global) -> Result<Command<'a>, AllocError>

@@ -35,7 +35,9 @@ which may be given any number of times, the controller sets a key of a map to a
 value before the run: MAP is the map's place in the image, from 0, KEY and VALUE
 are bytes in hexadecimal, as many as the map's keys and values have. With
 --journals the calls that the controller and the run made on each map are
-written to the file, with their replies, if the run came to its end."
+written to the file, with their replies, if the run came to its end; with --maps
+what the maps hold then: for each key a line with the map's place, the key and
+its value, in hexadecimal."
 }
 
 pub fn after_disasm<'a>() -> &'a str {
@@ -132,6 +134,9 @@ as CSV, or as a JSON object if the file's name ends in .json or .jsonl, in upper
 or lower case. The case is that of the steering rule, and empty with --image and
 --program; backend and address are where the frame was sent; the last five are
 its flow.
+With --maps what the maps hold at the end is written to the file: for each key a
+line with the map's place in the image, from 0, the key and its value, in
+hexadecimal.
 A capture with a record of more than 2048 bytes is refused; with --skip-long
 such records are skipped, and a line on the standard error gives their number.
 With --pad-cut a record that was cut when it was captured has zeros up to the
@@ -159,7 +164,8 @@ first word of each is a moment in place of the number of a record:
   +180s                  from the moment of the first record
 It becomes the number of records before the first one that is not earlier. Blank
 lines, and what follows a #, are no part of it. A moment behind the last record
-is named on the standard error."
+is named on the standard error. With --skip-long, --pad-cut and --allow-cut the
+records are those of a replay with these options."
 }
 
 pub fn after_compare<'a>() -> &'a str {

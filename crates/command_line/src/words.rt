@@ -1,7 +1,7 @@
 //! The command line, read.
 
-ghost use Rattle.std.specs.Prelude.{◌&&◌, ℕ, ◌≡◌, ◌≢◌, ◌⊎◌, true, MatchOption, ◌<◌, ◌+◌, ◌*◌, ◌/◌, List, [], None, Some};
-ghost use Rattle.std.specs.Prelude.{IfOk, IfErr, IfSome, IsFalse, length, map, codes};
+ghost use Rattle.std.specs.Prelude.{◌&&◌, ℕ, ◌≡◌, ◌≢◌, ◌⊎◌, true, ◌<◌, ◌+◌, ◌*◌, ◌/◌, List, [], None, Some};
+ghost use Rattle.std.specs.Prelude.{IfOk, IfErr, IfSome, IsFalse, MatchOption, length, map, codes};
 ghost use Rattle.std.specs.Str.{bytes_eq};
 ghost use Rattle.faults.specs.Explanations.{is_fault};
 ghost use Rattle.faults.specs.FaultTable.{IsRowOf};
@@ -22,9 +22,9 @@ use crate::commands::{
 };
 use crate::grammar::{
     ALLOW_CUT, CAPTURE, EXACT, EXPLAIN, FAULT, FIRST, FLOWS, FRAME, IMAGE, JOURNAL, JOURNALS,
-    JOURNALS_OUT, LOST, NO_CLOBBER, NO_JOURNALS, NOW, OUT, PAD_CUT, PART, PROGRAM, REPLAY_IMAGE,
-    REPORT, RING, SCRIPT, SECOND, SENT, SHARDS, SKIP_LONG, SOURCE, STRICT, SUMMARY, TABLE_SCRIPT,
-    TEXT, TIMED, UPDATE, WORKER, WORKERS, WRITTEN_REPORT, program,
+    JOURNALS_OUT, LOST, MAPS_OUT, NO_CLOBBER, NO_JOURNALS, NOW, OUT, PAD_CUT, PART, PROGRAM,
+    REPLAY_IMAGE, REPORT, RING, SCRIPT, SECOND, SENT, SHARDS, SKIP_LONG, SOURCE, STRICT, SUMMARY,
+    TABLE_SCRIPT, TEXT, TIMED, UPDATE, WORKER, WORKERS, WRITTEN_REPORT, program,
 };
 use crate::part_word::{part_losing, part_said};
 use clap::{ArgMatches, Error};
@@ -515,6 +515,7 @@ fn script_of<'a>(found: &ArgMatches<'a>) -> Settings<'a>
     Settings::Script {
         capture: word(found, CAPTURE),
         timed: word(found, TIMED),
+        reading: reading_of(found),
     }
 }
 
@@ -560,6 +561,7 @@ fn replay_files_of<'a>(found: &ArgMatches<'a>) -> ReplayFiles<'a>
         script: option(found, SCRIPT),
         journals: option(found, JOURNALS_OUT),
         report: option(found, REPORT),
+        maps: option(found, MAPS_OUT),
     }
 }
 
@@ -717,6 +719,7 @@ fn run_files_of<'a>(found: &ArgMatches<'a>) -> RunFiles<'a>
         image: word(found, IMAGE),
         frame: word(found, FRAME),
         journals: option(found, JOURNALS_OUT),
+        maps: option(found, MAPS_OUT),
     }
 }
 

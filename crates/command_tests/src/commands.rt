@@ -12,6 +12,7 @@ mod clashes;
 mod comparisons;
 mod cut_captures;
 mod devices;
+mod end_maps;
 mod explained;
 mod failing_devices;
 mod failing_pieces;

@@ -2,11 +2,15 @@
 use Rattle.std.specs.Prelude.{◌≡◌, ℕ, zero, suc, ◌<◌, ◌≤◌, ◌++◌, ◌∷◌, ◌&&◌, ◌||◌, ◌==◌, ◌⊎◌, not, Bool, true, false, List, [], codes, if◌then◌else◌}
 use Rattle.std.specs.Prelude.{length}
 use Rattle.std.specs.Str.{bytes_eq}
-use Rattle.comparison.specs.Rows.{field, row_at}
+use Rattle.comparison.specs.Columns.{number_column, moment_column, verdict_column, case_column, backend_column, address_column, source_column}
+use Rattle.comparison.specs.Rows.{field, fields_from, row_at}
 
--- the rows are of one record: they have its number and its moment
+-- the rows are of one record: they have its number, its moment and its flow
 abbrev pub is_same_record : List ℕ → List ℕ → Bool
-is_same_record first second = bytes_eq (field 0 first) (field 0 second) && bytes_eq (field 1 first) (field 1 second)
+is_same_record first second =
+    bytes_eq (field number_column first) (field number_column second)
+    && (bytes_eq (field moment_column first) (field moment_column second)
+    && bytes_eq (fields_from source_column first) (fields_from source_column second))
 
 -- the first N rows are of the same records
 abbrev pub AreSameRecords : List (List ℕ) → List (List ℕ) → ℕ → Type 0
@@ -26,8 +30,8 @@ is_same_case first second = length first == 0 || (length second == 0 || bytes_eq
 -- the records are treated differently: with another verdict, by another case, or sent to another backend or address
 abbrev pub is_changed : List ℕ → List ℕ → Bool
 is_changed first second =
-    not (bytes_eq (field 3 first) (field 3 second) && is_same_case (field 5 first) (field 5 second)
-    && (bytes_eq (field 6 first) (field 6 second) && bytes_eq (field 7 first) (field 7 second)))
+    not (bytes_eq (field verdict_column first) (field verdict_column second) && is_same_case (field case_column first) (field case_column second)
+    && (bytes_eq (field backend_column first) (field backend_column second) && bytes_eq (field address_column first) (field address_column second)))
 
 abbrev pub is_changed_at : List (List ℕ) → List (List ℕ) → ℕ → Bool
 is_changed_at first second place = is_changed (row_at first place) (row_at second place)
@@ -47,7 +51,7 @@ spaced (byte ∷ more) = codes " " ++ (byte ∷ more)
 
 -- how a record is treated: its verdict, case, backend and address
 abbrev pub treatment : List ℕ → List ℕ
-treatment row = field 3 row ++ (spaced (field 5 row) ++ (spaced (field 6 row) ++ spaced (field 7 row)))
+treatment row = field verdict_column row ++ (spaced (field case_column row) ++ (spaced (field backend_column row) ++ spaced (field address_column row)))
 
 -- from which treatment to which
 abbrev pub change_text : List ℕ → List ℕ → List ℕ

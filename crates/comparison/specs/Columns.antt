@@ -4,6 +4,51 @@ use Rattle.std.specs.Prelude.{ℕ, ◌==◌, ◌&&◌, ◌||◌, not, nat_le, Bo
 use Rattle.std.specs.Char.{is_ascii_digit, is_ascii_lowercase, is_ascii_uppercase}
 use Rattle.std.specs.List.{after_first, before_first}
 
+-- ---- the columns of a report, counted from 0
+
+abbrev pub number_column : ℕ
+number_column = 0
+
+abbrev pub moment_column : ℕ
+moment_column = 1
+
+abbrev pub worker_column : ℕ
+worker_column = 2
+
+abbrev pub verdict_column : ℕ
+verdict_column = 3
+
+abbrev pub steps_column : ℕ
+steps_column = 4
+
+abbrev pub case_column : ℕ
+case_column = 5
+
+abbrev pub backend_column : ℕ
+backend_column = 6
+
+abbrev pub address_column : ℕ
+address_column = 7
+
+abbrev pub source_column : ℕ
+source_column = 8
+
+abbrev pub source_port_column : ℕ
+source_port_column = 9
+
+abbrev pub destination_column : ℕ
+destination_column = 10
+
+abbrev pub destination_port_column : ℕ
+destination_port_column = 11
+
+abbrev pub protocol_column : ℕ
+protocol_column = 12
+
+-- so many there are
+abbrev pub column_count : ℕ
+column_count = 13
+
 -- ---- what a field may be
 
 -- so many bytes at most, and one at least
@@ -32,9 +77,9 @@ is_moment text = is_number (before_point text) && (length (after_point text) == 
 abbrev pub is_verdict : List ℕ → Bool
 is_verdict text = is_short 32 text && count_by (λ b. not (is_ascii_uppercase b)) text == 0
 
--- a word of small letters and dashes, or nothing
+-- a word of small letters, digits and dashes, or nothing
 abbrev pub is_word_letter : ℕ → Bool
-is_word_letter byte = is_ascii_lowercase byte || byte == 45
+is_word_letter byte = is_ascii_lowercase byte || (is_ascii_digit byte || byte == 45)
 
 abbrev pub is_known_word : List ℕ → Bool
 is_known_word text = length text == 0 || (is_short 32 text && count_by (λ b. not (is_word_letter b)) text == 0)
@@ -50,19 +95,22 @@ is_known_address text =
 
 -- ---- columns
 
--- the field in this column, counted from 0, is what the column says: number, moment, worker, verdict, steps, case, backend, address, source,
--- its port, destination, its port, protocol; what may be unknown may be nothing
+-- the field in this column is what the column says; what may be unknown may be nothing
 abbrev pub is_field : ℕ → List ℕ → Bool
 is_field column text =
-    if column == 0 then is_number text else (if column == 1 then is_moment text else (if column == 3 then is_verdict text else
-    (if column == 5 || column == 12 then is_known_word text else
-    (if column == 7 || (column == 8 || column == 10) then is_known_address text else is_known_number text))))
+    if column == number_column then is_number text else (if column == moment_column then is_moment text else
+    (if column == verdict_column then is_verdict text else
+    (if column == case_column || column == protocol_column then is_known_word text else
+    (if column == address_column || (column == source_column || column == destination_column) then is_known_address text
+    else is_known_number text))))
 
 -- the names of columns
 abbrev pub column_name : ℕ → List ℕ
 column_name column =
-    if column == 0 then codes "number" else (if column == 1 then codes "moment" else (if column == 2 then codes "worker" else
-    (if column == 3 then codes "verdict" else (if column == 4 then codes "steps" else (if column == 5 then codes "case" else
-    (if column == 6 then codes "backend" else (if column == 7 then codes "address" else (if column == 8 then codes "source" else
-    (if column == 9 then codes "source_port" else (if column == 10 then codes "destination" else
-    (if column == 11 then codes "destination_port" else codes "protocol")))))))))))
+    if column == number_column then codes "number" else (if column == moment_column then codes "moment" else
+    (if column == worker_column then codes "worker" else (if column == verdict_column then codes "verdict" else
+    (if column == steps_column then codes "steps" else (if column == case_column then codes "case" else
+    (if column == backend_column then codes "backend" else (if column == address_column then codes "address" else
+    (if column == source_column then codes "source" else (if column == source_port_column then codes "source_port" else
+    (if column == destination_column then codes "destination" else (if column == destination_port_column then codes "destination_port" else
+    codes "protocol")))))))))))

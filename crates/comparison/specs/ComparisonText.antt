@@ -1,6 +1,8 @@
 -- The text of a comparison, for people.
 use Rattle.std.specs.Prelude.{ℕ, ◌-◌, ◌==◌, ◌++◌, List, [], String, codes, decimal, if◌then◌else◌, string_bytes, length, take}
 use Rattle.std.specs.List.{flat_map}
+use Rattle.comparison.specs.Columns.{number_column, moment_column, source_column, source_port_column, destination_column}
+use Rattle.comparison.specs.Columns.{destination_port_column, protocol_column}
 use Rattle.comparison.specs.Rows.{field, row_at}
 use Rattle.comparison.specs.Changes.{change_at}
 
@@ -27,7 +29,9 @@ flow_pieces protocol source source_port destination destination_port =
 -- the flow of a record: protocol, source and port, destination and port
 abbrev pub flow_phrase : List ℕ → List ℕ
 flow_phrase row =
-    if length (field 8 row) == 0 then codes "no flow" else flow_pieces (field 12 row) (field 8 row) (field 9 row) (field 10 row) (field 11 row)
+    if length (field source_column row) == 0 then codes "no flow" else
+    flow_pieces (field protocol_column row) (field source_column row) (field source_port_column row) (field destination_column row)
+    (field destination_port_column row)
 
 abbrev pub record_pieces : List ℕ → List ℕ → List ℕ → List ℕ → List ℕ
 record_pieces number moment flow change =
@@ -36,7 +40,7 @@ record_pieces number moment flow change =
 -- a record that is treated differently
 abbrev pub record_text : List (List ℕ) → List (List ℕ) → ℕ → List ℕ
 record_text first second place =
-    record_pieces (field 0 (row_at first place)) (field 1 (row_at first place)) (flow_phrase (row_at first place))
+    record_pieces (field number_column (row_at first place)) (field moment_column (row_at first place)) (flow_phrase (row_at first place))
     (change_at first second place)
 
 abbrev pub records_text : List (List ℕ) → List (List ℕ) → List ℕ → List ℕ

@@ -1,9 +1,10 @@
 -- The rows of a report of CSV (RFC 4180): a head, and a line for each record, with its fields between commas.
 use Rattle.std.specs.Prelude.{◌≡◌, ◌≢◌, ℕ, zero, suc, ◌+◌, ◌-◌, ◌<◌, ◌≤◌, ◌==◌, ◌++◌, ◌⊎◌, ◌∷◌, ◌&&◌, Bool, true, false, List, [], codes, count_by}
-use Rattle.std.specs.Prelude.{if◌then◌else◌, length, slice_index_or, take}
+use Rattle.std.specs.Prelude.{if◌then◌else◌, length, option_map, slice_index_or, take, unwrap_or}
 use Rattle.std.specs.List.{after_first, before_first, slice_split}
+use Rattle.std.specs.Path.{rfind_below}
 use Rattle.text_lines.specs.NoText.{IsNoText}
-use Rattle.comparison.specs.Columns.{is_field}
+use Rattle.comparison.specs.Columns.{column_count, is_field}
 use Rattle.comparison.specs.declared.fault.NoRows.{NoRows}
 use Rattle.comparison.specs.declared.fault.NoRows.TheVariants.{JsonLines, Memory, NoReport, WrongField}
 
@@ -30,9 +31,9 @@ last_line lines = slice_index_or lines (length lines - 1) []
 
 -- ---- fields
 
--- a line has thirteen fields: twelve commas are between them
+-- a line has as many fields as there are columns, with commas between them
 abbrev pub has_fields : List ℕ → Bool
-has_fields line = count_by (λ b. b == 44) line == 12
+has_fields line = count_by (λ b. b == 44) line == column_count - 1
 
 -- what is before the first comma, or all; and what comes after it
 abbrev pub first_field : List ℕ → List ℕ
@@ -46,6 +47,19 @@ abbrev pub fields_from : ℕ → List ℕ → List ℕ
 fields_from zero line = line
 fields_from (suc place) line = later_fields (fields_from place line)
 
+-- what is before the last comma, or nothing
+abbrev pub earlier_fields : List ℕ → List ℕ
+earlier_fields line = unwrap_or (option_map (λ end. take end line) (rfind_below 44 line (length line))) []
+
+-- a row without its last N fields
+abbrev pub without_last : ℕ → List ℕ → List ℕ
+without_last zero line = line
+without_last (suc count) line = earlier_fields (without_last count line)
+
+-- the fields of a row from the first one of these columns to the second one, which is among them
+abbrev pub fields_between : ℕ → ℕ → List ℕ → List ℕ
+fields_between first last row = fields_from first (without_last (column_count - 1 - last) row)
+
 abbrev pub field : ℕ → List ℕ → List ℕ
 field place line = first_field (fields_from place line)
 
@@ -58,9 +72,9 @@ unfoldable pub right_fields : List ℕ → ℕ → ℕ
 right_fields line zero = 0
 right_fields line (suc place) = with_field (right_fields line place) place (field place line)
 
--- a line has the thirteen fields of a record
+-- a line has the fields of a record
 abbrev pub is_row : List ℕ → Bool
-is_row line = has_fields line && right_fields line 13 == 13
+is_row line = has_fields line && right_fields line column_count == column_count
 
 -- ---- reports
 
@@ -86,9 +100,9 @@ pub record IsRowCount (lines : List (List ℕ)) (count : ℕ) : Type 0 where
   pub are_rows : AreRows lines count
   pub next : (count ≡ length lines) ⊎ (is_row (row_at lines count) ≡ false)
 
--- why a line, counted from 1, is no row: it has not thirteen fields, or this one is not what its column says, the first such
+-- why a line, counted from 1, is no row: it has another number of fields, or this one is not what its column says, the first such
 abbrev pub why_no_row : List ℕ → ℕ → NoRows
-why_no_row row line = if has_fields row then WrongField line (right_fields row 13) else NoReport line
+why_no_row row line = if has_fields row then WrongField line (right_fields row column_count) else NoReport line
 
 -- The bytes are no report, and why, with the first line that shows it, counted from 1: they are no text from there on; they do not begin with
 -- the head; or the line is no row, or lacks its line feed.

@@ -4,6 +4,7 @@ ghost use Rattle.std.specs.Prelude.{◌≡◌, ◌++◌, IfOk, OnOk, length, map
 ghost use Rattle.comparison.specs.Changes.{IsSharedCount, change_at, change_text, changed_until, is_changed, is_changed_at, is_same_case};
 ghost use Rattle.comparison.specs.Changes.{is_same_record, spaced, treatment};
 
+use crate::columns;
 use crate::rows::{field, fields_from, first_field, later_fields, row_at};
 use std::alloc::{AllocError, Global};
 
@@ -11,7 +12,9 @@ use std::alloc::{AllocError, Global};
 fn is_same_record(first: &str, second: &str) -> bool
     ensures { result ≡ is_same_record first.now second.now }
 {
-    field(first, 0) == field(second, 0) && field(first, 1) == field(second, 1)
+    field(first, columns::NUMBER) == field(second, columns::NUMBER)
+        && (field(first, columns::MOMENT) == field(second, columns::MOMENT)
+            && fields_from(first, columns::SOURCE) == fields_from(second, columns::SOURCE))
 }
 
 /// How many rows from the first on are of the same records.
@@ -39,10 +42,13 @@ fn is_same_case(first: &str, second: &str) -> bool
 fn is_changed(first: &str, second: &str) -> bool
     ensures { result ≡ is_changed first.now second.now }
 {
-    let (first_verdict, second_verdict) = (fields_from(first, 3), fields_from(second, 3));
+    let (first_verdict, second_verdict) = (
+        fields_from(first, columns::VERDICT),
+        fields_from(second, columns::VERDICT),
+    );
     let (first_case, second_case) = (
-        fields_from(first_verdict, 2),
-        fields_from(second_verdict, 2),
+        fields_from(first_verdict, columns::CASE - columns::VERDICT),
+        fields_from(second_verdict, columns::CASE - columns::VERDICT),
     );
     let (first_backend, second_backend) = (later_fields(first_case), later_fields(second_case));
     let (first_address, second_address) = (
@@ -95,10 +101,10 @@ fn put_spaced(text: &mut String, word: &str) -> Result<(), AllocError>
 fn treatment(alloc: Global, row: &str) -> Result<String, AllocError>
     ensures { IfOk result (λ text. string_bytes text ≡ treatment row.now) }
 {
-    let mut text = String::from_str(alloc, field(row, 3))?;
-    put_spaced(&mut text, field(row, 5))?;
-    put_spaced(&mut text, field(row, 6))?;
-    put_spaced(&mut text, field(row, 7))?;
+    let mut text = String::from_str(alloc, field(row, columns::VERDICT))?;
+    put_spaced(&mut text, field(row, columns::CASE))?;
+    put_spaced(&mut text, field(row, columns::BACKEND))?;
+    put_spaced(&mut text, field(row, columns::ADDRESS))?;
     Ok(text)
 }
 

@@ -1,8 +1,38 @@
-//! What the columns of a report may say.
+//! The columns of a report, and what they may say.
 
 ghost use Rattle.std.specs.Prelude.{◌≡◌, ◌==◌, count_by, not};
 ghost use Rattle.comparison.specs.Columns.{after_point, before_point, column_name, is_address_letter, is_field, is_known_address};
 ghost use Rattle.comparison.specs.Columns.{is_known_number, is_known_word, is_moment, is_number, is_short, is_verdict, is_word_letter};
+
+/// The column of a record's number, counted from 0; the others follow.
+pub const NUMBER: usize = 0;
+
+pub const MOMENT: usize = 1;
+
+pub const WORKER: usize = 2;
+
+pub const VERDICT: usize = 3;
+
+pub const STEPS: usize = 4;
+
+pub const CASE: usize = 5;
+
+pub const BACKEND: usize = 6;
+
+pub const ADDRESS: usize = 7;
+
+pub const SOURCE: usize = 8;
+
+pub const SOURCE_PORT: usize = 9;
+
+pub const DESTINATION: usize = 10;
+
+pub const DESTINATION_PORT: usize = 11;
+
+pub const PROTOCOL: usize = 12;
+
+/// So many columns a report has.
+pub const COLUMNS: usize = 13;
 
 /// Whether a text has so many bytes at most, and one at least.
 fn is_short(most: usize, text: &str) -> bool
@@ -76,10 +106,10 @@ fn is_verdict(text: &str) -> bool
 fn is_word_letter(byte: u8) -> bool
     ensures { result ≡ is_word_letter byte }
 {
-    byte.is_ascii_lowercase() || byte == b'-'
+    byte.is_ascii_lowercase() || byte.is_ascii_digit() || byte == b'-'
 }
 
-/// Whether a text is a word of small letters and dashes, or nothing.
+/// Whether a text is a word of small letters, digits and dashes, or nothing.
 fn is_known_word(text: &str) -> bool
     ensures { result ≡ is_known_word text.now }
 {
@@ -129,11 +159,11 @@ pub(crate) fn is_field(column: usize, text: &str) -> bool
     ensures { result ≡ is_field column text.now }
 {
     match column {
-        0 => is_number(text),
-        1 => is_moment(text),
-        3 => is_verdict(text),
-        5 | 12 => is_known_word(text),
-        7 | 8 | 10 => is_known_address(text),
+        NUMBER => is_number(text),
+        MOMENT => is_moment(text),
+        VERDICT => is_verdict(text),
+        CASE | PROTOCOL => is_known_word(text),
+        ADDRESS | SOURCE | DESTINATION => is_known_address(text),
         _ => is_known_number(text),
     }
 }
@@ -143,18 +173,18 @@ pub(crate) fn column_name(column: usize) -> &'static str
     ensures { result.now ≡ column_name column }
 {
     match column {
-        0 => "number",
-        1 => "moment",
-        2 => "worker",
-        3 => "verdict",
-        4 => "steps",
-        5 => "case",
-        6 => "backend",
-        7 => "address",
-        8 => "source",
-        9 => "source_port",
-        10 => "destination",
-        11 => "destination_port",
+        NUMBER => "number",
+        MOMENT => "moment",
+        WORKER => "worker",
+        VERDICT => "verdict",
+        STEPS => "steps",
+        CASE => "case",
+        BACKEND => "backend",
+        ADDRESS => "address",
+        SOURCE => "source",
+        SOURCE_PORT => "source_port",
+        DESTINATION => "destination",
+        DESTINATION_PORT => "destination_port",
         _ => "protocol",
     }
 }

@@ -73,7 +73,7 @@ fn rows_of_file(alloc: Global, bytes: &[u8], which: Which) -> Result<Vec<&str>, 
 /// Compares two reports of CSV, record by record: their verdicts, cases, backends and addresses. The text says how many records both have
 /// and how many are treated differently; from which treatment to which, the most frequent first, twenty at most; and the first ten records.
 ///
-/// Refused where one of the files is no report, where the reports are not of the same records, by their numbers and moments, and where
+/// Refused where one of the files is no report, where the reports are not of the same records, by their numbers, moments and flows, and where
 /// memory is refused.
 pub fn compare(alloc: Global, first: &[u8], second: &[u8]) -> Result<Comparison, Unlike>
     ensures compared { IfOk result

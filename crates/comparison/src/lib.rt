@@ -2,7 +2,7 @@
 #![tactic(auto)]
 
 mod changes;
-mod columns;
+pub mod columns;
 mod comparing;
 mod fault;
 mod kinds;
@@ -14,4 +14,4 @@ pub use comparing::{Comparison, compare};
 pub use fault::{NoRows, Unlike, Which};
 pub use mistakes::{json_text, no_report_text, wrong_field_text};
 pub use printing::{flow_phrase, flow_pieces};
-pub use rows::{field, fields_from, parts_at, row_at, rows_in};
+pub use rows::{field, fields_between, head_line, parts_at, row_at, rows_in};

@@ -5,6 +5,7 @@ ghost use Rattle.comparison.specs.ComparisonText.{comparison_text, flow_phrase, 
 ghost use Rattle.comparison.specs.ComparisonText.{record_text, records_text, summary_line};
 
 use crate::changes::change_at;
+use crate::columns;
 use crate::rows::{field, row_at};
 use std::alloc::{AllocError, Global};
 
@@ -68,16 +69,16 @@ pub fn flow_pieces(
 pub fn flow_phrase(alloc: Global, row: &str) -> Result<String, AllocError>
     ensures { IfOk result (λ text. string_bytes text ≡ flow_phrase row.now) }
 {
-    if field(row, 8).len() == 0 {
+    if field(row, columns::SOURCE).len() == 0 {
         return String::from_str(alloc, "no flow");
     }
     flow_pieces(
         alloc,
-        field(row, 12),
-        field(row, 8),
-        field(row, 9),
-        field(row, 10),
-        field(row, 11),
+        field(row, columns::PROTOCOL),
+        field(row, columns::SOURCE),
+        field(row, columns::SOURCE_PORT),
+        field(row, columns::DESTINATION),
+        field(row, columns::DESTINATION_PORT),
     )
 }
 
@@ -109,8 +110,8 @@ fn record_text(
     let change = change_at(alloc, first, second, place)?;
     record_pieces(
         alloc,
-        field(row, 0),
-        field(row, 1),
+        field(row, columns::NUMBER),
+        field(row, columns::MOMENT),
         flow.as_str(),
         change.as_str(),
     )

@@ -1,27 +1,31 @@
 //! The rows of a report.
 
 ghost use Rattle.std.specs.Prelude.{◌≡◌, ◌≢◌, ◌<◌, ◌^◌, ◌++◌, ℕ, List, IfErr, IfNone, IfOk, IfSome, false, map, true};
-ghost use Rattle.comparison.specs.Rows.{BeginsAsJson, IsReport, IsRowCount, IsUnread, field, fields_from, first_field, head_line, is_row};
-ghost use Rattle.comparison.specs.Rows.{ended_lines, has_fields, last_line, later_fields, parts_between, right_fields, row_at, why_no_row};
-ghost use Rattle.comparison.specs.Rows.{with_field};
+ghost use Rattle.comparison.specs.Rows.{BeginsAsJson, IsReport, IsRowCount, IsUnread, earlier_fields, field, fields_between, fields_from, first_field};
+ghost use Rattle.comparison.specs.Rows.{ended_lines, has_fields, head_line, is_row, last_line, later_fields, parts_between, right_fields, row_at, why_no_row};
+ghost use Rattle.comparison.specs.Rows.{with_field, without_last};
 
-use crate::columns::is_field;
+use crate::columns::{COLUMNS, is_field};
 use crate::fault::NoRows;
 use std::alloc::{AllocError, Global};
 use text_lines::text_or_line;
 
-/// What comes before the first line of a record.
+/// What comes before the first line of a record, a line of the columns' names.
 const HEAD: &str =
     "number,moment,worker,verdict,steps,case,backend,address,source,source_port,destination,destination_port,protocol\n";
 
-/// So many fields a line has.
-const COLUMNS: usize = 13;
+/// The first line of a report, with its line feed.
+pub fn head_line() -> &'static str
+    ensures { result.now ≡ head_line }
+{
+    HEAD
+}
 
-/// Whether a line has thirteen fields.
+/// Whether a line has as many fields as there are columns.
 fn has_fields(line: &str) -> bool
     ensures { result ≡ has_fields line.now }
 {
-    line.as_bytes().iter().filter(|byte| **byte == b',').count() == 12
+    line.as_bytes().iter().filter(|byte| **byte == b',').count() == COLUMNS - 1
 }
 
 /// One field more, where so many from the first one on are what their columns say.
@@ -93,7 +97,7 @@ pub(crate) fn later_fields(line: &str) -> &str
 }
 
 /// The fields from this one on, counted from 0.
-pub fn fields_from(line: &str, place: usize) -> &str
+pub(crate) fn fields_from(line: &str, place: usize) -> &str
     ensures { result.now ≡ fields_from place line.now }
 {
     let mut rest = line;
@@ -101,6 +105,34 @@ pub fn fields_from(line: &str, place: usize) -> &str
         rest = later_fields(rest);
     }
     rest
+}
+
+/// What is before the last comma, or nothing.
+fn earlier_fields(line: &str) -> &str
+    ensures { result.now ≡ earlier_fields line.now }
+{
+    match line.rfind(',') {
+        Some(end) => &line[..end],
+        None => "",
+    }
+}
+
+/// A row without so many fields at its end.
+fn without_last(row: &str, count: usize) -> &str
+    ensures { result.now ≡ without_last count row.now }
+{
+    let mut rest = row;
+    'fields: for _place in 0..count {
+        rest = earlier_fields(rest);
+    }
+    rest
+}
+
+/// The fields of a row from the first one of these columns to the second one, with commas between them.
+pub fn fields_between(row: &str, first: usize, last: usize) -> &str
+    ensures { result.now ≡ fields_between first last row.now }
+{
+    fields_from(without_last(row, (COLUMNS - 1).saturating_sub(last)), first)
 }
 
 /// A field, counted from 0.

@@ -1,6 +1,7 @@
 -- The rows of a report whose rows are those of records 1, 2, 3 and so on.
 use Rattle.std.specs.Prelude.{◌≡◌, ℕ, ◌+◌, ◌<◌, ◌≤◌, ◌⊎◌, Bool, true, false, List, decimal, length}
 use Rattle.std.specs.Str.{bytes_eq}
+use Rattle.comparison.specs.Columns.{number_column}
 use Rattle.comparison.specs.Rows.{BeginsAsJson, IsNoReport, IsReport, field, row_at}
 use Rattle.comparison.specs.declared.fault.NoRows.{NoRows}
 use Rattle.comparison.specs.declared.fault.NoRows.TheVariants as unread
@@ -9,7 +10,7 @@ use Rattle.flows.specs.declared.fault.NoFlows.TheVariants.{JsonLines, LeftOut, M
 
 -- the row at this place, counted from 0, is that of the record with this place: records are counted from 1
 abbrev pub is_in_place : List (List ℕ) → ℕ → Bool
-is_in_place rows place = bytes_eq (field 0 (row_at rows place)) (decimal (place + 1))
+is_in_place rows place = bytes_eq (field number_column (row_at rows place)) (decimal (place + 1))
 
 -- the first N rows are those of the first N records
 abbrev pub AreInPlace : List (List ℕ) → ℕ → Type 0

@@ -1,7 +1,9 @@
 -- What is told of a flow: its frames so far, and the backends that got them.
 use Rattle.std.specs.Prelude.{ℕ, ◌+◌, ◌==◌, ◌++◌, ◌&&◌, ◌||◌, not, Bool, false, List, [], ◌∷◌, Option, Some, None, codes, length, if◌then◌else◌}
 use Rattle.std.specs.Str.{bytes_eq}
-use Rattle.comparison.specs.Rows.{field, fields_from}
+use Rattle.comparison.specs.Columns.{moment_column, verdict_column, case_column, backend_column, address_column}
+use Rattle.comparison.specs.Columns.{source_column, destination_column, protocol_column}
+use Rattle.comparison.specs.Rows.{field, fields_between}
 use Rattle.control.specs.declared.command.Command.{Command}
 use Rattle.flows.specs.declared.reason.Reason.{Reason}
 use Rattle.flows.specs.declared.reason.Reason.TheVariants.{Readdressed, Down, Untracked, Evicted, Unknown}
@@ -11,38 +13,38 @@ use Rattle.flows.specs.Settings.{is_untracked, is_up}
 
 -- the flow as the row spells it: source, source port, destination, destination port and protocol with commas between them
 abbrev pub flow_of_row : List ℕ → List ℕ
-flow_of_row row = fields_from 8 row
+flow_of_row row = fields_between source_column protocol_column row
 
 abbrev pub row_has_flow : List ℕ → Bool
-row_has_flow row = not (length (field 8 row) == 0)
+row_has_flow row = not (length (field source_column row) == 0)
 
 -- the service of the flow: destination, destination port and protocol
 abbrev pub service_of_row : List ℕ → List ℕ
-service_of_row row = fields_from 10 row
+service_of_row row = fields_between destination_column protocol_column row
 
 abbrev pub moment_of_row : List ℕ → List ℕ
-moment_of_row row = field 1 row
+moment_of_row row = field moment_column row
 
 abbrev pub is_sent_row : List ℕ → Bool
-is_sent_row row = bytes_eq (field 3 row) (codes "TX")
+is_sent_row row = bytes_eq (field verdict_column row) (codes "TX")
 
 -- the frame was dropped; and for want of a backend that is up, as its case says
 abbrev pub is_dropped_row : List ℕ → Bool
-is_dropped_row row = bytes_eq (field 3 row) (codes "DROP")
+is_dropped_row row = bytes_eq (field verdict_column row) (codes "DROP")
 
 abbrev pub has_no_backend : List ℕ → Bool
-has_no_backend row = is_dropped_row row && bytes_eq (field 5 row) (codes "no-backend")
+has_no_backend row = is_dropped_row row && bytes_eq (field case_column row) (codes "no-backend")
 
 -- a full journal stopped the run of the frame
 abbrev pub is_stopped_row : List ℕ → Bool
-is_stopped_row row = bytes_eq (field 3 row) (codes "STOPPED")
+is_stopped_row row = bytes_eq (field verdict_column row) (codes "STOPPED")
 
 -- the number of the backend, and the address to which the frame was sent; what is not known is empty
 abbrev pub backend_of_row : List ℕ → List ℕ
-backend_of_row row = field 6 row
+backend_of_row row = field backend_column row
 
 abbrev pub address_of : List ℕ → List ℕ
-address_of row = field 7 row
+address_of row = field address_column row
 
 -- a word, or another one where it is empty
 abbrev pub or_else : List ℕ → List ℕ → List ℕ

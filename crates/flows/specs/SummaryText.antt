@@ -21,8 +21,12 @@ flows_line sent moved = decimal sent ++ (codes " flows with a sent frame, " ++ (
 abbrev pub has_lost : Story → Bool
 has_lost story = story.lost
 
-abbrev pub lost_line : ℕ → List ℕ
-lost_line lost = decimal lost ++ codes " flows lost frames\n"
+-- a frame of the flow was dropped for want of a backend that is up
+abbrev pub has_wanted : Story → Bool
+has_wanted story = not (story.no_backend == 0)
+
+abbrev pub lost_line : ℕ → ℕ → List ℕ
+lost_line wanting lost = decimal wanting ++ (codes " flows had no backend for a frame, " ++ (decimal lost ++ codes " lost a frame behind a sent one\n"))
 
 -- how many frames were stopped, if any were: what else would have become of them is not known
 abbrev pub stopped_line : ℕ → List ℕ
@@ -76,9 +80,10 @@ ranked_line story = ranked_pieces story.changes (flow_in_words story.flow) story
 
 -- ---- all
 
--- of flows: how many have a sent frame, how many of these moved, and how many lost frames
+-- of flows: how many have a sent frame, how many of these moved, how many had no backend for a frame, and how many lost frames
 abbrev pub flow_counts : List Story → List ℕ
-flow_counts stories = flows_line (count_by was_sent stories) (count_by was_moved stories) ++ lost_line (count_by has_lost stories)
+flow_counts stories =
+    flows_line (count_by was_sent stories) (count_by was_moved stories) ++ lost_line (count_by has_wanted stories) (count_by has_lost stories)
 
 -- of frames: how many were moved, for which reason, and how many were stopped
 abbrev pub frame_counts : List Moved → ℕ → List ℕ

@@ -10,42 +10,49 @@ ghost use Rattle.flows.specs.Walking.{KnowsSettings, applied};
 
 use crate::reason::Reason;
 use crate::settings::Settings;
-use comparison::{field, fields_from};
+use comparison::{columns, field, fields_between};
 use std::alloc::{AllocError, Global};
 
 /// The flow as a row spells it.
 pub(crate) fn flow_of(row: &str) -> &str
     ensures { result.now ≡ flow_of_row row.now }
 {
-    fields_from(row, 8)
+    fields_between(row, columns::SOURCE, columns::PROTOCOL)
+}
+
+/// The service of a row's flow.
+fn service_of(row: &str) -> &str
+    ensures { result.now ≡ service_of_row row.now }
+{
+    fields_between(row, columns::DESTINATION, columns::PROTOCOL)
 }
 
 /// Whether a row's frame has a flow.
 pub(crate) fn has_flow(row: &str) -> bool
     ensures { result ≡ row_has_flow row.now }
 {
-    !field(row, 8).is_empty()
+    !field(row, columns::SOURCE).is_empty()
 }
 
 /// Whether a row's frame was sent.
 fn is_sent(row: &str) -> bool
     ensures { result ≡ is_sent_row row.now }
 {
-    field(row, 3) == "TX"
+    field(row, columns::VERDICT) == "TX"
 }
 
 /// Whether a row's frame was dropped.
 fn is_dropped(row: &str) -> bool
     ensures { result ≡ is_dropped_row row.now }
 {
-    field(row, 3) == "DROP"
+    field(row, columns::VERDICT) == "DROP"
 }
 
 /// Whether it was dropped for want of a backend that is up.
 fn has_no_backend(row: &str) -> bool
     ensures { result ≡ has_no_backend row.now }
 {
-    is_dropped(row) && field(row, 5) == "no-backend"
+    is_dropped(row) && field(row, columns::CASE) == "no-backend"
 }
 
 /// 1 where this is so.
@@ -66,7 +73,10 @@ fn or_else<'a>(word: &'a str, other: &'a str) -> &'a str
 fn backend_name(row: &str) -> &str
     ensures { result.now ≡ backend_name row.now }
 {
-    or_else(field(row, 6), or_else(field(row, 7), "-"))
+    or_else(
+        field(row, columns::BACKEND),
+        or_else(field(row, columns::ADDRESS), "-"),
+    )
 }
 
 /// 1 for a frame that is moved.
@@ -110,7 +120,7 @@ impl<'a> Flow<'a> {
     pub(crate) fn begun(alloc: Global, row: &'a str) -> Flow<'a>
         ensures { story_of result ≡ story_begun row.now }
     {
-        let moment = field(row, 1);
+        let moment = field(row, columns::MOMENT);
         Flow {
             flow: flow_of(row),
             first: moment,
@@ -132,7 +142,7 @@ impl<'a> Flow<'a> {
     fn is_moved(&self, row: &str) -> bool
         ensures { result ≡ is_moved_row (story_of self.now) row.now }
     {
-        is_sent(row) && self.sent != 0 && self.address != field(row, 7)
+        is_sent(row) && self.sent != 0 && self.address != field(row, columns::ADDRESS)
     }
 
     /// Why the next frame is sent to another address.
@@ -142,11 +152,11 @@ impl<'a> Flow<'a> {
     {
         if self.backend.is_empty() {
             Reason::Unknown
-        } else if self.backend == field(row, 6) {
+        } else if self.backend == field(row, columns::BACKEND) {
             Reason::Readdressed
         } else if !settings.is_up(self.backend) {
             Reason::Down
-        } else if self.untracked || settings.is_untracked(fields_from(row, 10)) {
+        } else if self.untracked || settings.is_untracked(service_of(row)) {
             Reason::Untracked
         } else {
             Reason::Evicted
@@ -187,7 +197,7 @@ impl<'a> Flow<'a> {
         ensures { story_of self.new ≡ after_unsent (story_of self.old) row.now }
     {
         let dropped = is_dropped(row);
-        self.last = field(row, 1);
+        self.last = field(row, columns::MOMENT);
         self.frames += 1;
         self.dropped += one_if(dropped);
         self.no_backend += one_if(has_no_backend(row));
@@ -207,12 +217,12 @@ impl<'a> Flow<'a> {
     {
         let step = self.step_text(alloc, row, moved)?;
         self.path.push_str(step.as_str())?;
-        self.last = field(row, 1);
+        self.last = field(row, columns::MOMENT);
         self.frames += 1;
         self.sent += 1;
         self.changes += one_if_some(moved);
-        self.backend = field(row, 6);
-        self.address = field(row, 7);
+        self.backend = field(row, columns::BACKEND);
+        self.address = field(row, columns::ADDRESS);
         self.untracked = untracked;
         Ok(())
     }
@@ -231,7 +241,7 @@ impl<'a> Flow<'a> {
     {
         let moved = self.move_by(row, settings);
         if is_sent(row) {
-            let untracked = settings.is_untracked(fields_from(row, 10));
+            let untracked = settings.is_untracked(service_of(row));
             self.note_sent(alloc, row, untracked, moved)?;
         } else {
             self.note_unsent(row);

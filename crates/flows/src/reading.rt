@@ -5,7 +5,7 @@ ghost use Rattle.comparison.specs.Rows.{IsReport};
 ghost use Rattle.flows.specs.Reports.{IsCountInPlace, AreFlowsRefused, IsGapless, is_in_place};
 
 use crate::fault::NoFlows;
-use comparison::{NoRows, field, row_at, rows_in};
+use comparison::{NoRows, columns, field, row_at, rows_in};
 use std::alloc::{AllocError, Global};
 
 /// A number in decimal.
@@ -21,7 +21,7 @@ fn is_in_place(alloc: Global, rows: &[&str], place: usize) -> Result<bool, Alloc
     ensures { IfOk result (λ is. is ≡ is_in_place (map (λ row. row.now) rows.now) place) }
 {
     let number = decimal(alloc, place + 1)?;
-    Ok(field(row_at(rows, place), 0) == number.as_str())
+    Ok(field(row_at(rows, place), columns::NUMBER) == number.as_str())
 }
 
 /// How many rows from the first on are those of the first records.

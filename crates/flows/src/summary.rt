@@ -6,7 +6,7 @@ ghost use Rattle.flows.specs.FlowRecords.{moved_of, story_of};
 ghost use Rattle.flows.specs.Ranking.{line_view, place_for, ranked_view};
 ghost use Rattle.flows.specs.SummaryText.{comma_before, count_in_words, flow_counts, flow_in_words, flows_line, frame_counts, has_lost};
 ghost use Rattle.flows.specs.SummaryText.{lost_line, moved_words, moves_by_reason, ranked, ranked_line, ranked_pieces, reason_counts};
-ghost use Rattle.flows.specs.SummaryText.{stopped_line, summary_text, was_moved, was_sent};
+ghost use Rattle.flows.specs.SummaryText.{has_wanted, stopped_line, summary_text, was_moved, was_sent};
 
 use crate::flow::Flow;
 use crate::moves::{Move, how_many};
@@ -47,10 +47,19 @@ fn lost_count(flows: &[Flow]) -> usize
     flows.iter().filter(|flow| flow.lost).count()
 }
 
-fn lost_line(alloc: Global, lost: usize) -> Result<String, AllocError>
-    ensures { IfOk result (λ text. string_bytes text ≡ lost_line lost) }
+/// How many flows had a frame dropped for want of a backend that is up.
+fn wanting_count(flows: &[Flow]) -> usize
+    ensures { result ≡ count_by has_wanted (map story_of flows.now) }
 {
-    format!(in alloc; "{lost} flows lost frames\n")
+    flows.iter().filter(|flow| flow.no_backend != 0).count()
+}
+
+fn lost_line(alloc: Global, wanting: usize, lost: usize) -> Result<String, AllocError>
+    ensures { IfOk result (λ text. string_bytes text ≡ lost_line wanting lost) }
+{
+    format!(in alloc;
+        "{wanting} flows had no backend for a frame, {lost} lost a frame behind a sent one\n"
+    )
 }
 
 /// The line that says that so many frames were stopped, if any were.
@@ -203,12 +212,12 @@ fn put_ranked_lines(text: &mut String, best: &[(usize, String)]) -> Result<(), A
     Ok(())
 }
 
-/// How many flows have a sent frame, how many of them moved, and how many lost frames.
+/// How many flows have a sent frame, how many of them moved, how many had no backend for a frame, and how many lost frames.
 fn flow_counts(alloc: Global, flows: &[Flow]) -> Result<String, AllocError>
     ensures { IfOk result (λ text. string_bytes text ≡ flow_counts (map story_of flows.now)) }
 {
     let mut text = flows_line(alloc, sent_count(flows), moved_count(flows))?;
-    let lost = lost_line(alloc, lost_count(flows))?;
+    let lost = lost_line(alloc, wanting_count(flows), lost_count(flows))?;
     text.push_str(lost.as_str())?;
     Ok(text)
 }
@@ -239,7 +248,7 @@ fn counts(
     Ok(text)
 }
 
-/// How many flows were sent, moved and lost frames, how many frames were moved, why, and how many stopped, and the ten flows with the most
+/// How many flows were sent, moved, had no backend and lost frames, how many frames were moved, why, and how many stopped, and the ten flows with the most
 /// changes.
 pub(crate) fn summary_text(
     alloc: Global,

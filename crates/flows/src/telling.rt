@@ -14,7 +14,7 @@ use crate::printing::table_text;
 use crate::reading::whole_report;
 use crate::settings::Settings;
 use crate::summary::summary_text;
-use comparison::{field, row_at};
+use comparison::{columns, field, row_at};
 use control::{Command, Script};
 use std::alloc::{AllocError, Global};
 
@@ -70,7 +70,7 @@ pub fn moved_frames<'a>(
 fn is_stopped(row: &str) -> bool
     ensures { result ≡ is_stopped_row row.now }
 {
-    field(row, 3) == "STOPPED"
+    field(row, columns::VERDICT) == "STOPPED"
 }
 
 /// How many of the rows' frames were stopped.

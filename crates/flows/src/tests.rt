@@ -27,13 +27,13 @@ type Row = (
 static ROWS: [Row; 15] = [
     ("no record", "", "", "",
         "0 flows with a sent frame, 0 of them moved\n\
-         0 flows lost frames\n\
+         0 flows had no backend for a frame, 0 lost a frame behind a sent one\n\
          0 frames moved: 0 down, 0 evicted, 0 untracked, 0 readdressed, 0 unknown\n"),
     ("flows without a sent frame, and a frame without a flow", "0 up 1 192.0.2.2\n",
         "1,1.000000,,SHORT,,short,,,,,,,\n2,1.000001,0,PASS,9,arp,,,,,,,\n3,1.000002,0,DROP,90,no-backend,,,10.0.0.1,1000,203.0.113.1,80,tcp\n",
         "10.0.0.1,1000,203.0.113.1,80,tcp,1.000002,1.000002,1,0,1,1,0,\n",
         "0 flows with a sent frame, 0 of them moved\n\
-         0 flows lost frames\n\
+         1 flows had no backend for a frame, 0 lost a frame behind a sent one\n\
          0 frames moved: 0 down, 0 evicted, 0 untracked, 0 readdressed, 0 unknown\n"),
     ("a flow that stays", "0 vip 203.0.113.1 80 tcp\n0 up 1 192.0.2.2\n",
         "1,1.000000,0,DROP,90,no-backend,,,10.0.0.1,1000,203.0.113.1,80,tcp\n\
@@ -41,34 +41,34 @@ static ROWS: [Row; 15] = [
          3,3.500000,0,TX,99,sent,1,192.0.2.2,10.0.0.1,1000,203.0.113.1,80,tcp\n",
         "10.0.0.1,1000,203.0.113.1,80,tcp,1.000000,3.500000,3,2,1,1,0,1\n",
         "1 flows with a sent frame, 0 of them moved\n\
-         0 flows lost frames\n\
+         1 flows had no backend for a frame, 0 lost a frame behind a sent one\n\
          0 frames moved: 0 down, 0 evicted, 0 untracked, 0 readdressed, 0 unknown\n"),
     ("a command of number 1 comes before record 2", "0 vip 203.0.113.1 80 tcp\n0 up 0 192.0.2.1\n0 up 1 192.0.2.2\n1 down 1\n",
         "1,1.000000,0,TX,99,sent,1,192.0.2.2,10.0.0.1,1000,203.0.113.1,80,tcp\n2,2.000000,0,TX,99,sent,0,192.0.2.1,10.0.0.1,1000,203.0.113.1,80,tcp\n",
         "10.0.0.1,1000,203.0.113.1,80,tcp,1.000000,2.000000,2,2,0,0,1,1 >down 0\n",
         "1 flows with a sent frame, 1 of them moved\n\
-         0 flows lost frames\n\
+         0 flows had no backend for a frame, 0 lost a frame behind a sent one\n\
          1 frames moved: 1 down, 0 evicted, 0 untracked, 0 readdressed, 0 unknown\n\
          1 changes of tcp 10.0.0.1:1000 to 203.0.113.1:80: 1 >down 0\n"),
     ("one of number 2 does not, so the note was gone", "0 vip 203.0.113.1 80 tcp\n0 up 0 192.0.2.1\n0 up 1 192.0.2.2\n2 down 1\n",
         "1,1.000000,0,TX,99,sent,1,192.0.2.2,10.0.0.1,1000,203.0.113.1,80,tcp\n2,2.000000,0,TX,99,sent,0,192.0.2.1,10.0.0.1,1000,203.0.113.1,80,tcp\n",
         "10.0.0.1,1000,203.0.113.1,80,tcp,1.000000,2.000000,2,2,0,0,1,1 >evicted 0\n",
         "1 flows with a sent frame, 1 of them moved\n\
-         0 flows lost frames\n\
+         0 flows had no backend for a frame, 0 lost a frame behind a sent one\n\
          1 frames moved: 0 down, 1 evicted, 0 untracked, 0 readdressed, 0 unknown\n\
          1 changes of tcp 10.0.0.1:1000 to 203.0.113.1:80: 1 >evicted 0\n"),
     ("a backend that is up again was not the reason", "0 vip 203.0.113.1 80 tcp\n0 up 0 192.0.2.1\n0 up 1 192.0.2.2\n1 down 1\n1 up 1 192.0.2.2\n",
         "1,1.000000,0,TX,99,sent,1,192.0.2.2,10.0.0.1,1000,203.0.113.1,80,tcp\n2,2.000000,0,TX,99,sent,0,192.0.2.1,10.0.0.1,1000,203.0.113.1,80,tcp\n",
         "10.0.0.1,1000,203.0.113.1,80,tcp,1.000000,2.000000,2,2,0,0,1,1 >evicted 0\n",
         "1 flows with a sent frame, 1 of them moved\n\
-         0 flows lost frames\n\
+         0 flows had no backend for a frame, 0 lost a frame behind a sent one\n\
          1 frames moved: 0 down, 1 evicted, 0 untracked, 0 readdressed, 0 unknown\n\
          1 changes of tcp 10.0.0.1:1000 to 203.0.113.1:80: 1 >evicted 0\n"),
     ("a service without tracking", "0 vip 203.0.113.2 53 udp notrack\n0 up 1 192.0.2.2\n1 up 2 192.0.2.3\n",
         "1,1.000000,0,TX,99,sent,1,192.0.2.2,10.0.0.1,1000,203.0.113.2,53,udp\n2,2.000000,0,TX,99,sent,2,192.0.2.3,10.0.0.1,1000,203.0.113.2,53,udp\n",
         "10.0.0.1,1000,203.0.113.2,53,udp,1.000000,2.000000,2,2,0,0,1,1 >untracked 2\n",
         "1 flows with a sent frame, 1 of them moved\n\
-         0 flows lost frames\n\
+         0 flows had no backend for a frame, 0 lost a frame behind a sent one\n\
          1 frames moved: 0 down, 0 evicted, 1 untracked, 0 readdressed, 0 unknown\n\
          1 changes of udp 10.0.0.1:1000 to 203.0.113.2:53: 1 >untracked 2\n"),
     ("a service that was without tracking at the frame before", "0 vip 203.0.113.2 53 udp notrack\n\
@@ -80,35 +80,35 @@ static ROWS: [Row; 15] = [
          3,3.000000,0,TX,99,sent,1,192.0.2.2,10.0.0.1,1000,203.0.113.2,53,udp\n",
         "10.0.0.1,1000,203.0.113.2,53,udp,1.000000,3.000000,3,3,0,0,2,1 >untracked 2 >evicted 1\n",
         "1 flows with a sent frame, 1 of them moved\n\
-         0 flows lost frames\n\
+         0 flows had no backend for a frame, 0 lost a frame behind a sent one\n\
          2 frames moved: 0 down, 1 evicted, 1 untracked, 0 readdressed, 0 unknown\n\
          2 changes of udp 10.0.0.1:1000 to 203.0.113.2:53: 1 >untracked 2 >evicted 1\n"),
     ("the same port of another protocol is another service", "0 vip 203.0.113.2 53 tcp notrack\n0 vip 203.0.113.2 53 udp\n0 up 1 192.0.2.2\n0 up 2 192.0.2.3\n",
         "1,1.000000,0,TX,99,sent,1,192.0.2.2,10.0.0.1,1000,203.0.113.2,53,udp\n2,2.000000,0,TX,99,sent,2,192.0.2.3,10.0.0.1,1000,203.0.113.2,53,udp\n",
         "10.0.0.1,1000,203.0.113.2,53,udp,1.000000,2.000000,2,2,0,0,1,1 >evicted 2\n",
         "1 flows with a sent frame, 1 of them moved\n\
-         0 flows lost frames\n\
+         0 flows had no backend for a frame, 0 lost a frame behind a sent one\n\
          1 frames moved: 0 down, 1 evicted, 0 untracked, 0 readdressed, 0 unknown\n\
          1 changes of udp 10.0.0.1:1000 to 203.0.113.2:53: 1 >evicted 2\n"),
     ("a backend with another address", "0 vip 203.0.113.1 80 tcp\n0 up 1 192.0.2.2\n1 down 1\n1 up 1 192.0.2.9\n",
         "1,1.000000,0,TX,99,sent,1,192.0.2.2,10.0.0.1,1000,203.0.113.1,80,tcp\n2,2.000000,0,TX,99,sent,1,192.0.2.9,10.0.0.1,1000,203.0.113.1,80,tcp\n",
         "10.0.0.1,1000,203.0.113.1,80,tcp,1.000000,2.000000,2,2,0,0,1,1 >readdressed 1\n",
         "1 flows with a sent frame, 1 of them moved\n\
-         0 flows lost frames\n\
+         0 flows had no backend for a frame, 0 lost a frame behind a sent one\n\
          1 frames moved: 0 down, 0 evicted, 0 untracked, 1 readdressed, 0 unknown\n\
          1 changes of tcp 10.0.0.1:1000 to 203.0.113.1:80: 1 >readdressed 1\n"),
     ("a backend whose number is not known", "0 vip 203.0.113.1 80 tcp\n0 up 1 192.0.2.2\n",
         "1,1.000000,0,TX,99,,,192.0.2.7,10.0.0.1,1000,203.0.113.1,80,tcp\n2,2.000000,0,TX,99,,1,192.0.2.2,10.0.0.1,1000,203.0.113.1,80,tcp\n",
         "10.0.0.1,1000,203.0.113.1,80,tcp,1.000000,2.000000,2,2,0,0,1,192.0.2.7 >unknown 1\n",
         "1 flows with a sent frame, 1 of them moved\n\
-         0 flows lost frames\n\
+         0 flows had no backend for a frame, 0 lost a frame behind a sent one\n\
          1 frames moved: 0 down, 0 evicted, 0 untracked, 0 readdressed, 1 unknown\n\
          1 changes of tcp 10.0.0.1:1000 to 203.0.113.1:80: 192.0.2.7 >unknown 1\n"),
     ("frames in no tunnel", "",
         "1,1.000000,0,TX,2,,,,10.0.0.1,1000,203.0.113.1,80,tcp\n2,2.000000,0,TX,2,,,,10.0.0.1,1000,203.0.113.1,80,tcp\n",
         "10.0.0.1,1000,203.0.113.1,80,tcp,1.000000,2.000000,2,2,0,0,0,-\n",
         "1 flows with a sent frame, 0 of them moved\n\
-         0 flows lost frames\n\
+         0 flows had no backend for a frame, 0 lost a frame behind a sent one\n\
          0 frames moved: 0 down, 0 evicted, 0 untracked, 0 readdressed, 0 unknown\n"),
     ("what comes between two sent frames is no change", "0 vip 203.0.113.1 80 tcp\n0 up 1 192.0.2.2\n1 down 1\n2 up 1 192.0.2.2\n",
         "1,1.000000,0,TX,99,sent,1,192.0.2.2,10.0.0.1,1000,203.0.113.1,80,tcp\n\
@@ -116,7 +116,7 @@ static ROWS: [Row; 15] = [
          3,3.000000,0,TX,99,sent,1,192.0.2.2,10.0.0.1,1000,203.0.113.1,80,tcp\n",
         "10.0.0.1,1000,203.0.113.1,80,tcp,1.000000,3.000000,3,2,1,1,0,1\n",
         "1 flows with a sent frame, 0 of them moved\n\
-         1 flows lost frames\n\
+         1 flows had no backend for a frame, 1 lost a frame behind a sent one\n\
          0 frames moved: 0 down, 0 evicted, 0 untracked, 0 readdressed, 0 unknown\n"),
     ("an outage, with a stopped run", "0 vip 203.0.113.1 80 tcp\n0 up 1 192.0.2.2\n2 down 1\n",
         "1,1.000000,0,TX,99,sent,1,192.0.2.2,10.0.0.1,1000,203.0.113.1,80,tcp\n\
@@ -128,7 +128,7 @@ static ROWS: [Row; 15] = [
         "10.0.0.1,1000,203.0.113.1,80,tcp,1.000000,6.000000,4,1,2,1,0,1\n\
          10.0.0.1,1001,203.0.113.1,80,tcp,2.000000,4.000000,2,0,2,1,0,\n",
         "1 flows with a sent frame, 0 of them moved\n\
-         1 flows lost frames\n\
+         2 flows had no backend for a frame, 1 lost a frame behind a sent one\n\
          0 frames moved: 0 down, 0 evicted, 0 untracked, 0 readdressed, 0 unknown\n\
          1 frames were stopped by full journals: what is said of flows is incomplete\n"),
     ("three flows, of which the second has most changes", "0 vip 203.0.113.1 80 tcp\n\
@@ -147,7 +147,7 @@ static ROWS: [Row; 15] = [
          10.0.0.1,1001,203.0.113.1,80,tcp,2.000000,6.000000,3,3,0,0,2,1 >down 0 >down 1\n\
          10.0.0.2,1000,203.0.113.1,80,tcp,3.000000,3.000000,1,1,0,0,0,0\n",
         "3 flows with a sent frame, 2 of them moved\n\
-         0 flows lost frames\n\
+         0 flows had no backend for a frame, 0 lost a frame behind a sent one\n\
          3 frames moved: 3 down, 0 evicted, 0 untracked, 0 readdressed, 0 unknown\n\
          2 changes of tcp 10.0.0.1:1001 to 203.0.113.1:80: 1 >down 0 >down 1\n\
          1 changes of tcp 10.0.0.1:1000 to 203.0.113.1:80: 1 >down 0\n"),
@@ -270,7 +270,7 @@ fn compare_summary(rt: &impl Abort, alloc: Global, report: &str, commands: &str,
 /// Twelve flows that moved, the last of which did so twice: of those with as many changes the first are named, ten in all.
 const TWELVE: &str = "\
     12 flows with a sent frame, 12 of them moved\n\
-    0 flows lost frames\n\
+    0 flows had no backend for a frame, 0 lost a frame behind a sent one\n\
     13 frames moved: 13 down, 0 evicted, 0 untracked, 0 readdressed, 0 unknown\n\
     2 changes of tcp 10.0.0.1:11 to 203.0.113.1:80: 1 >down 2 >down 3\n\
     1 changes of tcp 10.0.0.1:0 to 203.0.113.1:80: 1 >down 2\n\
@@ -305,7 +305,8 @@ fn many_flows_are_told(rt: HostRuntime) {
     push_rows(&rt, alloc, &mut report, 1000, 1000, 2);
     let commands = "0 vip 203.0.113.1 80 tcp\n0 up 1 192.0.2.1\n0 up 2 192.0.2.2\n1000 down 1\n";
     let wanted =
-        "1000 flows with a sent frame, 1000 of them moved\n0 flows lost frames\n1000 frames moved: 1000 down, 0 evicted";
+        "1000 flows with a sent frame, 1000 of them moved\n0 flows had no backend for a frame, 0 lost a frame behind a sent one\n\
+         1000 frames moved: 1000 down, 0 evicted";
     compare_summary(&rt, alloc, report.as_str(), commands, wanted);
 }
 

@@ -2,6 +2,7 @@
 //! one that is written, until all of its bytes are there.
 
 use crate::failure::{Failure, Step, Trouble, at_step};
+use crate::links::is_one_node;
 use crate::making::put_all;
 use std::alloc::{Alloc, Global};
 use std::env::VarError;
@@ -13,6 +14,9 @@ use std::{env, fs, io};
 
 /// The folder of copies where the environment names none.
 const TEMPORARY: &str = "/tmp";
+
+/// The standard streams.
+const STREAMS: [&str; 3] = ["/dev/stdin", "/dev/stdout", "/dev/stderr"];
 
 /// How many names are tried for a new copy, which has one only until it is opened.
 const MOST_NAMES: u32 = 64;
@@ -46,7 +50,22 @@ fn new_file<R: Files<File = File>>(rt: &R, name: &str) -> io::Result<File> {
         .open(rt, name)
 }
 
-/// A new file whose name is removed again, so that it is gone when it is closed; none where the folder of copies takes none.
+/// Whether an open file stands where a standard stream was closed: what is printed would go into it.
+fn is_standard<R: Files>(rt: &R, file: &File) -> bool {
+    let Ok(opened) = file.metadata() else {
+        return false;
+    };
+    for name in &STREAMS {
+        match fs::metadata(rt, name) {
+            Ok(found) if is_one_node(&opened, &found) => return true,
+            _ => {}
+        }
+    }
+    false
+}
+
+/// A new file whose name is removed again, so that it is gone when it is closed; none where the folder of copies takes none, or where it would
+/// stand for a standard stream that is closed.
 pub(crate) fn unnamed<R: Files<File = File> + Env + Alloc>(
     rt: &R,
 ) -> Result<Option<File>, Trouble> {
@@ -55,8 +74,8 @@ pub(crate) fn unnamed<R: Files<File = File> + Env + Alloc>(
         let name = format!(in rt.alloc(); "{folder}/xlb.copy.{number}")?;
         match new_file(rt, name.as_str()) {
             Ok(file) => return match fs::remove_file(rt, name.as_str()) {
-                Ok(()) => Ok(Some(file)),
-                Err(_) => Ok(None),
+                Ok(()) if !is_standard(rt, &file) => Ok(Some(file)),
+                _ => Ok(None),
             },
             Err(error) if error.kind() == ErrorKind::AlreadyExists => {}
             Err(_) => return Ok(None),

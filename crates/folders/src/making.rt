@@ -12,8 +12,9 @@ use crate::copies::{put_on_copy, unnamed, write_copy};
 use crate::failure::{Failure, Step, Trouble};
 use crate::links::{end_of, is_link, is_one_file, is_one_node, parts_of};
 use std::alloc::{Alloc, Global};
-use std::fs::{File, OpenOptions};
+use std::fs::{File, OpenOptions, Permissions};
 use std::io::{ErrorKind, Write};
+use std::os::unix::fs::PermissionsExt;
 use std::rt::{Env, Files};
 use std::{fs, io};
 
@@ -25,6 +26,9 @@ const LONGEST_BESIDE: usize = 244;
 
 /// The ending of the name of a file that is not finished.
 const UNFINISHED: &str = ".unfinished";
+
+/// The bits of a file's mode that say who may read, write and execute it.
+const MODE_BITS: u32 = 0o777;
 
 /// Why a file is not made on.
 const NOT_BEGUN: &str = "it is not begun";
@@ -114,7 +118,10 @@ fn may_be_replaced<R: Files>(rt: &R, name: &str) -> Result<(), Failure> {
 /// Gives an unfinished file the permissions of the file that it replaces, where there is one.
 fn take_permissions<R: Files>(rt: &R, unfinished: &str, name: &str) -> io::Result<()> {
     match fs::symlink_metadata(rt, name) {
-        Ok(found) => fs::set_permissions(rt, unfinished, found.permissions()),
+        Ok(found) => {
+            let own = Permissions::from_mode(found.permissions().mode() & MODE_BITS);
+            fs::set_permissions(rt, unfinished, own)
+        }
         Err(_) => Ok(()),
     }
 }
@@ -160,7 +167,7 @@ fn named<R: Files>(rt: &R, file: &File, unfinished: &str, name: &str) -> Result<
 fn unfinished_name<'a>(room: &'a mut [u8; LONGEST_NAME], name: &str) -> Result<&'a str, Failure> {
     let (_, last) = parts_of(name);
     let cut = last.len().saturating_sub(LONGEST_BESIDE);
-    let end = name.len().saturating_sub(cut);
+    let end = name.floor_char_boundary(name.len().saturating_sub(cut));
     if end > LONGEST_NAME - UNFINISHED.len() {
         return Err(refused(ErrorKind::InvalidFilename, NO_ROOM));
     }

@@ -45,6 +45,14 @@ impl RecordBuffer {
         &self.capture
     }
 
+    /// The records, without the memory of others.
+    pub fn into_capture(self) -> Capture
+        ensures { result.records.items ≡ self }
+    {
+        let RecordBuffer { capture, .. } = self;
+        capture
+    }
+
     /// How many records there are.
     pub fn len(&self) -> usize
         ensures { result ≡ length self.now }

@@ -13,9 +13,9 @@ use Rattle.semantics.proofs.shared.SystemSteps.{history_there, history_elsewhere
 use Rattle.shards.specs.declared.deeds.Deed.{Deed}
 use Rattle.shards.specs.declared.deeds.Deed.TheVariants.{Wrote, MetFull}
 use Rattle.shards.specs.Deeds.{made_on}
-use Rattle.guarantees.specs.Steps.{AskedOfShard, Nothing, Writes, Refused}
+use Rattle.guarantees.specs.Steps.{AskedOfShard, Nothing, Writes, TurnedAway}
 use Rattle.guarantees.specs.Moves.{after_asked}
-use Rattle.guarantees.proofs.DeedLemmas.{made_append}
+use Rattle.actors.proofs.shared.DeedLemmas.{made_append}
 
 -- ---- what is left to do, by worker
 
@@ -73,4 +73,4 @@ pub asked_shards : (system : SystemState) (asked : AskedOfShard) → length (aft
 asked_shards system Nothing = refl
 asked_shards system (Writes entry) =
     length-set system.histories (shard_of_call entry.call) (entry ∷ history_of system (shard_of_call entry.call))
-asked_shards system (Refused call) = refl
+asked_shards system (TurnedAway call) = refl

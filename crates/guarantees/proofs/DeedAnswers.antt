@@ -23,8 +23,8 @@ use Rattle.actors.specs.Rounds.{keyed_below, IsReclaimDeed, AreReclaimDeeds, Are
 use Rattle.semantics.specs.Replay.{is_keyed, is_of_keyed, keyed_shards, rounds_over}
 use Rattle.guarantees.specs.ReplayOf.{call_of_shared_update, calls_made, stopped_call, command_calls, answers_made, stopped_answer, command_answers}
 use Rattle.guarantees.specs.InParts.{IsOfCaller, call_of_deed}
-use Rattle.guarantees.proofs.DeedLemmas.{chosen_reversed}
-use Rattle.guarantees.proofs.EveryEntry.{all_both}
+use Rattle.actors.proofs.shared.DeedLemmas.{chosen_reversed}
+use Rattle.actors.proofs.shared.EveryEntry.{all_both}
 use Rattle.guarantees.proofs.Heard.{is_askable, heard, answer_of_deed}
 use Rattle.guarantees.proofs.MoveLemmas.{numbered}
 use Rattle.guarantees.proofs.SizedUpdates.{IsAskable}

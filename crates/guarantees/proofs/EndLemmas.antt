@@ -12,7 +12,7 @@ use Rattle.semantics.specs.Step.{CallsMap}
 use Rattle.semantics.specs.Semantics.{next_step}
 use Rattle.semantics.specs.System.{Setting, program_of_setting, SystemState, SystemEvent, BeginsRun, DoesInstruction, CallsShard, LeavesShard, Controls, Reclaims, WorkerState, Idle, Runs, worker_state, history_of, is_entered}
 use Rattle.semantics.specs.Events.{Ending, Stopped, stop_for, stop_at, stop_of, exit_of, ending_in}
-use Rattle.guarantees.specs.Steps.{AskedOfShard, Nothing, Writes, Refused, Move, IsStep, RunBegins, RunGoesOn, RunEnds, CallIsServed, ShardIsEntered, CallIsRefused, EnterIsRefused, ShardIsLeft, AreSteps}
+use Rattle.guarantees.specs.Steps.{AskedOfShard, Nothing, Writes, TurnedAway, Move, IsStep, RunBegins, RunGoesOn, RunEnds, CallIsServed, ShardIsEntered, CallIsRefused, EnterIsRefused, ShardIsLeft, AreSteps}
 use Rattle.guarantees.specs.Moves.{IsAskedSo, is_event_of}
 use Rattle.guarantees.proofs.MoveLemmas.{numbered, own_event}
 
@@ -25,7 +25,7 @@ ends_of_event setting before event = []
 abbrev pub ends_of_asked : Setting → WorkerState → SystemEvent → AskedOfShard → List Ending
 ends_of_asked setting before event Nothing = ends_of_event setting before event
 ends_of_asked setting before event (Writes entry) = []
-ends_of_asked setting before event (Refused call) = Stopped (shard_of_call call) ∷ []
+ends_of_asked setting before event (TurnedAway call) = Stopped (shard_of_call call) ∷ []
 
 -- and those that steps make
 abbrev pub ends_in : (setting : Setting) (count worker : ℕ) (before : WorkerState) (moves : List Move) (after : WorkerState) →

@@ -9,7 +9,7 @@ use Rattle.shards.specs.Deeds.{entries_made}
 use Rattle.actors.specs.Rounds.{EndsWithRound}
 use Rattle.guarantees.specs.LastRound.{after_all, EndWithRound}
 use Rattle.guarantees.specs.Merging.{AreWrittenInOrder}
-use Rattle.guarantees.proofs.DeedLemmas.{entries_append}
+use Rattle.actors.proofs.shared.DeedLemmas.{entries_append}
 
 -- events that write these entries, and then those
 record AreSplit (setting : Setting) (before : SystemState) (events : List SystemEvent) (first second : List Entry) : Type 0 where

@@ -14,7 +14,6 @@ pub mod OneOutcome
 pub mod RowRuns
 pub mod RowStates
 pub mod RowAlone
-pub mod DeedLemmas
 pub mod MergeEvents
 pub mod Heard
 pub mod AfterDeeds
@@ -25,9 +24,6 @@ pub mod ReadSteps
 pub mod ReadCalls
 pub mod QuietShards
 pub mod Answered
-pub mod EveryEntry
-pub mod ShareOrder
-pub mod Callers
 pub mod NoneStopped
 pub mod OpenedRuns
 pub mod OpenedReplays

@@ -11,7 +11,7 @@ use Rattle.semantics.specs.Step.{Step, Continues, CallsMap, Exits, Traps}
 use Rattle.semantics.specs.Semantics.{next_step}
 use Rattle.semantics.specs.System.{Setting, program_of_setting, LeavesShard, BeginsRun, WorkerState, Idle, Runs, Leaves, is_entered, run_over, without_shard}
 use Rattle.shard_port.specs.Asking.{enter_by, asked_entry}
-use Rattle.guarantees.specs.Steps.{Writes, Refused, Move, RunBegins, RunGoesOn, RunEnds, CallIsServed, ShardIsEntered, CallIsRefused, EnterIsRefused, ShardIsLeft}
+use Rattle.guarantees.specs.Steps.{Writes, TurnedAway, Move, RunBegins, RunGoesOn, RunEnds, CallIsServed, ShardIsEntered, CallIsRefused, EnterIsRefused, ShardIsLeft}
 use Rattle.guarantees.specs.StepLaws.{IsCallNext, IsEnterNext, IsNextOf, IsListedNext, StepsAreListed, MovesLeadToOne}
 
 by_step : (setting : Setting) (worker : ℕ) (state : MachineState) (entered : List ℕ) (step : Step) (move : Move) (after : WorkerState) →
@@ -72,7 +72,7 @@ asked_of one other same = ap (λ (move : Move). move.asked) same
 written_of : (one other : Entry) → Writes one ≡ Writes other → one ≡ other
 written_of one other same = cc
 
-not_both : (entry : Entry) (call : Call) → Writes entry ≡ Refused call → ⊥
+not_both : (entry : Entry) (call : Call) → Writes entry ≡ TurnedAway call → ⊥
 not_both entry call same = cc
 
 one_call : (worker : ℕ) (entered : List ℕ) (call : Call) (next : Reply → MachineState) (move : Move) (one other : WorkerState) →

@@ -1,7 +1,7 @@
 -- One order of all callers' deeds makes one list of events: by induction on the order, in which each deed is one event of its caller, after
 -- the instructions that its worker does before it. Other workers stay where they are.
 use Rattle.std.proofs.Common.{⊎_elim, ◌≡◌, ◌≢◌, ℕ, zero, suc, ◌*◌, ◌<◌, ◌≤◌, ◌==◌, ◌&&◌, Bool, true, false, true≢false, cond, List, [], ◌∷◌, ◌++◌, length, reverse, Option, Some, refl, sym, ◌∙◌, ap, subst, arith, append_assoc, append-nil}
-use Rattle.std.specs.Prelude.{filter, map, IsTrue, slice_index_or, if◌then◌else◌}
+use Rattle.std.specs.Prelude.{filter, map, IsTrue, slice_index_or}
 use Rattle.std.specs.List.{AllByRecursion}
 use Rattle.std.proofs.lemmas.Bool.{cases_lt, cases_eq, ne_eqb}
 use Rattle.std.proofs.lemmas.Bool.Decides.{nat_tests}
@@ -24,7 +24,7 @@ use Rattle.shards.specs.declared.deeds.Deed.{Deed}
 use Rattle.shards.specs.declared.deeds.Deed.TheVariants.{Wrote, MetFull}
 use Rattle.shards.specs.Deeds.{shard_of_deed, entries_made, made_on}
 use Rattle.semantics.specs.Events.{Ending, controlled, reclaimed, answers_of_event, answered, ended_by}
-use Rattle.guarantees.specs.Steps.{AskedOfShard, Writes, Refused, Move, AreSteps, entries_asked, deeds_asked, deeds_in}
+use Rattle.guarantees.specs.Steps.{AskedOfShard, Writes, TurnedAway, Move, AreSteps, entries_asked, deeds_asked, deeds_in}
 use Rattle.guarantees.specs.Moves.{IsAskedSo, after_asked, is_event_of}
 use Rattle.guarantees.specs.Merging.{IsOrderOfMoves, IsWrittenNext, AreWrittenInOrder, events_of, IsOneList, OneOrderIsOneList}
 use Rattle.guarantees.specs.InParts.{call_of_deed}
@@ -32,7 +32,7 @@ use Rattle.guarantees.proofs.EndLemmas.{ends_in, Walk, no_end}
 use Rattle.guarantees.proofs.AnswerLemmas.{then_ended, then_answered, then_controlled, then_reclaimed, none_ended, none_answered, none_controlled, none_reclaimed}
 use Rattle.guarantees.proofs.LegalEntries.{entry_is_legal}
 use Rattle.guarantees.proofs.MoveLemmas.{numbered}
-use Rattle.guarantees.proofs.DeedLemmas.{is_deed_by, made_append, met_at}
+use Rattle.actors.proofs.shared.DeedLemmas.{is_deed_by, made_append, met_at}
 use Rattle.guarantees.proofs.MergeEvents.{HappenFrom, then_happen, then_written, entries_are, IsListed, listed, AreOwn, own_stay, own_go, Advance, advance, RunsOut, runs_out}
 use Rattle.guarantees.proofs.MergeCalls.{IsAtPlace, worker_at, answers_at, controller_changes_keys, reclaimer_reclaims, served, may_call, answer_served, IsLookAt, may_look, turned_away, no_answer}
 use Rattle.guarantees.proofs.AfterDeeds.{put, put_there, put_other, HaveHistories, after_entry, after_look, asked_shards}
@@ -461,7 +461,7 @@ looked : (setting : Setting) (plan : ℕ → ShardPlan) (count : ℕ) (journal :
 looked setting plan count journal moves deeds earlier later worker call system rest ends order below stands onward =
     let same : (worker == worker) ≡ true = grind (arith, nat_tests) in
     let at = look_at setting plan count journal moves deeds earlier later (Worker worker) call system rest ends order stands in
-    by_worker setting plan count worker deeds earlier later (MetFull (Worker worker) call) (Refused call) system rest ends order.options.at_most_eight below
+    by_worker setting plan count worker deeds earlier later (MetFull (Worker worker) call) (TurnedAway call) system rest ends order.options.at_most_eight below
     stands refl same
     (λ other apart. ne_eqb worker other (λ same. apart (sym same)))
     (record { calls = refl; rounds = refl })

@@ -15,7 +15,7 @@ use Rattle.semantics.specs.History.{shard_of_call, meets, IsJournalFull, IsLegal
 use Rattle.semantics.specs.System.{Setting, SystemState, history_of, with_entry, entry_for, after_call, MayCall, is_key_change}
 use Rattle.semantics.specs.Events.{answer_to}
 use Rattle.guarantees.specs.Moves.{Answers}
-use Rattle.guarantees.proofs.Callers.{worker_below}
+use Rattle.actors.proofs.shared.Callers.{worker_below}
 use Rattle.guarantees.proofs.MoveLemmas.{numbered}
 
 pub record IsAtPlace (setting : Setting) (plan : ShardPlan) (system : SystemState) (entry : Entry) : Type 0 where

@@ -11,7 +11,7 @@ use Rattle.shards.specs.declared.deeds.Deed.{Deed}
 use Rattle.shards.specs.declared.deeds.Deed.TheVariants.{Wrote, MetFull}
 use Rattle.shards.specs.Deeds.{entries_made}
 use Rattle.semantics.specs.declared.call.Entry.{Entry}
-use Rattle.guarantees.specs.Steps.{AskedOfShard, Nothing, Writes, Refused, Move, AreSteps, entries_asked, deeds_asked, deeds_in}
+use Rattle.guarantees.specs.Steps.{AskedOfShard, Nothing, Writes, TurnedAway, Move, AreSteps, entries_asked, deeds_asked, deeds_in}
 use Rattle.guarantees.specs.Moves.{IsMove, IsAskedSo, after_asked, is_event_of}
 use Rattle.guarantees.specs.Merging.{events_of, IsWrittenNext, AreWrittenInOrder}
 use Rattle.semantics.specs.Events.{Ending, ending_in, ended_by}
@@ -64,13 +64,13 @@ pub asked_written : (before after : SystemState) (asked : AskedOfShard) → afte
     IsWrittenNext before (entries_asked asked) after
 asked_written before after Nothing same = same
 asked_written before after (Writes entry) same = same
-asked_written before after (Refused call) same = same
+asked_written before after (TurnedAway call) same = same
 
 pub entries_are : (worker : ℕ) (asked : AskedOfShard) (later : List Deed) (entries : List Entry) → entries_made later ≡ entries →
     entries_made (deeds_asked worker asked ++ later) ≡ entries_asked asked ++ entries
 entries_are worker Nothing later entries rest = rest
 entries_are worker (Writes entry) later entries rest = ap (λ (list : List Entry). entry ∷ list) rest
-entries_are worker (Refused call) later entries rest = rest
+entries_are worker (TurnedAway call) later entries rest = rest
 
 -- ---- events of one worker
 
@@ -107,19 +107,19 @@ own_go worker other (event ∷ events) apart own =
 pub asked_workers : (system : SystemState) (asked : AskedOfShard) → (after_asked system asked).workers ≡ system.workers
 asked_workers system Nothing = refl
 asked_workers system (Writes entry) = refl
-asked_workers system (Refused call) = refl
+asked_workers system (TurnedAway call) = refl
 
 asked_histories : (system : SystemState) (worker : ℕ) (now : WorkerState) (asked : AskedOfShard) →
     (after_asked (with_worker system worker now) asked).histories ≡ (after_asked system asked).histories
 asked_histories system worker now Nothing = refl
 asked_histories system worker now (Writes entry) = refl
-asked_histories system worker now (Refused call) = refl
+asked_histories system worker now (TurnedAway call) = refl
 
 asked_with : (setting : Setting) (system : SystemState) (worker : ℕ) (now : WorkerState) (asked : AskedOfShard) →
     IsAskedSo setting system asked → IsAskedSo setting (with_worker system worker now) asked
 asked_with setting system worker now Nothing is = tt
 asked_with setting system worker now (Writes entry) is = record { plan = is.plan; known = is.known; room = is.room; replied = is.replied }
-asked_with setting system worker now (Refused call) is = record { plan = is.plan; known = is.known; full = is.full }
+asked_with setting system worker now (TurnedAway call) is = record { plan = is.plan; known = is.known; full = is.full }
 
 same_asked : (worker : ℕ) (one other : AskedOfShard) (deed : Deed) → deeds_asked worker one ≡ deed ∷ [] →
     deeds_asked worker other ≡ deed ∷ [] → one ≡ other
@@ -127,14 +127,14 @@ same_asked worker Nothing other deed is also = absurd cc
 same_asked worker (Writes entry) Nothing deed is also = absurd cc
 same_asked worker (Writes entry) (Writes another) deed is also =
     let first : Wrote entry ≡ deed = cc in let second : Wrote another ≡ deed = cc in let same : entry ≡ another = cc in ap Writes same
-same_asked worker (Writes entry) (Refused call) deed is also =
+same_asked worker (Writes entry) (TurnedAway call) deed is also =
     let first : Wrote entry ≡ deed = cc in let second : MetFull (Worker worker) call ≡ deed = cc in absurd cc
-same_asked worker (Refused call) Nothing deed is also = absurd cc
-same_asked worker (Refused call) (Writes entry) deed is also =
+same_asked worker (TurnedAway call) Nothing deed is also = absurd cc
+same_asked worker (TurnedAway call) (Writes entry) deed is also =
     let first : MetFull (Worker worker) call ≡ deed = cc in let second : Wrote entry ≡ deed = cc in absurd cc
-same_asked worker (Refused call) (Refused another) deed is also =
+same_asked worker (TurnedAway call) (TurnedAway another) deed is also =
     let first : MetFull (Worker worker) call ≡ deed = cc in let second : MetFull (Worker worker) another ≡ deed = cc in let same : call ≡ another = cc in
-    ap Refused same
+    ap TurnedAway same
 
 -- ---- up to a worker's next deed
 
@@ -275,13 +275,13 @@ advance_by setting count worker asked deed later move moves before onward few on
     let rest : deeds_in worker moves ≡ later = cc in
     by_deed setting count worker asked later move moves before few asks steps
     (is ∙ same_asked worker (Writes entry) asked deed (ap (λ (one : Deed). one ∷ []) same) one) rest
-advance_by setting count worker asked deed later move moves before onward few one asks made steps (Refused call) is =
+advance_by setting count worker asked deed later move moves before onward few one asks made steps (TurnedAway call) is =
     let all : MetFull (Worker worker) call ∷ deeds_in worker moves ≡ deed ∷ later =
     ap (λ (own : AskedOfShard). deeds_asked worker own ++ deeds_in worker moves) (sym is) ∙ made in
     let same : MetFull (Worker worker) call ≡ deed = cc in
     let rest : deeds_in worker moves ≡ later = cc in
     by_deed setting count worker asked later move moves before few asks steps
-    (is ∙ same_asked worker (Refused call) asked deed (ap (λ (one : Deed). one ∷ []) same) one) rest
+    (is ∙ same_asked worker (TurnedAway call) asked deed (ap (λ (one : Deed). one ∷ []) same) one) rest
 
 pub advance : (setting : Setting) (count worker : ℕ) (asked : AskedOfShard) (deed : Deed) (later : List Deed) (moves : List Move)
     (before : SystemState) (ends : List Ending) → AdvancesFrom setting count worker asked deed later moves ends before
@@ -351,7 +351,7 @@ out_by setting count worker move moves before onward few none steps (Writes entr
     let some : Wrote entry ∷ deeds_in worker moves ≡ [] =
     ap (λ (own : AskedOfShard). deeds_asked worker own ++ deeds_in worker moves) (sym is) ∙ none in
     absurd cc
-out_by setting count worker move moves before onward few none steps (Refused call) is =
+out_by setting count worker move moves before onward few none steps (TurnedAway call) is =
     let some : MetFull (Worker worker) call ∷ deeds_in worker moves ≡ [] =
     ap (λ (own : AskedOfShard). deeds_asked worker own ++ deeds_in worker moves) (sym is) ∙ none in
     absurd cc

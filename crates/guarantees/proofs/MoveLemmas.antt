@@ -18,7 +18,7 @@ use Rattle.semantics.specs.ShardPlan.{plan_for_map, plan_at}
 use Rattle.semantics.specs.History.{shard_of_call}
 use Rattle.semantics.specs.System.{Setting, program_of_setting, SystemState, WorkerState, Idle, Runs, Leaves, worker_state, with_worker, with_entry, is_entered, IsInputFrame, input_frame, is_local, calls_map, DoesNext, MayLeave, run_over, without_shard, after_local, after_instruction, entry_for, after_run_call, after_asking, after_shard_call, after_leaving}
 use Rattle.shard_port.specs.Asking.{enter_by, asked_entry}
-use Rattle.guarantees.specs.Steps.{Writes, Refused, does, begins, asks, leave, RunBegins, RunGoesOn, RunEnds, CallIsServed, ShardIsEntered, CallIsRefused, EnterIsRefused, ShardIsLeft}
+use Rattle.guarantees.specs.Steps.{Writes, TurnedAway, does, begins, asks, leave, RunBegins, RunGoesOn, RunEnds, CallIsServed, ShardIsEntered, CallIsRefused, EnterIsRefused, ShardIsLeft}
 use Rattle.guarantees.specs.Moves.{Answers, TurnsAway, IsMove, StepsAreMoves}
 
 -- ---- by a plan of the setting
@@ -138,7 +138,7 @@ enters setting worker state entered call next is outside = record {
 
 is_refused : (setting : Setting) (worker : ℕ) (state : MachineState) (entered : List ℕ) (call : Call) (next : Reply → MachineState) →
     next_step (program_of_setting setting) state ≡ CallsMap call next → is_entered (shard_of_call call) entered ≡ true →
-    IsMove setting worker (Runs state entered) (asks worker (Refused call)) (run_over entered)
+    IsMove setting worker (Runs state entered) (asks worker (TurnedAway call)) (run_over entered)
 is_refused setting worker state entered call next is inside = record {
   own = own_event worker;
   can = λ system stands turns. can_ask setting system worker state entered call next stands is;
@@ -149,7 +149,7 @@ is_refused setting worker state entered call next is inside = record {
 
 cannot_enter : (setting : Setting) (worker : ℕ) (state : MachineState) (entered : List ℕ) (call : Call) (next : Reply → MachineState) →
     next_step (program_of_setting setting) state ≡ CallsMap call next → is_entered (shard_of_call call) entered ≡ false →
-    IsMove setting worker (Runs state entered) (asks worker (Refused (Enter (shard_of_call call)))) (run_over entered)
+    IsMove setting worker (Runs state entered) (asks worker (TurnedAway (Enter (shard_of_call call)))) (run_over entered)
 cannot_enter setting worker state entered call next is outside = record {
   own = own_event worker;
   can = λ system stands turns. can_ask setting system worker state entered call next stands is;

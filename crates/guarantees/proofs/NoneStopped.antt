@@ -1,8 +1,7 @@
 -- Where no run is counted as stopped, none was.
-use Rattle.std.proofs.Common.{◌≡◌, ◌⊎◌, ℕ, zero, suc, ◌<◌, ◌==◌, Bool, true, false, not, ◌&&◌, List, length, refl, sym, ◌∙◌, ap, subst, arith, inl, inr}
+use Rattle.std.proofs.Common.{◌≡◌, ◌⊎◌, ℕ, zero, suc, ◌<◌, ◌==◌, Bool, true, false, List, refl, sym, ◌∙◌, ap, subst, arith, inl, inr}
 use Rattle.std.specs.Prelude.{Option, Some, None, slice_get}
 use Rattle.std.specs.List.{AllByRecursion}
-use Rattle.std.proofs.lemmas.Bool.{false≢true}
 use Rattle.std.proofs.lemmas.Bool.Decides.{nat_tests}
 use Rattle.actors.specs.declared.account.Counts.{Counts}
 use Rattle.actors.specs.declared.runner.Ran.{Ran}
@@ -11,10 +10,9 @@ use Rattle.actors.specs.declared.runner.RunEnd.TheVariants.{Stopped, Exited}
 use Rattle.actors.specs.declared.runner.FrameFate.TheVariants.{Aborted, Dropped, Passed, Sent as IsSent}
 use Rattle.actors.specs.Accounts.{counted, counts_of, fate_of, runs_at, end_at}
 use Rattle.actors.specs.RunJobs.{records_of}
-use Rattle.actors.specs.Shares.{frame_at, is_short, is_handed, worker_of_frame, share}
-use Rattle.semantics.proofs.shared.ConditionLemmas.{second_true}
+use Rattle.actors.specs.Shares.{frame_at, is_short, share}
 use Rattle.guarantees.specs.ReplayMoves.{IsNotStopped}
-use Rattle.guarantees.proofs.ShareOrder.{IsHandedAt, handed_at, each_run}
+use Rattle.actors.proofs.shared.ShareOrder.{IsHandedAt, handed_at, is_long, fate_is, each_run}
 
 abbrev pub WasNotStopped : Option RunEnd → Type 0
 WasNotStopped (Some end) = IsNotStopped end
@@ -47,35 +45,6 @@ none_of frames workers runs (suc count) none number below =
     let more = one_more (counts_of frames workers runs count) (fate_of frames workers runs count) none in
     by_place frames workers runs number count (none_of frames workers runs count more.0 number) more.1
     (less_or_same number count below (number == count) refl)
-
--- ---- what became of a record that a worker was handed
-
-long_of : (short own : Bool) → (not short && own) ≡ true → short ≡ false
-long_of true own held = absurd (false≢true held)
-long_of false own held = refl
-
-own_of : (frames : List (List ℕ)) (workers worker number : ℕ) → is_handed frames workers worker number ≡ true →
-    worker_of_frame (frame_at frames number) workers ≡ worker
-own_of frames workers worker number handed =
-    let test : (worker_of_frame (frame_at frames number) workers == worker) ≡ true =
-    second_true (not (is_short (frame_at frames number))) (worker_of_frame (frame_at frames number) workers == worker) handed in
-    grind (arith, nat_tests)
-
-pub is_long : (frames : List (List ℕ)) (workers worker number : ℕ) → is_handed frames workers worker number ≡ true →
-    is_short (frame_at frames number) ≡ false
-is_long frames workers worker number handed =
-    long_of (is_short (frame_at frames number)) (worker_of_frame (frame_at frames number) workers == worker) handed
-
-unfolded : (frames : List (List ℕ)) (workers : ℕ) (runs : List (List Ran)) (number : ℕ) → is_short (frame_at frames number) ≡ false →
-    fate_of frames workers runs number ≡ end_at (runs_at runs (worker_of_frame (frame_at frames number) workers))
-    (length (share frames workers (worker_of_frame (frame_at frames number) workers) number))
-unfolded frames workers runs number long = rw long refl
-
-pub fate_is : (frames : List (List ℕ)) (workers : ℕ) (runs : List (List Ran)) (worker number : ℕ) → is_handed frames workers worker number ≡ true →
-    fate_of frames workers runs number ≡ end_at (runs_at runs worker) (length (share frames workers worker number))
-fate_is frames workers runs worker number handed =
-    unfolded frames workers runs number (is_long frames workers worker number handed)
-    ∙ ap (λ (w : ℕ). end_at (runs_at runs w) (length (share frames workers w number))) (own_of frames workers worker number handed)
 
 -- ---- so each run of a worker ended, and is that of a frame
 

@@ -20,7 +20,7 @@ use Rattle.machine.specs.declared.exit.Stop.{Stop}
 use Rattle.machine.specs.declared.exit.Stop.TheVariants.{JournalFull}
 use Rattle.machine.specs.declared.moment.Moment.{Moment}
 use Rattle.machine.specs.Running.{program_of}
-use Rattle.journals.specs.JournalsView.{entries_at}
+use Rattle.journals.specs.JournalsView.{JournalsView, entries_at}
 use Rattle.shards.specs.declared.deeds.Deed.{Deed}
 use Rattle.shards.specs.Deeds.{shard_of_deed, deeds_of}
 use Rattle.shards.specs.declared.deeds.OrderPart.TheVariants.{ByCaller}
@@ -34,34 +34,36 @@ use Rattle.actors.specs.declared.runner.FrameFate.TheVariants.{Aborted, Dropped,
 use Rattle.actors.specs.declared.runner.Ran.{Ran}
 use Rattle.actors.specs.declared.runner.RunEnd.{RunEnd}
 use Rattle.actors.specs.declared.runner.RunEnd.TheVariants.{Stopped as WasStopped, Exited as HasExited}
-use Rattle.actors.specs.Accounted.{IsWorkOf, IsAccounted}
-use Rattle.actors.specs.Accounts.{runs_at, sent_frames, verdict_for}
+use Rattle.actors.specs.Accounted.{runs_in_chain, runs_in_work, IsAccounted}
+use Rattle.actors.specs.Accounts.{runs_at, verdict_for}
 use Rattle.actors.specs.Commands.{AnsweredUpdate, CommandDone, all_set, made_deeds, command_deeds, commands_deeds}
 use Rattle.actors.specs.Parts.{round_count as rounds_for, first_commands}
 use Rattle.actors.specs.Rounds.{keyed_below}
 use Rattle.actors.specs.RunJobs.{records_of}
 use Rattle.actors.specs.RunsInOrder.{IsRunAt, IsChainOfRuns}
-use Rattle.actors.specs.Shares.{frames_of, frame_at, is_short, worker_of_frame, share}
+use Rattle.actors.specs.RunsOverShards.{IsRunIn}
+use Rattle.actors.specs.Shares.{frames_of, frame_at, is_short, worker_of_frame, share, captured_of}
 use Rattle.semantics.specs.Events.{Ending, Exited, Stopped, begun_by}
-use Rattle.guarantees.specs.RunsInList.{moment_of, IsRunOfImage, IsEitherOfImage}
-use Rattle.guarantees.specs.Headline.{AreOfScript, Headline}
+use Rattle.guarantees.specs.RunsInList.{moment_of, IsOfSystem, AreOfSystem, moves_of_runs}
+use Rattle.guarantees.specs.Headline.{Headline}
 use Rattle.guarantees.specs.Merging.{events_of}
 use Rattle.guarantees.specs.HeadlineOf.{HeadlineOf, ReplaysKeepHeadline}
 use Rattle.guarantees.proofs.LastRound.{ends_with_round}
 use Rattle.actors.specs.Captured.{IsCaptured}
 use Rattle.semantics.specs.Replay.{Captured, RecordEnd, IsReplay, first_calls, input_of, is_run_by, runner_of, keyed_shards, rounds_over, shard_count, frames_sent}
-use Rattle.guarantees.specs.ReplayOf.{captured_of, calls_made, command_calls, asked_of, totals_in, result_of}
+use Rattle.guarantees.specs.ReplayOf.{calls_made, command_calls, asked_of, totals_in, result_of}
 use Rattle.guarantees.specs.Steps.{Move}
 use Rattle.guarantees.specs.SystemLaws.{RunsAreOfTheSystem, StoppedRunsAreOfTheSystem}
 use Rattle.guarantees.specs.SystemRuns.{setting_of, HasStoppedInSystem}
 use Rattle.guarantees.proofs.AnswerLemmas.{begun_among}
+use Rattle.actors.proofs.shared.PutLemmas.{worker_below}
 use Rattle.guarantees.proofs.DeedAnswers.{heard_is, all_askable, calls_are, answers_are, made_as_many, commands_as_many, keyed_are, rounds_are}
 use Rattle.guarantees.proofs.EndLemmas.{Walk}
-use Rattle.guarantees.proofs.HeadlineRuns.{work, moves, moves_of_work, order_is, of_accounted}
+use Rattle.guarantees.proofs.HeadlineRuns.{are_of_system, moves, moves_of_work, order_is, of_accounted}
 use Rattle.guarantees.specs.InParts.{call_of_deed}
 use Rattle.guarantees.proofs.Heard.{heard, is_heard, answer_of_deed}
 use Rattle.guarantees.proofs.Merge.{IsListWithEnds, IsListFirst, AreControllers, one_list_first}
-use Rattle.guarantees.proofs.RecordEnds.{first_all, placed, picked, of_sent, IsEndingOf, IsRunOfRecord, AreRunsEnded, all_ends, runners_are, totals_are, told_are, sent_are, ends_are, share_is, spread_below}
+use Rattle.guarantees.proofs.RecordEnds.{first_all, placed, picked, IsEndingOf, IsRunOfRecord, AreRunsEnded, all_ends, runners_are, totals_are, told_are, sent_are, ends_are, share_is}
 use Rattle.guarantees.proofs.RunEnds.{ending_at_stop, ending_of, endings_of, captured_in, walk_of, begun_in}
 use Rattle.guarantees.proofs.SizedUpdates.{commands_may_look}
 
@@ -76,81 +78,94 @@ stopped_so setting worker moment frame plan count before after kept_back (Journa
 same_some : (one other : ℕ) → Some one ≡ Some other → one ≡ other
 same_some one other same = cc
 
-module _ (verified : Verified) (options : Options) (plan : ℕ → ShardPlan) (count worker : ℕ) where
-  steps_are : (captured : Sent) (before : PassView) (steps : ℕ) (fate : FrameFate) (after : PassView) →
-      (run : IsRunOfImage verified options count worker captured before (HasExited steps fate) after) → run.of_system.last.steps ≡ steps
-  steps_are captured before steps fate after run = sym (same_some steps run.steps run.counted ∙ run.of_system.counted)
+module _ (verified : Verified) (options : Options) (plan : ℕ → ShardPlan) (count worker : ℕ) (journals : JournalsView) where
+  abbrev IsIn : Sent → PassView → RunEnd → PassView → Type 0
+  IsIn captured before end after = IsRunIn plan count (program_of verified options.shards) worker journals captured before end after
+
+  abbrev IsOf : (captured : Sent) (before : PassView) (end : RunEnd) (after : PassView) → IsIn captured before end after → Type 0
+  IsOf captured before end after run = IsOfSystem verified options plan count worker journals captured before end after run
 
   exited_so : (captured : Sent) (before : PassView) (steps : ℕ) (fate : FrameFate) (after : PassView) →
-      (run : IsRunOfImage verified options count worker captured before (HasExited steps fate) after) → run.verdict ≡ verdict_for fate →
-      Exited run.verdict run.of_system.last.frame.bytes run.of_system.last.steps ≡ Exited (verdict_for fate) run.of_system.last.frame.bytes steps
-  exited_so captured before steps fate after run verdict =
-      λ i. Exited (verdict i) run.of_system.last.frame.bytes (steps_are captured before steps fate after run i)
+      (run : IsIn captured before (HasExited steps fate) after) (of_system : IsOf captured before (HasExited steps fate) after run) →
+      run.verdict ≡ verdict_for fate →
+      Exited run.verdict of_system.last.frame.bytes of_system.last.steps ≡ Exited (verdict_for fate) of_system.last.frame.bytes steps
+  exited_so captured before steps fate after run of_system verdict =
+      λ i. Exited (verdict i) of_system.last.frame.bytes (sym (same_some steps run.steps run.counted ∙ of_system.counted) i)
 
   told_so : (captured : Sent) (before : PassView) (end : RunEnd) (after : PassView) →
-      (run : IsEitherOfImage verified options plan count worker captured before end after) →
-      IsEndingOf captured end (ending_of verified options plan count worker captured before end after run)
+      (run : IsIn captured before end after) (of_system : IsOf captured before end after run) →
+      IsEndingOf captured end (ending_of verified options plan count worker journals captured before end after run of_system)
   unfolding ending_of
-  told_so captured before WasStopped after run =
-      stopped_so (setting_of verified options) worker (moment_of captured worker) captured.bytes.items plan count before after run.frame run.stop run.of_system
-  told_so captured before (HasExited steps Aborted) after run =
-      (run.of_system.last.frame.bytes, exited_so captured before steps Aborted after run run.told, tt)
-  told_so captured before (HasExited steps Dropped) after run =
-      (run.of_system.last.frame.bytes, exited_so captured before steps Dropped after run run.told, tt)
-  told_so captured before (HasExited steps Passed) after run =
-      (run.of_system.last.frame.bytes, exited_so captured before steps Passed after run run.told, tt)
-  told_so captured before (HasExited steps (IsSent out)) after run = (
-    run.of_system.last.frame.bytes,
-    exited_so captured before steps (IsSent out) after run run.told.0,
-    (run.told.1.seconds, run.told.1.micros, run.told.1.bytes_are ∙ ap (λ (frame : FrameView). frame.bytes) run.of_system.sent_is),
+  told_so captured before WasStopped after run of_system =
+      stopped_so (setting_of verified options) worker (moment_of captured worker) captured.bytes.items plan count before after run.frame run.stop of_system
+  told_so captured before (HasExited steps Aborted) after run of_system =
+      (of_system.last.frame.bytes, exited_so captured before steps Aborted after run of_system run.told, tt)
+  told_so captured before (HasExited steps Dropped) after run of_system =
+      (of_system.last.frame.bytes, exited_so captured before steps Dropped after run of_system run.told, tt)
+  told_so captured before (HasExited steps Passed) after run of_system =
+      (of_system.last.frame.bytes, exited_so captured before steps Passed after run of_system run.told, tt)
+  told_so captured before (HasExited steps (IsSent out)) after run of_system = (
+    of_system.last.frame.bytes,
+    exited_so captured before steps (IsSent out) after run of_system run.told.0,
+    (run.told.1.seconds, run.told.1.micros, run.told.1.bytes_are ∙ ap (λ (frame : FrameView). frame.bytes) of_system.sent_is),
   )
 
   -- ---- the runs of a worker, by their places
 
-  abbrev IsChain : List Sent → PassView → List Ran → PassView → Type 0
-  IsChain records before runs after = IsChainOfRuns (IsRunAt (IsEitherOfImage verified options plan count worker) records) before runs after
+  module _ (records : List Sent) where
+    abbrev IsRun : PassView → Ran → PassView → Type 0
+    IsRun = IsRunAt (IsRunIn plan count (program_of verified options.shards) worker journals) records
 
-  run_at : (records : List Sent) (before : PassView) (runs : List Ran) (after : PassView) → (chain : IsChain records before runs after) →
-      (place number : ℕ) → slice_get (records_of runs) place ≡ Some number →
-      IsRunOfRecord records runs (endings_of verified options plan count worker records before runs after chain) place number
-  unfolding endings_of
-  run_at records before [] after chain place number there = absurd cc
-  run_at records before (ran ∷ later) after chain zero number there =
-      let same : ran.number ≡ number = cc there in
-      record {
-        end = ran.end;
-        ends_so = refl;
-        sent = chain.1.sent;
-        known = ap (slice_get records) (sym same) ∙ chain.1.known;
-        ending = ending_of verified options plan count worker chain.1.sent before ran.end chain.0 chain.1.run;
-        there = refl;
-        told = told_so chain.1.sent before ran.end chain.0 chain.1.run;
-      }
-  run_at records before (ran ∷ later) after chain (suc place) number there =
-      let rest = run_at records chain.0 later after chain.2 place number there in
-      record {
-        end = rest.end;
-        ends_so = rest.ends_so;
-        sent = rest.sent;
-        known = rest.known;
-        ending = rest.ending;
-        there = rest.there;
-        told = rest.told;
-      }
+    abbrev AreOf : (before : PassView) (runs : List Ran) (after : PassView) → IsChainOfRuns IsRun before runs after → Type 0
+    AreOf before runs after chain =
+        AreOfSystem verified options plan count worker journals records (runs_in_chain IsRun before runs after chain)
 
-  as_many : (records : List Sent) (before : PassView) (runs : List Ran) (after : PassView) → (chain : IsChain records before runs after) →
-      length (endings_of verified options plan count worker records before runs after chain) ≡ length (records_of runs)
-  unfolding endings_of
-  as_many records before [] after chain = refl
-  as_many records before (ran ∷ later) after chain = ap suc (as_many records chain.0 later after chain.2)
+    abbrev endings : (before : PassView) (runs : List Ran) (after : PassView) (chain : IsChainOfRuns IsRun before runs after) →
+        AreOf before runs after chain → List Ending
+    endings before runs after chain are =
+        endings_of verified options plan count worker journals records (runs_in_chain IsRun before runs after chain) are
 
-  captured_are : (records : List Sent) (before : PassView) (runs : List Ran) (after : PassView) → (chain : IsChain records before runs after) →
-      captured_in verified options plan count worker records before runs after chain ≡ picked records (records_of runs)
-  unfolding captured_in
-  captured_are records before [] after chain = refl
-  captured_are records before (ran ∷ later) after chain =
-      ap (λ (list : List Captured). captured_of chain.1.sent ∷ list) (captured_are records chain.0 later after chain.2)
-      ∙ ap (λ (list : List Sent). map captured_of list ++ picked records (records_of later)) (sym (placed records ran.number chain.1.sent chain.1.known))
+    run_at : (before : PassView) (runs : List Ran) (after : PassView) (chain : IsChainOfRuns IsRun before runs after) →
+        (are : AreOf before runs after chain) → (place number : ℕ) → slice_get (records_of runs) place ≡ Some number →
+        IsRunOfRecord records runs (endings before runs after chain are) place number
+    unfolding endings_of
+    run_at before [] after chain are place number there = absurd cc
+    run_at before (ran ∷ later) after chain are zero number there =
+        let same : ran.number ≡ number = cc there in
+        record {
+          end = ran.end;
+          ends_so = refl;
+          sent = chain.1.sent;
+          known = ap (slice_get records) (sym same) ∙ chain.1.known;
+          ending = ending_of verified options plan count worker journals chain.1.sent before ran.end chain.0 chain.1.run are.0;
+          there = refl;
+          told = told_so chain.1.sent before ran.end chain.0 chain.1.run are.0;
+        }
+    run_at before (ran ∷ later) after chain are (suc place) number there =
+        let rest = run_at chain.0 later after chain.2 are.1 place number there in
+        record {
+          end = rest.end;
+          ends_so = rest.ends_so;
+          sent = rest.sent;
+          known = rest.known;
+          ending = rest.ending;
+          there = rest.there;
+          told = rest.told;
+        }
+
+    as_many : (before : PassView) (runs : List Ran) (after : PassView) (chain : IsChainOfRuns IsRun before runs after) →
+        (are : AreOf before runs after chain) → length (endings before runs after chain are) ≡ length (records_of runs)
+    unfolding endings_of
+    as_many before [] after chain are = refl
+    as_many before (ran ∷ later) after chain are = ap suc (as_many chain.0 later after chain.2 are.1)
+
+    captured_are : (before : PassView) (runs : List Ran) (after : PassView) (chain : IsChainOfRuns IsRun before runs after) →
+        captured_in verified options plan count worker journals records (runs_in_chain IsRun before runs after chain) ≡ picked records (records_of runs)
+    unfolding captured_in
+    captured_are before [] after chain = refl
+    captured_are before (ran ∷ later) after chain =
+        ap (λ (list : List Captured). captured_of chain.1.sent ∷ list) (captured_are chain.0 later after chain.2)
+        ∙ ap (λ (list : List Sent). map captured_of list ++ picked records (records_of later)) (sym (placed records ran.number chain.1.sent chain.1.known))
 
 -- ---- workers that there are not run nothing
 
@@ -162,7 +177,7 @@ no_share frames workers worker zero some past = refl
 no_share frames workers worker (suc count) some past =
     ap (λ (test : Bool). if not (is_short (frame_at frames count)) && test then share frames workers worker count ++ count ∷ []
     else share frames workers worker count)
-    (not_below workers worker (worker_of_frame (frame_at frames count) workers) (spread_below (frame_at frames count) workers some) past)
+    (not_below workers worker (worker_of_frame (frame_at frames count) workers) (worker_below (frame_at frames count) workers some) past)
     ∙ none (not (is_short (frame_at frames count))) (share frames workers worker count)
     ∙ no_share frames workers worker count some past
   where
@@ -220,23 +235,24 @@ module _ (ran : RunsAreOfTheSystem) (stopped : StoppedRunsAreOfTheSystem) (verif
   abbrev pub setting : Setting
   setting = setting_of verified options
 
-  abbrev pub worked : (worker : ℕ) → worker < options.workers →
-      IsWorkOf (IsRunAt (IsEitherOfImage verified options accounted.plan accounted.count worker) records)
-      (share (frames_of records) options.workers worker (length records)) worker (runs_at accounted.runs worker) accounted.count outcome.journals accounted.order
-  worked = work ran stopped verified safe script options records outcome fit captured accounted
-
   abbrev pub moved : ℕ → List Move
   moved = (moves ran stopped verified safe script options records outcome fit captured accounted).moves
 
-  abbrev pub own_below : (worker : ℕ) → nat_lt worker options.workers ≡ true → worker < options.workers
-  own_below worker is =
-      (moves_of_work ran stopped verified safe script options records outcome fit captured accounted worker (less worker options.workers is)).below
+  abbrev pub own_moves : (worker : ℕ) → nat_lt worker options.workers ≡ true → (below : worker < options.workers)
+      × (moved worker
+      ≡ moves_of_runs verified options accounted.plan accounted.count worker outcome.journals records (runs_in_work (accounted.work worker below))
+      (are_of_system ran stopped verified safe script options records outcome fit captured accounted worker below))
+  own_moves worker is = moves_of_work ran stopped verified safe script options records outcome fit captured accounted worker (less worker options.workers is)
+
+  abbrev pub of_system : (worker : ℕ) (below : worker < options.workers) →
+      AreOfSystem verified options accounted.plan accounted.count worker outcome.journals records (runs_in_work (accounted.work worker below))
+  of_system = are_of_system ran stopped verified safe script options records outcome fit captured accounted
 
   -- how the runs of a worker ended
   unfoldable pub ends_if : (worker : ℕ) (test : Bool) → nat_lt worker options.workers ≡ test → List Ending
   ends_if worker true is =
-      let did = worked worker (own_below worker is) in
-      endings_of verified options accounted.plan accounted.count worker records did.handled.before (runs_at accounted.runs worker) did.after did.handled.chain
+      endings_of verified options accounted.plan accounted.count worker outcome.journals records
+      (runs_in_work (accounted.work worker (own_moves worker is).0)) (of_system worker (own_moves worker is).0)
   ends_if worker false is = []
 
   unfoldable pub ends : ℕ → List Ending
@@ -247,17 +263,20 @@ module _ (ran : RunsAreOfTheSystem) (stopped : StoppedRunsAreOfTheSystem) (verif
       IsRunOfRecord records (runs_at accounted.runs worker) (ends_if worker test is) place number
   unfolding ends_if
   each_if worker true is below place number there =
-      let did = worked worker (own_below worker is) in
-      run_at verified options accounted.plan accounted.count worker records did.handled.before (runs_at accounted.runs worker) did.after did.handled.chain place
-      number there
+      let own = (own_moves worker is).0 in
+      let did = accounted.work worker own in
+      run_at verified options accounted.plan accounted.count worker outcome.journals records did.handled.before (runs_at accounted.runs worker) did.after
+      did.handled.chain (of_system worker own) place number there
   each_if worker false is below place number there = absurd (grind (arith, nat_tests, is, below))
 
   as_many_if : (worker : ℕ) (test : Bool) → (is : nat_lt worker options.workers ≡ test) →
       length (ends_if worker test is) ≡ length (share (frames_of records) options.workers worker (length records))
   unfolding ends_if
   as_many_if worker true is =
-      let did = worked worker (own_below worker is) in
-      as_many verified options accounted.plan accounted.count worker records did.handled.before (runs_at accounted.runs worker) did.after did.handled.chain
+      let own = (own_moves worker is).0 in
+      let did = accounted.work worker own in
+      as_many verified options accounted.plan accounted.count worker outcome.journals records did.handled.before (runs_at accounted.runs worker) did.after
+      did.handled.chain (of_system worker own)
       ∙ ap length did.handled.records_are
   as_many_if worker false is =
       let past : options.workers ≤ worker = grind (arith, nat_tests, is) in
@@ -267,7 +286,7 @@ module _ (ran : RunsAreOfTheSystem) (stopped : StoppedRunsAreOfTheSystem) (verif
   unfolding ends
   are_ended = record {
     some = fit.some_worker;
-    shares = λ worker below. (worked worker below).handled.records_are;
+    shares = λ worker below. (accounted.work worker below).handled.records_are;
     each = λ worker below. each_if worker (nat_lt worker options.workers) refl below;
     as_many = λ worker. as_many_if worker (nat_lt worker options.workers) refl;
   }
@@ -277,12 +296,10 @@ module _ (ran : RunsAreOfTheSystem) (stopped : StoppedRunsAreOfTheSystem) (verif
       Walk setting accounted.count worker Idle (moved worker) (ends_if worker test is)
   unfolding ends_if
   walk_if worker true is =
-      let did = worked worker (own_below worker is) in
-      let own = moves_of_work ran stopped verified safe script options records outcome fit captured accounted worker (less worker options.workers is) in
-      subst (λ (list : List Move). Walk setting accounted.count worker Idle list
-      (endings_of verified options accounted.plan accounted.count worker records did.handled.before (runs_at accounted.runs worker) did.after did.handled.chain))
-      (sym own.are)
-      (walk_of verified options accounted.plan accounted.count worker records did.handled.before (runs_at accounted.runs worker) did.after did.handled.chain)
+      let own = own_moves worker is in
+      subst (λ (list : List Move). Walk setting accounted.count worker Idle list (ends_if worker true is)) (sym own.1)
+      (walk_of verified options accounted.plan accounted.count worker outcome.journals records (runs_in_work (accounted.work worker own.0))
+      (of_system worker own.0))
   walk_if worker false is =
       let past : options.workers ≤ worker = grind (arith, nat_tests, is) in
       subst (λ (list : List Move). Walk setting accounted.count worker Idle list [])
@@ -305,13 +322,13 @@ module _ (ran : RunsAreOfTheSystem) (stopped : StoppedRunsAreOfTheSystem) (verif
   begun_is : (worker : ℕ) (test : Bool) → (is : nat_lt worker options.workers ≡ test) →
       begun_by worker (events_of (moved worker)) ≡ map (input_of worker) (filter (own_of worker) (map captured_of records))
   begun_is worker true is =
-      let did = worked worker (own_below worker is) in
-      let own = moves_of_work ran stopped verified safe script options records outcome fit captured accounted worker (less worker options.workers is) in
-      ap (λ (list : List Move). begun_by worker (events_of list)) own.are
-      ∙ begun_in verified options accounted.plan accounted.count worker records did.handled.before (runs_at accounted.runs worker) did.after did.handled.chain
+      let own = own_moves worker is in
+      let did = accounted.work worker own.0 in
+      ap (λ (list : List Move). begun_by worker (events_of list)) own.1
+      ∙ begun_in verified options accounted.plan accounted.count worker outcome.journals records (runs_in_work did) (of_system worker own.0)
       ∙ ap (map (input_of worker))
-      (captured_are verified options accounted.plan accounted.count worker records did.handled.before (runs_at accounted.runs worker) did.after
-      did.handled.chain
+      (captured_are verified options accounted.plan accounted.count worker outcome.journals records did.handled.before (runs_at accounted.runs worker)
+      did.after did.handled.chain
       ∙ ap (picked records) did.handled.records_are ∙ share_in worker)
   begun_is worker false is =
       let past : options.workers ≤ worker = grind (arith, nat_tests, is) in
@@ -325,10 +342,6 @@ module _ (ran : RunsAreOfTheSystem) (stopped : StoppedRunsAreOfTheSystem) (verif
   abbrev pub record_ends : List RecordEnd
   record_ends = all_ends (frames_of records) options.workers ends (length records)
 
-  sent_both : (list : List Sent) → map captured_of list ≡ map of_sent (sent_frames list)
-  sent_both [] = refl
-  sent_both (one ∷ list) = ap (λ (more : List Captured). captured_of one ∷ more) (sent_both list)
-
   abbrev pub done : List CommandDone
   done = accounted.commands.done
 
@@ -339,11 +352,12 @@ module _ (ran : RunsAreOfTheSystem) (stopped : StoppedRunsAreOfTheSystem) (verif
   controller_deeds = made_deeds verified.maps options made ++ commands_deeds verified.maps options done
 
   pub heard_controller : heard accounted.plan Controller (reverse accounted.order) ≡ controller_deeds
-  heard_controller = heard_is accounted.plan Controller accounted.order controller_deeds accounted.commands.did
+  heard_controller =
+      let by = accounted.commands.of_script in
+      heard_is accounted.plan Controller accounted.order controller_deeds accounted.commands.did
       (all_askable accounted.plan verified.maps options made done
-      (commands_may_look accounted.plan verified.maps options accounted.count accounted.commands.size accounted.plans fit script sized
-      accounted.commands.serves accounted.commands.noted done accounted.commands.are_noted (opened_controller accounted.commands.size)
-      accounted.commands.state accounted.commands.are_done refl))
+      (commands_may_look accounted.plan verified.maps options accounted.count by.size accounted.plans fit script sized by.serves by.noted done by.are_noted
+      (opened_controller by.size) by.state by.are_done refl))
 
   -- what the order begins with
   abbrev first_done : List CommandDone
@@ -417,7 +431,7 @@ module _ (ran : RunsAreOfTheSystem) (stopped : StoppedRunsAreOfTheSystem) (verif
         ∙ ap (λ (list : List Sent). map (runner_of (λ frame. worker_of_frame frame options.workers)) (map captured_of list)) (first_all records);
     ended = λ worker. with_ends.ended worker ∙ sym (ends_are records options.workers accounted.runs ends are_ended worker);
     totals = ap totals_in accounted.counts ∙ totals_are records options.workers accounted.runs ends are_ended (length records) (omega arith);
-    sent = sent_both outcome.sent.items ∙ ap (map of_sent) accounted.sent
+    sent = accounted.sent
         ∙ sent_are records options.workers accounted.runs ends are_ended (length records) (omega arith)
         ∙ ap (λ (list : List Sent). frames_sent (map captured_of list) record_ends) (first_all records);
     answers = with_ends.answers ∙ ap (map answer_of_deed) heard_controller ∙ answers_are verified.maps options made done;
@@ -426,29 +440,13 @@ module _ (ran : RunsAreOfTheSystem) (stopped : StoppedRunsAreOfTheSystem) (verif
     idle = with_ends.list.idle;
   }
 
-  -- the commands that were carried out are the script's
-  pub of_script : AreOfScript verified.maps script outcome.refused.items done
-  of_script =
-      let by = accounted.commands in
-      record {
-        size = by.size;
-        size_is_served = by.size_is_served;
-        serves = by.serves;
-        noted = by.noted;
-        each_once = by.each_once;
-        are_noted = by.are_noted;
-        state = by.state;
-        are_done = by.are_done;
-        refused_are = by.refused_are;
-      }
-
   abbrev pub kept : (with_ends : IsListed) → AreFirstCalls with_ends.list.events → Headline verified script options records outcome
   kept with_ends calls_first = record {
     safe = safe;
     replay = record {
       options_fit = fit;
       done = done;
-      of_script = of_script;
+      of_script = accounted.commands.of_script;
       ends = record_ends;
       are_told = told_are records options.workers accounted.runs ends are_ended (length records) (omega arith) ∙ sym accounted.ends;
       journals_are = record {

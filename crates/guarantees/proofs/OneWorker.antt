@@ -17,10 +17,10 @@ use Rattle.shards.specs.declared.deeds.Deed.{Deed}
 use Rattle.shards.specs.declared.deeds.Deed.TheVariants.{Wrote, MetFull}
 use Rattle.shards.specs.Deeds.{shard_of_deed, caller_of_deed, is_of_shard, entries_made, AreMet, AreDeedsWithin}
 use Rattle.guarantees.specs.Steps.{InRun, running, AreStepsOfRun, leavings}
-use Rattle.guarantees.specs.Steps.{AskedOfShard, Nothing, Writes, Refused, Move, IsStep, RunBegins, RunGoesOn, RunEnds, CallIsServed, ShardIsEntered, CallIsRefused, EnterIsRefused, ShardIsLeft, AreSteps, entries_in, deeds_asked, deeds_in}
+use Rattle.guarantees.specs.Steps.{AskedOfShard, Nothing, Writes, TurnedAway, Move, IsStep, RunBegins, RunGoesOn, RunEnds, CallIsServed, ShardIsEntered, CallIsRefused, EnterIsRefused, ShardIsLeft, AreSteps, entries_in, deeds_asked, deeds_in}
 use Rattle.guarantees.specs.Merging.{is_refusal, NoneRefused, moves_of, IsOrderOfMoves, IsOneList, IsSetBefore, set_and_done, OneWorkerIsOneList}
-use Rattle.guarantees.proofs.DeedLemmas.{is_deed_by}
-use Rattle.guarantees.proofs.EveryEntry.{all_both, all_reverse}
+use Rattle.actors.proofs.shared.DeedLemmas.{is_deed_by}
+use Rattle.actors.proofs.shared.EveryEntry.{all_both, all_reverse}
 use Rattle.guarantees.proofs.Merge.{one_order_is_one_list}
 use Rattle.guarantees.proofs.MergeEvents.{entries_are}
 
@@ -111,7 +111,7 @@ IsWritten (MetFull who call) = ⊥
 asked_writes : (worker : ℕ) (asked : AskedOfShard) → IsFalse (is_refusal asked) → AllByRecursion IsWritten (deeds_asked worker asked)
 asked_writes worker Nothing none = tt
 asked_writes worker (Writes entry) none = (tt, tt)
-asked_writes worker (Refused call) none = absurd cc
+asked_writes worker (TurnedAway call) none = absurd cc
 
 pub all_written : (worker : ℕ) (moves : List Move) → NoneRefused moves → AllByRecursion IsWritten (deeds_in worker moves)
 all_written worker [] none = tt

@@ -20,6 +20,7 @@ use Rattle.semantics.specs.ShardPlan.{plan_for_map}
 use Rattle.journals.specs.JournalsView.{JournalsView, entries_at}
 use Rattle.shards.specs.CallerView.{CallerView}
 use Rattle.shards.specs.Passes.{PassView, own_at}
+use Rattle.semantics.specs.Replay.{Captured}
 use Rattle.actors.specs.declared.outcome.Applied.{Applied}
 use Rattle.actors.specs.Commands.{all_set, CommandDone, AreNotedOf, made_in, with_updates}
 use Rattle.map_updates.specs.declared.update.MapUpdate.{MapUpdate}
@@ -28,9 +29,9 @@ use Rattle.actors.specs.declared.runner.Ran.{Ran}
 use Rattle.actors.specs.declared.runner.RunEnd.{RunEnd}
 use Rattle.actors.specs.declared.runner.RunEnd.TheVariants.{Stopped, Exited}
 use Rattle.actors.specs.declared.account.Counts.{Counts}
-use Rattle.actors.specs.Accounts.{SentFrame, counts_of, sent_by, sent_of, sent_frames, runs_at, fate_of}
+use Rattle.actors.specs.Accounts.{counts_of, sent_by, sent_of, runs_at, fate_of}
 use Rattle.actors.specs.RunsInOrder.{IsRunAt, IsChainOfRuns}
-use Rattle.actors.specs.Shares.{frames_of, frame_at, is_short, is_spread_by_flow, worker_of_frame, is_handed, share}
+use Rattle.actors.specs.Shares.{frames_of, frame_at, is_short, is_spread_by_flow, worker_of_frame, is_handed, share, all_captured}
 use Rattle.actors.proofs.shared.AccountLemmas.{handed_own}
 use Rattle.actors.specs.declared.outcome.Outcome.{Outcome}
 use Rattle.actors.specs.Accounted.{IsAccounted}
@@ -39,21 +40,14 @@ use Rattle.actors.specs.RunsOverShards.{IsRunIn, IsExit}
 use Rattle.guarantees.specs.ReaderRuns.{is_quiet, AreQuiet, IsReadAtOpening}
 use Rattle.guarantees.specs.ReaderReplays.{sent_at_opening, sent_if_there, all_sent_at_opening}
 use Rattle.actors.specs.Captured.{IsCaptured}
-use Rattle.guarantees.proofs.Callers.{all_of_callers, all_own}
+use Rattle.actors.proofs.shared.Callers.{all_of_callers, all_own}
 use Rattle.guarantees.specs.ReplayMoves.{IsNotStopped}
-use Rattle.guarantees.proofs.NoneStopped.{IsWhole, all_whole, fate_is}
+use Rattle.guarantees.proofs.NoneStopped.{IsWhole, all_whole}
 use Rattle.guarantees.proofs.OpenedRuns.{IsReading, program_at, stays_quiet, earlier, sends_as_opened}
 use Rattle.guarantees.proofs.QuietShards.{quiet_shards}
-use Rattle.guarantees.proofs.ShareOrder.{run_there, share_at}
+use Rattle.actors.proofs.shared.ShareOrder.{fate_is, record_of, run_there, share_at}
 
 -- ---- records
-
-pub record_of : (records : List Sent) (number : ℕ) (captured : Sent) → slice_get records number ≡ Some captured → AllByRecursion IsCaptured records →
-    IsCaptured captured × (frame_at (frames_of records) number ≡ captured.bytes.items)
-record_of [] number captured known all = absurd cc
-record_of (first ∷ later) zero captured known all =
-    let same : first ≡ captured = cc known in (subst IsCaptured same all.0, ap (λ (one : Sent). one.bytes.items) same)
-record_of (first ∷ later) (suc number) captured known all = record_of later number captured known all.1
 
 exit_of : (plan : ℕ → ShardPlan) (count : ℕ) (program : Program) (worker : ℕ) (journals : JournalsView) (captured : Sent) (before : PassView) (end : RunEnd)
     (after : PassView) → IsNotStopped end → IsRunIn plan count program worker journals captured before end after →
@@ -103,7 +97,7 @@ module _ (maps : List MapDef) (code : List Insn) (options : Options) (count : �
       (long_of ran whole.0 run.sent run.known) before ran.end chain.0 (exit_in before ran chain.0 whole.0 run) P number within
       (chain_earlier P chain.0 later after chain.2 whole.1 number within all)).1
 
-  opened_where : (short : Bool) (one : Sent) (list : List SentFrame) → short ≡ false → (if short then [] else list) ≡ list
+  opened_where : (short : Bool) (one : Sent) (list : List Captured) → short ≡ false → (if short then [] else list) ≡ list
   opened_where true one list is = absurd cc
   opened_where false one list is = refl
 
@@ -185,7 +179,7 @@ module _ (maps : List MapDef) (code : List Insn) (options : Options) (some : 0 <
   quiet_controller : (number : ℕ) → number < accounted.count → AreQuiet (own_entries Controller (history number))
   quiet_controller number within =
       let commands = accounted.commands in
-      let made : made_in commands.done ≡ [] = none_noted commands.noted commands.done commands.each_once commands.are_noted in
+      let made : made_in commands.done ≡ [] = none_noted commands.of_script.noted commands.done commands.of_script.each_once commands.of_script.are_noted in
       let none_first = ap (λ (updates : List MapUpdate). with_updates maps options number (all_set updates ++ made_in commands.done) []) none_set in
       subst AreQuiet (sym (commands.own number within ∙ none_first ∙ ap (λ made. with_updates maps options number made []) made)) tt
 
@@ -250,8 +244,8 @@ module _ (maps : List MapDef) (code : List Insn) (options : Options) (some : 0 <
   first_records (suc number) few =
       let before = first_records number (omega (arith, few)) in
       let last = by_length number (omega (arith, few)) (is_short (frame_at (frames_of records) number)) refl in
-      ap (λ (list : List SentFrame). list ++ sent_by (fate_of (frames_of records) options.workers runs number)) before
-      ∙ ap (λ (list : List SentFrame). all_sent_at_opening replayed records number ++ list) last
+      ap (λ (list : List Captured). list ++ sent_by (fate_of (frames_of records) options.workers runs number)) before
+      ∙ ap (λ (list : List Captured). all_sent_at_opening replayed records number ++ list) last
 
-  pub sends_as_at_opening : sent_frames outcome.sent.items ≡ all_sent_at_opening replayed records (length records)
+  pub sends_as_at_opening : all_captured outcome.sent.items ≡ all_sent_at_opening replayed records (length records)
   sends_as_at_opening = accounted.sent ∙ first_records (length records) (omega arith)

@@ -37,7 +37,7 @@ use Rattle.guarantees.specs.ReaderRuns.{is_read, is_quiet, AreReads, AreQuiet, O
 use Rattle.guarantees.specs.ReaderReplays.{opening_answer_in, opening_answer, options_of, sent_by_verdict, sent_where}
 use Rattle.actors.specs.Captured.{IsCaptured}
 use Rattle.guarantees.proofs.Answered.{AreOf, ends_alike}
-use Rattle.guarantees.proofs.EveryEntry.{all_both, all_parts, all_reverse, all_reversed, all_session, in_session, all_entries, each_exchange}
+use Rattle.actors.proofs.shared.EveryEntry.{all_both, all_parts, all_reverse, all_reversed, all_session, in_session, all_entries, each_exchange}
 
 -- ---- the answers of shards as they were opened depend on the number of shards alone
 

@@ -20,12 +20,12 @@ use Rattle.semantics.proofs.shared.SystemSteps.{state_there, state_elsewhere, sa
 use Rattle.shards.specs.declared.deeds.Deed.{Deed}
 use Rattle.shards.specs.declared.deeds.Deed.TheVariants.{Wrote, MetFull}
 use Rattle.shards.specs.Deeds.{shard_of_deed, entries_made, made_on, AreMet, AreDeedsWithin}
-use Rattle.guarantees.specs.Steps.{AskedOfShard, Nothing, Writes, Refused, Move, entries_asked, deeds_asked, deeds_in}
+use Rattle.guarantees.specs.Steps.{AskedOfShard, Nothing, Writes, TurnedAway, Move, entries_asked, deeds_asked, deeds_in}
 use Rattle.guarantees.specs.Moves.{IsMove, IsAskedSo, after_asked, is_event_of}
 use Rattle.guarantees.specs.Merging.{IsWrittenNext, AreWrittenInOrder, events_of}
 use Rattle.guarantees.specs.InParts.{Part, ByController, ByReclaimer, ByWorker, call_of_deed, deeds_of_part, events_of_part, deeds_in_parts, events_in_parts, IsOfCaller, IsPart, AreParts, IsOrderInParts, AreIdleBetween, IsListInParts, OrdersInPartsAreListsInParts}
 use Rattle.guarantees.proofs.AnswerLemmas.{then_ended, then_answered, none_ended, none_answered}
-use Rattle.guarantees.proofs.DeedLemmas.{made_append, met_at}
+use Rattle.actors.proofs.shared.DeedLemmas.{made_append, met_at}
 use Rattle.guarantees.proofs.EndLemmas.{ends_of_asked, ends_in, Walk, end_is, no_end}
 use Rattle.guarantees.proofs.LegalEntries.{entry_is_legal}
 use Rattle.guarantees.proofs.AfterDeeds.{HaveHistories, after_entry, after_look, asked_shards}
@@ -182,7 +182,7 @@ module _ (setting : Setting) (plan : ℕ → ShardPlan) (count : ℕ) (deeds : L
   asks_so worker Nothing earlier later system here = tt
   asks_so worker (Writes entry) earlier later system here =
       answers_at setting (plan (shard_of_call entry.call)) system entry (place earlier later entry system here)
-  asks_so worker (Refused call) earlier later system here =
+  asks_so worker (TurnedAway call) earlier later system here =
       let at = look earlier later (Worker worker) call system here in record { plan = plan (shard_of_call call); known = at.known; full = at.full }
 
   behind_asked : (worker : ℕ) (asked : AskedOfShard) (earlier later : List Deed) (system after : SystemState) →
@@ -198,7 +198,7 @@ module _ (setting : Setting) (plan : ℕ → ShardPlan) (count : ℕ) (deeds : L
         histories = λ number below. ap (λ list. slice_index_or list number []) same ∙ here.histories number below;
       })
   behind_asked worker (Writes entry) earlier later system after here eight same = behind earlier later (Wrote entry) system after here eight same
-  behind_asked worker (Refused call) earlier later system after here eight same =
+  behind_asked worker (TurnedAway call) earlier later system after here eight same =
       behind earlier later (MetFull (Worker worker) call) system after here eight same
 
   record MovesPlayed (worker : ℕ) (earlier later : List Deed) (system : SystemState) (moves : List Move) (ends : List Ending) : Type 0 where

@@ -23,7 +23,7 @@ use Rattle.guarantees.specs.Merging.{events_of}
 use Rattle.guarantees.specs.Moves.{is_event_of}
 use Rattle.guarantees.specs.Steps.{Move, IsStep, RunBegins, RunGoesOn, RunEnds, CallIsServed, ShardIsEntered, CallIsRefused, EnterIsRefused, ShardIsLeft, AreSteps, deeds_asked, deeds_in}
 use Rattle.guarantees.proofs.AnswerLemmas.{then_controlled, then_reclaimed, none_controlled, none_reclaimed}
-use Rattle.guarantees.proofs.EveryEntry.{all_both}
+use Rattle.actors.proofs.shared.EveryEntry.{all_both}
 use Rattle.guarantees.proofs.Heard.{is_heard, heard, answer_of_deed}
 use Rattle.guarantees.proofs.MergeEvents.{AreOwn, own_stay, own_go}
 use Rattle.guarantees.proofs.MoveLemmas.{steps_are_moves}

@@ -1,8 +1,7 @@
 -- The runs of a worker one by one, each with its moves, its end and what it did.
-use Rattle.std.proofs.Common.{◌≡◌, ℕ, List, [], ◌∷◌, ◌++◌, reverse, Some, refl, sym, ◌∙◌, ap}
+use Rattle.std.proofs.Common.{◌≡◌, ℕ, List, [], ◌∷◌, ◌++◌, Some, refl, sym, ◌∙◌, ap}
 use Rattle.std.specs.Prelude.{slice_get}
 use Rattle.std.specs.List.{AllByRecursion, flat_map}
-use Rattle.std.proofs.lemmas.List.{reverse-append, reverse-reverse}
 use Rattle.wire.specs.FrameView.{FrameView}
 use Rattle.wire.specs.declared.records.Sent.{Sent}
 use Rattle.semantics.specs.declared.options.Options.{Options}
@@ -11,36 +10,27 @@ use Rattle.semantics.specs.Events.{Ending}
 use Rattle.semantics.specs.Replay.{input_of}
 use Rattle.semantics.specs.System.{Setting, WorkerState, Idle}
 use Rattle.verifier.specs.Verified.{Verified}
+use Rattle.machine.specs.Running.{program_of}
+use Rattle.journals.specs.JournalsView.{JournalsView}
 use Rattle.machine.specs.declared.exit.Stop.{Stop}
 use Rattle.machine.specs.declared.exit.Stop.TheVariants.{JournalFull}
-use Rattle.shards.specs.declared.deeds.Deed.{Deed}
 use Rattle.shards.specs.Passes.{PassView}
+use Rattle.actors.specs.Shares.{captured_of}
 use Rattle.actors.specs.declared.runner.Ran.{Ran}
 use Rattle.actors.specs.declared.runner.RunEnd.{RunEnd}
 use Rattle.actors.specs.declared.runner.RunEnd.TheVariants.{Stopped as WasStopped, Exited as HasExited}
+use Rattle.actors.specs.Accounted.{PlacedRun, runs_in_chain}
 use Rattle.actors.specs.RunsInOrder.{IsRunAt, IsChainOfRuns}
+use Rattle.actors.specs.RunsOverShards.{IsRunIn}
 use Rattle.guarantees.specs.Merging.{events_of}
-use Rattle.guarantees.specs.ReplayOf.{captured_of}
-use Rattle.guarantees.specs.RunsInList.{moment_of, IsEitherOfImage, moves_to_stop, moves_of_either, moves_of_runs}
-use Rattle.guarantees.specs.Steps.{Refused, Move, does, asks, leavings, IsStep, RunBegins, RunGoesOn, RunEnds, CallIsServed, ShardIsEntered, CallIsRefused, EnterIsRefused, ShardIsLeft, InRun, running, AreStepsOfRun, beginning, deeds_in}
+use Rattle.guarantees.specs.RunsInList.{moment_of, IsOfSystem, AreOfSystem, moves_to_stop, moves_of_run, moves_of_runs}
+use Rattle.guarantees.specs.Steps.{TurnedAway, Move, does, asks, leavings, IsStep, RunBegins, RunGoesOn, RunEnds, CallIsServed, ShardIsEntered, CallIsRefused, EnterIsRefused, ShardIsLeft, InRun, running, AreStepsOfRun, beginning, deeds_in}
 use Rattle.guarantees.specs.SystemRuns.{setting_of, HasStoppedInSystem}
 use Rattle.guarantees.specs.TurnByTurn.{TheRecord, IsWithinRun, IsWholeRun, TurnDeeds, AreDeedsOfRuns}
+use Rattle.actors.proofs.shared.DeedLemmas.{same_more}
 use Rattle.guarantees.proofs.EndLemmas.{Walk}
-use Rattle.guarantees.proofs.ReplayMoves.{either_did}
-use Rattle.guarantees.proofs.RunEnds.{ending_of, endings_of, run_so}
-
--- ---- lists
-
-same_rest : {A : Type 0} (first one other : List A) → first ++ one ≡ first ++ other → one ≡ other
-same_rest [] one other same = same
-same_rest (x ∷ first) one other same = same_rest first one other (cc same)
-
--- what was done more is one list
-same_more : (one other before : List Deed) → reverse one ++ before ≡ reverse other ++ before → one ≡ other
-same_more one other before same =
-    same_rest (reverse before) one other
-    (ap (λ (list : List Deed). reverse before ++ list) (sym (reverse-reverse one)) ∙ sym (reverse-append (reverse one) before) ∙ ap reverse same
-    ∙ reverse-append (reverse other) before ∙ ap (λ (list : List Deed). reverse before ++ list) (reverse-reverse other))
+use Rattle.guarantees.proofs.ReplayMoves.{run_did}
+use Rattle.guarantees.proofs.RunEnds.{moves_so, ending_so, endings_of, run_so}
 
 -- ---- the events of one run
 
@@ -76,7 +66,7 @@ stop_whole : (setting : Setting) (count worker : ℕ) (plan : ℕ → ShardPlan)
     (events_of (moves_to_stop setting worker (moment_of captured worker) captured.bytes.items plan count before after kept_back stop stopped))
 stop_whole setting count worker plan captured before after kept_back (JournalFull shard) stopped =
     let is = stopped.of_system in
-    let final : List Move = asks worker (Refused is.refused) ∷ leavings worker is.left in (
+    let final : List Move = asks worker (TurnedAway is.refused) ∷ leavings worker is.left in (
       events_of (is.run ++ final),
       refl,
       run_within setting count worker is.run final (beginning captured.bytes.items worker (moment_of captured worker).now_ns)
@@ -111,14 +101,16 @@ AreTaken worker (one ∷ runs) [] = ⊥
 AreTaken worker (one ∷ runs) (part ∷ done) =
     (part.turn ≡ TheRecord one.number) × (deeds_in worker one.moves ≡ part.deeds) × AreTaken worker runs done
 
-module _ (verified : Verified) (options : Options) (plan : ℕ → ShardPlan) (count worker : ℕ) where
-  whole_so : (captured : Sent) (before : PassView) (end : RunEnd) (after : PassView) →
-      (run : IsEitherOfImage verified options plan count worker captured before end after) →
-      IsWholeRun worker (input_of worker (captured_of captured)) (events_of (moves_of_either verified options plan count worker captured before end after run))
-  whole_so captured before WasStopped after run =
-      stop_whole (setting_of verified options) count worker plan captured before after run.frame run.stop run.of_system
-  whole_so captured before (HasExited steps fate) after run =
-      let is = run.of_system.of_system in
+module _ (verified : Verified) (options : Options) (plan : ℕ → ShardPlan) (count worker : ℕ) (journals : JournalsView) where
+  whole_so : (captured : Sent) (before : PassView) (end : RunEnd) (after : PassView)
+      (run : IsRunIn plan count (program_of verified options.shards) worker journals captured before end after) →
+      (of_system : IsOfSystem verified options plan count worker journals captured before end after run) →
+      IsWholeRun worker (input_of worker (captured_of captured))
+      (events_of (moves_of_run verified options plan count worker journals captured before end after run of_system))
+  whole_so captured before WasStopped after run of_system =
+      stop_whole (setting_of verified options) count worker plan captured before after run.frame run.stop of_system
+  whole_so captured before (HasExited steps fate) after run of_system =
+      let is = of_system.of_system in
       let final : List Move = does worker ∷ leavings worker is.left in (
         events_of (is.run ++ final),
         refl,
@@ -127,59 +119,61 @@ module _ (verified : Verified) (options : Options) (plan : ℕ → ShardPlan) (c
       )
 
   module _ (records : List Sent) where
-    abbrev IsOf : PassView → Ran → PassView → Type 0
-    IsOf = IsRunAt (IsEitherOfImage verified options plan count worker) records
+    abbrev Placed : Type 0
+    Placed = PlacedRun plan count (program_of verified options.shards) worker journals records
 
-    abbrev IsChain : PassView → List Ran → PassView → Type 0
-    IsChain before runs after = IsChainOfRuns IsOf before runs after
+    abbrev AreOf : List Placed → Type 0
+    AreOf runs = AreOfSystem verified options plan count worker journals records runs
 
-    abbrev pub runs_of : (before : PassView) (runs : List Ran) (after : PassView) → IsChain before runs after → List OneRun
-    runs_of before [] after chain = []
-    runs_of before (ran ∷ later) after chain =
+    abbrev pub runs_of : (runs : List Placed) → AreOf runs → List OneRun
+    runs_of [] are = []
+    runs_of (one ∷ later) are =
         record {
-          number = ran.number;
-          moves = moves_of_either verified options plan count worker chain.1.sent before ran.end chain.0 chain.1.run;
-          ends = ending_of verified options plan count worker chain.1.sent before ran.end chain.0 chain.1.run ∷ [];
+          number = one.ran.number;
+          moves = moves_so verified options plan count worker journals records one are.0;
+          ends = ending_so verified options plan count worker journals records one are.0 ∷ [];
         }
-        ∷ runs_of chain.0 later after chain.2
+        ∷ runs_of later are.1
 
-    pub moves_are : (before : PassView) (runs : List Ran) (after : PassView) → (chain : IsChain before runs after) →
-        moves_in (runs_of before runs after chain) ≡ moves_of_runs verified options plan count worker records before runs after chain
-    moves_are before [] after chain = refl
-    moves_are before (ran ∷ later) after chain =
-        ap (λ (list : List Move). moves_of_either verified options plan count worker chain.1.sent before ran.end chain.0 chain.1.run ++ list)
-        (moves_are chain.0 later after chain.2)
+    pub moves_are : (runs : List Placed) (are : AreOf runs) →
+        moves_in (runs_of runs are) ≡ moves_of_runs verified options plan count worker journals records runs are
+    moves_are [] are = refl
+    moves_are (one ∷ later) are =
+        ap (λ (list : List Move). moves_so verified options plan count worker journals records one are.0 ++ list) (moves_are later are.1)
 
-    pub ends_are : (before : PassView) (runs : List Ran) (after : PassView) → (chain : IsChain before runs after) →
-        ends_among (runs_of before runs after chain) ≡ endings_of verified options plan count worker records before runs after chain
+    pub ends_are : (runs : List Placed) (are : AreOf runs) →
+        ends_among (runs_of runs are) ≡ endings_of verified options plan count worker journals records runs are
     unfolding endings_of
-    ends_are before [] after chain = refl
-    ends_are before (ran ∷ later) after chain =
-        ap (λ (list : List Ending). ending_of verified options plan count worker chain.1.sent before ran.end chain.0 chain.1.run ∷ list)
-        (ends_are chain.0 later after chain.2)
+    ends_are [] are = refl
+    ends_are (one ∷ later) are =
+        ap (λ (list : List Ending). ending_so verified options plan count worker journals records one are.0 ∷ list) (ends_are later are.1)
 
-    pub runs_are : (before : PassView) (runs : List Ran) (after : PassView) → (chain : IsChain before runs after) →
-        AllByRecursion (IsRunOn (setting_of verified options) count records worker) (runs_of before runs after chain)
-    runs_are before [] after chain = tt
-    runs_are before (ran ∷ later) after chain = (
+    pub runs_are : (runs : List Placed) (are : AreOf runs) →
+        AllByRecursion (IsRunOn (setting_of verified options) count records worker) (runs_of runs are)
+    runs_are [] are = tt
+    runs_are (one ∷ later) are = (
       record {
-        sent = chain.1.sent;
-        known = chain.1.known;
-        walk = (run_so verified options plan count worker chain.1.sent before ran.end chain.0 chain.1.run).walk;
-        whole = whole_so chain.1.sent before ran.end chain.0 chain.1.run;
+        sent = one.run.sent;
+        known = one.run.known;
+        walk = (run_so verified options plan count worker journals one.run.sent one.before one.ran.end one.after one.run.run are.0).walk;
+        whole = whole_so one.run.sent one.before one.ran.end one.after one.run.run are.0;
       },
-      runs_are chain.0 later after chain.2,
+      runs_are later are.1,
     )
 
-    pub taken_are : (before : PassView) (runs : List Ran) (after : PassView) → (chain : IsChain before runs after) → (done : List TurnDeeds) →
-        AreDeedsOfRuns IsOf before runs after chain done → AreTaken worker (runs_of before runs after chain) done
-    taken_are before [] after chain [] are = tt
-    taken_are before [] after chain (one ∷ done) are = absurd are
-    taken_are before (ran ∷ later) after chain [] are = absurd are
-    taken_are before (ran ∷ later) after chain (one ∷ done) are =
-        let moves : List Move = moves_of_either verified options plan count worker chain.1.sent before ran.end chain.0 chain.1.run in (
-          are.0,
+    abbrev IsOf : PassView → Ran → PassView → Type 0
+    IsOf = IsRunAt (IsRunIn plan count (program_of verified options.shards) worker journals) records
+
+    pub taken_are : (before : PassView) (runs : List Ran) (after : PassView) (chain : IsChainOfRuns IsOf before runs after) →
+        (are : AreOf (runs_in_chain IsOf before runs after chain)) → (done : List TurnDeeds) →
+        AreDeedsOfRuns IsOf before runs after chain done → AreTaken worker (runs_of (runs_in_chain IsOf before runs after chain) are) done
+    taken_are before [] after chain are [] did = tt
+    taken_are before [] after chain are (one ∷ done) did = absurd did
+    taken_are before (ran ∷ later) after chain are [] did = absurd did
+    taken_are before (ran ∷ later) after chain are (one ∷ done) did =
+        let moves : List Move = moves_of_run verified options plan count worker journals chain.1.sent before ran.end chain.0 chain.1.run are.0 in (
+          did.0,
           same_more (deeds_in worker moves) one.deeds before.deeds
-              (sym (either_did verified options plan count worker chain.1.sent before chain.0 ran.end chain.1.run) ∙ are.1),
-          taken_are chain.0 later after chain.2 done are.2,
+              (sym (run_did verified options plan count worker journals chain.1.sent before chain.0 ran.end chain.1.run are.0) ∙ did.1),
+          taken_are chain.0 later after chain.2 are.1 done did.2,
         )

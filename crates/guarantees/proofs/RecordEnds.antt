@@ -1,31 +1,28 @@
 -- What became of each record, by the runs of the workers: in the words of the statement and in those of a replay's account.
-use Rattle.std.proofs.Common.{◌≡◌, ℕ, zero, suc, ◌+◌, ◌%◌, ◌<◌, ◌≤◌, ◌==◌, Bool, true, false, not, ◌&&◌, nat_lt, List, [], ◌∷◌, ◌++◌, length, refl, sym, ◌∙◌, ap, subst, arith, append_assoc, append-nil}
+use Rattle.std.proofs.Common.{◌≡◌, ℕ, zero, suc, ◌+◌, ◌<◌, ◌≤◌, ◌==◌, Bool, true, false, not, ◌&&◌, nat_lt, List, [], ◌∷◌, ◌++◌, length, refl, sym, ◌∙◌, ap, subst, arith, append_assoc, append-nil}
 use Rattle.std.specs.Prelude.{map, filter, Option, Some, None, slice_get, if◌then◌else◌}
 use Rattle.std.proofs.lemmas.Bool.Decides.{nat_tests}
 use Rattle.std.proofs.lemmas.List.{map-append, length-append, length-map}
 use Rattle.std.proofs.lemmas.List.Elements.{filter-append}
-use Rattle.std.proofs.Math.Nat.{mod-lt}
 use Rattle.wire.specs.declared.records.Sent.{Sent}
-use Rattle.wire.specs.Fnv.{fnv1a64_of}
-use Rattle.wire.specs.FlowForm.{flow_bytes_of}
 use Rattle.semantics.specs.declared.verdict.Verdict.TheVariants as verdicts
 use Rattle.actors.specs.declared.account.Counts.{Counts}
-use Rattle.actors.specs.declared.outcome.RecordEnd.{RecordEnd as Told}
+use Rattle.actors.specs.declared.outcome.ToldEnd.{ToldEnd}
 use Rattle.actors.specs.declared.runner.FrameFate.{FrameFate}
 use Rattle.actors.specs.declared.runner.FrameFate.TheVariants.{Aborted, Dropped, Passed, Sent as IsSent}
 use Rattle.actors.specs.declared.runner.Ran.{Ran as OneRun}
 use Rattle.actors.specs.declared.runner.RunEnd.{RunEnd}
 use Rattle.actors.specs.declared.runner.RunEnd.TheVariants.{Stopped as WasStopped, Exited as HasExited}
-use Rattle.actors.specs.Accounts.{SentFrame, runs_at, end_at, fate_of, counted, counts_of, sent_by, sent_of, verdict_for, record_end, ends_of}
+use Rattle.actors.specs.Accounts.{runs_at, end_at, fate_of, counted, counts_of, sent_by, sent_of, verdict_for, record_end, ends_of}
 use Rattle.actors.specs.RunJobs.{records_of}
-use Rattle.actors.specs.Shares.{frames_of, frame_at, is_short, is_spread_by_flow, worker_of_frame, is_handed, share}
+use Rattle.actors.specs.Shares.{frames_of, frame_at, is_short, worker_of_frame, is_handed, share, captured_of}
 use Rattle.actors.proofs.shared.AccountLemmas.{handed_own}
 use Rattle.semantics.specs.Events.{Ending, Exited, Stopped}
 use Rattle.semantics.specs.Replay.{Captured, RecordEnd, Short, Ran, Totals, runner_of, is_run_by, ran_by, ends_by, was_short, ending_passes, was_stopped, verdict_passes, aborts, drops, passes, sends, how_many, totals_of, sent_for, frames_sent}
-use Rattle.guarantees.specs.ReplayOf.{captured_of, totals_in, told_of}
+use Rattle.guarantees.specs.ReplayOf.{totals_in, told_of}
 use Rattle.guarantees.proofs.AnswerLemmas.{one_behind}
-use Rattle.guarantees.proofs.NoneStopped.{fate_is}
-use Rattle.guarantees.proofs.ShareOrder.{share_at}
+use Rattle.actors.proofs.shared.ShareOrder.{fate_is, share_at}
+use Rattle.actors.proofs.shared.PutLemmas.{worker_below}
 
 -- ---- lists by places
 
@@ -89,131 +86,54 @@ IsEndOf sent worker (Some fate) end = (ending : Ending) × (end ≡ Ran worker e
 
 -- ---- one record more
 
-module _ (test : RecordEnd → Bool) (ends : List RecordEnd) (end : RecordEnd) (number : ℕ) where
-  counted_both : how_many test (ends ++ end ∷ []) ≡ how_many test ends + how_many test (end ∷ [])
-  counted_both = ap length (filter-append test ends (end ∷ [])) ∙ length-append (filter test ends) (filter test (end ∷ []))
+-- one more of those that pass
+more_of : (test : RecordEnd → Bool) (ends : List RecordEnd) (end : RecordEnd) (number : ℕ) → number ≡ how_many test ends →
+    (if test end then number + 1 else number) ≡ how_many test (ends ++ end ∷ [])
+more_of test ends end number is =
+    by_test (test end) ∙ ap (λ (n : ℕ). n + length (filter test (end ∷ []))) is
+    ∙ sym (ap length (filter-append test ends (end ∷ [])) ∙ length-append (filter test ends) (filter test (end ∷ [])))
+  where
+    by_test : (passes : Bool) → (if passes then number + 1 else number) ≡ number + length (if passes then end ∷ [] else [])
+    by_test true = refl
+    by_test false = let none : number ≡ number + 0 = omega arith in none
 
-  one_more : number ≡ how_many test ends → test end ≡ true → number + 1 ≡ how_many test (ends ++ end ∷ [])
-  one_more is passes = ap (λ (n : ℕ). n + 1) is
-      ∙ sym (counted_both ∙ ap (λ (b : Bool). how_many test ends + length (if b then end ∷ [] else [])) passes)
-
-  no_more : number ≡ how_many test ends → test end ≡ false → number ≡ how_many test (ends ++ end ∷ [])
-  no_more is passes = is ∙ sym (ap length (filter-append test ends (end ∷ []) ∙ ap (λ (b : Bool). filter test ends ++ (if b then end ∷ [] else [])) passes
-      ∙ append-nil (filter test ends)))
-
-short_more : (ends : List RecordEnd) (counts : Counts) → totals_in counts ≡ totals_of ends →
-    totals_in (counted counts None) ≡ totals_of (ends ++ Short ∷ [])
-short_more ends counts so = λ i. record {
-  short = one_more was_short ends Short counts.short (ap (λ (totals : Totals). totals.short) so) refl i;
-  stopped = no_more (ending_passes was_stopped) ends Short counts.stopped (ap (λ (totals : Totals). totals.stopped) so) refl i;
-  aborted = no_more (ending_passes (verdict_passes aborts)) ends Short counts.aborted (ap (λ (totals : Totals). totals.aborted) so) refl i;
-  drop = no_more (ending_passes (verdict_passes drops)) ends Short counts.drop (ap (λ (totals : Totals). totals.drop) so) refl i;
-  pass = no_more (ending_passes (verdict_passes passes)) ends Short counts.pass (ap (λ (totals : Totals). totals.pass) so) refl i;
-  tx = no_more (ending_passes (verdict_passes sends)) ends Short counts.tx (ap (λ (totals : Totals). totals.tx) so) refl i;
+abbrev with_end : RecordEnd → Counts → Totals
+with_end end counts = record {
+  short = if was_short end then counts.short + 1 else counts.short;
+  stopped = if ending_passes was_stopped end then counts.stopped + 1 else counts.stopped;
+  aborted = if ending_passes (verdict_passes aborts) end then counts.aborted + 1 else counts.aborted;
+  drop = if ending_passes (verdict_passes drops) end then counts.drop + 1 else counts.drop;
+  pass = if ending_passes (verdict_passes passes) end then counts.pass + 1 else counts.pass;
+  tx = if ending_passes (verdict_passes sends) end then counts.tx + 1 else counts.tx;
 }
 
-stopped_more : (ends : List RecordEnd) (counts : Counts) (worker shard : ℕ) → totals_in counts ≡ totals_of ends →
-    totals_in (counted counts (Some WasStopped)) ≡ totals_of (ends ++ (Ran worker (Stopped shard)) ∷ [])
-stopped_more ends counts worker shard so = λ i. record {
-  short = no_more was_short ends (Ran worker (Stopped shard)) counts.short (ap (λ (totals : Totals). totals.short) so) refl i;
-  stopped = one_more (ending_passes was_stopped) ends (Ran worker (Stopped shard)) counts.stopped (ap (λ (totals : Totals). totals.stopped) so) refl i;
-  aborted = no_more (ending_passes (verdict_passes aborts)) ends (Ran worker (Stopped shard)) counts.aborted
-      (ap (λ (totals : Totals). totals.aborted) so) refl i;
-  drop = no_more (ending_passes (verdict_passes drops)) ends (Ran worker (Stopped shard)) counts.drop (ap (λ (totals : Totals). totals.drop) so) refl i;
-  pass = no_more (ending_passes (verdict_passes passes)) ends (Ran worker (Stopped shard)) counts.pass (ap (λ (totals : Totals). totals.pass) so) refl i;
-  tx = no_more (ending_passes (verdict_passes sends)) ends (Ran worker (Stopped shard)) counts.tx (ap (λ (totals : Totals). totals.tx) so) refl i;
-}
-
-aborted_more : (ends : List RecordEnd) (counts : Counts) (worker steps : ℕ) (frame : List ℕ) → totals_in counts ≡ totals_of ends →
-    totals_in (counted counts (Some (HasExited steps Aborted))) ≡ totals_of (ends ++ (Ran worker (Exited verdicts.Aborted frame steps)) ∷ [])
-aborted_more ends counts worker steps frame so = λ i. record {
-  short = no_more was_short ends (Ran worker (Exited verdicts.Aborted frame steps)) counts.short (ap (λ (totals : Totals). totals.short) so) refl i;
-  stopped = no_more (ending_passes was_stopped) ends (Ran worker (Exited verdicts.Aborted frame steps)) counts.stopped
-      (ap (λ (totals : Totals). totals.stopped) so) refl i;
-  aborted = one_more (ending_passes (verdict_passes aborts)) ends (Ran worker (Exited verdicts.Aborted frame steps)) counts.aborted
-      (ap (λ (totals : Totals). totals.aborted) so) refl i;
-  drop = no_more (ending_passes (verdict_passes drops)) ends (Ran worker (Exited verdicts.Aborted frame steps)) counts.drop
-      (ap (λ (totals : Totals). totals.drop) so) refl i;
-  pass = no_more (ending_passes (verdict_passes passes)) ends (Ran worker (Exited verdicts.Aborted frame steps)) counts.pass
-      (ap (λ (totals : Totals). totals.pass) so) refl i;
-  tx = no_more (ending_passes (verdict_passes sends)) ends (Ran worker (Exited verdicts.Aborted frame steps)) counts.tx
-      (ap (λ (totals : Totals). totals.tx) so) refl i;
-}
-
-drop_more : (ends : List RecordEnd) (counts : Counts) (worker steps : ℕ) (frame : List ℕ) → totals_in counts ≡ totals_of ends →
-    totals_in (counted counts (Some (HasExited steps Dropped))) ≡ totals_of (ends ++ (Ran worker (Exited verdicts.Drop frame steps)) ∷ [])
-drop_more ends counts worker steps frame so = λ i. record {
-  short = no_more was_short ends (Ran worker (Exited verdicts.Drop frame steps)) counts.short (ap (λ (totals : Totals). totals.short) so) refl i;
-  stopped = no_more (ending_passes was_stopped) ends (Ran worker (Exited verdicts.Drop frame steps)) counts.stopped
-      (ap (λ (totals : Totals). totals.stopped) so) refl i;
-  aborted = no_more (ending_passes (verdict_passes aborts)) ends (Ran worker (Exited verdicts.Drop frame steps)) counts.aborted
-      (ap (λ (totals : Totals). totals.aborted) so) refl i;
-  drop = one_more (ending_passes (verdict_passes drops)) ends (Ran worker (Exited verdicts.Drop frame steps)) counts.drop
-      (ap (λ (totals : Totals). totals.drop) so) refl i;
-  pass = no_more (ending_passes (verdict_passes passes)) ends (Ran worker (Exited verdicts.Drop frame steps)) counts.pass
-      (ap (λ (totals : Totals). totals.pass) so) refl i;
-  tx = no_more (ending_passes (verdict_passes sends)) ends (Ran worker (Exited verdicts.Drop frame steps)) counts.tx
-      (ap (λ (totals : Totals). totals.tx) so) refl i;
-}
-
-pass_more : (ends : List RecordEnd) (counts : Counts) (worker steps : ℕ) (frame : List ℕ) → totals_in counts ≡ totals_of ends →
-    totals_in (counted counts (Some (HasExited steps Passed))) ≡ totals_of (ends ++ (Ran worker (Exited verdicts.Pass frame steps)) ∷ [])
-pass_more ends counts worker steps frame so = λ i. record {
-  short = no_more was_short ends (Ran worker (Exited verdicts.Pass frame steps)) counts.short (ap (λ (totals : Totals). totals.short) so) refl i;
-  stopped = no_more (ending_passes was_stopped) ends (Ran worker (Exited verdicts.Pass frame steps)) counts.stopped
-      (ap (λ (totals : Totals). totals.stopped) so) refl i;
-  aborted = no_more (ending_passes (verdict_passes aborts)) ends (Ran worker (Exited verdicts.Pass frame steps)) counts.aborted
-      (ap (λ (totals : Totals). totals.aborted) so) refl i;
-  drop = no_more (ending_passes (verdict_passes drops)) ends (Ran worker (Exited verdicts.Pass frame steps)) counts.drop
-      (ap (λ (totals : Totals). totals.drop) so) refl i;
-  pass = one_more (ending_passes (verdict_passes passes)) ends (Ran worker (Exited verdicts.Pass frame steps)) counts.pass
-      (ap (λ (totals : Totals). totals.pass) so) refl i;
-  tx = no_more (ending_passes (verdict_passes sends)) ends (Ran worker (Exited verdicts.Pass frame steps)) counts.tx
-      (ap (λ (totals : Totals). totals.tx) so) refl i;
-}
-
-tx_more : (ends : List RecordEnd) (counts : Counts) (worker steps : ℕ) (frame : List ℕ) (out : Sent) → totals_in counts ≡ totals_of ends →
-    totals_in (counted counts (Some (HasExited steps (IsSent out)))) ≡ totals_of (ends ++ (Ran worker (Exited verdicts.Tx frame steps)) ∷ [])
-tx_more ends counts worker steps frame out so = λ i. record {
-  short = no_more was_short ends (Ran worker (Exited verdicts.Tx frame steps)) counts.short (ap (λ (totals : Totals). totals.short) so) refl i;
-  stopped = no_more (ending_passes was_stopped) ends (Ran worker (Exited verdicts.Tx frame steps)) counts.stopped
-      (ap (λ (totals : Totals). totals.stopped) so) refl i;
-  aborted = no_more (ending_passes (verdict_passes aborts)) ends (Ran worker (Exited verdicts.Tx frame steps)) counts.aborted
-      (ap (λ (totals : Totals). totals.aborted) so) refl i;
-  drop = no_more (ending_passes (verdict_passes drops)) ends (Ran worker (Exited verdicts.Tx frame steps)) counts.drop
-      (ap (λ (totals : Totals). totals.drop) so) refl i;
-  pass = no_more (ending_passes (verdict_passes passes)) ends (Ran worker (Exited verdicts.Tx frame steps)) counts.pass
-      (ap (λ (totals : Totals). totals.pass) so) refl i;
-  tx = one_more (ending_passes (verdict_passes sends)) ends (Ran worker (Exited verdicts.Tx frame steps)) counts.tx
-      (ap (λ (totals : Totals). totals.tx) so) refl i;
+all_more : (ends : List RecordEnd) (end : RecordEnd) (counts : Counts) → totals_in counts ≡ totals_of ends →
+    with_end end counts ≡ totals_of (ends ++ end ∷ [])
+all_more ends end counts so = λ i. record {
+  short = more_of was_short ends end counts.short (ap (λ (totals : Totals). totals.short) so) i;
+  stopped = more_of (ending_passes was_stopped) ends end counts.stopped (ap (λ (totals : Totals). totals.stopped) so) i;
+  aborted = more_of (ending_passes (verdict_passes aborts)) ends end counts.aborted (ap (λ (totals : Totals). totals.aborted) so) i;
+  drop = more_of (ending_passes (verdict_passes drops)) ends end counts.drop (ap (λ (totals : Totals). totals.drop) so) i;
+  pass = more_of (ending_passes (verdict_passes passes)) ends end counts.pass (ap (λ (totals : Totals). totals.pass) so) i;
+  tx = more_of (ending_passes (verdict_passes sends)) ends end counts.tx (ap (λ (totals : Totals). totals.tx) so) i;
 }
 
 totals_more : (ends : List RecordEnd) (counts : Counts) (sent : Sent) (worker : ℕ) (fate : Option RunEnd) (end : RecordEnd) →
     totals_in counts ≡ totals_of ends → IsEndOf sent worker fate end → totals_in (counted counts fate) ≡ totals_of (ends ++ end ∷ [])
-totals_more ends counts sent worker None end so is =
-    short_more ends counts so ∙ ap (λ (one : RecordEnd). totals_of (ends ++ one ∷ [])) (sym is)
+totals_more ends counts sent worker None end so is = ap (λ (one : RecordEnd). with_end one counts) (sym is) ∙ all_more ends end counts so
 totals_more ends counts sent worker (Some WasStopped) end so is =
-    stopped_more ends counts worker is.2.0 so
-    ∙ ap (λ (one : RecordEnd). totals_of (ends ++ one ∷ [])) (sym (is.1 ∙ ap (Ran worker) is.2.1))
+    ap (λ (one : RecordEnd). with_end one counts) (sym (is.1 ∙ ap (Ran worker) is.2.1)) ∙ all_more ends end counts so
 totals_more ends counts sent worker (Some (HasExited steps Aborted)) end so is =
-    aborted_more ends counts worker steps is.2.0 so
-    ∙ ap (λ (one : RecordEnd). totals_of (ends ++ one ∷ [])) (sym (is.1 ∙ ap (Ran worker) is.2.1))
+    ap (λ (one : RecordEnd). with_end one counts) (sym (is.1 ∙ ap (Ran worker) is.2.1)) ∙ all_more ends end counts so
 totals_more ends counts sent worker (Some (HasExited steps Dropped)) end so is =
-    drop_more ends counts worker steps is.2.0 so
-    ∙ ap (λ (one : RecordEnd). totals_of (ends ++ one ∷ [])) (sym (is.1 ∙ ap (Ran worker) is.2.1))
+    ap (λ (one : RecordEnd). with_end one counts) (sym (is.1 ∙ ap (Ran worker) is.2.1)) ∙ all_more ends end counts so
 totals_more ends counts sent worker (Some (HasExited steps Passed)) end so is =
-    pass_more ends counts worker steps is.2.0 so
-    ∙ ap (λ (one : RecordEnd). totals_of (ends ++ one ∷ [])) (sym (is.1 ∙ ap (Ran worker) is.2.1))
+    ap (λ (one : RecordEnd). with_end one counts) (sym (is.1 ∙ ap (Ran worker) is.2.1)) ∙ all_more ends end counts so
 totals_more ends counts sent worker (Some (HasExited steps (IsSent out))) end so is =
-    tx_more ends counts worker steps is.2.0 out so
-    ∙ ap (λ (one : RecordEnd). totals_of (ends ++ one ∷ [])) (sym (is.1 ∙ ap (Ran worker) is.2.1))
-
--- a sent frame, as a captured one
-abbrev pub of_sent : SentFrame → Captured
-of_sent frame = record { seconds = frame.seconds; micros = frame.micros; bytes = frame.bytes }
+    ap (λ (one : RecordEnd). with_end one counts) (sym (is.1 ∙ ap (Ran worker) is.2.1)) ∙ all_more ends end counts so
 
 sent_more : (sent : Sent) (worker : ℕ) (fate : Option RunEnd) (end : RecordEnd) → IsEndOf sent worker fate end →
-    sent_for (captured_of sent) end ≡ map of_sent (sent_by fate)
+    sent_for (captured_of sent) end ≡ sent_by fate
 sent_more sent worker None end is = ap (sent_for (captured_of sent)) is
 sent_more sent worker (Some WasStopped) end is = ap (sent_for (captured_of sent)) (is.1 ∙ ap (Ran worker) is.2.1)
 sent_more sent worker (Some (HasExited steps Aborted)) end is = ap (sent_for (captured_of sent)) (is.1 ∙ ap (Ran worker) is.2.1)
@@ -259,13 +179,6 @@ pub record AreRunsEnded (records : List Sent) (workers : ℕ) (runs : List (List
       IsRunOfRecord records (runs_at runs worker) (ends worker) place number
   pub as_many : (worker : ℕ) → length (ends worker) ≡ length (share (frames_of records) workers worker (length records))
 
-pub spread_below : (frame : List ℕ) (workers : ℕ) → 0 < workers → worker_of_frame frame workers < workers
-spread_below frame workers some = by_test (is_spread_by_flow frame)
-  where
-    by_test : (test : Bool) → (if test then fnv1a64_of (flow_bytes_of frame) % workers else 0) < workers
-    by_test true = mod-lt (fnv1a64_of (flow_bytes_of frame)) some
-    by_test false = some
-
 module _ (records : List Sent) (workers : ℕ) (runs : List (List OneRun)) (ends : ℕ → List Ending) (are : AreRunsEnded records workers runs ends) where
   abbrev frames : List (List ℕ)
   frames = frames_of records
@@ -304,7 +217,7 @@ module _ (records : List Sent) (workers : ℕ) (runs : List (List OneRun)) (ends
   long_at : (number : ℕ) (sent : Sent) → number < length records → slice_get records number ≡ Some sent → is_short (frame_at frames number) ≡ false → IsAt number
   long_at number sent below known long =
       let own : ℕ = worker_of_frame (frame_at frames number) workers in
-      let few : own < workers = spread_below (frame_at frames number) workers are.some in
+      let few : own < workers = worker_below (frame_at frames number) workers are.some in
       let handed = handed_own frames workers own number long refl in
       let place : ℕ = length (share frames workers own number) in
       let run : IsRunOfRecord records (runs_at runs own) (ends own) place number =
@@ -389,8 +302,8 @@ module _ (records : List Sent) (workers : ℕ) (runs : List (List OneRun)) (ends
   told_are (suc number) within =
       let here = at number (omega (arith, within)) in
       ap (map told_of) (ends_more number here) ∙ map-append told_of (ends_to number) (here.end ∷ [])
-      ∙ ap (λ (list : List Told). list ++ told_of here.end ∷ []) (told_are number (omega (arith, within)))
-      ∙ ap (λ (one : Told). ends_of frames workers runs number ++ one ∷ [])
+      ∙ ap (λ (list : List ToldEnd). list ++ told_of here.end ∷ []) (told_are number (omega (arith, within)))
+      ∙ ap (λ (one : ToldEnd). ends_of frames workers runs number ++ one ∷ [])
       (told_more here.sent (worker_of_frame (frame_at frames number) workers) (fate_of frames workers runs number) here.end here.is)
 
   both_long : (one : List Captured) (other : List RecordEnd) (record' : Captured) (end : RecordEnd) → length one ≡ length other →
@@ -408,12 +321,11 @@ module _ (records : List Sent) (workers : ℕ) (runs : List (List OneRun)) (ends
       ∙ ap length (sym (runners_are count within)) ∙ length-map (ends_to count) ran_by
 
   pub sent_are : (count : ℕ) → count ≤ length records →
-      map of_sent (sent_of frames workers runs count) ≡ frames_sent (records_to count) (ends_to count)
+      sent_of frames workers runs count ≡ frames_sent (records_to count) (ends_to count)
   sent_are zero within = refl
   sent_are (suc number) within =
       let here = at number (omega (arith, within)) in
-      map-append of_sent (sent_of frames workers runs number) (sent_by (fate_of frames workers runs number))
-      ∙ ap (λ (list : List Captured). list ++ map of_sent (sent_by (fate_of frames workers runs number))) (sent_are number (omega (arith, within)))
+      ap (λ (list : List Captured). list ++ sent_by (fate_of frames workers runs number)) (sent_are number (omega (arith, within)))
       ∙ ap (λ (list : List Captured). frames_sent (records_to number) (ends_to number) ++ list)
       (sym (sent_more here.sent (worker_of_frame (frame_at frames number) workers) (fate_of frames workers runs number) here.end here.is))
       ∙ sym (both_long (records_to number) (ends_to number) (captured_of here.sent) here.end (as_long number (omega (arith, within))))

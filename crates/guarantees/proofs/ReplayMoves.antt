@@ -18,6 +18,7 @@ use Rattle.wire.specs.FrameView.{FrameView}
 use Rattle.machine.specs.declared.exit.Stop.{Stop}
 use Rattle.machine.specs.declared.exit.Stop.TheVariants.{JournalFull}
 use Rattle.machine.specs.declared.moment.Moment.{Moment}
+use Rattle.machine.specs.Running.{program_of}
 use Rattle.journals.specs.JournalsView.{JournalsView, entries_at}
 use Rattle.shards.specs.CallerView.{CallerView}
 use Rattle.shards.specs.declared.deeds.Deed.{Deed}
@@ -28,17 +29,18 @@ use Rattle.actors.specs.declared.runner.Ran.{Ran}
 use Rattle.actors.specs.declared.runner.RunEnd.{RunEnd}
 use Rattle.actors.specs.declared.runner.RunEnd.TheVariants.{Stopped, Exited}
 use Rattle.actors.specs.Accounts.{runs_at}
-use Rattle.actors.specs.Accounted.{IsWorkOf}
+use Rattle.actors.specs.Accounted.{IsWorkOf, runs_in_chain, runs_in_work}
 use Rattle.actors.specs.RunsInOrder.{IsRunAt, IsChainOfRuns}
+use Rattle.actors.specs.RunsOverShards.{IsRunIn}
 use Rattle.actors.specs.Shares.{frames_of, share}
-use Rattle.guarantees.specs.Steps.{Move, Refused, AreSteps, running, begins, does, asks, beginning, leavings, entries_on, deeds_in}
+use Rattle.guarantees.specs.Steps.{Move, TurnedAway, AreSteps, running, begins, does, asks, beginning, leavings, entries_on, deeds_in}
 use Rattle.guarantees.specs.SystemRuns.{setting_of, HaveGrown, HaveDone, RanInSystem, HasStoppedInSystem}
 use Rattle.guarantees.specs.Merging.{is_refusal, NoneRefused}
-use Rattle.guarantees.specs.RunsInList.{moment_of, IsRunOfImage, IsEitherOfImage, moves_to_stop, moves_of_either, moves_of_runs, AreOfRuns}
+use Rattle.guarantees.specs.RunsInList.{moment_of, IsOfSystem, AreOfSystem, moves_to_stop, moves_of_run, moves_of_runs}
 use Rattle.guarantees.specs.ReplayMoves.{IsNotStopped, AreMovesOf, HasMoves}
-use Rattle.guarantees.proofs.DeedLemmas.{chosen_reversed}
+use Rattle.actors.proofs.shared.DeedLemmas.{chosen_reversed}
 use Rattle.guarantees.proofs.EventLemmas.{append_on, append_deeds}
-use Rattle.guarantees.proofs.EveryEntry.{all_both}
+use Rattle.actors.proofs.shared.EveryEntry.{all_both}
 use Rattle.guarantees.proofs.OneWorker.{as_steps, run_refuses_none, leavings_refuse_none}
 
 -- ---- moves from idle to idle, and what a pass has more after them
@@ -118,7 +120,7 @@ stopped_moves : (setting : Setting) (count worker : ℕ) (plan : ℕ → ShardPl
 stopped_moves setting count worker plan moment frame before after kept_back (JournalFull shard) stopped =
     let is = stopped.of_system in
     let start = beginning frame moment.worker moment.now_ns in
-    let ending : List Move = asks worker (Refused is.refused) ∷ leavings worker is.left in
+    let ending : List Move = asks worker (TurnedAway is.refused) ∷ leavings worker is.left in
     record {
       moves = begins worker frame moment.now_ns moment.worker ∷ is.run ++ ending;
       walks = record {
@@ -143,35 +145,34 @@ stop_is : (setting : Setting) (count worker : ℕ) (plan : ℕ → ShardPlan) (m
 unfolding stopped_moves
 stop_is setting count worker plan moment frame before after kept_back (JournalFull shard) stopped = refl
 
-module _ (verified : Verified) (options : Options) (plan : ℕ → ShardPlan) (count worker : ℕ) where
-  ended : (captured : Sent) (before after : PassView) (end : RunEnd) → IsRunOfImage verified options count worker captured before end after →
+module _ (verified : Verified) (options : Options) (plan : ℕ → ShardPlan) (count worker : ℕ) (journals : JournalsView) where
+  abbrev IsIn : Sent → PassView → RunEnd → PassView → Type 0
+  IsIn captured before end after = IsRunIn plan count (program_of verified options.shards) worker journals captured before end after
+
+  one_run : (captured : Sent) (before after : PassView) (end : RunEnd) (run : IsIn captured before end after) →
+      IsOfSystem verified options plan count worker journals captured before end after run →
       RunMoves (setting_of verified options) count worker before after end
-  ended captured before after end run =
-      run_moves (setting_of verified options) count worker (moment_of captured worker) captured.bytes.items before after run.frame run.verdict run.steps end
-      run.of_system
+  one_run captured before after Stopped run of_system =
+      stopped_moves (setting_of verified options) count worker plan (moment_of captured worker) captured.bytes.items before after run.frame run.stop of_system
+  one_run captured before after (Exited steps fate) run of_system =
+      run_moves (setting_of verified options) count worker (moment_of captured worker) captured.bytes.items before after run.frame run.verdict run.steps
+      (Exited steps fate) of_system
 
-  one_run : (captured : Sent) (before after : PassView) (end : RunEnd) → IsEitherOfImage verified options plan count worker captured before end after →
-      RunMoves (setting_of verified options) count worker before after end
-  one_run captured before after Stopped run =
-      stopped_moves (setting_of verified options) count worker plan (moment_of captured worker) captured.bytes.items before after run.frame run.stop
-      run.of_system
-  one_run captured before after (Exited steps fate) run = ended captured before after (Exited steps fate) run
+  one_is : (captured : Sent) (before after : PassView) (end : RunEnd) (run : IsIn captured before end after) →
+      (of_system : IsOfSystem verified options plan count worker journals captured before end after run) →
+      (one_run captured before after end run of_system).moves
+      ≡ moves_of_run verified options plan count worker journals captured before end after run of_system
+  unfolding one_run run_moves
+  one_is captured before after Stopped run of_system =
+      stop_is (setting_of verified options) count worker plan (moment_of captured worker) captured.bytes.items before after run.frame run.stop of_system
+  one_is captured before after (Exited steps fate) run of_system = refl
 
-  one_is : (captured : Sent) (before after : PassView) (end : RunEnd) →
-      (run : IsEitherOfImage verified options plan count worker captured before end after) →
-      (one_run captured before after end run).moves ≡ moves_of_either verified options plan count worker captured before end after run
-  unfolding one_run ended run_moves
-  one_is captured before after Stopped run =
-      stop_is (setting_of verified options) count worker plan (moment_of captured worker) captured.bytes.items before after run.frame run.stop
-      run.of_system
-  one_is captured before after (Exited steps fate) run = refl
-
-  pub either_did : (captured : Sent) (before after : PassView) (end : RunEnd) →
-      (run : IsEitherOfImage verified options plan count worker captured before end after) →
-      HaveDone worker (moves_of_either verified options plan count worker captured before end after run) before after
-  either_did captured before after end run =
-      subst (λ (moves : List Move). HaveDone worker moves before after) (one_is captured before after end run)
-      (one_run captured before after end run).walks.done
+  pub run_did : (captured : Sent) (before after : PassView) (end : RunEnd) (run : IsIn captured before end after) →
+      (of_system : IsOfSystem verified options plan count worker journals captured before end after run) →
+      HaveDone worker (moves_of_run verified options plan count worker journals captured before end after run of_system) before after
+  run_did captured before after end run of_system =
+      subst (λ (moves : List Move). HaveDone worker moves before after) (one_is captured before after end run of_system)
+      (one_run captured before after end run of_system).walks.done
 
   -- ---- all runs of a worker
 
@@ -180,43 +181,48 @@ module _ (verified : Verified) (options : Options) (plan : ℕ → ShardPlan) (c
     walks : Walks (setting_of verified options) count worker before after moves
     met_none : AllByRecursion (λ (ran : Ran). IsNotStopped ran.end) runs → NoneRefused moves
 
-  all_runs : (records : List Sent) (runs : List Ran) (before after : PassView) →
-      IsChainOfRuns (IsRunAt (IsEitherOfImage verified options plan count worker) records) before runs after → AllMoves runs before after
-  all_runs records [] before after same = record {
-    moves = [];
-    walks = record {
-      steps = refl;
-      grown = λ number within. ap (λ (pass : PassView). own_at pass number) (sym same);
-      done = ap (λ (pass : PassView). pass.deeds) (sym same);
-    };
-    met_none = λ _. tt;
-  }
-  all_runs records (ran ∷ later) before after chain =
-      let one = one_run chain.1.sent before chain.0 ran.end chain.1.run in
-      let rest = all_runs records later chain.0 after chain.2 in
-      record {
-        moves = one.moves ++ rest.moves;
-        walks = walks_on (setting_of verified options) count worker before chain.0 after one.moves rest.moves one.walks rest.walks;
-        met_none = λ none. all_both (λ (move : Move). IsFalse (is_refusal move.asked)) one.moves rest.moves (one.met_none none.0) (rest.met_none none.1);
-      }
+  module _ (records : List Sent) where
+    abbrev IsOf : PassView → Ran → PassView → Type 0
+    IsOf = IsRunAt (IsRunIn plan count (program_of verified options.shards) worker journals) records
 
-  all_are : (records : List Sent) (runs : List Ran) (before after : PassView) →
-      (chain : IsChainOfRuns (IsRunAt (IsEitherOfImage verified options plan count worker) records) before runs after) →
-      (all_runs records runs before after chain).moves ≡ moves_of_runs verified options plan count worker records before runs after chain
-  unfolding all_runs
-  all_are records [] before after chain = refl
-  all_are records (ran ∷ later) before after chain =
-      ap (λ (moves : List Move). moves ++ (all_runs records later chain.0 after chain.2).moves)
-      (one_is chain.1.sent before chain.0 ran.end chain.1.run)
-      ∙ ap (λ (moves : List Move). moves_of_either verified options plan count worker chain.1.sent before ran.end chain.0 chain.1.run ++ moves)
-      (all_are records later chain.0 after chain.2)
+    all_runs : (runs : List Ran) (before after : PassView) (chain : IsChainOfRuns IsOf before runs after) →
+        AreOfSystem verified options plan count worker journals records (runs_in_chain IsOf before runs after chain) → AllMoves runs before after
+    all_runs [] before after same are = record {
+      moves = [];
+      walks = record {
+        steps = refl;
+        grown = λ number within. ap (λ (pass : PassView). own_at pass number) (sym same);
+        done = ap (λ (pass : PassView). pass.deeds) (sym same);
+      };
+      met_none = λ _. tt;
+    }
+    all_runs (ran ∷ later) before after chain are =
+        let one = one_run chain.1.sent before chain.0 ran.end chain.1.run are.0 in
+        let rest = all_runs later chain.0 after chain.2 are.1 in
+        record {
+          moves = one.moves ++ rest.moves;
+          walks = walks_on (setting_of verified options) count worker before chain.0 after one.moves rest.moves one.walks rest.walks;
+          met_none = λ none. all_both (λ (move : Move). IsFalse (is_refusal move.asked)) one.moves rest.moves (one.met_none none.0) (rest.met_none none.1);
+        }
+
+    all_are : (runs : List Ran) (before after : PassView) (chain : IsChainOfRuns IsOf before runs after) →
+        (are : AreOfSystem verified options plan count worker journals records (runs_in_chain IsOf before runs after chain)) →
+        (all_runs runs before after chain are).moves
+        ≡ moves_of_runs verified options plan count worker journals records (runs_in_chain IsOf before runs after chain) are
+    unfolding all_runs
+    all_are [] before after chain are = refl
+    all_are (ran ∷ later) before after chain are = λ i.
+        one_is chain.1.sent before chain.0 ran.end chain.1.run are.0 i ++ all_are later chain.0 after chain.2 are.1 i
 
 -- ---- what they wrote, beside the journals
 
 module _ (verified : Verified) (options : Options) (plan : ℕ → ShardPlan) (count : ℕ) (records : List Sent) (runs : List (List Ran))
     (journals : JournalsView) (order : List Deed)
-    (work : (worker : ℕ) → worker < options.workers → IsWorkOf (IsRunAt (IsEitherOfImage verified options plan count worker) records)
-    (share (frames_of records) options.workers worker (length records)) worker (runs_at runs worker) count journals order) where
+    (work : (worker : ℕ) → worker < options.workers →
+    IsWorkOf (IsRunAt (IsRunIn plan count (program_of verified options.shards) worker journals) records)
+    (share (frames_of records) options.workers worker (length records)) worker (runs_at runs worker) count journals order)
+    (of_system : (worker : ℕ) (below : worker < options.workers) →
+    AreOfSystem verified options plan count worker journals records (runs_in_work (work worker below))) where
   record IsMoved (worker : ℕ) : Type 0 where
     moves : List Move
     are : AreMovesOf (setting_of verified options) count worker (runs_at runs worker) journals order moves
@@ -224,7 +230,8 @@ module _ (verified : Verified) (options : Options) (plan : ℕ → ShardPlan) (c
   moved : (worker : ℕ) → worker < options.workers → IsMoved worker
   moved worker below =
       let did = work worker below in
-      let all = all_runs verified options plan count worker records (runs_at runs worker) did.handled.before did.after did.handled.chain in
+      let all = all_runs verified options plan count worker journals records (runs_at runs worker) did.handled.before did.after did.handled.chain
+      (of_system worker below) in
       record {
         moves = all.moves;
         are = record {
@@ -274,18 +281,23 @@ module _ (verified : Verified) (options : Options) (plan : ℕ → ShardPlan) (c
     of_others = λ worker past. none_chosen worker (nat_lt worker options.workers) refl past;
   }
 
+  -- these are those of its runs
+  abbrev pub AreOfRuns : ℕ → List Move → Type 0
+  AreOfRuns worker list =
+      (below : worker < options.workers)
+      × (list ≡ moves_of_runs verified options plan count worker journals records (runs_in_work (work worker below)) (of_system worker below))
+
   chosen_of : (worker : ℕ) (test : Bool) → (is : nat_lt worker options.workers ≡ test) → worker < options.workers →
-      AreOfRuns verified options plan count worker records runs journals order work (chosen worker test is)
+      AreOfRuns worker (chosen worker test is)
   unfolding chosen moved
   chosen_of worker true is below =
-      let did = work worker (less worker is) in
-      record {
-        below = less worker is;
-        are = all_are verified options plan count worker records (runs_at runs worker) did.handled.before did.after did.handled.chain;
-      }
+      let did = work worker (less worker is) in (
+        less worker is,
+        all_are verified options plan count worker journals records (runs_at runs worker) did.handled.before did.after did.handled.chain
+            (of_system worker (less worker is)),
+      )
   chosen_of worker false is below = absurd (grind (arith, nat_tests, is, below))
 
-  pub moves_are_of_runs : (worker : ℕ) → worker < options.workers →
-      AreOfRuns verified options plan count worker records runs journals order work (has_moves.moves worker)
+  pub moves_are_of_runs : (worker : ℕ) → worker < options.workers → AreOfRuns worker (has_moves.moves worker)
   unfolding has_moves
   moves_are_of_runs worker below = chosen_of worker (nat_lt worker options.workers) refl below

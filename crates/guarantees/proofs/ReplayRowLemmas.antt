@@ -1,7 +1,7 @@
 -- Three computed replays, and lists of events that are none.
-use Rattle.std.proofs.Common.{◌≡◌, ℕ, zero, suc, ◌<◌, ◌≤◌, ◌==◌, false, List, [], ◌∷◌, ◌++◌, replicate, refl, sym, ◌∙◌, ap, subst, append_assoc, arith}
+use Rattle.std.proofs.Common.{◌≡◌, ℕ, zero, suc, ◌<◌, ◌==◌, false, List, [], ◌∷◌, ◌++◌, replicate, refl, sym, ◌∙◌, ap, subst, append_assoc, arith}
 use Rattle.std.proofs.lemmas.List.{reverse-append}
-use Rattle.std.specs.Prelude.{All, length, map, reverse}
+use Rattle.std.specs.Prelude.{length, map, reverse}
 use Rattle.std.proofs.lemmas.Bool.Decides.{nat_tests}
 use Rattle.ebpf_decode.specs.InstructionEncoding.{slot_count}
 use Rattle.semantics.specs.declared.call.Call.{Call}
@@ -18,9 +18,7 @@ use Rattle.semantics.specs.System.{DoesInstruction, CallsShard, LeavesShard}
 use Rattle.guarantees.specs.InParts.{AreAllIdle}
 use Rattle.guarantees.specs.TurnByTurn.{AreEventsOfRecord, IsTurnByTurn}
 use Rattle.guarantees.specs.ReplayRows.{put, short_frame, one_frame, held_turns, first_turns, early_round, replay_setting, held_asked, held_run, held_command, held_end, held_events, held_result, held_ending, full_asked, full_events, full_result, first_asked, first_events, first_result, ReplayRows}
-
-input_of : (bytes : List ℕ) → 14 ≤ length bytes → length bytes ≤ 2048 → All (λ byte. byte < 256) bytes → IsInputFrame bytes
-input_of bytes least greatest all = record { least = least; greatest = greatest; bytes = all }
+use Rattle.guarantees.proofs.RowRuns.{input_of}
 
 frame_zero : IsInputFrame (frame_of 0)
 frame_zero = input_of (frame_of 0) (omega arith) (omega arith) (tested_bytes (frame_of 0) refl)

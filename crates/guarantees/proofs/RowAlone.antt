@@ -1,6 +1,6 @@
 -- The rows of runs alone, computed.
-use Rattle.std.proofs.Common.{◌≡◌, inl, inr, ℕ, ◌%◌, ◌<◌, ◌≤◌, List, [], ◌∷◌, ◌++◌, length, refl, sym, subst, arith}
-use Rattle.std.specs.Prelude.{All, None, replicate}
+use Rattle.std.proofs.Common.{◌≡◌, inl, inr, ℕ, ◌%◌, ◌<◌, List, [], ◌∷◌, ◌++◌, length, refl, subst, arith}
+use Rattle.std.specs.Prelude.{None, replicate}
 use Rattle.std.proofs.lemmas.List.Elements.{All-nil, All-cons, All-replicate}
 use Rattle.ebpf_decode.specs.InstructionEncoding.{slot_count}
 use Rattle.ebpf_decode.specs.declared.map.MapDef.{MapDef}
@@ -12,7 +12,7 @@ use Rattle.semantics.specs.History.{IsLegalJournal}
 use Rattle.semantics.specs.MachineState.{MachineState}
 use Rattle.semantics.specs.RunTrace.{RunStand, HasExited, Waits, HasTrapped, GoesOn, trace_of}
 use Rattle.semantics.specs.ShardPlan.{AreOptions}
-use Rattle.semantics.specs.System.{program_of_setting, IsInputFrame}
+use Rattle.semantics.specs.System.{program_of_setting}
 use Rattle.semantics.specs.SystemRows.{frame_of, key_of_byte}
 use Rattle.semantics.proofs.shared.ConditionLemmas.{tested_bytes}
 use Rattle.journals.specs.JournalsView.{JournalsView, entries_at}
@@ -26,6 +26,7 @@ use Rattle.runs.specs.Updates.{served_by, updates_at}
 use Rattle.guarantees.specs.RunRows.{row_setting, row_plan}
 use Rattle.guarantees.specs.RunsAlone.{IsAskedAlone, RunsAloneAreOfTheSystem, StoppedRunsAloneAreOfTheSystem}
 use Rattle.guarantees.specs.AloneRow.{set_to, row_start, row_journals, read_two, ended_journal, stopped_journal, AloneRow}
+use Rattle.guarantees.proofs.RowRuns.{input_of, only_zero}
 
 options : AreOptions row_setting.maps row_setting.options
 options = record {
@@ -36,12 +37,6 @@ options = record {
   least_journal = omega arith;
   greatest_journal = omega arith;
 }
-
-only_zero : (P : ℕ → Type 0) → P 0 → (number : ℕ) → number < 1 → P number
-only_zero P at number below = let same : number ≡ 0 = omega (arith, below) in subst P (sym same) at
-
-input_of : (bytes : List ℕ) → 14 ≤ length bytes → length bytes ≤ 2048 → All (λ byte. byte < 256) bytes → IsInputFrame bytes
-input_of bytes least greatest all = record { least = least; greatest = greatest; bytes = all }
 
 asked_of : (count number : ℕ) → misfit_of row_setting.maps (set_to number) ≡ None → IsAskedAlone row_setting 0 0 (frame_of 1) (replicate count (set_to number))
 asked_of count number fits = record {

@@ -49,10 +49,10 @@ state_of (Waits state) = state
 state_of (HasTrapped cause) = start 0
 state_of GoesOn = start 0
 
-input_of : (bytes : List ℕ) → 14 ≤ length bytes → length bytes ≤ 2048 → All (λ byte. byte < 256) bytes → IsInputFrame bytes
+pub input_of : (bytes : List ℕ) → 14 ≤ length bytes → length bytes ≤ 2048 → All (λ byte. byte < 256) bytes → IsInputFrame bytes
 input_of bytes least greatest all = record { least = least; greatest = greatest; bytes = all }
 
-only_zero : (P : ℕ → Type 0) → P 0 → (number : ℕ) → number < 1 → P number
+pub only_zero : (P : ℕ → Type 0) → P 0 → (number : ℕ) → number < 1 → P number
 only_zero P at number below = let same : number ≡ 0 = omega (arith, below) in subst P (sym same) at
 
 row_sessions : HasSessions 1 0 row_exchanges (pass_with []) (pass_with row_entries)

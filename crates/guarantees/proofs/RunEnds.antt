@@ -16,18 +16,20 @@ use Rattle.verifier.specs.Verified.{Verified}
 use Rattle.machine.specs.declared.exit.Stop.{Stop}
 use Rattle.machine.specs.declared.exit.Stop.TheVariants.{JournalFull}
 use Rattle.machine.specs.declared.moment.Moment.{Moment}
+use Rattle.machine.specs.Running.{program_of}
+use Rattle.journals.specs.JournalsView.{JournalsView}
 use Rattle.shards.specs.Passes.{PassView}
-use Rattle.actors.specs.declared.runner.Ran.{Ran}
+use Rattle.actors.specs.Shares.{captured_of}
 use Rattle.actors.specs.declared.runner.RunEnd.{RunEnd}
 use Rattle.actors.specs.declared.runner.RunEnd.TheVariants.{Stopped as WasStopped, Exited as HasExited}
-use Rattle.actors.specs.RunsInOrder.{IsRunAt, IsChainOfRuns}
+use Rattle.actors.specs.Accounted.{PlacedRun}
+use Rattle.actors.specs.RunsOverShards.{IsRunIn}
 use Rattle.semantics.specs.Events.{Input, Ending, Exited, Stopped, begun_by, exit_at}
 use Rattle.semantics.specs.Replay.{Captured, input_of}
-use Rattle.guarantees.specs.ReplayOf.{captured_of}
-use Rattle.guarantees.specs.Steps.{Refused, Move, begins, does, asks, IsStep, RunBegins, RunGoesOn, RunEnds, CallIsServed, ShardIsEntered, CallIsRefused, EnterIsRefused, ShardIsLeft, AreSteps, InRun, running, AreStepsOfRun, beginning, leavings}
+use Rattle.guarantees.specs.Steps.{TurnedAway, Move, begins, does, asks, IsStep, RunBegins, RunGoesOn, RunEnds, CallIsServed, ShardIsEntered, CallIsRefused, EnterIsRefused, ShardIsLeft, AreSteps, InRun, running, AreStepsOfRun, beginning, leavings}
 use Rattle.guarantees.specs.SystemRuns.{setting_of, RanInSystem, HasStoppedInSystem}
 use Rattle.guarantees.specs.Merging.{events_of}
-use Rattle.guarantees.specs.RunsInList.{moment_of, IsEitherOfImage, moves_to_stop, moves_of_either, moves_of_runs}
+use Rattle.guarantees.specs.RunsInList.{moment_of, IsOfSystem, AreOfSystem, moves_to_stop, moves_of_run, moves_of_runs}
 use Rattle.guarantees.proofs.MoveLemmas.{own_event}
 use Rattle.guarantees.proofs.EndLemmas.{ends_of_asked, ends_in, Walk}
 use Rattle.guarantees.proofs.AnswerLemmas.{then_begun}
@@ -155,9 +157,9 @@ exit_walk setting count worker here verdict last left exits ends leaves = record
 
 -- the call that met a full journal, and leaving
 pub stop_walk : (setting : Setting) (count worker : ℕ) (here : InRun) (refused : Call) (left : List ℕ) →
-    IsStep setting count worker (running here) (asks worker (Refused refused)) (run_over here.entered) →
+    IsStep setting count worker (running here) (asks worker (TurnedAway refused)) (run_over here.entered) →
     AreSteps setting count worker (run_over here.entered) (leavings worker left) Idle →
-    Walk setting count worker (running here) (asks worker (Refused refused) ∷ leavings worker left) (Stopped (shard_of_call refused) ∷ [])
+    Walk setting count worker (running here) (asks worker (TurnedAway refused) ∷ leavings worker left) (Stopped (shard_of_call refused) ∷ [])
 stop_walk setting count worker here refused left refuses leaves = record {
   steps = (run_over here.entered, refuses, leaves);
   ends_are = ap (λ (list : List Ending). Stopped (shard_of_call refused) ∷ list)
@@ -192,69 +194,83 @@ unfolding ending_at_stop
 stopped_so setting count worker plan moment frame before after kept_back (JournalFull shard) own stopped =
     let is = stopped.of_system in
     let waiting : InRun = record { state = stopped.waiting; entered = is.entered } in
-    run_on setting count worker moment.worker moment.now_ns frame is.run (asks worker (Refused is.refused) ∷ leavings worker is.left) waiting
+    run_on setting count worker moment.worker moment.now_ns frame is.run (asks worker (TurnedAway is.refused) ∷ leavings worker is.left) waiting
     (Stopped (shard_of_call is.refused)) own is.begins_so is.goes_on
     (stop_walk setting count worker waiting is.refused is.left is.refuses is.leaves) (leaving_begins_none worker is.left)
 
-module _ (verified : Verified) (options : Options) (plan : ℕ → ShardPlan) (count worker : ℕ) where
-  unfoldable pub ending_of : (captured : Sent) (before : PassView) (end : RunEnd) (after : PassView) →
-      IsEitherOfImage verified options plan count worker captured before end after → Ending
-  ending_of captured before WasStopped after run =
-      ending_at_stop (setting_of verified options) worker (moment_of captured worker) captured.bytes.items plan count before after run.frame run.stop
-      run.of_system
-  ending_of captured before (HasExited steps fate) after run =
-      Exited run.verdict run.of_system.last.frame.bytes run.of_system.last.steps
+module _ (verified : Verified) (options : Options) (plan : ℕ → ShardPlan) (count worker : ℕ) (journals : JournalsView) where
+  abbrev IsIn : Sent → PassView → RunEnd → PassView → Type 0
+  IsIn captured before end after = IsRunIn plan count (program_of verified options.shards) worker journals captured before end after
 
-  pub run_so : (captured : Sent) (before : PassView) (end : RunEnd) (after : PassView) →
-      (run : IsEitherOfImage verified options plan count worker captured before end after) →
+  unfoldable pub ending_of : (captured : Sent) (before : PassView) (end : RunEnd) (after : PassView) (run : IsIn captured before end after) →
+      IsOfSystem verified options plan count worker journals captured before end after run → Ending
+  ending_of captured before WasStopped after run of_system =
+      ending_at_stop (setting_of verified options) worker (moment_of captured worker) captured.bytes.items plan count before after run.frame run.stop
+      of_system
+  ending_of captured before (HasExited steps fate) after run of_system = Exited run.verdict of_system.last.frame.bytes of_system.last.steps
+
+  pub run_so : (captured : Sent) (before : PassView) (end : RunEnd) (after : PassView) (run : IsIn captured before end after) →
+      (of_system : IsOfSystem verified options plan count worker journals captured before end after run) →
       IsRunOn (setting_of verified options) count worker (input_of worker (captured_of captured))
-      (moves_of_either verified options plan count worker captured before end after run) (ending_of captured before end after run)
+      (moves_of_run verified options plan count worker journals captured before end after run of_system)
+      (ending_of captured before end after run of_system)
   unfolding ending_of
-  run_so captured before WasStopped after run =
+  run_so captured before WasStopped after run of_system =
       stopped_so (setting_of verified options) count worker plan (moment_of captured worker) captured.bytes.items before after run.frame run.stop refl
-      run.of_system
-  run_so captured before (HasExited steps fate) after run =
+      of_system
+  run_so captured before (HasExited steps fate) after run of_system =
       ran_so (setting_of verified options) count worker (moment_of captured worker) captured.bytes.items before after run.frame run.verdict run.steps refl
-      run.of_system
+      of_system
 
   -- ---- all runs of a worker
 
-  abbrev IsChain : List Sent → PassView → List Ran → PassView → Type 0
-  IsChain records before runs after = IsChainOfRuns (IsRunAt (IsEitherOfImage verified options plan count worker) records) before runs after
+  module _ (records : List Sent) where
+    abbrev Placed : Type 0
+    Placed = PlacedRun plan count (program_of verified options.shards) worker journals records
 
-  unfoldable pub endings_of : (records : List Sent) (before : PassView) (runs : List Ran) (after : PassView) → IsChain records before runs after → List Ending
-  endings_of records before [] after chain = []
-  endings_of records before (ran ∷ later) after chain =
-      ending_of chain.1.sent before ran.end chain.0 chain.1.run ∷ endings_of records chain.0 later after chain.2
+    abbrev AreOf : List Placed → Type 0
+    AreOf runs = AreOfSystem verified options plan count worker journals records runs
 
-  unfoldable pub captured_in : (records : List Sent) (before : PassView) (runs : List Ran) (after : PassView) → IsChain records before runs after → List Captured
-  captured_in records before [] after chain = []
-  captured_in records before (ran ∷ later) after chain = captured_of chain.1.sent ∷ captured_in records chain.0 later after chain.2
+    abbrev pub moves_so : (one : Placed) → IsOfSystem verified options plan count worker journals one.run.sent one.before one.ran.end one.after one.run.run →
+        List Move
+    moves_so one is = moves_of_run verified options plan count worker journals one.run.sent one.before one.ran.end one.after one.run.run is
 
-  pub walk_of : (records : List Sent) (before : PassView) (runs : List Ran) (after : PassView) → (chain : IsChain records before runs after) →
-      Walk (setting_of verified options) count worker Idle (moves_of_runs verified options plan count worker records before runs after chain)
-      (endings_of records before runs after chain)
-  unfolding endings_of
-  walk_of records before [] after chain = record { steps = refl; ends_are = refl }
-  walk_of records before (ran ∷ later) after chain =
-      let one = run_so chain.1.sent before ran.end chain.0 chain.1.run in
-      then_walk (setting_of verified options) count worker (moves_of_either verified options plan count worker chain.1.sent before ran.end chain.0 chain.1.run)
-      (moves_of_runs verified options plan count worker records chain.0 later after chain.2) Idle
-      (ending_of chain.1.sent before ran.end chain.0 chain.1.run ∷ []) (endings_of records chain.0 later after chain.2) one.walk
-      (walk_of records chain.0 later after chain.2)
+    abbrev pub ending_so : (one : Placed) → IsOfSystem verified options plan count worker journals one.run.sent one.before one.ran.end one.after one.run.run →
+        Ending
+    ending_so one is = ending_of one.run.sent one.before one.ran.end one.after one.run.run is
 
-  events_both : (first second : List Move) → events_of (first ++ second) ≡ events_of first ++ events_of second
-  events_both [] second = refl
-  events_both (move ∷ first) second = ap (λ (list : List SystemEvent). move.event ∷ list) (events_both first second)
+    unfoldable pub endings_of : (runs : List Placed) → AreOf runs → List Ending
+    endings_of [] are = []
+    endings_of (one ∷ later) are = ending_so one are.0 ∷ endings_of later are.1
 
-  pub begun_in : (records : List Sent) (before : PassView) (runs : List Ran) (after : PassView) → (chain : IsChain records before runs after) →
-      begun_by worker (events_of (moves_of_runs verified options plan count worker records before runs after chain))
-      ≡ map (input_of worker) (captured_in records before runs after chain)
-  unfolding captured_in
-  begun_in records before [] after chain = refl
-  begun_in records before (ran ∷ later) after chain =
-      let first : List Move = moves_of_either verified options plan count worker chain.1.sent before ran.end chain.0 chain.1.run in
-      let second : List Move = moves_of_runs verified options plan count worker records chain.0 later after chain.2 in
-      ap (begun_by worker) (events_both first second) ∙ then_begun worker (events_of first) (events_of second)
-      ∙ ap (λ (list : List Input). list ++ begun_by worker (events_of second)) (run_so chain.1.sent before ran.end chain.0 chain.1.run).begun
-      ∙ ap (λ (list : List Input). input_of worker (captured_of chain.1.sent) ∷ list) (begun_in records chain.0 later after chain.2)
+    unfoldable pub captured_in : List Placed → List Captured
+    captured_in [] = []
+    captured_in (one ∷ later) = captured_of one.run.sent ∷ captured_in later
+
+    pub walk_of : (runs : List Placed) (are : AreOf runs) →
+        Walk (setting_of verified options) count worker Idle (moves_of_runs verified options plan count worker journals records runs are)
+        (endings_of runs are)
+    unfolding endings_of
+    walk_of [] are = record { steps = refl; ends_are = refl }
+    walk_of (one ∷ later) are =
+        let is = run_so one.run.sent one.before one.ran.end one.after one.run.run are.0 in
+        then_walk (setting_of verified options) count worker (moves_so one are.0)
+        (moves_of_runs verified options plan count worker journals records later are.1) Idle (ending_so one are.0 ∷ []) (endings_of later are.1) is.walk
+        (walk_of later are.1)
+
+    events_both : (first second : List Move) → events_of (first ++ second) ≡ events_of first ++ events_of second
+    events_both [] second = refl
+    events_both (move ∷ first) second = ap (λ (list : List SystemEvent). move.event ∷ list) (events_both first second)
+
+    pub begun_in : (runs : List Placed) (are : AreOf runs) →
+        begun_by worker (events_of (moves_of_runs verified options plan count worker journals records runs are))
+        ≡ map (input_of worker) (captured_in runs)
+    unfolding captured_in
+    begun_in [] are = refl
+    begun_in (one ∷ later) are =
+        let first : List Move = moves_so one are.0 in
+        let second : List Move = moves_of_runs verified options plan count worker journals records later are.1 in
+        ap (begun_by worker) (events_both first second) ∙ then_begun worker (events_of first) (events_of second)
+        ∙ ap (λ (list : List Input). list ++ begun_by worker (events_of second))
+        (run_so one.run.sent one.before one.ran.end one.after one.run.run are.0).begun
+        ∙ ap (λ (list : List Input). input_of worker (captured_of one.run.sent) ∷ list) (begun_in later are.1)

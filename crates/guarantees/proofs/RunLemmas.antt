@@ -25,7 +25,7 @@ use Rattle.shard_port.specs.Sessions.{WritesSessions, WritesRefusedSessions, Sta
 use Rattle.machine.specs.declared.exit.Stop.{Stop}
 use Rattle.machine.specs.declared.exit.Stop.TheVariants.{JournalFull}
 use Rattle.machine.specs.Running.{program_of, Ends, Stops, StopsSo}
-use Rattle.guarantees.specs.Runs.{IsOutside, Start, state_at, IsStoppedBeginning, IsPortOver, IsFinished, Ran, AreExchangesWritten, AreWrittenBut}
+use Rattle.guarantees.specs.Runs.{IsOutside, Start, state_at, IsStoppedBeginning, IsPortOver, IsFinished, RanOver, AreExchangesWritten, AreWrittenBut}
 use Rattle.guarantees.specs.Runs.{WasFullForCall, IsTheMeaning}
 use Rattle.guarantees.specs.Guarantees.{RunsAreTheirMeaning, StoppedRunsAreBeginnings, RunsLeaveOthersAlone}
 use Rattle.guarantees.proofs.JournalLemmas.{are_legal}
@@ -227,7 +227,7 @@ ran_record : (verified : Verified) (options : Options) (start : Start) (before a
     IsPortOver verified.maps options start.worker before port →
     Ends PortGives (program_of verified port.options.shards) (state_at start) port later verdict steps frame →
     IsFinished options later after →
-    Ran verified options start before after verdict steps frame
+    RanOver verified options start before after verdict steps frame
 ran_record verified options start before after port later verdict steps frame over ended finished = record {
   port = port;
   over = over;

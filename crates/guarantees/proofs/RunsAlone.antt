@@ -46,12 +46,12 @@ use Rattle.runs.specs.SingleRuns.{AreLegalJournalsOf, HasRunAlone, IsCutBehind, 
 use Rattle.runs.specs.Updates.{served_by, call_of_update, entry_of_update, updates_at, updated_shard}
 use Rattle.guarantees.specs.Merging.{IsSetBefore, NoneRefused, is_refusal, moves_of, set_and_done, events_of}
 use Rattle.guarantees.specs.RunsAlone.{input_at, all_taken, IsAloneInSystem, IsAskedAlone, RunsAloneAreOfTheSystem, StoppedRunsAloneAreOfTheSystem}
-use Rattle.guarantees.specs.Steps.{Writes, Refused, Move, begins, does, asks, IsStep, RunBegins, RunEnds, ShardIsEntered, CallIsRefused, EnterIsRefused, AreSteps, entries_in, entries_on, deeds_in, InRun, running, AreStepsOfRun, beginning, leavings}
+use Rattle.guarantees.specs.Steps.{Writes, TurnedAway, Move, begins, does, asks, IsStep, RunBegins, RunEnds, ShardIsEntered, CallIsRefused, EnterIsRefused, AreSteps, entries_in, entries_on, deeds_in, InRun, running, AreStepsOfRun, beginning, leavings}
 use Rattle.guarantees.proofs.AnswerLemmas.{begun_among}
-use Rattle.guarantees.proofs.DeedLemmas.{turned, made_reversed}
+use Rattle.actors.proofs.shared.DeedLemmas.{turned, made_reversed}
 use Rattle.guarantees.proofs.EndLemmas.{Walk}
 use Rattle.guarantees.proofs.EventLemmas.{is_some_entry, since, Reaches, Exited as EndsSo, reached, append_on, append_deeds, whole_session}
-use Rattle.guarantees.proofs.EveryEntry.{all_both, all_reverse}
+use Rattle.actors.proofs.shared.EveryEntry.{all_both, all_reverse}
 use Rattle.guarantees.proofs.Leaving.{itself, all_leave}
 use Rattle.guarantees.proofs.Heard.{heard, is_askable, answer_of_deed}
 use Rattle.guarantees.specs.InParts.{call_of_deed}
@@ -419,7 +419,7 @@ module _ (setting : Setting) (worker now : ℕ) (frame : List ℕ) (updates : Li
   -- ---- one that was stopped
 
   stop_by : (moves : List Move) (here : InRun) (refused : Call) (left : List ℕ) → AreStepsOfRun setting count worker (beginning frame worker now) moves here →
-      IsStep setting count worker (running here) (asks worker (Refused refused)) (run_over here.entered) →
+      IsStep setting count worker (running here) (asks worker (TurnedAway refused)) (run_over here.entered) →
       AreSteps setting count worker (run_over here.entered) (leavings worker left) Idle →
       IsJournalFull (plan (shard_of_call refused))
       (reverse (updates_at served (shard_of_call refused) updates ++ entries_on (shard_of_call refused) moves)) refused →
@@ -427,7 +427,7 @@ module _ (setting : Setting) (worker now : ℕ) (frame : List ℕ) (updates : Li
       entries_at journals number ≡ updates_at served number updates ++ entries_on number (moves ++ leavings worker left)) →
       IsAlone (Stopped (shard_of_call refused))
   stop_by moves here refused left steps refuses leaves full written =
-      let final : List Move = asks worker (Refused refused) ∷ leavings worker left in
+      let final : List Move = asks worker (TurnedAway refused) ∷ leavings worker left in
       let whole : List Move = begins worker frame now worker ∷ moves ++ final in
       let run : IsRunOn setting count worker (input_at frame worker now) whole (Stopped (shard_of_call refused)) =
       run_on setting count worker worker now frame moves final here (Stopped (shard_of_call refused)) refl

@@ -39,7 +39,7 @@ use Rattle.actors.specs.declared.outcome.Applied.{Applied}
 use Rattle.actors.specs.SharedUpdates.{shard_of}
 use Rattle.actors.specs.Commands.{CommandDone, IsDoneBy, AreDone, AreNotedOf, IsFullyDone, IsNothing, IsTurnedDown, IsCutShort}
 use Rattle.guarantees.specs.ReplayOf.{call_of_shared_update}
-use Rattle.guarantees.proofs.EveryEntry.{all_both, all_parts}
+use Rattle.actors.proofs.shared.EveryEntry.{all_both, all_parts}
 
 -- ---- bytes, as a test
 

@@ -24,7 +24,7 @@ use Rattle.shard_port.specs.Sessions.{exchange_entries, session}
 use Rattle.shard_port.specs.PassSessions.{session_at, AreCallsWithin, IsVisitedAt, StoppedAtCall, StoppedAtEnter, HasRefusedSessions}
 use Rattle.shard_port.specs.PassDeeds.{asked_deeds, shards_entered, rising, leaving_deeds, deeds_to_call}
 use Rattle.runs.specs.FrameRuns.{AreFormed}
-use Rattle.guarantees.specs.Steps.{Writes, Refused, Move, asks, IsStep, RunBegins, ShardIsEntered, CallIsRefused, EnterIsRefused, InRun, running, AreStepsOfRun, beginning, leavings, entries_on, deeds_in}
+use Rattle.guarantees.specs.Steps.{Writes, TurnedAway, Move, asks, IsStep, RunBegins, ShardIsEntered, CallIsRefused, EnterIsRefused, InRun, running, AreStepsOfRun, beginning, leavings, entries_on, deeds_in}
 use Rattle.guarantees.specs.SystemRuns.{HaveGrown, IsStoppedInSystem}
 use Rattle.guarantees.specs.SystemLaws.{StoppedRunsAreOfTheSystem}
 use Rattle.guarantees.proofs.Leaving.{itself, AreEntered, all_leave, left_on, deeds_left}
@@ -124,9 +124,9 @@ all_written setting worker state count before after exchanges said reaches writt
 
 -- steps that did this, then one that meets a full journal, and then the worker leaves
 stop_deeds : (worker : ℕ) (run : List Move) (done : List Deed) (refused : Call) (left : List ℕ) → deeds_in worker run ≡ done →
-    deeds_in worker (run ++ asks worker (Refused refused) ∷ leavings worker left) ≡ done ++ MetFull (Worker worker) refused ∷ leaving_deeds worker left
+    deeds_in worker (run ++ asks worker (TurnedAway refused) ∷ leavings worker left) ≡ done ++ MetFull (Worker worker) refused ∷ leaving_deeds worker left
 stop_deeds worker run done refused left is =
-    append_deeds worker run (asks worker (Refused refused) ∷ leavings worker left)
+    append_deeds worker run (asks worker (TurnedAway refused) ∷ leavings worker left)
     ∙ ap (λ (list : List Deed). list ++ MetFull (Worker worker) refused ∷ deeds_in worker (leavings worker left)) is
     ∙ ap (λ (list : List Deed). done ++ MetFull (Worker worker) refused ∷ list) (deeds_left worker left)
 
@@ -320,7 +320,7 @@ module _ (setting : Setting) (worker told now : ℕ) (frame : List ℕ) (plan : 
       (cases_eq number (shard_of_call call))
 
   visit_deeds : is_entered (shard_of_call call) reaches.after ≡ false →
-      deeds_in worker (passing ++ asks worker (Refused call) ∷ leavings worker (rising count (shard_of_call call ∷ reaches.after)))
+      deeds_in worker (passing ++ asks worker (TurnedAway call) ∷ leavings worker (rising count (shard_of_call call ∷ reaches.after)))
       ≡ deeds_to_call worker count exchanges call
   visit_deeds outside =
       let enter : List Deed = Wrote (enter_by worker (shard_of_call call)) ∷ [] in

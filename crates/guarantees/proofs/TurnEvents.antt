@@ -26,34 +26,35 @@ use Rattle.control.specs.declared.command.Command.{Command}
 use Rattle.control.specs.MapUpdates.{UpdateBytes}
 use Rattle.control.specs.ScriptText.{CommandFits}
 use Rattle.actors.specs.declared.outcome.Outcome.{Outcome}
-use Rattle.actors.specs.Accounted.{IsAccounted}
+use Rattle.actors.specs.Accounted.{runs_in_work, IsAccounted}
 use Rattle.actors.specs.Accounts.{runs_at}
 use Rattle.actors.specs.Actors.{numbers_from}
 use Rattle.actors.specs.Captured.{IsCaptured}
 use Rattle.actors.specs.Commands.{AnsweredUpdate, CommandDone, made_deeds, stop_deeds, command_deeds}
 use Rattle.actors.specs.Parts.{first_commands}
 use Rattle.actors.specs.Rounds.{keyed_below}
-use Rattle.actors.specs.Shares.{frames_of, frame_at, is_short, is_handed, worker_of_frame}
+use Rattle.actors.specs.Shares.{frames_of, frame_at, is_short, is_handed, worker_of_frame, captured_of}
 use Rattle.guarantees.specs.InParts.{Part, ByController, ByReclaimer, ByWorker, call_of_deed, events_of_part, deeds_in_parts, events_in_parts, IsOfCaller, AreParts, IsOrderInParts, AreIdleBetween}
 use Rattle.guarantees.specs.Merging.{AreWrittenInOrder, events_of}
-use Rattle.guarantees.specs.ReplayOf.{captured_of, command_calls, asked_of}
+use Rattle.guarantees.specs.RunsInList.{AreOfSystem}
+use Rattle.guarantees.specs.ReplayOf.{command_calls, asked_of}
 use Rattle.guarantees.specs.Steps.{Move}
 use Rattle.guarantees.specs.SystemLaws.{RunsAreOfTheSystem, StoppedRunsAreOfTheSystem}
 use Rattle.guarantees.specs.SystemRuns.{setting_of}
 use Rattle.guarantees.specs.TurnByTurn.{Turn, TheCommand, TheRecord, TheRound, IsWholeRun, AreEventsOfTurn, AreEventsOfTurns, events_of_updates, IsTurnByTurn, TurnDeeds, turns_of, IsTurnDone, AreDoneInTurns, HeadlineInTurns, ReplaysInTurnsAreListed}
+use Rattle.actors.proofs.shared.PutLemmas.{worker_below}
 use Rattle.guarantees.proofs.DeedAnswers.{made_calls, command_calls_are, round_is, round_own, keyed_within, keyed_are}
 use Rattle.guarantees.proofs.EndLemmas.{ends_in}
-use Rattle.guarantees.proofs.EveryEntry.{all_both}
-use Rattle.guarantees.proofs.HeadlineRuns.{moves, moves_of_work, order_is, work_deeds}
+use Rattle.actors.proofs.shared.EveryEntry.{all_both}
+use Rattle.guarantees.proofs.HeadlineRuns.{moves, order_is}
 use Rattle.guarantees.proofs.AfterDeeds.{put, put_there, put_other}
 use Rattle.guarantees.proofs.Heard.{heard, answer_of_deed}
 use Rattle.guarantees.proofs.OneReplay as whole
-use Rattle.guarantees.proofs.OneReplay.{less, map_both, ends_if, ends}
-use Rattle.guarantees.proofs.OpenedReplays.{record_of}
+use Rattle.guarantees.proofs.OneReplay.{map_both, ends_if, ends}
+use Rattle.actors.proofs.shared.ShareOrder.{record_of}
 use Rattle.guarantees.proofs.PartEvents.{ends_in_parts, played, list_in_parts, reached}
 use Rattle.guarantees.proofs.PartLists.{moves_by, filtered, are_heard}
 use Rattle.guarantees.proofs.PlacedRuns.{OneRun, moves_in, ends_among, IsRunOn, AreTaken, runs_of, moves_are, ends_are, runs_are, taken_are}
-use Rattle.guarantees.proofs.RecordEnds.{spread_below}
 use Rattle.guarantees.proofs.SizedUpdates.{IsAskable, commands_may_look}
 
 -- ---- lists
@@ -123,9 +124,10 @@ module _ (ran : RunsAreOfTheSystem) (stopped : StoppedRunsAreOfTheSystem) (verif
       (stop_own one.stopped may)
 
   may_look : AllByRecursion (λ (one : CommandDone). IfSome one.stopped (IsAskable plan verified.maps options)) done
-  may_look = commands_may_look plan verified.maps options count accounted.commands.size accounted.plans fit script sized accounted.commands.serves
-      accounted.commands.noted done accounted.commands.are_noted (opened_controller accounted.commands.size) accounted.commands.state
-      accounted.commands.are_done refl
+  may_look =
+      let by = accounted.commands.of_script in
+      commands_may_look plan verified.maps options count by.size accounted.plans fit script sized by.serves by.noted done by.are_noted
+      (opened_controller by.size) by.state by.are_done refl
 
   -- ---- a part of a turn
 
@@ -270,7 +272,7 @@ module _ (ran : RunsAreOfTheSystem) (stopped : StoppedRunsAreOfTheSystem) (verif
 
     module _ (is : is_short one.bytes.items ≡ false) where
       below_own : own < options.workers
-      below_own = spread_below one.bytes.items options.workers fit.some_worker
+      below_own = worker_below one.bytes.items options.workers fit.some_worker
 
       taken_own : AreTaken own (rest own) (here ∷ turns_of frames options.workers own todo)
       taken_own = subst (AreTaken own (rest own)) (turns_if own true (handed_by own false is ∙ eq-eqb own own refl)) (left.taken own below_own)
@@ -377,11 +379,17 @@ module _ (ran : RunsAreOfTheSystem) (stopped : StoppedRunsAreOfTheSystem) (verif
 
   -- ---- the runs of the account
 
+  abbrev own_below : (worker : ℕ) → nat_lt worker options.workers ≡ true → worker < options.workers
+  own_below worker is = (whole.own_moves ran stopped verified safe script options records outcome fit captured sized accounted worker is).0
+
+  abbrev of_system : (worker : ℕ) (below : worker < options.workers) →
+      AreOfSystem verified options plan count worker outcome.journals records (runs_in_work (accounted.work worker below))
+  of_system = whole.of_system ran stopped verified safe script options records outcome fit captured sized accounted
+
   rest_if : (worker : ℕ) (test : Bool) → nat_lt worker options.workers ≡ test → List OneRun
   rest_if worker true is =
-      let did = whole.worked ran stopped verified safe script options records outcome fit captured sized accounted worker
-      (whole.own_below ran stopped verified safe script options records outcome fit captured sized accounted worker is) in
-      runs_of verified options plan count worker records did.handled.before (runs_at accounted.runs worker) did.after did.handled.chain
+      let own = own_below worker is in
+      runs_of verified options plan count worker outcome.journals records (runs_in_work (accounted.work worker own)) (of_system worker own)
   rest_if worker false is = []
 
   rest : ℕ → List OneRun
@@ -390,19 +398,17 @@ module _ (ran : RunsAreOfTheSystem) (stopped : StoppedRunsAreOfTheSystem) (verif
   good_if : (worker : ℕ) (test : Bool) → (is : nat_lt worker options.workers ≡ test) → AllByRecursion (IsRunOn setting count records worker) (rest_if worker test is)
   unfolding rest_if
   good_if worker true is =
-      let did = whole.worked ran stopped verified safe script options records outcome fit captured sized accounted worker
-      (whole.own_below ran stopped verified safe script options records outcome fit captured sized accounted worker is) in
-      runs_are verified options plan count worker records did.handled.before (runs_at accounted.runs worker) did.after did.handled.chain
+      let own = own_below worker is in
+      runs_are verified options plan count worker outcome.journals records (runs_in_work (accounted.work worker own)) (of_system worker own)
   good_if worker false is = tt
 
   moves_if : (worker : ℕ) (test : Bool) → (is : nat_lt worker options.workers ≡ test) →
       moves_in (rest_if worker test is) ≡ whole.moved ran stopped verified safe script options records outcome fit captured sized accounted worker
   unfolding rest_if
   moves_if worker true is =
-      let did = whole.worked ran stopped verified safe script options records outcome fit captured sized accounted worker
-      (whole.own_below ran stopped verified safe script options records outcome fit captured sized accounted worker is) in
-      moves_are verified options plan count worker records did.handled.before (runs_at accounted.runs worker) did.after did.handled.chain
-      ∙ sym (moves_of_work ran stopped verified safe script options records outcome fit captured accounted worker (less worker options.workers is)).are
+      let own = whole.own_moves ran stopped verified safe script options records outcome fit captured sized accounted worker is in
+      moves_are verified options plan count worker outcome.journals records (runs_in_work (accounted.work worker own.0)) (of_system worker own.0)
+      ∙ sym own.1
   moves_if worker false is =
       let past : options.workers ≤ worker = grind (arith, nat_tests, is) in
       sym ((moves ran stopped verified safe script options records outcome fit captured accounted).of_others worker past)
@@ -415,9 +421,8 @@ module _ (ran : RunsAreOfTheSystem) (stopped : StoppedRunsAreOfTheSystem) (verif
       ends_among (rest_if worker test is) ≡ ends_if ran stopped verified safe script options records outcome fit captured sized accounted worker test is
   unfolding rest_if ends_if
   ends_agree_if worker true is =
-      let did = whole.worked ran stopped verified safe script options records outcome fit captured sized accounted worker
-      (whole.own_below ran stopped verified safe script options records outcome fit captured sized accounted worker is) in
-      ends_are verified options plan count worker records did.handled.before (runs_at accounted.runs worker) did.after did.handled.chain
+      let own = own_below worker is in
+      ends_are verified options plan count worker outcome.journals records (runs_in_work (accounted.work worker own)) (of_system worker own)
   ends_agree_if worker false is = refl
 
   ends_agree : (worker : ℕ) → ends_among (rest worker) ≡ ends ran stopped verified safe script options records outcome fit captured sized accounted worker
@@ -436,12 +441,10 @@ module _ (ran : RunsAreOfTheSystem) (stopped : StoppedRunsAreOfTheSystem) (verif
         AreTaken worker (rest_if worker test is) (turns_of frames options.workers worker given.done)
     unfolding rest_if
     taken_if worker true is below =
-        let own = whole.own_below ran stopped verified safe script options records outcome fit captured sized accounted worker is in
-        let did = whole.worked ran stopped verified safe script options records outcome fit captured sized accounted worker own in
-        taken_are verified options plan count worker records did.handled.before (runs_at accounted.runs worker) did.after did.handled.chain
-        (turns_of frames options.workers worker given.done)
-        (work_deeds ran stopped verified safe script options records outcome fit captured accounted worker own
-        (turns_of frames options.workers worker given.done) (given.of_runs worker own))
+        let own = own_below worker is in
+        let did = accounted.work worker own in
+        taken_are verified options plan count worker outcome.journals records did.handled.before (runs_at accounted.runs worker) did.after
+        did.handled.chain (of_system worker own) (turns_of frames options.workers worker given.done) (given.of_runs worker own)
     taken_if worker false is below = absurd (grind (arith, nat_tests, is, below))
 
     left : Left given.done rest

@@ -16,14 +16,14 @@ use Rattle.shard_port.specs.Asking.{is_in}
 use Rattle.shard_port.specs.PortView.{ServesMaps}
 use Rattle.machine.specs.Running.{program_of}
 use Rattle.guarantees.specs.Moves.{Answers}
-use Rattle.guarantees.specs.Runs.{IsOutside, AreLegalShards, Start, Ran, WasStopped, IsTheMeaning, IsTheBeginning}
+use Rattle.guarantees.specs.Runs.{IsOutside, AreLegalShards, Start, RanOver, WasStopped, IsTheMeaning, IsTheBeginning}
 
 -- a run over shards in which its worker was not inside is the meaning of its program on the replies that are in the journals
 abbrev pub RunsAreTheirMeaning : Type 0
 RunsAreTheirMeaning =
     (verified : Verified) (options : Options) (start : Start) (before after : List JournaledShard) (verdict : Verdict) (steps : ℕ)
     (frame : FrameView) →
-    IsOutside start.worker before → Ran verified options start before after verdict steps frame →
+    IsOutside start.worker before → RanOver verified options start before after verdict steps frame →
     IsTheMeaning (program_of verified options.shards) start before after verdict steps frame
 
 -- a run that a full journal stopped is a beginning of that
@@ -50,7 +50,7 @@ abbrev pub RunsLeaveOthersAlone : Type 0
 RunsLeaveOthersAlone =
     (verified : Verified) (options : Options) (start : Start) (before after : List JournaledShard) (verdict : Verdict) (steps : ℕ)
     (frame : FrameView) →
-    IsOutside start.worker before → Ran verified options start before after verdict steps frame →
+    IsOutside start.worker before → RanOver verified options start before after verdict steps frame →
     (other number : ℕ) (old new : JournaledShard) → IsFalse (start.worker == other) →
     slice_get before number ≡ Some old → slice_get after number ≡ Some new → is_in other new ≡ is_in other old
 

@@ -1,5 +1,5 @@
 -- The headline, of a verified image and of what a replay of it hands back, in two fields.
-use Rattle.std.specs.Prelude.{◌≡◌, ◌*◌, ℕ, List, length, map}
+use Rattle.std.specs.Prelude.{◌≡◌, ◌*◌, List, length, map}
 use Rattle.ebpf_decode.specs.declared.map.MapDef.{MapDef}
 use Rattle.wire.specs.declared.records.Sent.{Sent}
 use Rattle.semantics.specs.declared.options.Options.{Options}
@@ -9,30 +9,12 @@ use Rattle.semantics.specs.Replay.{RecordEnd, IsReplay}
 use Rattle.semantics.specs.ShardPlan.{AreOptions}
 use Rattle.verifier.specs.Verified.{Verified}
 use Rattle.journals.specs.JournalsView.{JournalsView}
-use Rattle.maglev.specs.RingSize.{IsRingSize}
 use Rattle.control.specs.declared.command.Command.{Command}
-use Rattle.control.specs.Controlling.{ControllerState, opened_controller}
-use Rattle.actors.specs.declared.outcome.Applied.{Applied}
 use Rattle.actors.specs.declared.outcome.Outcome.{Outcome}
-use Rattle.actors.specs.Actors.{numbers_from}
-use Rattle.actors.specs.Commands.{CommandDone, AreDone, AreNotedOf, ServesScript}
-use Rattle.actors.specs.Parts.{numbers_of, refused_of}
+use Rattle.actors.specs.Commands.{CommandDone}
+use Rattle.actors.specs.Parts.{AreOfScript}
 use Rattle.guarantees.specs.ReplayOf.{asked_of, told_of, result_of}
 use Rattle.guarantees.specs.SystemRuns.{setting_of}
-
--- Each command of the script was carried out once, in the script's order, from the state of the controller that the one before it left; those
--- that were refused are these. The controller is for a lookup table of a size that is served, the one that the maps have (without commands any
--- served size does).
-pub record AreOfScript (maps : List MapDef) (script : List Command) (refused : List Applied) (done : List CommandDone) : Type 0 where
-  pub size : ℕ
-  pub size_is_served : IsRingSize size
-  pub serves : ServesScript maps size script
-  pub noted : List Applied
-  pub each_once : numbers_of noted ≡ numbers_from 0 (length script)
-  pub are_noted : AreNotedOf script noted done
-  pub state : ControllerState
-  pub are_done : AreDone (opened_controller size) done state
-  pub refused_are : refused ≡ refused_of noted
 
 -- there is one for each shard of these maps, which were opened with these options
 pub record AreJournalsOf (maps : List MapDef) (options : Options) (journals : JournalsView) : Type 0 where

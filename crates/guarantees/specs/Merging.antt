@@ -12,11 +12,11 @@ use Rattle.semantics.specs.System.{worker_state, history_of, with_entry, after_e
 use Rattle.shards.specs.declared.deeds.Deed.{Deed}
 use Rattle.shards.specs.declared.deeds.OrderPart.TheVariants.{ByCaller}
 use Rattle.shards.specs.Deeds.{deeds_of, is_of_shard, entries_made, made_on, AreMet, AreDeedsWithin}
-use Rattle.guarantees.specs.Steps.{AskedOfShard, Refused, Move, AreSteps, entries_in, entries_on, deeds_in}
+use Rattle.guarantees.specs.Steps.{AskedOfShard, TurnedAway, Move, AreSteps, entries_in, entries_on, deeds_in}
 use Rattle.guarantees.specs.Moves.{is_event_of}
 
 abbrev pub is_refusal : AskedOfShard → Bool
-is_refusal (Refused call) = true
+is_refusal (TurnedAway call) = true
 is_refusal asked = false
 
 -- The deeds of all callers in one order, the oldest first. Shard by shard they are its journal, which is legal, and each look at a full

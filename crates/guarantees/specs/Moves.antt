@@ -9,7 +9,7 @@ use Rattle.semantics.specs.SequentialShard.{reply_of, shard_after}
 use Rattle.semantics.specs.History.{shard_of_call, journal_is_full}
 use Rattle.semantics.specs.System.{Setting, SystemState, SystemEvent, BeginsRun, DoesInstruction, CallsShard, LeavesShard, WorkerState}
 use Rattle.semantics.specs.System.{worker_state, history_of, with_worker, with_entry, CanHappen, after_event}
-use Rattle.guarantees.specs.Steps.{AskedOfShard, Nothing, Writes, Refused, Move, IsStep}
+use Rattle.guarantees.specs.Steps.{AskedOfShard, Nothing, Writes, TurnedAway, Move, IsStep}
 
 -- the shard is one of the setting's, its journal has room, and the reply is the one-thread map's after the shard's history
 pub record Answers (setting : Setting) (system : SystemState) (entry : Entry) : Type 0 where
@@ -28,7 +28,7 @@ pub record TurnsAway (setting : Setting) (system : SystemState) (call : Call) : 
 abbrev pub IsAskedSo : Setting → SystemState → AskedOfShard → Type 0
 IsAskedSo setting system Nothing = Unit {0}
 IsAskedSo setting system (Writes entry) = Answers setting system entry
-IsAskedSo setting system (Refused call) = TurnsAway setting system call
+IsAskedSo setting system (TurnedAway call) = TurnsAway setting system call
 
 abbrev pub after_asked : SystemState → AskedOfShard → SystemState
 after_asked system (Writes entry) = with_entry system (shard_of_call entry.call) entry

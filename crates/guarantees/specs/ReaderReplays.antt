@@ -1,5 +1,5 @@
 -- What a replay of a program that only reads sends: the program's run trace frame by frame, over maps in which nothing has happened.
-use Rattle.std.specs.Prelude.{◌≡◌, ℕ, zero, suc, ◌≤◌, ◌<◌, ◌^◌, List, [], ◌∷◌, ◌++◌, length, All, Option, Some, None, slice_get}
+use Rattle.std.specs.Prelude.{◌≡◌, ℕ, zero, suc, List, [], ◌∷◌, ◌++◌, length, Option, Some, None, slice_get}
 use Rattle.std.specs.Prelude.{if◌then◌else◌}
 use Rattle.std.specs.List.{AllByRecursion}
 use Rattle.ebpf_decode.specs.declared.insn.Insn.{Insn}
@@ -17,11 +17,11 @@ use Rattle.semantics.specs.Program.{Program}
 use Rattle.semantics.specs.History.{shard_of_call}
 use Rattle.semantics.specs.RunTrace.{RunStand, HasExited}
 use Rattle.semantics.specs.ShardPlan.{plan_at, AreOptions}
-use Rattle.actors.specs.Accounts.{SentFrame, sent_frames}
-use Rattle.actors.specs.Shares.{is_short}
+use Rattle.semantics.specs.Replay.{Captured}
+use Rattle.actors.specs.Shares.{is_short, all_captured}
 use Rattle.actors.specs.declared.outcome.Outcome.{Outcome}
 use Rattle.actors.specs.Accounted.{IsAccounted}
-use Rattle.actors.specs.RunsOverShards.{time_of, start_of}
+use Rattle.actors.specs.RunsOverShards.{start_of}
 use Rattle.actors.specs.Captured.{IsCaptured}
 use Rattle.guarantees.specs.ReaderRuns.{opening_reply, stand_with}
 
@@ -42,26 +42,26 @@ opening_answer program call = opening_answer_in (plan_at program.maps (options_o
 -- ---- what is sent
 
 -- the frame of a run that ends with this verdict, at its record's moment
-abbrev pub sent_by_verdict : Sent → Verdict → List ℕ → List SentFrame
+abbrev pub sent_by_verdict : Sent → Verdict → List ℕ → List Captured
 sent_by_verdict captured Tx bytes = record { seconds = captured.seconds; micros = captured.micros; bytes = bytes } ∷ []
 sent_by_verdict captured verdict bytes = []
 
-abbrev pub sent_where : Sent → RunStand → List SentFrame
+abbrev pub sent_where : Sent → RunStand → List Captured
 sent_where captured (HasExited verdict last) = sent_by_verdict captured verdict last.frame.bytes
 sent_where captured stand = []
 
 -- what is sent of a record, by the program's run on its frame over maps in which nothing has happened
-abbrev pub sent_at_opening : Program → Sent → List SentFrame
+abbrev pub sent_at_opening : Program → Sent → List Captured
 sent_at_opening program captured =
     if is_short captured.bytes.items then []
     else sent_where captured (stand_with (total_slots program.code) program (opening_answer program) (start_of captured 0))
 
-abbrev pub sent_if_there : Program → Option Sent → List SentFrame
+abbrev pub sent_if_there : Program → Option Sent → List Captured
 sent_if_there program (Some captured) = sent_at_opening program captured
 sent_if_there program None = []
 
 -- what is sent of the first N records, in the capture's order
-abbrev pub all_sent_at_opening : Program → List Sent → ℕ → List SentFrame
+abbrev pub all_sent_at_opening : Program → List Sent → ℕ → List Captured
 all_sent_at_opening program records zero = []
 all_sent_at_opening program records (suc number) =
     all_sent_at_opening program records number ++ sent_if_there program (slice_get records number)
@@ -75,4 +75,4 @@ SendsAsAtOpening maps code =
     (options : Options) (records : List Sent) (outcome : Outcome) → AreOptions maps options → AllByRecursion IsCaptured records →
     (let program : Program = record { code = code; maps = maps; shards = options.shards } in
     IsAccounted program [] options records outcome → outcome.updates.items ≡ [] → outcome.counts.stopped ≡ 0 →
-    sent_frames outcome.sent.items ≡ all_sent_at_opening program records (length records))
+    all_captured outcome.sent.items ≡ all_sent_at_opening program records (length records))

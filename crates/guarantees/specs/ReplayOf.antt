@@ -11,20 +11,17 @@ use Rattle.journals.specs.JournalsView.{entries_at}
 use Rattle.control.specs.MapUpdates.{UpdateBytes}
 use Rattle.actors.specs.declared.account.Counts.{Counts}
 use Rattle.actors.specs.declared.outcome.Outcome.{Outcome}
-use Rattle.actors.specs.declared.outcome.RecordEnd.{RecordEnd as Told}
-use Rattle.actors.specs.declared.outcome.RecordEnd.TheVariants as told
+use Rattle.actors.specs.declared.outcome.ToldEnd.{ToldEnd}
+use Rattle.actors.specs.declared.outcome.ToldEnd.TheVariants as told
 use Rattle.actors.specs.Commands.{AnsweredUpdate, CommandDone, all_set}
 use Rattle.control.specs.declared.command.Command.{Command}
 use Rattle.actors.specs.Parts.{first_commands}
 use Rattle.actors.specs.SharedUpdates.{shard_of, controller_update}
-use Rattle.actors.specs.Shares.{worker_of_frame}
+use Rattle.actors.specs.Shares.{captured_of, worker_of_frame}
 use Rattle.semantics.specs.Events.{Exited, Stopped}
-use Rattle.semantics.specs.Replay.{Captured, Asked, RecordEnd, Short, Ran, Totals, Result}
+use Rattle.semantics.specs.Replay.{Asked, RecordEnd, Short, Ran, Totals, Result}
 
 -- ---- what was asked
-
-abbrev pub captured_of : Sent → Captured
-captured_of sent = record { seconds = sent.seconds; micros = sent.micros; bytes = sent.bytes.items }
 
 -- an update is a call on the shard that its key has
 abbrev pub call_of_shared_update : List MapDef → Options → UpdateBytes → Call
@@ -75,7 +72,7 @@ abbrev pub command_answers : CommandDone → List (Option Reply)
 command_answers one = answers_made one.made ++ stopped_answer one.stopped
 
 -- what is handed back of a record's end: all but a frame that is not sent, and which journal was full
-abbrev pub told_of : RecordEnd → Told
+abbrev pub told_of : RecordEnd → ToldEnd
 told_of Short = told.Short
 told_of (Ran worker (Stopped shard)) = told.Stopped worker
 told_of (Ran worker (Exited verdict frame steps)) = told.Exited worker verdict steps

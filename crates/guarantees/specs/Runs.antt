@@ -60,7 +60,7 @@ pub record IsFinished (options : Options) (port : PlainPort) (shards : List Jour
   pub serve : ServesMaps port.image.now.maps port.options shards
 
 -- a run that ended
-pub record Ran (verified : Verified) (options : Options) (start : Start) (before after : List JournaledShard) (verdict : Verdict)
+pub record RanOver (verified : Verified) (options : Options) (start : Start) (before after : List JournaledShard) (verdict : Verdict)
     (steps : ℕ) (frame : FrameView) : Type 0 where
   pub port : PlainPort
   pub over : IsPortOver verified.maps options start.worker before port

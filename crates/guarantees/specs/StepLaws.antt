@@ -17,7 +17,7 @@ use Rattle.shards.specs.Passes.{PassView, own_at}
 use Rattle.shard_port.specs.Asking.{enter_by, asked_entry}
 use Rattle.shard_port.specs.PassSessions.{session_at, AreCallsWithin}
 use Rattle.runs.specs.FrameRuns.{AreFormed}
-use Rattle.guarantees.specs.Steps.{Writes, Refused, Move, begins, does, asks, leave, IsStep}
+use Rattle.guarantees.specs.Steps.{Writes, TurnedAway, Move, begins, does, asks, leave, IsStep}
 use Rattle.guarantees.specs.SystemRuns.{IsRunOfSystem}
 
 -- ---- what can come next
@@ -43,13 +43,13 @@ pub record GoesOnBy (worker : ℕ) (entered : List ℕ) (call : Call) (next : Re
 
 abbrev pub IsCallNext : ℕ → List ℕ → Call → (Reply → MachineState) → Move → WorkerState → Type 0
 IsCallNext worker entered call next move after =
-    GoesOnBy worker entered call next move after ⊎ ((move ≡ asks worker (Refused call)) × (after ≡ run_over entered))
+    GoesOnBy worker entered call next move after ⊎ ((move ≡ asks worker (TurnedAway call)) × (after ≡ run_over entered))
 
 -- that it has not entered: it enters the shard, or its Enter is refused
 abbrev pub IsEnterNext : ℕ → MachineState → List ℕ → ℕ → Move → WorkerState → Type 0
 IsEnterNext worker state entered shard move after =
     ((move ≡ asks worker (Writes (enter_by worker shard))) × (after ≡ Runs state (shard ∷ entered)))
-    ⊎ ((move ≡ asks worker (Refused (Enter shard))) × (after ≡ run_over entered))
+    ⊎ ((move ≡ asks worker (TurnedAway (Enter shard))) × (after ≡ run_over entered))
 
 -- of any run, by its next instruction
 abbrev pub IsNextOf : ℕ → MachineState → List ℕ → Step → Move → WorkerState → Type 0

@@ -26,7 +26,7 @@ pub data AskedOfShard : Type 0 where
   -- the shard of this entry, which is written
   Writes : (entry : Entry) → AskedOfShard
   -- the shard of this call, whose journal is full
-  Refused : (call : Call) → AskedOfShard
+  TurnedAway : (call : Call) → AskedOfShard
 
 pub record Move : Type 0 where
   pub event : SystemEvent
@@ -77,12 +77,12 @@ pub data IsStep (setting : Setting) (count worker : ℕ) : WorkerState → Move 
   CallIsRefused : (state : MachineState) → (entered : List ℕ) → (call : Call) → (next : Reply → MachineState) →
       next_step (program_of_setting setting) state ≡ CallsMap call next → shard_of_call call < count →
       is_entered (shard_of_call call) entered ≡ true →
-      IsStep setting count worker (Runs state entered) (asks worker (Refused call)) (run_over entered)
+      IsStep setting count worker (Runs state entered) (asks worker (TurnedAway call)) (run_over entered)
   -- the Enter before the call met one
   EnterIsRefused : (state : MachineState) → (entered : List ℕ) → (call : Call) → (next : Reply → MachineState) →
       next_step (program_of_setting setting) state ≡ CallsMap call next → shard_of_call call < count →
       is_entered (shard_of_call call) entered ≡ false →
-      IsStep setting count worker (Runs state entered) (asks worker (Refused (Enter (shard_of_call call)))) (run_over entered)
+      IsStep setting count worker (Runs state entered) (asks worker (TurnedAway (Enter (shard_of_call call)))) (run_over entered)
   -- the run is over, and its worker leaves one of the shards that it entered
   ShardIsLeft : (shard : ℕ) → (entered : List ℕ) → shard < count → is_entered shard entered ≡ true →
       IsStep setting count worker (Leaves entered) (leave worker shard) (run_over (without_shard shard entered))
@@ -136,7 +136,7 @@ entries_on number moves = filter (is_of_shard number) (entries_in moves)
 abbrev pub deeds_asked : ℕ → AskedOfShard → List Deed
 deeds_asked worker Nothing = []
 deeds_asked worker (Writes entry) = Wrote entry ∷ []
-deeds_asked worker (Refused call) = MetFull (Worker worker) call ∷ []
+deeds_asked worker (TurnedAway call) = MetFull (Worker worker) call ∷ []
 
 abbrev pub deeds_in : ℕ → List Move → List Deed
 deeds_in worker [] = []

@@ -21,7 +21,7 @@ use Rattle.machine.specs.declared.exit.Stop.TheVariants.{JournalFull}
 use Rattle.machine.specs.declared.moment.Moment.{Moment}
 use Rattle.shards.specs.CallerView.{BeginsWith}
 use Rattle.shards.specs.Passes.{PassView, own_at, seen_at}
-use Rattle.guarantees.specs.Steps.{Move, Refused, begins, does, asks, IsStep, AreSteps, InRun}
+use Rattle.guarantees.specs.Steps.{Move, TurnedAway, begins, does, asks, IsStep, AreSteps, InRun}
 use Rattle.guarantees.specs.Steps.{running, AreStepsOfRun, beginning, leavings, entries_on, deeds_in}
 
 -- the worker's own entries on each of N shards have grown by what its moves wrote there, newest first
@@ -62,14 +62,14 @@ pub record IsStoppedInSystem (setting : Setting) (worker told now : ℕ) (frame 
   pub waits : next_step (program_of_setting setting) waiting ≡ CallsMap call next
   pub refused : Call
   pub refused_is : (refused ≡ call) ⊎ (refused ≡ Enter (shard_of_call call))
-  pub refuses : IsStep setting count worker (Runs waiting entered) (asks worker (Refused refused)) (run_over entered)
+  pub refuses : IsStep setting count worker (Runs waiting entered) (asks worker (TurnedAway refused)) (run_over entered)
   pub full_at : List Entry
   pub full_seen : BeginsWith (seen_at after (shard_of_call call)) full_at
   pub full : IsJournalFull (plan (shard_of_call call)) full_at refused
   pub left : List ℕ
   pub leaves : AreSteps setting count worker (run_over entered) (leavings worker left) Idle
   pub written : HaveGrown count (run ++ leavings worker left) before after
-  pub did : HaveDone worker (run ++ asks worker (Refused refused) ∷ leavings worker left) before after
+  pub did : HaveDone worker (run ++ asks worker (TurnedAway refused) ∷ leavings worker left) before after
 
 -- the system of a verified image, over shards that were opened so
 abbrev pub setting_of : Verified → Options → Setting

@@ -11,7 +11,7 @@
 //! |---|---|---|---|
 //! | `IsReplay` | 31 | 328 | 1,303 |
 //! | `Headline` | 54 | 441 | 1,713 |
-//! | `HeadlineOf` | 81 | 621 | 2,479 |
+//! | `HeadlineOf` | 81 | 619 | 2,456 |
 //!
 //! The laws of `step_laws` show that the definitions are not empty, those of `place_laws` that a worker is inside and holds a cell by places
 //! in the history alone. `one_caller` speaks of runs one after the other without locks, `readers` of programs that only read.

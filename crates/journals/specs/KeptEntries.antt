@@ -1,10 +1,10 @@
 -- The entries of journals, however they are kept.
-use Rattle.std.specs.Prelude.{◌≡◌, ℕ, List, map}
-use Rattle.std.specs.List.{AllByRecursion}
+use Rattle.std.specs.Prelude.{◌≡◌, ℕ, List, Some, map, slice_get}
+use Rattle.ebpf_decode.specs.declared.map.MapDef.{MapDef}
 use Rattle.semantics.specs.declared.call.Entry.{Entry}
 use Rattle.semantics.specs.declared.options.Options.{Options}
-use Rattle.semantics.specs.ShardPlan.{KeepsRows}
-use Rattle.journal.specs.Journaled.{Journaled}
+use Rattle.semantics.specs.ShardPlan.{KeepsRows, plan_at}
+use Rattle.shard_core.specs.JournaledShard.{JournaledShard}
 use Rattle.journals.specs.declared.shard_journal.ShardEntries.{ShardEntries}
 use Rattle.journals.specs.declared.shard_journal.ShardEntries.TheVariants as one
 use Rattle.journals.specs.declared.all.AllKept.{AllKept}
@@ -23,17 +23,18 @@ KeepsItsRows (one.Listed entries) = Unit {0}
 
 -- of all shards, by their numbers
 
-abbrev pub written_entries : List Journaled → List (List Entry)
-written_entries journals = map (λ (journal : Journaled). journal.entries) journals
+abbrev pub written_entries : List JournaledShard → List (List Entry)
+written_entries shards = map (λ (shard : JournaledShard). shard.journal) shards
 
 abbrev pub all_kept : AllKept → List (List Entry)
-all_kept (all.Written journals) = written_entries journals.items
+all_kept (all.Written shards) = written_entries shards.items
 all_kept (all.Listed lists) = lists.items
 
--- each was opened with this room
-abbrev pub HaveRoom : ℕ → List Journaled → Type 0
-HaveRoom reserve journals = AllByRecursion (λ (journal : Journaled). journal.reserve ≡ reserve) journals
+-- each is the shard of its number of these maps
+abbrev pub ArePlanned : List MapDef → Options → List JournaledShard → Type 0
+ArePlanned maps options shards =
+    (number : ℕ) (shard : JournaledShard) → slice_get shards number ≡ Some shard → plan_at maps options number ≡ Some shard.plan
 
-abbrev pub AreKeptFor : Options → AllKept → Type 0
-AreKeptFor options (all.Written journals) = HaveRoom options.journal journals.items
-AreKeptFor options (all.Listed lists) = Unit {0}
+abbrev pub AreKeptFor : List MapDef → Options → AllKept → Type 0
+AreKeptFor maps options (all.Written shards) = ArePlanned maps options shards.items
+AreKeptFor maps options (all.Listed lists) = Unit {0}

@@ -2,6 +2,7 @@
 pub mod EntryRows
 pub mod KeptEntries
 pub mod JournalsView
+pub mod KeptIn
 pub mod LegalJournals
 pub mod JournalText
 pub mod EntryForm

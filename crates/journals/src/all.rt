@@ -2,23 +2,34 @@
 
 ghost use Rattle.std.specs.Prelude.{◌≡◌, ◌<◌, ◌*◌, true, length};
 ghost use Rattle.semantics.specs.ShardPlan.{AreOptions, KeepsRows};
-ghost use Rattle.journals.specs.KeptEntries.{written_entries, HaveRoom};
+ghost use Rattle.journals.specs.KeptEntries.{written_entries, ArePlanned};
 ghost use Rattle.journals.specs.JournalsView.{AreImageMaps, AreJournals, entries_at};
+ghost use Rattle.journals.specs.KeptIn.{AreKeptIn};
 
 use crate::entry_list::EntryList;
 use crate::shard_journal::{ShardEntries, ShardJournal};
 use ebpf_decode::MapDef;
-use journal::{Journal, MOST_ROWS};
+use journal::MOST_ROWS;
 use semantics::Options;
+use shard_core::Shard;
 use std::marker::Model;
 
 /// How the journals of all shards are kept.
 #[derive(Drop)]
 pub(crate) enum AllKept {
-    /// As the shards wrote them.
-    Written { journals: Vec<Journal> },
+    /// As the shards wrote them, which nobody calls any more.
+    Written { shards: Vec<Shard> },
     /// As lists, that may have entries of calls that no map serves.
     Listed { lists: Vec<EntryList> },
+}
+
+/// What keeps the journals of all shards, by the numbers of the shards.
+#[derive(Clone, Copy)]
+pub enum Kept<'a> {
+    /// The shards that wrote them, which nobody calls any more: they have what the maps hold after the calls.
+    Shards { shards: &'a [Shard] },
+    /// Lists of entries from elsewhere.
+    Lists { lists: &'a [EntryList] },
 }
 
 /// The journals of all shards of an image's maps, by the shards' numbers: map after map. The maps are ones that an image may have, the
@@ -41,20 +52,20 @@ impl Model for Journals {
     ghost view = { λ journals. record { maps = journals.maps.items; options = journals.options; shards = all_kept journals.kept } };
 
     ghost invariant = { λ journals. AreJournals journals.maps.items journals.options (length (all_kept journals.kept))
-        × AreKeptFor journals.options journals.kept };
+        × AreKeptFor journals.maps.items journals.options journals.kept };
 }
 
 impl Journals {
     /// The journals of the shards of these maps, opened with these options, as the shards wrote them.
-    pub fn written(maps: Vec<MapDef>, options: Options, journals: Vec<Journal>) -> Self
-        requires are { AreJournals maps.items options (length journals.items) }
-        requires room { HaveRoom options.journal journals.items }
-        ensures { result ≡ record { maps = maps.items; options = options; shards = written_entries journals.items } }
+    pub fn written(maps: Vec<MapDef>, options: Options, shards: Vec<Shard>) -> Self
+        requires are { AreJournals maps.items options (length shards.items) }
+        requires planned { ArePlanned maps.items options shards.items }
+        ensures { result ≡ record { maps = maps.items; options = options; shards = written_entries shards.items } }
     {
         Journals {
             maps,
             options,
-            kept: AllKept::Written { journals },
+            kept: AllKept::Written { shards },
         }
     }
 
@@ -92,7 +103,7 @@ impl Journals {
         ensures one_each { result ≡ length self.now.maps * self.now.options.shards }
     {
         match &self.kept {
-            AllKept::Written { journals } => journals.len(),
+            AllKept::Written { shards } => shards.len(),
             AllKept::Listed { lists } => lists.len(),
         }
     }
@@ -111,7 +122,7 @@ impl Journals {
         ensures { result ≡ length (entries_at self.now number) }
     {
         match &self.kept {
-            AllKept::Written { journals } => journals[number].len(),
+            AllKept::Written { shards } => shards[number].journal().len(),
             AllKept::Listed { lists } => lists[number].len(),
         }
     }
@@ -123,12 +134,26 @@ impl Journals {
         ensures { result ≡ entries_at self.now number }
     {
         match &self.kept {
-            AllKept::Written { journals } => ShardJournal::of(ShardEntries::Written {
-                journal: &journals[number],
+            AllKept::Written { shards } => ShardJournal::of(ShardEntries::Written {
+                journal: shards[number].journal(),
             }),
             AllKept::Listed { lists } => ShardJournal::of(ShardEntries::Listed {
                 entries: &lists[number],
             }),
+        }
+    }
+
+    /// What keeps them: the shards that wrote them, whether these keep rows or not, or lists.
+    pub fn kept(&self) -> Kept<'_>
+        ensures { AreKeptIn self.now result }
+    {
+        match &self.kept {
+            AllKept::Written { shards } => Kept::Shards {
+                shards: shards.as_slice(),
+            },
+            AllKept::Listed { lists } => Kept::Lists {
+                lists: lists.as_slice(),
+            },
         }
     }
 }

@@ -14,7 +14,7 @@ mod reading;
 mod shard_journal;
 mod verb;
 
-pub use all::Journals;
+pub use all::{Journals, Kept};
 pub use entry_list::EntryList;
 pub use fault::FileFault;
 pub use files::{journals_of, read_journals, write_journals};

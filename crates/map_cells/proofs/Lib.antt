@@ -1,3 +1,5 @@
 pub mod Writes
 pub mod Allotment
 pub mod Freeing
+pub mod Chains
+pub mod PlaceLists

@@ -1,3 +1,4 @@
 pub mod Blocks
 pub mod CellTable
+pub mod IdPlaces
 pub mod Places

@@ -49,11 +49,11 @@ pub record IsWaiting (place_of : List ℕ) (retired : List Retired) : Type 0 whe
 
 -- the fields of a table, with the room that was made for them
 pub record IsTableOfCells (size places ids : ℕ) (bytes place_of free : List ℕ) (retired : List Retired)
-    (ids_reserved places_reserved retired_reserved : ℕ) : Type 0 where
+    (room places_reserved retired_reserved : ℕ) : Type 0 where
   pub small_size : size ≤ 256
   pub few : places < no_place
   pub bytes_room : length bytes ≡ places * size
-  pub id_room : ids ≤ ids_reserved
+  pub place_room : room ≡ places
   pub free_room : places ≤ places_reserved
   pub retired_room : places ≤ retired_reserved
   pub allotted : IsAllotted places place_of free

@@ -2,6 +2,7 @@
 #![tactic(auto)]
 
 pub mod blocks;
+pub mod id_places;
 pub mod retired;
 pub mod table;
 

@@ -6,22 +6,19 @@ ghost use Rattle.isa.specs.Atomic.{atomic_result};
 ghost use Rattle.wire.specs.FrameView.{overwritten_at};
 ghost use Rattle.semantics.specs.LittleEndian.{bytes_of_number};
 ghost use Rattle.map_cells.specs.Blocks.{block_of};
-ghost use Rattle.map_cells.specs.Places.{place_at};
 ghost use Rattle.map_cells.specs.CellTable.{CellTable, empty_table, is_kept_id, bytes_of_id, cell_number_at, with_new_cell, with_bytes, with_number};
 ghost use Rattle.map_cells.specs.CellTable.{with_change, with_retired};
 ghost use Rattle.map_cells.specs.CellTable.{is_below, freed_below, oldest_stamp, without_oldest, IsLowestStamp, IsNotRetired};
 ghost use Rattle.map_cells.specs.CellTable.{IsLatestStamp};
 
 use crate::blocks::{block_at, write_at};
+use crate::id_places::IdPlaces;
 use crate::retired::Retired;
 use isa::{AtomicOp, Width, atomic};
 use semantics::little_endian::{bytes_of_number, number_of_bytes};
 use std::alloc::{AllocError, Global};
 use std::collections::VecDeque;
 use std::marker::Model;
-
-/// The place of an id that was freed: none.
-const NO_PLACE: u32 = u32::MAX;
 
 /// The cells of one shard. Contracts see a `CellTable`.
 #[derive(Drop)]
@@ -32,8 +29,8 @@ pub struct Cells {
     ids: usize,
     /// The cells by place, one behind the other.
     bytes: Vec<u8>,
-    /// The place of each id that was given.
-    place_of: Vec<u32>,
+    /// The place of each id that was given and is not freed.
+    place_of: IdPlaces,
     /// The places that no cell has.
     free: Vec<u32>,
     retired: VecDeque<Retired>,
@@ -47,10 +44,10 @@ impl Model for Cells {
 
     ghost Value = { CellTable };
 
-    ghost view = { λ t. cell_table t.size t.places t.ids t.bytes.items t.place_of.items t.free.items t.retired.items };
+    ghost view = { λ t. cell_table t.size t.places t.ids t.bytes.items t.place_of.places t.free.items t.retired.items };
 
-    ghost invariant = { λ t. IsTableOfCells t.size t.places t.ids t.bytes.items t.place_of.items t.free.items t.retired.items
-        (vec_capacity t.place_of) (vec_capacity t.free) (deque_capacity t.retired) };
+    ghost invariant = { λ t. IsTableOfCells t.size t.places t.ids t.bytes.items t.place_of.places t.free.items t.retired.items
+        t.place_of.room (vec_capacity t.free) (deque_capacity t.retired) };
 }
 
 impl Cells {
@@ -72,7 +69,7 @@ impl Cells {
             places,
             ids,
             bytes: vec![in alloc; 0; places as usize * value_size]?,
-            place_of: Vec::with_capacity(alloc, ids)?,
+            place_of: IdPlaces::new(alloc, places)?,
             free,
             retired: VecDeque::with_capacity(alloc, places as usize)?,
         })
@@ -89,7 +86,7 @@ impl Cells {
         let id = self.place_of.len();
         let place = taken_place(&mut self.free);
         write_at(&mut self.bytes, self.size, place as usize, 0, bytes);
-        self.place_of.push_reserved(place);
+        self.place_of.push(place);
         id as u64
     }
 
@@ -111,7 +108,7 @@ impl Cells {
         ensures bytes { result.now ≡ bytes_of_id self.now id }
         ensures size { length result.now ≡ self.now.value_size }
     {
-        let place = place_in(&self.place_of, id);
+        let place = self.place_of.place(id);
         block_at(&self.bytes, self.size, place)
     }
 
@@ -121,7 +118,7 @@ impl Cells {
         requires size { length bytes.now ≡ self.old.value_size }
         ensures { self.new ≡ with_bytes self.old id bytes.now }
     {
-        let place = place_in(&self.place_of, id);
+        let place = self.place_of.place(id);
         write_at(&mut self.bytes, self.size, place, 0, bytes);
     }
 
@@ -144,7 +141,7 @@ impl Cells {
         requires size { size ≤ 8 }
         ensures { self.new ≡ with_number self.old id offset size value }
     {
-        let place = place_in(&self.place_of, id);
+        let place = self.place_of.place(id);
         put_number(&mut self.bytes, self.size, place, offset, size, value);
     }
 
@@ -216,9 +213,8 @@ impl Cells {
         let Some(one) = self.retired.pop_front() else {
             unreachable!()
         };
-        let place = place_in(&self.place_of, one.id);
-        self.place_of[one.id as usize] = NO_PLACE;
-        give_place(&mut self.free, place as u32);
+        let place = self.place_of.take(one.id);
+        give_place(&mut self.free, place);
     }
 }
 
@@ -311,14 +307,6 @@ fn give_place(free: &mut Vec<u32>, freed: u32)
     ensures room { vec_capacity free.new ≡ vec_capacity free.old }
 {
     free.push_reserved(freed);
-}
-
-/// The place of an id that was given.
-fn place_in(place_of: &[u32], id: u64) -> usize
-    requires { id < length place_of.now }
-    ensures { result ≡ place_at place_of.now id }
-{
-    place_of[id as usize] as usize
 }
 
 /// The numbers below `places`.

@@ -1,6 +1,7 @@
 -- How many frames are of each case, by the word in a row.
 use Rattle.std.specs.Prelude.{ℕ, zero, suc, ◌==◌, ◌++◌, List, [], codes, if◌then◌else◌, length, map, slice_index}
 use Rattle.std.specs.Str.{bytes_eq}
+use Rattle.comparison.specs.Columns.{case_column}
 use Rattle.comparison.specs.Rows.{field}
 use Rattle.page.specs.Tables.{figure_text}
 use Rattle.page.specs.Tallies.{counts_by_cell}
@@ -30,7 +31,7 @@ abbrev pub case_of_word : List ℕ → ℕ
 case_of_word word = case_of_flow word (case_of_packet word (case_of_frame word))
 
 abbrev pub case_of_record : List ℕ → ℕ
-case_of_record row = case_of_word (field 5 row)
+case_of_record row = case_of_word (field case_column row)
 
 abbrev pub cases_of : List (List ℕ) → List ℕ
 cases_of rows = map case_of_record rows

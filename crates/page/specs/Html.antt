@@ -63,11 +63,12 @@ command_rows moments last commands (suc place) =
 abbrev pub firsts_text : ℕ → List ℕ
 firsts_text count = if count == 0 then [] else codes "<p>" ++ (decimal count ++ codes " commands before the first record</p>\n")
 
+-- what comes before the rows of the table of commands
+abbrev pub commands_head : List ℕ
+commands_head = codes "<div class=\"wide\"><table>\n<tr><th>mark</th><th>before record</th><th>at</th><th>command</th></tr>\n"
+
 unfoldable pub commands_table : List ℕ → List ℕ → List ℕ → List ℕ
-commands_table firsts rows more =
-    codes "<h2>Commands</h2>\n" ++ (firsts
-    ++ (codes "<div class=\"wide\"><table>\n<tr><th>mark</th><th>before record</th><th>at</th><th>command</th></tr>\n"
-    ++ (rows ++ (codes "</table></div>\n" ++ more))))
+commands_table firsts rows more = codes "<h2>Commands</h2>\n" ++ (firsts ++ (commands_head ++ (rows ++ (codes "</table></div>\n" ++ more))))
 
 -- how many commands come before the first record, and the first hundred of the later ones
 unfoldable pub commands_text : ℕ → List ℕ → ℕ → List Command → List ℕ

@@ -1,5 +1,5 @@
 -- The page of a report and a script.
-use Rattle.std.specs.Prelude.{◌≡◌, ◌++◌, ℕ, List, count_by, length, slice_index, take}
+use Rattle.std.specs.Prelude.{◌≡◌, ◌==◌, ◌++◌, ℕ, List, codes, count_by, length, slice_index, take, if◌then◌else◌}
 use Rattle.comparison.specs.Rows.{IsReport}
 use Rattle.control.specs.declared.command.Command.{Command}
 use Rattle.flows.specs.Telling.{Moved, moves_until}
@@ -25,10 +25,14 @@ marks_of_slots slots = marks_until slots (length slots)
 abbrev pub command_marks : ℕ → ℕ → List ℕ → List Command → List ℕ
 command_marks first last moments commands = marks_of_slots (command_slots first (slot_length first last) last moments (take 100 commands))
 
+-- the first or the last moment of so many records
+abbrev pub told_moment : ℕ → ℕ → List ℕ
+told_moment records moment = if records == 0 then codes "none" else moment_text moment
+
 -- the figures of so many records, by what became of each and how often a flow moved
 abbrev pub figures_of : ℕ → List ℕ → ℕ → ℕ → ℕ → List ℕ
 figures_of records totals moves first last =
-    figures_text records (fate_figures totals (fates_named totals)) moves (moment_text first) (moment_text last)
+    figures_text records (fate_figures totals (fates_named totals)) moves (told_moment records first) (told_moment records last)
 
 -- the same, and that frames were stopped, if any were
 abbrev pub figures_noted : ℕ → List ℕ → ℕ → ℕ → ℕ → List ℕ

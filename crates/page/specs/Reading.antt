@@ -2,6 +2,7 @@
 use Rattle.std.specs.Prelude.{ℕ, ◌+◌, ◌-◌, ◌*◌, ◌^◌, ◌==◌, min, List, codes, fold, if◌then◌else◌, length, map}
 use Rattle.std.specs.Char.{is_ascii_digit}
 use Rattle.std.specs.Str.{bytes_eq}
+use Rattle.comparison.specs.Columns.{moment_column, verdict_column, backend_column}
 use Rattle.comparison.specs.Rows.{field}
 
 -- ---- numbers
@@ -22,7 +23,7 @@ number_of_digits text = fold with_digit 0 text
 
 -- the moment of a row in microseconds: its seconds have six digits behind the point
 abbrev pub micros_of_row : List ℕ → ℕ
-micros_of_row row = number_of_digits (field 1 row)
+micros_of_row row = number_of_digits (field moment_column row)
 
 abbrev pub moments_of : List (List ℕ) → List ℕ
 moments_of rows = map micros_of_row rows
@@ -35,7 +36,7 @@ fate_of_word word =
     (if bytes_eq word (codes "SHORT") then 5 else 6)))))
 
 abbrev pub fate_of_record : List ℕ → ℕ
-fate_of_record row = fate_of_word (field 3 row)
+fate_of_record row = fate_of_word (field verdict_column row)
 
 abbrev pub fates_of : List (List ℕ) → List ℕ
 fates_of rows = map fate_of_record rows
@@ -45,7 +46,7 @@ abbrev pub key_of_text : List ℕ → ℕ
 key_of_text text = if length text == 0 then 0 else 1 + min (number_of_digits text) (2 ^ 32 - 1)
 
 abbrev pub key_of_backend : List ℕ → ℕ
-key_of_backend row = key_of_text (field 6 row)
+key_of_backend row = key_of_text (field backend_column row)
 
 abbrev pub keys_of : List (List ℕ) → List ℕ
 keys_of rows = map key_of_backend rows

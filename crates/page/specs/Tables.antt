@@ -1,6 +1,7 @@
 -- The tables of a page: figures, and frames of flows that moved. Fields of a report have no mark of HTML.
 use Rattle.std.specs.Prelude.{ℕ, zero, suc, ◌-◌, ◌==◌, ◌++◌, List, [], codes, decimal, if◌then◌else◌, length, slice_index, take}
 use Rattle.std.specs.List.{flat_map}
+use Rattle.comparison.specs.Columns.{number_column, address_column}
 use Rattle.comparison.specs.Rows.{field, row_at}
 use Rattle.comparison.specs.ComparisonText.{flow_phrase}
 use Rattle.flows.specs.Stories.{reason_word}
@@ -47,7 +48,7 @@ move_text record_number moment flow before after reason = move_front record_numb
 -- the row of a record whose flow was sent to this address before, and why it moved
 unfoldable pub move_row : List ℕ → Reason → List ℕ → List ℕ
 move_row from reason row =
-    move_text (field 0 row) (moment_text (micros_of_row row)) (flow_phrase row) from (field 7 row) (reason_word reason)
+    move_text (field number_column row) (moment_text (micros_of_row row)) (flow_phrase row) from (field address_column row) (reason_word reason)
 
 abbrev pub move_line : List (List ℕ) → Moved → List ℕ
 move_line rows move = move_row move.from move.reason (row_at rows move.place)

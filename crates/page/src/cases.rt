@@ -6,7 +6,7 @@ ghost use Rattle.page.specs.Cases.{case_of_word, cases_of, cases_table, cases_te
 
 use crate::tables::figure_text;
 use crate::tallies::{at, counts_of};
-use comparison::field;
+use comparison::{columns, field};
 use std::alloc::{AllocError, Global};
 
 /// So many cases have a row: fifteen words, a case that is not known, and any other word.
@@ -82,7 +82,7 @@ fn case_of_word(word: &str) -> usize
 fn case_of(row: &str) -> usize
     ensures { result ≡ case_of_record row.now }
 {
-    case_of_word(field(row, 5))
+    case_of_word(field(row, columns::CASE))
 }
 
 /// The cases of rows, row by row.

@@ -15,6 +15,10 @@ use std::alloc::{AllocError, Global};
 /// So many commands are in the table.
 pub(crate) const COMMANDS: usize = 100;
 
+/// What comes before the rows of the table of commands.
+const COMMANDS_HEAD: &str =
+    "<div class=\"wide\"><table>\n<tr><th>mark</th><th>before record</th><th>at</th><th>command</th></tr>\n";
+
 /// Whether the flows of a service are noted.
 fn notrack_word(is_notrack: bool) -> &'static str
     ensures { result.now ≡ notrack_word is_notrack }
@@ -179,9 +183,7 @@ fn firsts_text(alloc: Global, count: usize) -> Result<String, AllocError>
 fn commands_table(alloc: Global, firsts: &str, rows: &str, more: &str) -> Result<String, AllocError>
     ensures { IfOk result (λ text. string_bytes text ≡ commands_table firsts.now rows.now more.now) }
 {
-    format!(in alloc;
-        "<h2>Commands</h2>\n{firsts}<div class=\"wide\"><table>\n<tr><th>mark</th><th>before record</th><th>at</th><th>command</th></tr>\n{rows}</table></div>\n{more}"
-    )
+    format!(in alloc; "<h2>Commands</h2>\n{firsts}{COMMANDS_HEAD}{rows}</table></div>\n{more}")
 }
 
 /// The first of commands.

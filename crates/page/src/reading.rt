@@ -4,7 +4,7 @@ ghost use Rattle.std.specs.Prelude.{◌≡◌, IfOk, map};
 ghost use Rattle.page.specs.Reading.{fate_of_record, fate_of_word, fates_of, key_of_backend, key_of_text, keys_of, micros_of_row, moments_of};
 ghost use Rattle.page.specs.Reading.{number_of_digits, with_digit};
 
-use comparison::field;
+use comparison::{columns, field};
 use std::alloc::{AllocError, Global};
 
 /// A number with one digit more. What is no digit is passed over, and the greatest number stands for all above it.
@@ -35,7 +35,7 @@ fn number_of(text: &str) -> u64
 pub(crate) fn moment_of(row: &str) -> u64
     ensures { result ≡ micros_of_row row.now }
 {
-    number_of(field(row, 1))
+    number_of(field(row, columns::MOMENT))
 }
 
 /// The moments of rows, row by row.
@@ -78,7 +78,7 @@ fn fate_of_word(word: &str) -> usize
 fn fate_of(row: &str) -> usize
     ensures { result ≡ fate_of_record row.now }
 {
-    fate_of_word(field(row, 3))
+    fate_of_word(field(row, columns::VERDICT))
 }
 
 /// What became of the frames of rows, row by row.
@@ -111,7 +111,7 @@ fn key_of_text(text: &str) -> u64
 fn key_of(row: &str) -> u64
     ensures { result ≡ key_of_backend row.now }
 {
-    key_of_text(field(row, 6))
+    key_of_text(field(row, columns::BACKEND))
 }
 
 /// The keys of the backends that got the frames of rows, row by row.

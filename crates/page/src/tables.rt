@@ -10,7 +10,7 @@ use crate::charts::fate_word;
 use crate::reading::moment_of;
 use crate::stamps::moment_text;
 use crate::tallies::at;
-use comparison::{field, flow_phrase, row_at};
+use comparison::{columns, field, flow_phrase, row_at};
 use flows::{Move, Reason};
 use std::alloc::{AllocError, Global};
 
@@ -115,11 +115,11 @@ fn move_row(alloc: Global, from: &str, reason: Reason, row: &str) -> Result<Stri
     let flow = flow_phrase(alloc, row)?;
     move_text(
         alloc,
-        field(row, 0),
+        field(row, columns::NUMBER),
         moment.as_str(),
         flow.as_str(),
         from,
-        field(row, 7),
+        field(row, columns::ADDRESS),
         reason.word(),
     )
 }

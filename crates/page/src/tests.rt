@@ -25,14 +25,40 @@ const THREE_RECORDS: &str =
 
 const THREE_COMMANDS: &str = "0 vip 203.0.113.1 80 tcp\n0 up 1 192.0.2.2\n2 down 1\n";
 
+/// Frames of one flow over three backends, one of which has another address once and one no number, and then of a service that is not tracked.
+const EACH_REASON: &str =
+    "1,1.000000,0,TX,99,sent,1,192.0.2.2,10.0.0.1,1000,203.0.113.1,80,tcp\n2,2.000000,0,TX,99,sent,0,192.0.2.1,10.0.0.1,1000,203.0.113.1,80,tcp\n\
+     3,3.000000,0,TX,99,sent,2,192.0.2.3,10.0.0.1,1000,203.0.113.1,80,tcp\n4,4.000000,0,TX,99,sent,2,192.0.2.9,10.0.0.1,1000,203.0.113.1,80,tcp\n\
+     5,5.000000,0,TX,99,sent,,192.0.2.7,10.0.0.1,1000,203.0.113.1,80,tcp\n6,6.000000,0,TX,99,sent,0,192.0.2.1,10.0.0.1,1000,203.0.113.1,80,tcp\n\
+     7,7.000000,0,TX,99,sent,0,192.0.2.1,10.0.0.1,1000,203.0.113.2,53,udp\n8,8.000000,0,TX,99,sent,2,192.0.2.3,10.0.0.1,1000,203.0.113.2,53,udp\n";
+
+const EACH_REASON_COMMANDS: &str =
+    "0 vip 203.0.113.1 80 tcp\n0 vip 203.0.113.2 53 udp notrack\n0 up 0 192.0.2.1\n0 up 1 192.0.2.2\n0 up 2 192.0.2.3\n1 down 1\n";
+
+/// A flow that is sent to another backend and back, with a frame between that was dropped, and a frame of another flow.
+const TWO_MOVES: &str =
+    "1,1.000000,0,TX,99,sent,1,192.0.2.2,10.0.0.1,1000,203.0.113.1,80,tcp\n2,2.000000,0,TX,99,sent,1,192.0.2.2,10.0.0.1,1001,203.0.113.1,80,tcp\n\
+     3,3.000000,0,DROP,90,no-backend,,,10.0.0.1,1000,203.0.113.1,80,tcp\n4,4.000000,0,TX,99,sent,2,192.0.2.3,10.0.0.1,1000,203.0.113.1,80,tcp\n\
+     5,5.000000,0,TX,99,sent,1,192.0.2.2,10.0.0.1,1000,203.0.113.1,80,tcp\n";
+
+/// Frames on the leap days of 2000 and 2024, in the year 2100, which has none, and in the last microsecond of the year 9999.
+const DATES: &str =
+    "1,951782400.000000,0,PASS,9,arp,,,,,,,\n2,1709210096.654321,0,PASS,9,arp,,,,,,,\n\
+     3,4107542400.000000,0,PASS,9,arp,,,,,,,\n4,253402300799.999999,0,PASS,9,arp,,,,,,,\n";
+
+/// Frames whose moments do not rise; the backend of the first has a number that no table has.
+const NOT_RISING: &str =
+    "1,9.000000,0,TX,99,sent,4294967295,192.0.2.2,10.0.0.1,1000,203.0.113.1,80,tcp\n\
+     2,7.000000,0,TX,99,sent,0,192.0.2.3,10.0.0.2,1000,203.0.113.1,80,tcp\n3,8.000000,0,TX,99,sent,0,192.0.2.3,10.0.0.2,1000,203.0.113.1,80,tcp\n";
+
 #[rattlefmt::skip]
-static ROWS: [Row; 13] = [
+static ROWS: [Row; 14] = [
     ("no record", "0 up 1 192.0.2.2\n", "", &[
         "<!DOCTYPE html>\n",
         "<tr><th>records</th><td>0</td></tr>\n<tr><th>sent</th><td>0</td></tr>\n<tr><th>passed</th><td>0</td></tr>\n<tr><th>dropped</th><td>0</td></tr>\n",
         "<tr><th>aborted</th><td>0</td></tr>\n<tr><th>stopped</th><td>0</td></tr>\n<tr><th>short</th><td>0</td></tr>\n\
          <tr><th>moves of flows</th><td>0</td></tr>\n",
-        "<tr><th>first moment</th><td>0.000000 s, 1970-01-01T00:00:00.000000Z</td></tr>\n<tr><th>last moment</th><td>0.000000 s, 1970-01-01T00:00:00.000000Z</td></tr>\n</table>\n",
+        "<tr><th>first moment</th><td>none</td></tr>\n<tr><th>last moment</th><td>none</td></tr>\n</table>\n",
         "</defs>\n<g fill=\"url(#f0)\"></g>\n",
         "<g fill=\"url(#f8)\"></g>\n<path class=\"axis\" d=\"M36 20H396M36 80H396M36 140H396\"/>\n<text class=\"end\" x=\"33\" y=\"24\">1</text>",
         "</svg>\n<h2>Frames by case</h2>\n<table class=\"figures\">\n</table>\n<h2>Frames by backend</h2>\n",
@@ -55,11 +81,7 @@ static ROWS: [Row; 13] = [
          <rect class=\"key\" x=\"2\" y=\"11\" width=\"122\" height=\"7\" fill=\"url(#f0)\"/></svg></td></tr>\n</table></div>\n",
     ]),
     ("each reason, and three backends of which one goes down: 251 turns are 84, 84 and 83, and then 126 and 125",
-        "0 vip 203.0.113.1 80 tcp\n0 vip 203.0.113.2 53 udp notrack\n0 up 0 192.0.2.1\n0 up 1 192.0.2.2\n0 up 2 192.0.2.3\n1 down 1\n",
-        "1,1.000000,0,TX,99,sent,1,192.0.2.2,10.0.0.1,1000,203.0.113.1,80,tcp\n2,2.000000,0,TX,99,sent,0,192.0.2.1,10.0.0.1,1000,203.0.113.1,80,tcp\n\
-         3,3.000000,0,TX,99,sent,2,192.0.2.3,10.0.0.1,1000,203.0.113.1,80,tcp\n4,4.000000,0,TX,99,sent,2,192.0.2.9,10.0.0.1,1000,203.0.113.1,80,tcp\n\
-         5,5.000000,0,TX,99,sent,,192.0.2.7,10.0.0.1,1000,203.0.113.1,80,tcp\n6,6.000000,0,TX,99,sent,0,192.0.2.1,10.0.0.1,1000,203.0.113.1,80,tcp\n\
-         7,7.000000,0,TX,99,sent,0,192.0.2.1,10.0.0.1,1000,203.0.113.2,53,udp\n8,8.000000,0,TX,99,sent,2,192.0.2.3,10.0.0.1,1000,203.0.113.2,53,udp\n", &[
+        EACH_REASON_COMMANDS, EACH_REASON, &[
         "<tr><th>moves of flows</th><td>6</td></tr>\n",
         "<tr><td>0</td><td>84</td><td>126</td><td>", "width=\"41\" height=\"7\" fill=\"url(#f2)\"/>", "width=\"62\" height=\"7\" fill=\"url(#f0)\"/>",
         "<tr><td>1</td><td>84</td><td>0</td><td>", "width=\"41\" height=\"7\" fill=\"url(#f2)\"/>", "width=\"0\" height=\"7\" fill=\"url(#f0)\"/>",
@@ -77,12 +99,11 @@ static ROWS: [Row; 13] = [
         "<td>192.0.2.2</td><td>192.0.2.1</td><td>down</td></tr>\n", "<td>192.0.2.1</td><td>192.0.2.3</td><td>evicted</td></tr>\n",
         "<td>192.0.2.3</td><td>192.0.2.9</td><td>readdressed</td></tr>\n", "<td>192.0.2.9</td><td>192.0.2.7</td><td>evicted</td></tr>\n",
         "<td>192.0.2.7</td><td>192.0.2.1</td><td>unknown</td></tr>\n",
-        "<tr><td>8</td><td>8.000000 s, 1970-01-01T00:00:08.000000Z</td><td>udp 10.0.0.1:1000 to 203.0.113.2:53</td><td>192.0.2.1</td><td>192.0.2.3</td><td>untracked</td></tr>\n</table>",
+        "<td>192.0.2.1</td><td>192.0.2.3</td><td>untracked</td></tr>\n</table>",
     ]),
     ("three records: figures", THREE_COMMANDS, THREE_RECORDS, &[
         "<tr><th>records</th><td>3</td></tr>\n<tr><th>sent</th><td>1</td></tr>\n<tr><th>passed</th><td>1</td></tr>\n<tr><th>dropped</th><td>1</td></tr>\n",
         "<tr><th>short</th><td>0</td></tr>\n<tr><th>moves of flows</th><td>0</td></tr>\n",
-        "<tr><th>first moment</th><td>1.000000 s, 1970-01-01T00:00:01.000000Z</td></tr>\n<tr><th>last moment</th><td>1.000120 s, 1970-01-01T00:00:01.000120Z</td></tr>\n",
     ]),
     ("three records: slots are of 3 microseconds, and the records in the first, 20 and 40 further; only the last command has a mark",
         THREE_COMMANDS, THREE_RECORDS, &[
@@ -121,16 +142,11 @@ static ROWS: [Row; 13] = [
          <tr><td>2</td><td>2</td><td>3.000000 s, 1970-01-01T00:00:03.000000Z</td><td>vip 203.0.113.2 53 udp notrack</td></tr>\n\
          <tr><td>3</td><td>10</td><td>3.000000 s, 1970-01-01T00:00:03.000000Z</td><td>down 7</td></tr>\n",
     ]),
-    ("two moves of one flow, and a frame between that was dropped", "",
-        "1,1.000000,0,TX,99,sent,1,192.0.2.2,10.0.0.1,1000,203.0.113.1,80,tcp\n2,2.000000,0,TX,99,sent,1,192.0.2.2,10.0.0.1,1001,203.0.113.1,80,tcp\n\
-         3,3.000000,0,DROP,90,no-backend,,,10.0.0.1,1000,203.0.113.1,80,tcp\n4,4.000000,0,TX,99,sent,2,192.0.2.3,10.0.0.1,1000,203.0.113.1,80,tcp\n\
-         5,5.000000,0,TX,99,sent,1,192.0.2.2,10.0.0.1,1000,203.0.113.1,80,tcp\n", &[
+    ("two moves of one flow, and a frame between that was dropped", "", TWO_MOVES, &[
         "<tr><th>moves of flows</th><td>2</td></tr>\n",
         "<rect class=\"key\" x=\"84\" y=\"4\" width=\"240\" height=\"10\" fill=\"url(#f0)\"/><text x=\"328\" y=\"12\">2</text>\n",
-        "<th>to</th><th>reason</th></tr>\n\
-         <tr><td>4</td><td>4.000000 s, 1970-01-01T00:00:04.000000Z</td><td>tcp 10.0.0.1:1000 to 203.0.113.1:80</td><td>192.0.2.2</td><td>192.0.2.3</td><td>down</td></tr>\n\
-         <tr><td>5</td><td>5.000000 s, 1970-01-01T00:00:05.000000Z</td><td>tcp 10.0.0.1:1000 to 203.0.113.1:80</td><td>192.0.2.3</td><td>192.0.2.2</td><td>down</td></tr>\n</table></div>\n\
-         </body>\n",
+        "<th>to</th><th>reason</th></tr>\n<tr><td>4</td>",
+        "<td>down</td></tr>\n</table></div>\n</body>\n",
     ]),
     ("a verdict of another word, and the verdicts that are rare", "",
         "1,1.000000,0,ABORTED,9,aborted,,,,,,,\n2,2.000000,0,STOPPED,9,stopped,,,,,,,\n3,3.000000,,SHORT,,short,,,,,,,\n\
@@ -142,18 +158,16 @@ static ROWS: [Row; 13] = [
         "<text x=\"54\" y=\"198\">other</text>\n</svg>\n<h2>Frames by case</h2>\n<table class=\"figures\">\n\
          <tr><th>short</th><td>2</td></tr>\n<tr><th>other</th><td>3</td></tr>\n</table>\n",
     ]),
-    ("dates: a leap day of a century, and the last microsecond of year 9999", "1 down 1\n2 down 2\n",
-        "1,951782400.000000,0,PASS,9,arp,,,,,,,\n2,1709210096.654321,0,PASS,9,arp,,,,,,,\n3,4107542400.000000,0,PASS,9,arp,,,,,,,\n4,253402300799.999999,0,PASS,9,arp,,,,,,,\n", &[
-        "<td>951782400.000000 s, 2000-02-29T00:00:00.000000Z</td></tr>\n<tr><th>last moment</th><td>253402300799.999999 s, 9999-12-31T23:59:59.999999Z</td></tr>\n",
+    ("dates: a leap day, and a year of a century that has none", "1 down 1\n2 down 2\n", DATES, &[
         "<td>1709210096.654321 s, 2024-02-29T12:34:56.654321Z</td><td>down 1</td>", "<td>4107542400.000000 s, 2100-03-01T00:00:00.000000Z</td><td>down 2</td>",
+    ]),
+    ("a case whose word has a digit", "", "1,1.000000,0,PASS,9,ipv6,,,,,,,\n", &[
+        "<h2>Frames by case</h2>\n<table class=\"figures\">\n<tr><th>ipv6</th><td>1</td></tr>\n</table>\n",
     ]),
     ("a moment that has no such form", "", "1,253402300800.000000,0,PASS,9,arp,,,,,,,\n", &[
         "<td>253402300800.000000 s, later</td></tr>\n</table>\n",
     ]),
-    ("moments that do not rise, backends in the order of their numbers, and one whose number no table has, which has no name", "",
-        "1,9.000000,0,TX,99,sent,4294967295,192.0.2.2,10.0.0.1,1000,203.0.113.1,80,tcp\n\
-         2,7.000000,0,TX,99,sent,0,192.0.2.3,10.0.0.2,1000,203.0.113.1,80,tcp\n3,8.000000,0,TX,99,sent,0,192.0.2.3,10.0.0.2,1000,203.0.113.1,80,tcp\n", &[
-        "<tr><th>first moment</th><td>7.000000 s, 1970-01-01T00:00:07.000000Z</td></tr>\n<tr><th>last moment</th><td>9.000000 s, 1970-01-01T00:00:09.000000Z</td></tr>\n",
+    ("backends in the order of their numbers, and one whose number no table has, which has no name", "", NOT_RISING, &[
         "backend 0</text>\n\
          <rect class=\"key\" x=\"280\" y=\"190\" width=\"14\" height=\"9\" fill=\"url(#f8)\"/><text x=\"298\" y=\"198\">others</text>\n\
          </svg>\n",
@@ -163,6 +177,55 @@ static ROWS: [Row; 13] = [
          <rect class=\"key\" x=\"84\" y=\"18\" width=\"120\" height=\"10\" fill=\"url(#f8)\"/><text x=\"208\" y=\"26\">1</text>\n</svg>\n\
          <h2>Commands</h2>\n",
     ]),
+];
+
+/// What a row shows, the rows of a report, and the first moment and the last on its page.
+type Moments = (&'static str, &'static str, &'static str, &'static str);
+
+#[rattlefmt::skip]
+static MOMENTS: [Moments; 4] = [
+    ("no record", "", "none", "none"),
+    ("three records", THREE_RECORDS, "1.000000 s, 1970-01-01T00:00:01.000000Z", "1.000120 s, 1970-01-01T00:00:01.000120Z"),
+    ("dates", DATES, "951782400.000000 s, 2000-02-29T00:00:00.000000Z", "253402300799.999999 s, 9999-12-31T23:59:59.999999Z"),
+    ("moments that do not rise", NOT_RISING, "7.000000 s, 1970-01-01T00:00:07.000000Z", "9.000000 s, 1970-01-01T00:00:09.000000Z"),
+];
+
+/// A row of the table of flows that moved.
+struct Moved {
+    record: &'static str,
+    moment: &'static str,
+    flow: &'static str,
+    before: &'static str,
+    after: &'static str,
+    reason: &'static str,
+}
+
+static UNTRACKED: Moved = Moved {
+    record: "8",
+    moment: "8.000000 s, 1970-01-01T00:00:08.000000Z",
+    flow: "udp 10.0.0.1:1000 to 203.0.113.2:53",
+    before: "192.0.2.1",
+    after: "192.0.2.3",
+    reason: "untracked",
+};
+
+static THERE_AND_BACK: [Moved; 2] = [
+    Moved {
+        record: "4",
+        moment: "4.000000 s, 1970-01-01T00:00:04.000000Z",
+        flow: "tcp 10.0.0.1:1000 to 203.0.113.1:80",
+        before: "192.0.2.2",
+        after: "192.0.2.3",
+        reason: "down",
+    },
+    Moved {
+        record: "5",
+        moment: "5.000000 s, 1970-01-01T00:00:05.000000Z",
+        flow: "tcp 10.0.0.1:1000 to 203.0.113.1:80",
+        before: "192.0.2.3",
+        after: "192.0.2.2",
+        reason: "down",
+    },
 ];
 
 /// What a row shows, the bytes of a file, and the refusal.
@@ -227,6 +290,49 @@ fn pages_are_made(rt: HostRuntime) {
     }
 }
 
+/// Holds the first moment and the last of a page against what is wanted.
+fn find_moments(rt: &impl Abort, alloc: Global, name: &str, text: &str, first: &str, last: &str) {
+    let wanted = format!(in alloc;
+        "<tr><th>first moment</th><td>{first}</td></tr>\n<tr><th>last moment</th><td>{last}</td></tr>\n"
+    ).expect(rt, name);
+    find_parts(rt, name, text, &[wanted.as_str()]);
+}
+
+/// Holds the moments of a row against what is wanted.
+fn compare_moments(rt: &impl Abort, alloc: Global, row: &Moments) {
+    let (name, rows, first, last) = *row;
+    let made = page_of_rows(rt, alloc, name, "", rows);
+    find_moments(rt, alloc, name, made.as_str(), first, last);
+}
+
+#[test]
+fn first_and_last_moments_are_told(rt: HostRuntime) {
+    for row in &MOMENTS {
+        compare_moments(&rt, rt.alloc(), row);
+    }
+}
+
+/// Finds the row of a flow that moved.
+fn find_moved(rt: &impl Abort, alloc: Global, name: &str, text: &str, moved: &Moved) {
+    let (record, moment, flow) = (moved.record, moved.moment, moved.flow);
+    let (before, after, reason) = (moved.before, moved.after, moved.reason);
+    let wanted = format!(in alloc;
+        "<tr><td>{record}</td><td>{moment}</td><td>{flow}</td><td>{before}</td><td>{after}</td><td>{reason}</td></tr>\n"
+    ).expect(rt, name);
+    find_parts(rt, name, text, &[wanted.as_str()]);
+}
+
+#[test]
+fn flows_that_moved_are_told(rt: HostRuntime) {
+    let alloc = rt.alloc();
+    let made = page_of_rows(&rt, alloc, "each reason", EACH_REASON_COMMANDS, EACH_REASON);
+    find_moved(&rt, alloc, "each reason", made.as_str(), &UNTRACKED);
+    let twice = page_of_rows(&rt, alloc, "two moves", "", TWO_MOVES);
+    for moved in &THERE_AND_BACK {
+        find_moved(&rt, alloc, "two moves", twice.as_str(), moved);
+    }
+}
+
 /// Holds the refusal of a row against what is wanted.
 fn compare_refusal(rt: &impl Abort, alloc: Global, row: &Refusal) {
     let (name, bytes, wanted) = *row;
@@ -269,9 +375,9 @@ fn commands_in_turn(alloc: Global, count: u64) -> Result<String, AllocError> {
 /// Parts of the page of 200 records over forty backends and 150 commands, one behind the other. A slot of 3.316667 seconds has three records or
 /// four; the first four are of backends 0 to 3. The backends 1 to 8 have names: the commands behind record 1 name them first.
 #[rattlefmt::skip]
-static MANY: [&str; 22] = [
+static MANY: [&str; 21] = [
     "<tr><th>records</th><td>200</td></tr>\n<tr><th>sent</th><td>200</td></tr>\n",
-    "<tr><th>moves of flows</th><td>199</td></tr>\n<tr><th>first moment</th><td>1.000000 s, 1970-01-01T00:00:01.000000Z</td></tr>\n<tr><th>last moment</th><td>200.000000 s, 1970-01-01T00:03:20.000000Z</td></tr>\n",
+    "<tr><th>moves of flows</th><td>199</td></tr>\n<tr><th>first moment</th>",
     "<g fill=\"url(#f0)\"><rect x=\"36\" y=\"110\" width=\"5\" height=\"30\"/>",
     "<g fill=\"url(#f1)\"><rect x=\"36\" y=\"80\" width=\"5\" height=\"30\"/>",
     "<g fill=\"url(#f7)\"><rect x=\"48\" y=\"80\" width=\"5\" height=\"30\"/>",
@@ -292,12 +398,41 @@ static MANY: [&str; 22] = [
     "<tr><th>others</th><td>0</td><td>40</td></tr>\n</table>\n<h2>Commands</h2>\n<p>1 commands before the first record</p>\n",
     "<tr><td>100</td><td>101</td><td>101.000000 s, 1970-01-01T00:01:41.000000Z</td><td>down 100</td></tr>\n</table></div>\n<p>and 49 more</p>\n",
     "<rect class=\"key\" x=\"84\" y=\"4\" width=\"240\" height=\"10\" fill=\"url(#f0)\"/><text x=\"328\" y=\"12\">199</text>\n",
-    "<tr><td>2</td><td>2.000000 s, 1970-01-01T00:00:02.000000Z</td><td>tcp 10.0.0.1:1000 to 203.0.113.1:80</td><td>192.0.2.0</td><td>192.0.2.1</td><td>down</td></tr>\n",
-    "<tr><td>101</td><td>101.000000 s, 1970-01-01T00:01:41.000000Z</td><td>tcp 10.0.0.1:1000 to 203.0.113.1:80</td><td>192.0.2.19</td><td>192.0.2.20</td><td>down</td></tr>\n\
-     </table></div>\n\
-     <p>and 99 more</p>\n",
+    "<td>down</td></tr>\n</table></div>\n<p>and 99 more</p>\n",
     "</body>\n</html>\n",
 ];
+
+/// Two of the rows of its flow that moved.
+static MANY_MOVED: [Moved; 2] = [
+    Moved {
+        record: "2",
+        moment: "2.000000 s, 1970-01-01T00:00:02.000000Z",
+        flow: "tcp 10.0.0.1:1000 to 203.0.113.1:80",
+        before: "192.0.2.0",
+        after: "192.0.2.1",
+        reason: "down",
+    },
+    Moved {
+        record: "101",
+        moment: "101.000000 s, 1970-01-01T00:01:41.000000Z",
+        flow: "tcp 10.0.0.1:1000 to 203.0.113.1:80",
+        before: "192.0.2.19",
+        after: "192.0.2.20",
+        reason: "down",
+    },
+];
+
+/// Holds what the page of 200 records says of moments and moves against what is wanted.
+fn compare_many(rt: &impl Abort, alloc: Global, text: &str) {
+    let (first, last) = (
+        "1.000000 s, 1970-01-01T00:00:01.000000Z",
+        "200.000000 s, 1970-01-01T00:03:20.000000Z",
+    );
+    find_moments(rt, alloc, "many records", text, first, last);
+    for moved in &MANY_MOVED {
+        find_moved(rt, alloc, "many records", text, moved);
+    }
+}
 
 #[test]
 fn a_long_report_has_a_short_page(rt: HostRuntime) {
@@ -306,6 +441,7 @@ fn a_long_report_has_a_short_page(rt: HostRuntime) {
     let commands = commands_in_turn(alloc, 150).expect(&rt, "the commands");
     let made = page_of_rows(&rt, alloc, "many records", commands.as_str(), rows.as_str());
     find_parts(&rt, "many records", made.as_str(), &MANY);
+    compare_many(&rt, alloc, made.as_str());
     assert!(&rt; made.len() < 65536, "the page is short");
 }
 

@@ -7,7 +7,7 @@ ghost use Rattle.page.specs.Commands.{is_first};
 ghost use Rattle.page.specs.Named.{named_keys};
 ghost use Rattle.page.specs.Page.{IsPage, IsPageOf, backends_in_time, by_backend, by_fate, command_marks, fates_in_time, figures_in, figures_of};
 ghost use Rattle.page.specs.Page.{backends_and_halves, commands_and_shares, fates_and_cases, figures_noted, moves_and_reasons, moves_in_rows};
-ghost use Rattle.page.specs.Page.{of_backends, page_at};
+ghost use Rattle.page.specs.Page.{of_backends, page_at, told_moment};
 ghost use Rattle.page.specs.Reading.{keys_of};
 ghost use Rattle.page.specs.Tallies.{AreLeast};
 
@@ -33,6 +33,16 @@ use control::{Command, Script};
 use flows::{Move, moved_frames};
 use std::alloc::{AllocError, Global};
 
+/// The first or the last moment of so many records.
+fn told_moment(alloc: Global, records: usize, moment: u64) -> Result<String, AllocError>
+    ensures { IfOk result (λ text. string_bytes text ≡ told_moment records moment) }
+{
+    if records == 0 {
+        return format!(in alloc; "none");
+    }
+    moment_text(alloc, moment)
+}
+
 /// The figures of so many records, by what became of each and how often a flow moved.
 fn figures_of(
     alloc: Global,
@@ -45,8 +55,8 @@ fn figures_of(
     ensures { IfOk result (λ text. string_bytes text ≡ figures_of records totals.now moves first last) }
 {
     let fates = fate_figures(alloc, totals, fates_named(totals))?;
-    let first = moment_text(alloc, first)?;
-    let last = moment_text(alloc, last)?;
+    let first = told_moment(alloc, records, first)?;
+    let last = told_moment(alloc, records, last)?;
     figures_text(
         alloc,
         records,

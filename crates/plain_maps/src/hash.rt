@@ -1,7 +1,7 @@
 //! Hash shards: the cell of each key.
 
-ghost use Rattle.std.specs.Prelude.{◌≡◌, ◌<◌, ◌≤◌, ◌+◌, ℕ, List, [], length, IfOk, None, Some, cond, if◌then◌else◌, is_some, bytes_eq};
-ghost use Rattle.std.specs.Prelude.{slice_index_or, vec_capacity};
+ghost use Rattle.std.specs.Prelude.{◌≡◌, ◌<◌, ◌≤◌, ◌+◌, ℕ, List, [], length, IfOk, None, Some, cond, if◌then◌else◌};
+ghost use Rattle.std.specs.Prelude.{bytes_eq, is_some, slice_index_or, vec_capacity};
 ghost use Rattle.plain_maps.specs.HashTable.{HashTable, cell_of};
 ghost use Rattle.plain_maps.specs.Listed.{ListsAll};
 

@@ -1,7 +1,9 @@
 //! Command lines.
 
 use crate::asserting::{holds_of, same_text};
-use command_line::{ReplayFiles, ReplaySettings, RunFiles, Settings, WordsFault, settings};
+use command_line::{
+    Reading, ReplayFiles, ReplaySettings, RunFiles, Settings, WordsFault, settings,
+};
 use fleet::Part;
 use map_updates::MapUpdate;
 use semantics::Options;
@@ -33,7 +35,18 @@ fn shown(rt: &impl Abort, alloc: Global, settings: Settings<'_>) -> Result<Strin
             format!(in alloc; "shipped {out} {ring} {flows}")
         }
         Settings::Table { script, ring } => format!(in alloc; "table {script} {ring}"),
-        Settings::Script { capture, timed } => format!(in alloc; "script {capture} {timed}"),
+        Settings::Script {
+            capture,
+            timed,
+            reading,
+        } => {
+            let Reading {
+                skip_long,
+                pad_cut,
+                allow_cut,
+            } = reading;
+            format!(in alloc; "script {capture} {timed} {skip_long} {pad_cut} {allow_cut}")
+        }
         Settings::Compare { first, second } => format!(in alloc; "compare {first} {second}"),
         Settings::Flows { report, script } => format!(in alloc; "flows {report} {script}"),
         Settings::Page { report, script } => format!(in alloc; "page {report} {script}"),
@@ -100,6 +113,8 @@ fn put_report(rt: &impl Abort, text: &mut String, files: ReplayFiles<'_>) {
     put_if(rt, text, !files.is_steering, " no-steering");
     put_if(rt, text, files.report.is_some(), " report ");
     put_if(rt, text, true, files.report.unwrap_or(""));
+    put_if(rt, text, files.maps.is_some(), " maps ");
+    put_if(rt, text, true, files.maps.unwrap_or(""));
 }
 
 /// The bytes of each update.
@@ -119,9 +134,14 @@ fn run_shown(rt: &impl Abort, alloc: Global, files: RunFiles<'_>, now: u64, work
         image,
         frame,
         journals,
+        maps,
     } = files;
     let journals = journals.unwrap_or("-");
-    format!(in alloc; "run {image} {frame} {now} {worker} {journals}").expect(rt, "memory")
+    let mark = if maps.is_some() { " maps " } else { "" };
+    let maps = maps.unwrap_or("");
+    format!(in alloc; "run {image} {frame} {now} {worker} {journals}{mark}{maps}").expect(
+        rt, "memory",
+    )
 }
 
 /// A replay's words, each at its place.
@@ -140,6 +160,7 @@ fn replay_shown(
         script,
         journals,
         report: _,
+        maps: _,
     } = files;
     let Options {
         workers,
@@ -156,7 +177,7 @@ fn replay_shown(
 }
 
 #[rattlefmt::skip]
-const READ: [(&str, &str); 62] = [
+const READ: [(&str, &str); 67] = [
     ("xlb check a",                             "check a false"),
     ("xlb check --explain a",                   "check a true"),
     ("xlb check a --explain",                   "check a true"),
@@ -179,6 +200,7 @@ const READ: [(&str, &str); 62] = [
     ("xlb run a b --now 18446744073709551615",  "run a b 18446744073709551615 0 -"),
     ("xlb run a b --worker 4294967295",         "run a b 0 4294967295 -"),
     ("xlb run a b --journals j --now 1",        "run a b 1 0 j"),
+    ("xlb run a b --maps m",                    "run a b 0 0 - maps m"),
     ("xlb run a b --update 0 07 02",             "run a b 0 0 - 0=07:02"),
     ("xlb run --update 3 0A 00ff a --update 1 00 01 b --now 7 --update 3 0a 00", "run a b 7 0 - 3=0a:00ff 1=00:01 3=0a:00"),
     ("xlb run a b --update +1 00 00",           "run a b 0 0 - 1=00:00"),
@@ -214,10 +236,14 @@ const READ: [(&str, &str); 62] = [
     ("xlb replay a b --part 1/2 --lost 0@4294967295", "replay a b - - 1 1 65536 251 - part 1 of 2 lost 0 at 4294967295"),
     ("xlb flows r s",                          "flows r s"),
     ("xlb page r s",                           "page r s"),
-    ("xlb script a b",                          "script a b"),
+    ("xlb script a b",                          "script a b false false false"),
+    ("xlb script --skip-long a b",              "script a b true false false"),
+    ("xlb script a --allow-cut b --pad-cut",    "script a b false true true"),
     ("xlb compare a b",                         "compare a b"),
     ("xlb replay a b --no-journals --workers 4", "replay a b - - 4 1 65536 251 - no-journals"),
     ("xlb replay a b --report r.json",          "replay a b - - 1 1 65536 251 - report r.json"),
+    ("xlb replay a --maps m b",                 "replay a b - - 1 1 65536 251 - maps m"),
+    ("xlb replay --report r a b --maps=m --no-journals", "replay a b - - 1 1 65536 251 - no-journals report r maps m"),
     ("xlb replay a b --update 0 07 02 --image i --update +1 0A ff", "replay a b i - 1 1 65536 251 - no-steering 0=07:02 1=0a:ff"),
     ("xlb replay --report r a --exact --skip-long b --journals j", "replay a b - - 1 1 65536 251 j exact skip-long report r"),
 ];

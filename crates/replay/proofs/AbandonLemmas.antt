@@ -1,5 +1,5 @@
 -- Why the threads of a replay were given up.
-use Rattle.std.proofs.Common.{inl, inr, ◌≡◌, ◌⊎◌, ◌∙◌, ℕ, ◌+◌, ◌<◌, List, length}
+use Rattle.std.proofs.Common.{inl, inr, ◌≡◌, ◌∙◌, ℕ, ◌+◌, ◌<◌, List, length}
 use Rattle.rx_queues.specs.declared.job.Job.{Job}
 use Rattle.actors.specs.Actors.{AreAllEnded}
 use Rattle.actors.specs.Puts.{put_at}

@@ -1,5 +1,5 @@
 -- The account of a replay.
-use Rattle.std.proofs.Common.{◌≡◌, ◌⊎◌, ℕ, zero, suc, ◌<◌, List, [], ◌∷◌, ◌++◌, length, get_or, refl, sym, ap, ◌∙◌, subst, arith, inl, inr, append_assoc}
+use Rattle.std.proofs.Common.{◌≡◌, ◌⊎◌, ℕ, zero, suc, ◌<◌, List, [], ◌∷◌, ◌++◌, length, refl, sym, ap, ◌∙◌, subst, arith, inl, inr, append_assoc}
 use Rattle.std.specs.Prelude.{reverse, map, Vec}
 use Rattle.std.specs.declared.alloc.Global.{Global}
 use mathlib.Core.Option.{some, some-injective, some-ne-none}
@@ -40,7 +40,7 @@ use Rattle.actors.specs.RunsInOrder.{IsRunAt, IsChainOfRuns, HasHandled}
 use Rattle.actors.specs.Shares.{frames_of, share}
 use Rattle.actors.specs.RunJobs.{records_of}
 use Rattle.actors.specs.declared.outcome.Outcome.{Outcome}
-use Rattle.actors.specs.declared.outcome.RecordEnd.{RecordEnd}
+use Rattle.actors.specs.declared.outcome.ToldEnd.{ToldEnd}
 use Rattle.actors.specs.declared.worker.Working.{Working}
 use Rattle.actors.specs.RunsOverShards.{IsNewPass, IsNewAt, IsIdle, IsRunOf, IsRunBy, IsRunIn, IsExit, StopsFor, IsFullAtEnd, pass_in, start_of}
 use Rattle.shards.specs.declared.deeds.Deed.{Deed}
@@ -50,7 +50,7 @@ use Rattle.actors.specs.Accounted.{IsWorkOf}
 
 -- ---- an outcome by its parts
 
-pub outcome_is : (outcome : Outcome) (counts : Counts) (sent : Vec Sent Global) (ends : Vec RecordEnd Global) (journals : JournalsView) → outcome.counts ≡ counts
+pub outcome_is : (outcome : Outcome) (counts : Counts) (sent : Vec Sent Global) (ends : Vec ToldEnd Global) (journals : JournalsView) → outcome.counts ≡ counts
     → outcome.sent ≡ sent → outcome.ends ≡ ends → outcome.journals ≡ journals
     → outcome ≡ record { counts = counts; updates = outcome.updates; refused = outcome.refused; sent = sent; ends = ends; journals = journals }
 outcome_is outcome counts sent ends journals of_counts of_sent of_ends of_journals =
@@ -199,11 +199,6 @@ module _ {A : Type 0} where
 
   here : (P : ℕ → A → Type 0) (l : List A) (place : ℕ) (x : A) → Each P 0 l → get_elem? l place ≡ some x → P place x
   here P l place x each there = subst (λ n. P n x) (omega arith) (each place x there)
-
-  at_or : (xs : List A) (j : ℕ) (x d : A) → get_elem? xs j ≡ some x → x ≡ get_or xs j d
-  at_or [] j x d e = absurd (some-ne-none x (sym e))
-  at_or (y ∷ xs) zero x d e = sym (some-injective y x e)
-  at_or (y ∷ xs) (suc j) x d e = at_or xs j x d e
 
 -- the pass of the worker at a place
 pass_there : {B : Type 0} (working : List (Working B)) (j : ℕ) (x : Working B) → get_elem? working j ≡ some x → pass_in x ≡ pass_at (map pass_in working) j

@@ -3,7 +3,7 @@ use Rattle.std.proofs.Common.{◌≡◌, ℕ, List, [], ◌∷◌, ◌++◌, ref
 use Rattle.wire.specs.declared.records.Sent.{Sent}
 use Rattle.wire.specs.declared.records.Capture.{Capture}
 use Rattle.rx_queues.specs.declared.job.Job.{Job}
-use Rattle.rx_queues.specs.declared.job.Job.TheVariants.{Frame, End}
+use Rattle.rx_queues.specs.declared.job.Job.TheVariants.{End}
 use Rattle.rx_queues.specs.declared.passes.Queues.{Queues}
 use Rattle.rx_queues.specs.Fifo.{IsTakenInOrder}
 use Rattle.actors.specs.declared.worker.Lane.{Lane}

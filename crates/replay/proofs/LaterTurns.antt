@@ -1,20 +1,19 @@
 -- The deeds up to the state behind any number of turns, and what is written behind them.
-use Rattle.std.proofs.Common.{◌≡◌, ◌⊎◌, inl, inr, ⊎_elim, ℕ, zero, suc, ◌+◌, ◌<◌, ◌≤◌, ◌==◌, Bool, true, cond, List, [], ◌∷◌, ◌++◌, length, refl, sym, ◌∙◌, ap, subst, arith, append_assoc}
-use Rattle.std.specs.Prelude.{filter}
+use Rattle.std.proofs.Common.{◌≡◌, ◌⊎◌, inl, inr, ⊎_elim, ℕ, zero, suc, ◌+◌, ◌<◌, ◌≤◌, ◌==◌, Bool, true, cond, List, [], ◌∷◌, ◌++◌, length, sym, ◌∙◌, ap, subst, arith, append_assoc}
 use Rattle.std.specs.List.{AllByRecursion}
 use Rattle.std.proofs.lemmas.Bool.Decides.{nat_tests}
 use Rattle.std.proofs.lemmas.List.{length-append, length-reverse}
-use Rattle.std.proofs.lemmas.List.Elements.{filter-append}
 use Rattle.wire.specs.declared.records.Sent.{Sent}
 use Rattle.semantics.specs.declared.call.Entry.{Entry}
 use Rattle.semantics.specs.History.{shard_of_call}
 use Rattle.semantics.specs.Program.{Program}
 use Rattle.shard_core.specs.JournaledShard.{JournaledShard}
 use Rattle.shards.specs.declared.deeds.Deed.{Deed}
-use Rattle.shards.specs.declared.deeds.Deed.TheVariants.{Wrote, MetFull}
-use Rattle.shards.specs.Deeds.{shard_of_deed, is_of_shard, entries_made, made_on, AreDeedsWithin}
+use Rattle.shards.specs.declared.deeds.Deed.TheVariants.{Wrote}
+use Rattle.shards.specs.Deeds.{shard_of_deed, made_on, AreDeedsWithin}
 use Rattle.shards.specs.NewShards.{shard_at}
 use Rattle.control.specs.declared.command.Command.{Command}
+use Rattle.actors.proofs.shared.DeedLemmas.{made_append}
 use Rattle.replay.specs.Turns.{Turn, all_turns}
 use Rattle.replay.specs.InTurn.{TurnState, AreTurns}
 use Rattle.replay.specs.ExactReplays.{starts_in, first_state}
@@ -23,19 +22,10 @@ use Rattle.replay.specs.LaterTurns.{state_behind, IsWrittenBehind, TurnsComeInOr
 
 -- ---- what is written by deeds of two lists
 
-entries_both : (first second : List Deed) → entries_made (first ++ second) ≡ entries_made first ++ entries_made second
-entries_both [] second = refl
-entries_both (Wrote entry ∷ first) second = ap (λ (list : List Entry). entry ∷ list) (entries_both first second)
-entries_both (MetFull who call ∷ first) second = entries_both first second
-
-made_both : (number : ℕ) (first second : List Deed) → made_on number (first ++ second) ≡ made_on number first ++ made_on number second
-made_both number first second =
-    ap (filter (is_of_shard number)) (entries_both first second) ∙ filter-append (is_of_shard number) (entries_made first) (entries_made second)
-
 as_many_more : (number : ℕ) (more deeds : List Deed) → length (made_on number deeds) ≤ length (made_on number (more ++ deeds))
 as_many_more number more deeds =
     let both : length (made_on number (more ++ deeds)) ≡ length (made_on number more) + length (made_on number deeds) =
-    ap (λ (list : List Entry). length list) (made_both number more deeds) ∙ length-append (made_on number more) (made_on number deeds) in
+    ap (λ (list : List Entry). length list) (made_append number more deeds) ∙ length-append (made_on number more) (made_on number deeds) in
     omega (arith, both)
 
 -- an entry is one more on its shard

@@ -7,6 +7,7 @@ pub mod TakeLemmas
 pub mod LastRound
 pub mod Accounts
 pub mod PartLemmas
+pub mod PlanCodes
 pub mod TurnLemmas
 pub mod TurnBeginnings
 pub mod WhyInTurn

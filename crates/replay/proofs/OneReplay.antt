@@ -1,6 +1,6 @@
 -- Two exact replays of one input take the same turns through the same states, and return the same.
 use Rattle.std.proofs.Common.{◌≡◌, ◌≢◌, ◌⊎◌, inl, inr, ⊎_elim, ℕ, zero, suc, ◌<◌, cond, List, [], ◌∷◌, ◌++◌, length, Option, Some, None, refl, sym, ap, ◌∙◌, subst, arith, append_assoc, append-nil}
-use Rattle.std.specs.Prelude.{slice_get, slice_index_or, is_some}
+use Rattle.std.specs.Prelude.{slice_get, is_some}
 use Rattle.std.specs.List.{AllByRecursion}
 use Rattle.std.proofs.lemmas.List.{length-map, ext_get_or}
 use Rattle.ebpf_decode.specs.declared.map.MapDef.{MapDef}
@@ -13,20 +13,21 @@ use Rattle.journals.specs.JournalsView.{JournalsView}
 use Rattle.shard_core.specs.JournaledShard.{JournaledShard}
 use Rattle.shards.specs.NewShards.{shard_at}
 use Rattle.shards.specs.Opening.{AreOpened}
-use Rattle.maglev.specs.RingSize.{IsRingSize, ring_sizes}
+use Rattle.maglev.specs.RingSize.{IsRingSize}
 use Rattle.conntrack.specs.SteeringMaps.{ring_entries}
 use Rattle.control.specs.declared.command.Command.{Command}
 use Rattle.control.specs.declared.fault.ControlFault.{ControlFault}
 use Rattle.control.specs.declared.fault.ControlFault.TheVariants.{Memory}
 use Rattle.control.specs.Controlling.{ControllerState, refusal_of, opened_controller}
+use Rattle.semantics.specs.Replay.{Captured}
 use Rattle.actors.specs.declared.account.Counts.{Counts}
 use Rattle.actors.specs.declared.outcome.Applied.{Applied}
-use Rattle.actors.specs.declared.outcome.RecordEnd.{RecordEnd}
-use Rattle.actors.specs.Accounts.{SentFrame, sent_frame, sent_frames, sent_by, counted, record_end}
+use Rattle.actors.specs.declared.outcome.ToldEnd.{ToldEnd}
+use Rattle.actors.specs.Accounts.{sent_by, counted, record_end}
 use Rattle.actors.specs.Commands.{ServesScript}
 use Rattle.actors.specs.FirstUpdates.{AreSet}
 use Rattle.actors.specs.Parts.{refused_of}
-use Rattle.actors.specs.Shares.{worker_of_frame}
+use Rattle.actors.specs.Shares.{worker_of_frame, captured_of, all_captured}
 use Rattle.replay.specs.Turns.{Turn, TheCommand, TheRecord, TheRound, all_turns}
 use Rattle.replay.specs.InTurn.{TurnMaps, TurnState, IsUpdatedInTurn, IsHandledInTurn, IsAppliedInTurn, IsRoundTo, IsRecordTurn, IsCommandTurn, IsRoundTurn, IsTurn, AreTurns}
 use Rattle.replay.specs.ExactReplays.{HasBegun, starts_in, first_maps, first_state}
@@ -34,6 +35,7 @@ use Rattle.replay.specs.SameReplays.{HadMemory, AreSameFrames, ReturnTheSame, Ex
 use Rattle.replay.proofs.OneRun.{AreOneEnd, handled_once}
 use Rattle.replay.proofs.OneCommand.{one_state, all_set_once, IsAppliedOnce, applied_once}
 use Rattle.replay.proofs.OneRound.{round_once}
+use Rattle.actors.proofs.shared.RingSizes.{one_size}
 
 -- ---- lists
 
@@ -50,19 +52,19 @@ same_by_place {A} (first ∷ more) (second ∷ others) count each =
     ap (λ (x : A). x ∷ more) same ∙ ap (λ (list : List A). second ∷ list) rest
 
 -- the records at a place of two lists with the same frames
-pub frame_there : (records others : List Sent) (number : ℕ) (captured captured' : Sent) → sent_frames records ≡ sent_frames others →
-    slice_get records number ≡ Some captured → slice_get others number ≡ Some captured' → sent_frame captured ≡ sent_frame captured'
+pub frame_there : (records others : List Sent) (number : ℕ) (captured captured' : Sent) → all_captured records ≡ all_captured others →
+    slice_get records number ≡ Some captured → slice_get others number ≡ Some captured' → captured_of captured ≡ captured_of captured'
 frame_there [] others number captured captured' same known known' = absurd cc
 frame_there (first ∷ more) [] number captured captured' same known known' = absurd cc
 frame_there (first ∷ more) (second ∷ others) zero captured captured' same known known' =
-    let lists : sent_frame first ∷ sent_frames more ≡ sent_frame second ∷ sent_frames others = same in
-    let heads : sent_frame first ≡ sent_frame second = cc in
+    let lists : captured_of first ∷ all_captured more ≡ captured_of second ∷ all_captured others = same in
+    let heads : captured_of first ≡ captured_of second = cc in
     let one : first ≡ captured = cc in
     let other : second ≡ captured' = cc in
-    ap sent_frame (sym one) ∙ heads ∙ ap sent_frame other
+    ap captured_of (sym one) ∙ heads ∙ ap captured_of other
 frame_there (first ∷ more) (second ∷ others) (suc number) captured captured' same known known' =
-    let lists : sent_frame first ∷ sent_frames more ≡ sent_frame second ∷ sent_frames others = same in
-    let rest : sent_frames more ≡ sent_frames others = cc in
+    let lists : captured_of first ∷ all_captured more ≡ captured_of second ∷ all_captured others = same in
+    let rest : all_captured more ≡ all_captured others = cc in
     frame_there more others number captured captured' rest known known'
 
 pub first_part : {A : Type 0} (P : A → Type 0) (one other : List A) → AllByRecursion P (one ++ other) → AllByRecursion P one
@@ -81,7 +83,7 @@ record AreAlike (script : List Command) (one other : TurnState) : Type 0 where
   controller : (script ≡ []) ⊎ (one.controller ≡ other.controller)
   noted : one.noted ≡ other.noted
   counts : one.counts ≡ other.counts
-  sent : sent_frames one.sent ≡ sent_frames other.sent
+  sent : all_captured one.sent ≡ all_captured other.sent
   ends : one.ends ≡ other.ends
 
 -- a turn that leaves the controller as it was
@@ -103,7 +105,7 @@ module _ (program : Program) (script : List Command) (records others : List Sent
       (subst (λ (list : List JournaledShard). IsHandledInTurn program workers turn'.captured list turn'.end after'.all.shards) shards turn'.handled) in
       let end : AreOneEnd turn.end turn'.end = once.1 in
       let worker : worker_of_frame turn.captured.bytes.items workers ≡ worker_of_frame turn'.captured.bytes.items workers =
-      ap (λ (frame : SentFrame). worker_of_frame frame.bytes workers) frames in
+      ap (λ (frame : Captured). worker_of_frame frame.bytes workers) frames in
       record {
         all = one_state after.all after'.all
             (turn.maps ∙ ap (λ (all : TurnMaps). all.maps) alike.all ∙ sym turn'.maps)
@@ -111,11 +113,11 @@ module _ (program : Program) (script : List Command) (records others : List Sent
         controller = same_controller script one.controller other.controller after.controller after'.controller turn.controller turn'.controller alike.controller;
         noted = turn.noted ∙ alike.noted ∙ sym turn'.noted;
         counts = turn.counts ∙ ap (λ (before : Counts). counted before turn.end) alike.counts ∙ end.counted_alike other.counts ∙ sym turn'.counts;
-        sent = turn.sent ∙ ap (λ (list : List SentFrame). list ++ sent_by turn.end) alike.sent
-            ∙ ap (λ (list : List SentFrame). sent_frames other.sent ++ list) end.sent_alike ∙ sym turn'.sent;
-        ends = turn.ends ∙ ap (λ (list : List RecordEnd). list ++ record_end (worker_of_frame turn.captured.bytes.items workers) turn.end ∷ []) alike.ends
+        sent = turn.sent ∙ ap (λ (list : List Captured). list ++ sent_by turn.end) alike.sent
+            ∙ ap (λ (list : List Captured). all_captured other.sent ++ list) end.sent_alike ∙ sym turn'.sent;
+        ends = turn.ends ∙ ap (λ (list : List ToldEnd). list ++ record_end (worker_of_frame turn.captured.bytes.items workers) turn.end ∷ []) alike.ends
             ∙ ap (λ (w : ℕ). other.ends ++ record_end w turn.end ∷ []) worker
-            ∙ ap (λ (last : RecordEnd). other.ends ++ last ∷ []) (end.noted_alike (worker_of_frame turn'.captured.bytes.items workers))
+            ∙ ap (λ (last : ToldEnd). other.ends ++ last ∷ []) (end.noted_alike (worker_of_frame turn'.captured.bytes.items workers))
             ∙ sym turn'.ends;
       }
 
@@ -149,7 +151,7 @@ module _ (program : Program) (script : List Command) (records others : List Sent
         noted = turn.noted ∙ ap (λ (list : List Applied). list ++ record { command = number; fault = turn.fault } ∷ []) alike.noted
             ∙ ap (λ (fault : Option ControlFault). other.noted ++ record { command = number; fault = fault } ∷ []) once.faults ∙ sym turn'.noted;
         counts = turn.counts ∙ alike.counts ∙ sym turn'.counts;
-        sent = ap sent_frames turn.sent ∙ alike.sent ∙ ap sent_frames (sym turn'.sent);
+        sent = ap all_captured turn.sent ∙ alike.sent ∙ ap all_captured (sym turn'.sent);
         ends = turn.ends ∙ alike.ends ∙ sym turn'.ends;
       })
       alike.controller
@@ -167,7 +169,7 @@ module _ (program : Program) (script : List Command) (records others : List Sent
         controller = same_controller script one.controller other.controller after.controller after'.controller turn.controller turn'.controller alike.controller;
         noted = turn.noted ∙ alike.noted ∙ sym turn'.noted;
         counts = turn.counts ∙ alike.counts ∙ sym turn'.counts;
-        sent = ap sent_frames turn.sent ∙ alike.sent ∙ ap sent_frames (sym turn'.sent);
+        sent = ap all_captured turn.sent ∙ alike.sent ∙ ap all_captured (sym turn'.sent);
         ends = turn.ends ∙ alike.ends ∙ sym turn'.ends;
       }
 
@@ -236,24 +238,6 @@ begun_once maps options updates others begun begun' same has has' =
     all_set_once updates others (first_maps maps options has.opened) begun begun' same has.updated
     (subst (λ (shards : List JournaledShard). AreSet IsUpdatedInTurn (first_maps maps options shards) others begun') (sym opened) has'.updated)
 
--- the maps of steering tell the table's size, of those that are served
-four_sizes : (size : ℕ) → IsRingSize size → (size ≡ 7) ⊎ ((size ≡ 251) ⊎ ((size ≡ 4093) ⊎ (size ≡ 65537)))
-four_sizes size served = at_place served.0 served.1 served.2
-  where
-    at_place : (place : ℕ) → place < length ring_sizes → slice_index_or ring_sizes place size ≡ size →
-        (size ≡ 7) ⊎ ((size ≡ 251) ⊎ ((size ≡ 4093) ⊎ (size ≡ 65537)))
-    at_place zero below is = inl (sym is)
-    at_place (suc zero) below is = inr (inl (sym is))
-    at_place (suc (suc zero)) below is = inr (inr (inl (sym is)))
-    at_place (suc (suc (suc zero))) below is = inr (inr (inr (sym is)))
-    at_place (suc (suc (suc (suc place)))) below is = absurd (omega (arith, below))
-
-one_size : (size other : ℕ) → IsRingSize size → IsRingSize other → ring_entries size ≡ ring_entries other → size ≡ other
-one_size size other served served' same =
-    let one = four_sizes size served in
-    let two = four_sizes other served' in
-    omega (arith, one, two, same)
-
 -- how many entries a map has, if there is one
 abbrev entries_in : Option MapDef → ℕ
 entries_in None = 0
@@ -301,7 +285,7 @@ pub replays_agree : ExactReplaysAgree
 replays_agree program script options records others one other frames turns turns' updates had had' = record {
   counts = turns.counts ∙ alike.counts ∙ sym turns'.counts;
   ends = turns.ends ∙ alike.ends ∙ sym turns'.ends;
-  sent = ap sent_frames turns.sent ∙ alike.sent ∙ ap sent_frames (sym turns'.sent);
+  sent = ap all_captured turns.sent ∙ alike.sent ∙ ap all_captured (sym turns'.sent);
   refused = turns.refused ∙ ap refused_of alike.noted ∙ sym turns'.refused;
   journals = one_view one.journals other.journals (turns.maps ∙ sym turns'.maps) (turns.options_are ∙ sym turns'.options_are) shards;
 }
@@ -320,7 +304,7 @@ replays_agree program script options records others one other frames turns turns
     }
 
     count : length others ≡ length records
-    count = sym (length-map others sent_frame) ∙ ap (λ (list : List SentFrame). length list) (sym frames) ∙ length-map records sent_frame
+    count = sym (length-map others captured_of) ∙ ap (λ (list : List Captured). length list) (sym frames) ∙ length-map records captured_of
 
     alike : AreAlike script turns.last turns'.last
     alike = turns_once program script records others options.workers frames (all_turns (starts_in script) (length records))
@@ -347,13 +331,13 @@ replays_agree program script options records others one other frames turns turns
 pub pieces_agree : PiecesAgree
 pieces_agree program script options records others sent sent' ends ends' rest rest' frames made made' updates had had' =
     let same : ReturnTheSame made.whole made'.whole =
-    replays_agree program script options records others made.whole made'.whole frames made.in_order.turns made'.in_order.turns
+    replays_agree program script options records others made.whole made'.whole frames made.exact.in_order.turns made'.exact.in_order.turns
     (made.is_whole.updates ∙ updates ∙ sym made'.is_whole.updates) (subst HadMemory (sym made.is_whole.refused) had)
     (subst HadMemory (sym made'.is_whole.refused) had') in
     record {
       counts = sym made.is_whole.counts ∙ same.counts ∙ made'.is_whole.counts;
       ends_are = sym made.is_whole.ends_are ∙ same.ends ∙ made'.is_whole.ends_are;
-      sent_are = ap sent_frames (sym made.is_whole.sent_are) ∙ same.sent ∙ ap sent_frames made'.is_whole.sent_are;
+      sent_are = ap all_captured (sym made.is_whole.sent_are) ∙ same.sent ∙ ap all_captured made'.is_whole.sent_are;
       refused = sym made.is_whole.refused ∙ same.refused ∙ made'.is_whole.refused;
       journals = sym made.is_whole.journals ∙ same.journals ∙ made'.is_whole.journals;
     }

@@ -20,14 +20,15 @@ use Rattle.map_port.specs.Exchanges.{calls_in}
 use Rattle.shard_core.specs.JournaledShard.{JournaledShard, sequential_reply, shard_with_entry}
 use Rattle.shard_port.specs.Asking.{can_enter, entered, asked_entry, EntersAndCalls, CannotEnterOrCall, all_left}
 use Rattle.shard_port.specs.PortView.{PortView, IsGivenBy, IsRefusedBy}
+use Rattle.semantics.specs.Replay.{Captured}
 use Rattle.actors.specs.declared.account.Counts.{Counts}
-use Rattle.actors.specs.declared.outcome.RecordEnd.TheVariants as ends
+use Rattle.actors.specs.declared.outcome.ToldEnd.TheVariants as ends
 use Rattle.actors.specs.declared.runner.FrameFate.{FrameFate}
 use Rattle.actors.specs.declared.runner.FrameFate.TheVariants.{Aborted, Dropped, Passed, Sent as IsSent}
 use Rattle.actors.specs.declared.runner.RunEnd.{RunEnd}
 use Rattle.actors.specs.declared.runner.RunEnd.TheVariants.{Stopped, Exited}
-use Rattle.actors.specs.Shares.{is_short, worker_of_frame}
-use Rattle.actors.specs.Accounts.{SentFrame, sent_frame, sent_by, counted, record_end, verdict_for}
+use Rattle.actors.specs.Shares.{is_short, worker_of_frame, captured_of}
+use Rattle.actors.specs.Accounts.{sent_by, counted, record_end, verdict_for}
 use Rattle.actors.specs.RunsOverShards.{start_of, IsTold}
 use Rattle.replay.specs.InTurn.{worker_port, EndsInTurn, StopsInTurn, IsExitInTurn, IsRunInTurn, IsHandledInTurn}
 use Rattle.replay.proofs.OneTrace.{trace_with, IsPlayed, one_end}
@@ -218,14 +219,14 @@ counted_by c verdicts.Drop = record c { drop = c.drop + 1 }
 counted_by c verdicts.Pass = record c { pass = c.pass + 1 }
 counted_by c verdicts.Tx = record c { tx = c.tx + 1 }
 
-abbrev sent_for : SentFrame → Verdict → List SentFrame
+abbrev sent_for : Captured → Verdict → List Captured
 sent_for frame verdicts.Aborted = []
 sent_for frame verdicts.Drop = []
 sent_for frame verdicts.Pass = []
 sent_for frame verdicts.Tx = frame ∷ []
 
 -- a frame at a record's moment
-abbrev at_moment : SentFrame → List ℕ → SentFrame
+abbrev at_moment : Captured → List ℕ → Captured
 at_moment captured bytes = record { seconds = captured.seconds; micros = captured.micros; bytes = bytes }
 
 told_verdict : (captured : Sent) (verdict : Verdict) (frame : FrameView) (steps : ℕ) (fate : FrameFate) → IsTold captured verdict frame (Exited steps fate) →
@@ -247,35 +248,35 @@ noted_so steps Dropped worker = refl
 noted_so steps Passed worker = refl
 noted_so steps (IsSent sent) worker = refl
 
-one_frame : (one other : SentFrame) → one.seconds ≡ other.seconds → one.micros ≡ other.micros → one.bytes ≡ other.bytes → one ≡ other
+one_frame : (one other : Captured) → one.seconds ≡ other.seconds → one.micros ≡ other.micros → one.bytes ≡ other.bytes → one ≡ other
 one_frame one other seconds micros bytes =
-    let of : ℕ → ℕ → List ℕ → SentFrame = λ s m b. record { seconds = s; micros = m; bytes = b } in
+    let of : ℕ → ℕ → List ℕ → Captured = λ s m b. record { seconds = s; micros = m; bytes = b } in
     ap (λ (s : ℕ). of s one.micros one.bytes) seconds ∙ ap (λ (m : ℕ). of other.seconds m one.bytes) micros
     ∙ ap (λ (b : List ℕ). of other.seconds other.micros b) bytes
 
 sent_so : (captured : Sent) (verdict : Verdict) (frame : FrameView) (steps : ℕ) (fate : FrameFate) → IsTold captured verdict frame (Exited steps fate) →
-    sent_by (Some (Exited steps fate)) ≡ sent_for (at_moment (sent_frame captured) frame.bytes) verdict
-sent_so captured verdict frame steps Aborted told = ap (sent_for (at_moment (sent_frame captured) frame.bytes)) (sym told)
-sent_so captured verdict frame steps Dropped told = ap (sent_for (at_moment (sent_frame captured) frame.bytes)) (sym told)
-sent_so captured verdict frame steps Passed told = ap (sent_for (at_moment (sent_frame captured) frame.bytes)) (sym told)
+    sent_by (Some (Exited steps fate)) ≡ sent_for (at_moment (captured_of captured) frame.bytes) verdict
+sent_so captured verdict frame steps Aborted told = ap (sent_for (at_moment (captured_of captured) frame.bytes)) (sym told)
+sent_so captured verdict frame steps Dropped told = ap (sent_for (at_moment (captured_of captured) frame.bytes)) (sym told)
+sent_so captured verdict frame steps Passed told = ap (sent_for (at_moment (captured_of captured) frame.bytes)) (sym told)
 sent_so captured verdict frame steps (IsSent sent) told =
-    ap (λ (one : SentFrame). one ∷ [])
-    (one_frame (sent_frame sent) (at_moment (sent_frame captured) frame.bytes) told.1.seconds told.1.micros told.1.bytes_are)
-    ∙ ap (sent_for (at_moment (sent_frame captured) frame.bytes)) (sym told.0)
+    ap (λ (one : Captured). one ∷ [])
+    (one_frame (captured_of sent) (at_moment (captured_of captured) frame.bytes) told.1.seconds told.1.micros told.1.bytes_are)
+    ∙ ap (sent_for (at_moment (captured_of captured) frame.bytes)) (sym told.0)
 
 -- ---- the run of a record
 
 -- how a run begins, by the record's frame
-abbrev start_at : SentFrame → ℕ → MachineState
+abbrev start_at : Captured → ℕ → MachineState
 start_at captured worker =
     initial_state (record { bytes = captured.bytes; headroom = 256 }) worker ((captured.seconds * 1000000 + captured.micros) * 1000)
 
-pub same_start : (captured captured' : Sent) (worker : ℕ) → sent_frame captured ≡ sent_frame captured' → start_of captured' worker ≡ start_of captured worker
-same_start captured captured' worker same = ap (λ (one : SentFrame). start_at one worker) (sym same)
+pub same_start : (captured captured' : Sent) (worker : ℕ) → captured_of captured ≡ captured_of captured' → start_of captured' worker ≡ start_of captured worker
+same_start captured captured' worker same = ap (λ (one : Captured). start_at one worker) (sym same)
 
 -- two runs that ended with one verdict, in as many steps, and left one frame
 pub told_once : (captured captured' : Sent) (verdict verdict' : Verdict) (frame frame' : FrameView) (steps steps' count count' : ℕ) (fate fate' : FrameFate) →
-    sent_frame captured ≡ sent_frame captured' → verdict ≡ verdict' → count ≡ count' → frame ≡ frame' →
+    captured_of captured ≡ captured_of captured' → verdict ≡ verdict' → count ≡ count' → frame ≡ frame' →
     IsTold captured verdict frame (Exited steps fate) → IsTold captured' verdict' frame' (Exited steps' fate') → Some steps ≡ Some count →
     Some steps' ≡ Some count' → AreOneEnd (Some (Exited steps fate)) (Some (Exited steps' fate'))
 told_once captured captured' verdict verdict' frame frame' steps steps' count count' fate fate' same verdicts_are counts_are frames told told' first second =
@@ -285,16 +286,16 @@ told_once captured captured' verdict verdict' frame frame' steps steps' count co
     record {
       counted_alike = λ counts. counted_so steps fate counts ∙ ap (counted_by counts) fates ∙ sym (counted_so steps' fate' counts);
       sent_alike = sent_so captured verdict frame steps fate told
-          ∙ ap (λ (moment : SentFrame). sent_for (at_moment moment frame.bytes) verdict) same
-          ∙ ap (λ (one : FrameView). sent_for (at_moment (sent_frame captured') one.bytes) verdict) frames
-          ∙ ap (sent_for (at_moment (sent_frame captured') frame'.bytes)) verdicts_are
+          ∙ ap (λ (moment : Captured). sent_for (at_moment moment frame.bytes) verdict) same
+          ∙ ap (λ (one : FrameView). sent_for (at_moment (captured_of captured') one.bytes) verdict) frames
+          ∙ ap (sent_for (at_moment (captured_of captured') frame'.bytes)) verdicts_are
           ∙ sym (sent_so captured' verdict' frame' steps' fate' told');
       noted_alike = λ number. noted_so steps fate number ∙ ap (λ (one : Verdict). ends.Exited number one steps) fates
           ∙ ap (λ (n : ℕ). ends.Exited number (verdict_for fate') n) same_steps ∙ sym (noted_so steps' fate' number);
     }
 
 exit_once : (program : Program) (captured captured' : Sent) (worker : ℕ) (before after after' : List JournaledShard) (steps steps' : ℕ)
-    (fate fate' : FrameFate) → sent_frame captured ≡ sent_frame captured' → IsExitInTurn program captured worker before (Exited steps fate) after →
+    (fate fate' : FrameFate) → captured_of captured ≡ captured_of captured' → IsExitInTurn program captured worker before (Exited steps fate) after →
     IsExitInTurn program captured' worker before (Exited steps' fate') after' →
     (after ≡ after') × AreOneEnd (Some (Exited steps fate)) (Some (Exited steps' fate'))
 exit_once program captured captured' worker before after after' steps steps' fate fate' same exit exit' =
@@ -308,7 +309,7 @@ exit_once program captured captured' worker before after after' steps steps' fat
     )
 
 pub run_once : (program : Program) (captured captured' : Sent) (worker : ℕ) (before after after' : List JournaledShard) (end end' : RunEnd) →
-    sent_frame captured ≡ sent_frame captured' → IsRunInTurn program captured worker before end after →
+    captured_of captured ≡ captured_of captured' → IsRunInTurn program captured worker before end after →
     IsRunInTurn program captured' worker before end' after' → (after ≡ after') × AreOneEnd (Some end) (Some end')
 run_once program captured captured' worker before after after' Stopped Stopped same stop stop' = (
   stops_once program (start_of captured worker) worker before after after' stop.frame stop'.frame stop.stop stop'.stop stop.run
@@ -328,20 +329,20 @@ run_once program captured captured' worker before after after' (Exited steps fat
     exit_once program captured captured' worker before after after' steps steps' fate fate' same exit exit'
 
 pub handled_once : (program : Program) (workers : ℕ) (captured captured' : Sent) (before after after' : List JournaledShard) (end end' : Option RunEnd) →
-    sent_frame captured ≡ sent_frame captured' → IsHandledInTurn program workers captured before end after →
+    captured_of captured ≡ captured_of captured' → IsHandledInTurn program workers captured before end after →
     IsHandledInTurn program workers captured' before end' after' → (after ≡ after') × AreOneEnd end end'
 handled_once program workers captured captured' before after after' None None same passed passed' = (
   passed.nothing ∙ sym passed'.nothing,
   record { counted_alike = λ counts. refl; sent_alike = refl; noted_alike = λ number. refl },
 )
 handled_once program workers captured captured' before after after' None (Some end) same passed ran =
-    let tests : is_short captured.bytes.items ≡ is_short captured'.bytes.items = ap (λ (one : SentFrame). is_short one.bytes) same in
+    let tests : is_short captured.bytes.items ≡ is_short captured'.bytes.items = ap (λ (one : Captured). is_short one.bytes) same in
     absurd (not_both (is_short captured.bytes.items) passed.short (tests ∙ ran.long))
 handled_once program workers captured captured' before after after' (Some end) None same ran passed =
-    let tests : is_short captured.bytes.items ≡ is_short captured'.bytes.items = ap (λ (one : SentFrame). is_short one.bytes) same in
+    let tests : is_short captured.bytes.items ≡ is_short captured'.bytes.items = ap (λ (one : Captured). is_short one.bytes) same in
     absurd (not_both (is_short captured'.bytes.items) passed.short (sym tests ∙ ran.long))
 handled_once program workers captured captured' before after after' (Some end) (Some end') same ran ran' =
     let worker : worker_of_frame captured'.bytes.items workers ≡ worker_of_frame captured.bytes.items workers =
-    ap (λ (one : SentFrame). worker_of_frame one.bytes workers) (sym same) in
+    ap (λ (one : Captured). worker_of_frame one.bytes workers) (sym same) in
     run_once program captured captured' (worker_of_frame captured.bytes.items workers) before after after' end end' same ran.run
     (subst (λ (number : ℕ). IsRunInTurn program captured' number before end' after') worker ran'.run)

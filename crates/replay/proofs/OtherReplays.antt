@@ -16,17 +16,18 @@ use Rattle.control.specs.declared.command.Command.{Command}
 use Rattle.control.specs.declared.fault.ControlFault.{ControlFault}
 use Rattle.control.specs.declared.fault.ControlFault.TheVariants.{JournalFull, Memory}
 use Rattle.control.specs.Controlling.{ControllerState, refusal_of}
+use Rattle.semantics.specs.Replay.{Captured}
 use Rattle.actors.specs.declared.account.Counts.{Counts}
 use Rattle.actors.specs.declared.outcome.Applied.{Applied}
 use Rattle.actors.specs.declared.outcome.Outcome.{Outcome}
-use Rattle.actors.specs.declared.outcome.RecordEnd.{RecordEnd}
+use Rattle.actors.specs.declared.outcome.ToldEnd.{ToldEnd}
 use Rattle.actors.specs.declared.runner.RunEnd.{RunEnd}
 use Rattle.actors.specs.declared.runner.RunEnd.TheVariants.{Stopped, Exited}
 use Rattle.actors.specs.declared.runner.FrameFate.TheVariants.{Aborted, Dropped, Passed, Sent as IsSent}
-use Rattle.actors.specs.Accounts.{SentFrame, sent_frame, sent_frames, sent_by, counted, record_end}
+use Rattle.actors.specs.Accounts.{sent_by, counted, record_end}
 use Rattle.actors.specs.FirstUpdates.{AreSet}
 use Rattle.actors.specs.Parts.{refused_of}
-use Rattle.actors.specs.Shares.{worker_of_frame}
+use Rattle.actors.specs.Shares.{worker_of_frame, captured_of, all_captured}
 use Rattle.replay.specs.Turns.{Turn, TheCommand, TheRecord, TheRound, all_turns}
 use Rattle.replay.specs.InTurn.{TurnMaps, TurnState, IsUpdatedInTurn, IsAppliedInTurn, IsRoundTo, IsRecordTurn, IsCommandTurn, IsRoundTurn, IsTurn, AreTurns}
 use Rattle.replay.specs.ExactReplays.{IsInTurn, HasBegun, starts_in, first_maps, first_state}
@@ -107,7 +108,7 @@ record AreStatesAlike (script : List Command) (one other : TurnState) : Type 0 w
   controller : (script ≡ []) ⊎ (one.controller ≡ other.controller)
   noted : one.noted ≡ other.noted
   counts : one.counts ≡ other.counts
-  sent : sent_frames one.sent ≡ sent_frames other.sent
+  sent : all_captured one.sent ≡ all_captured other.sent
   ends : one.ends ≡ other.ends
 
 -- so far no command was refused memory, no journal was full for one, and no run was stopped
@@ -169,7 +170,7 @@ module _ (program : Program) (script : List Command) (records others : List Sent
       (not_stopped other.counts after'.counts turn'.end turn'.counts quiet'.stopped) turn.handled turn'.handled in
       let end : AreOneEnd turn.end turn'.end = once.1 in
       let worker : worker_of_frame turn.captured.bytes.items workers ≡ worker_of_frame turn'.captured.bytes.items workers =
-      ap (λ (frame : SentFrame). worker_of_frame frame.bytes workers) frames in
+      ap (λ (frame : Captured). worker_of_frame frame.bytes workers) frames in
       record {
         all = record {
           maps = turn.maps ∙ alike.all.maps ∙ sym turn'.maps;
@@ -179,11 +180,11 @@ module _ (program : Program) (script : List Command) (records others : List Sent
         controller = same_controller script one.controller other.controller after.controller after'.controller turn.controller turn'.controller alike.controller;
         noted = turn.noted ∙ alike.noted ∙ sym turn'.noted;
         counts = turn.counts ∙ ap (λ (before : Counts). counted before turn.end) alike.counts ∙ end.counted_alike other.counts ∙ sym turn'.counts;
-        sent = turn.sent ∙ ap (λ (list : List SentFrame). list ++ sent_by turn.end) alike.sent
-            ∙ ap (λ (list : List SentFrame). sent_frames other.sent ++ list) end.sent_alike ∙ sym turn'.sent;
-        ends = turn.ends ∙ ap (λ (list : List RecordEnd). list ++ record_end (worker_of_frame turn.captured.bytes.items workers) turn.end ∷ []) alike.ends
+        sent = turn.sent ∙ ap (λ (list : List Captured). list ++ sent_by turn.end) alike.sent
+            ∙ ap (λ (list : List Captured). all_captured other.sent ++ list) end.sent_alike ∙ sym turn'.sent;
+        ends = turn.ends ∙ ap (λ (list : List ToldEnd). list ++ record_end (worker_of_frame turn.captured.bytes.items workers) turn.end ∷ []) alike.ends
             ∙ ap (λ (w : ℕ). other.ends ++ record_end w turn.end ∷ []) worker
-            ∙ ap (λ (last : RecordEnd). other.ends ++ last ∷ []) (end.noted_alike (worker_of_frame turn'.captured.bytes.items workers))
+            ∙ ap (λ (last : ToldEnd). other.ends ++ last ∷ []) (end.noted_alike (worker_of_frame turn'.captured.bytes.items workers))
             ∙ sym turn'.ends;
       }
 
@@ -222,7 +223,7 @@ module _ (program : Program) (script : List Command) (records others : List Sent
         noted = turn.noted ∙ ap (λ (list : List Applied). list ++ record { command = number; fault = turn.fault } ∷ []) alike.noted
             ∙ ap (λ (fault : Option ControlFault). other.noted ++ record { command = number; fault = fault } ∷ []) once.faults ∙ sym turn'.noted;
         counts = turn.counts ∙ alike.counts ∙ sym turn'.counts;
-        sent = ap sent_frames turn.sent ∙ alike.sent ∙ ap sent_frames (sym turn'.sent);
+        sent = ap all_captured turn.sent ∙ alike.sent ∙ ap all_captured (sym turn'.sent);
         ends = turn.ends ∙ alike.ends ∙ sym turn'.ends;
       })
       alike.controller
@@ -241,7 +242,7 @@ module _ (program : Program) (script : List Command) (records others : List Sent
         controller = same_controller script one.controller other.controller after.controller after'.controller turn.controller turn'.controller alike.controller;
         noted = turn.noted ∙ alike.noted ∙ sym turn'.noted;
         counts = turn.counts ∙ alike.counts ∙ sym turn'.counts;
-        sent = ap sent_frames turn.sent ∙ alike.sent ∙ ap sent_frames (sym turn'.sent);
+        sent = ap all_captured turn.sent ∙ alike.sent ∙ ap all_captured (sym turn'.sent);
         ends = turn.ends ∙ alike.ends ∙ sym turn'.ends;
       }
 
@@ -280,7 +281,7 @@ pub journals_change_nothing : JournalsChangeNothing
 journals_change_nothing program script options options' records others one other same frames turns turns' updates had had' room room' = record {
   counts = turns.counts ∙ alike.counts ∙ sym turns'.counts;
   ends = turns.ends ∙ alike.ends ∙ sym turns'.ends;
-  sent = ap sent_frames turns.sent ∙ alike.sent ∙ ap sent_frames (sym turns'.sent);
+  sent = ap all_captured turns.sent ∙ alike.sent ∙ ap all_captured (sym turns'.sent);
   refused = turns.refused ∙ ap refused_of alike.noted ∙ sym turns'.refused;
 }
   where
@@ -295,7 +296,7 @@ journals_change_nothing program script options options' records others one other
     }
 
     count : length others ≡ length records
-    count = sym (length-map others sent_frame) ∙ ap (λ (list : List SentFrame). length list) (sym frames) ∙ length-map records sent_frame
+    count = sym (length-map others captured_of) ∙ ap (λ (list : List Captured). length list) (sym frames) ∙ length-map records captured_of
 
     alike : AreStatesAlike script turns.last turns'.last
     alike = turns_alike program script records others options.workers frames (all_turns (starts_in script) (length records))

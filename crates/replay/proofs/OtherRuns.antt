@@ -16,11 +16,11 @@ use Rattle.map_port.specs.Exchanges.{calls_in}
 use Rattle.shard_core.specs.JournaledShard.{JournaledShard}
 use Rattle.shard_port.specs.Asking.{EntersAndCalls, left, all_left}
 use Rattle.shard_port.specs.PortView.{PortView, IsGivenBy}
+use Rattle.semantics.specs.Replay.{Captured}
 use Rattle.actors.specs.declared.runner.FrameFate.{FrameFate}
 use Rattle.actors.specs.declared.runner.RunEnd.{RunEnd}
 use Rattle.actors.specs.declared.runner.RunEnd.TheVariants.{Stopped, Exited}
-use Rattle.actors.specs.Shares.{is_short, worker_of_frame}
-use Rattle.actors.specs.Accounts.{SentFrame, sent_frame}
+use Rattle.actors.specs.Shares.{is_short, worker_of_frame, captured_of}
 use Rattle.actors.specs.RunsOverShards.{start_of}
 use Rattle.replay.specs.InTurn.{worker_port, EndsInTurn, IsExitInTurn, IsRunInTurn, IsHandledInTurn}
 use Rattle.replay.proofs.OneTrace.{trace_with, IsPlayed, one_end}
@@ -128,7 +128,7 @@ exits_alike program start worker before before' after after' verdict verdict' st
     }
 
 exit_alike : (program : Program) (captured captured' : Sent) (worker : ℕ) (before before' after after' : List JournaledShard) (steps steps' : ℕ)
-    (fate fate' : FrameFate) → sent_frame captured ≡ sent_frame captured' → AreAllAlike IsOutside before before' →
+    (fate fate' : FrameFate) → captured_of captured ≡ captured_of captured' → AreAllAlike IsOutside before before' →
     IsExitInTurn program captured worker before (Exited steps fate) after → IsExitInTurn program captured' worker before' (Exited steps' fate') after' →
     AreAllAlike IsOutside after after' × AreOneEnd (Some (Exited steps fate)) (Some (Exited steps' fate'))
 exit_alike program captured captured' worker before before' after after' steps steps' fate fate' same all exit exit' =
@@ -142,7 +142,7 @@ exit_alike program captured captured' worker before before' after after' steps s
     )
 
 run_alike : (program : Program) (captured captured' : Sent) (worker : ℕ) (before before' after after' : List JournaledShard) (end end' : RunEnd) →
-    sent_frame captured ≡ sent_frame captured' → AreAllAlike IsOutside before before' → Some end ≢ Some Stopped → Some end' ≢ Some Stopped →
+    captured_of captured ≡ captured_of captured' → AreAllAlike IsOutside before before' → Some end ≢ Some Stopped → Some end' ≢ Some Stopped →
     IsRunInTurn program captured worker before end after → IsRunInTurn program captured' worker before' end' after' →
     AreAllAlike IsOutside after after' × AreOneEnd (Some end) (Some end')
 run_alike program captured captured' worker before before' after after' Stopped end' same all ended ended' run run' = absurd (ended refl)
@@ -151,7 +151,7 @@ run_alike program captured captured' worker before before' after after' (Exited 
     exit_alike program captured captured' worker before before' after after' steps steps' fate fate' same all run run'
 
 pub handled_alike : (program : Program) (workers : ℕ) (captured captured' : Sent) (before before' after after' : List JournaledShard)
-    (end end' : Option RunEnd) → sent_frame captured ≡ sent_frame captured' → AreAllAlike IsOutside before before' → end ≢ Some Stopped →
+    (end end' : Option RunEnd) → captured_of captured ≡ captured_of captured' → AreAllAlike IsOutside before before' → end ≢ Some Stopped →
     end' ≢ Some Stopped → IsHandledInTurn program workers captured before end after → IsHandledInTurn program workers captured' before' end' after' →
     AreAllAlike IsOutside after after' × AreOneEnd end end'
 handled_alike program workers captured captured' before before' after after' None None same all ended ended' passed passed' = (
@@ -160,13 +160,13 @@ handled_alike program workers captured captured' before before' after after' Non
   record { counted_alike = λ counts. refl; sent_alike = refl; noted_alike = λ number. refl },
 )
 handled_alike program workers captured captured' before before' after after' None (Some end) same all ended ended' passed ran =
-    let tests : is_short captured.bytes.items ≡ is_short captured'.bytes.items = ap (λ (one : SentFrame). is_short one.bytes) same in
+    let tests : is_short captured.bytes.items ≡ is_short captured'.bytes.items = ap (λ (one : Captured). is_short one.bytes) same in
     absurd (not_both (is_short captured.bytes.items) passed.short (tests ∙ ran.long))
 handled_alike program workers captured captured' before before' after after' (Some end) None same all ended ended' ran passed =
-    let tests : is_short captured.bytes.items ≡ is_short captured'.bytes.items = ap (λ (one : SentFrame). is_short one.bytes) same in
+    let tests : is_short captured.bytes.items ≡ is_short captured'.bytes.items = ap (λ (one : Captured). is_short one.bytes) same in
     absurd (not_both (is_short captured'.bytes.items) passed.short (sym tests ∙ ran.long))
 handled_alike program workers captured captured' before before' after after' (Some end) (Some end') same all ended ended' ran ran' =
     let worker : worker_of_frame captured'.bytes.items workers ≡ worker_of_frame captured.bytes.items workers =
-    ap (λ (one : SentFrame). worker_of_frame one.bytes workers) (sym same) in
+    ap (λ (one : Captured). worker_of_frame one.bytes workers) (sym same) in
     run_alike program captured captured' (worker_of_frame captured.bytes.items workers) before before' after after' end end' same all ended ended' ran.run
     (subst (λ (number : ℕ). IsRunInTurn program captured' number before' end' after') worker ran'.run)

@@ -306,9 +306,6 @@ reclaimed_outside : (one new : JournaledShard) (freed : ℕ) → new ≡ shard_w
 reclaimed_outside one new freed is outside worker =
     ap (is_in worker) is ∙ others_entry worker one.journal (entry_of Reclaimer (reclaim_call one) (Freed freed)) refl ∙ outside worker
 
-plan_after : (one new : JournaledShard) (freed : ℕ) → new ≡ shard_with_call one Reclaimer (reclaim_call one) (Freed freed) → new.plan ≡ one.plan
-plan_after one new freed is = ap (λ (shard : JournaledShard). shard.plan) is
-
 pub asked_alike : (one other new new' : JournaledShard) → AreAlike IsOutside one other → IsAskedInTurn one new → IsAskedInTurn other new' →
     AreAlike IsOutside new new'
 asked_alike one other new new' alike (inl (freed, is, legal)) (inl (freed', is', legal')) =

@@ -227,21 +227,23 @@ pub script_stands : (plan : ℕ → ShardPlan) (maps : List MapDef) (options : O
     IsRingSize size → ServesScript maps size script → (first : List CommandDone) → IsScriptRun plan maps options updates script size first noted pass → AreSettled count journals pass →
     IsOwnIn order pass → refused ≡ refused_of noted → IsScriptAccounted plan maps options count updates script journals order refused
 script_stands plan maps options count updates script size noted pass journals order refused plans are served serves first run settled owned refused_are = record {
-  size = size;
-  size_is_served = served;
-  serves = serves;
-  noted = noted;
-  each_once = run.each_once;
   done = run.account.account.done;
-  are_noted = run.account.account.are_noted;
-  state = run.state;
-  are_done = run.account.account.are_done;
+  of_script = record {
+    size = size;
+    size_is_served = served;
+    serves = serves;
+    noted = noted;
+    each_once = run.each_once;
+    are_noted = run.account.account.are_noted;
+    state = run.state;
+    are_done = run.account.account.are_done;
+    refused_are = refused_are;
+  };
   own = λ number within. ap (λ (c : Caller). own_entries c (reverse (entries_at journals number))) (sym run.who) ∙ sym (settled number within).own ∙ run.account.account.own number;
   full = each_weaker (λ (one : CommandDone). IfSome one.stopped (IsShardFullForUpdate plan maps options pass))
       (λ (one : CommandDone). IfSome one.stopped (IsFullInJournal plan maps options count journals))
       (λ one. full_stands plan maps options count journals pass plans are settled one.stopped) run.account.account.done run.account.account.full;
   did = ap (λ (c : Caller). deeds_of (ByCaller c) order) (sym run.who) ∙ sym owned ∙ run.account.account.did;
-  refused_are = refused_are;
 }
 
 -- with what the order begins with

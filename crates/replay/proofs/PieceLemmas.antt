@@ -10,17 +10,18 @@ use Rattle.semantics.specs.Program.{Program}
 use Rattle.journals.specs.JournalsView.{JournalsView, entries_at}
 use Rattle.shards.specs.NewShards.{shard_at}
 use Rattle.control.specs.declared.command.Command.{Command}
+use Rattle.semantics.specs.Replay.{Captured}
 use Rattle.actors.specs.declared.account.Counts.{Counts}
 use Rattle.actors.specs.declared.outcome.Outcome.{Outcome}
-use Rattle.actors.specs.declared.outcome.RecordEnd.{RecordEnd}
+use Rattle.actors.specs.declared.outcome.ToldEnd.{ToldEnd}
 use Rattle.actors.specs.declared.runner.RunEnd.{RunEnd}
 use Rattle.actors.specs.declared.runner.RunEnd.TheVariants.{Stopped, Exited}
 use Rattle.actors.specs.declared.runner.FrameFate.TheVariants.{Aborted, Dropped, Passed, Sent as IsSent}
-use Rattle.actors.specs.Accounts.{SentFrame, counted, frames_in, record_end, sent_by, sent_frame, sent_frames}
+use Rattle.actors.specs.Accounts.{counted, frames_in, record_end, sent_by}
 use Rattle.replay.specs.InTurn.{TurnState, IsTurn, AreTurns}
 use Rattle.replay.specs.ExactReplays.{HasBegun, IsInTurn, starts_in}
 use Rattle.replay.specs.Pieces.{HasPiece, IsWholeOutcome}
-use Rattle.actors.specs.Shares.{worker_of_frame}
+use Rattle.actors.specs.Shares.{worker_of_frame, captured_of, all_captured}
 use Rattle.replay.specs.TurnStates.{with_earlier, with_none_kept}
 use Rattle.replay.specs.Turns.{Turn, TheCommand, TheRecord, TheRound, turns_to}
 
@@ -44,16 +45,16 @@ piece_behind records piece first is place below =
 
 -- ---- what was handed out before
 
-sent_behind : (sent before after : List Sent) (more : List SentFrame) → sent_frames after ≡ sent_frames before ++ more →
-    sent_frames (sent ++ after) ≡ sent_frames (sent ++ before) ++ more
+sent_behind : (sent before after : List Sent) (more : List Captured) → all_captured after ≡ all_captured before ++ more →
+    all_captured (sent ++ after) ≡ all_captured (sent ++ before) ++ more
 sent_behind sent before after more is =
-    map-append sent_frame sent after
-    ∙ ap (λ (list : List SentFrame). sent_frames sent ++ list) is
-    ∙ sym (append_assoc (sent_frames sent) (sent_frames before) more)
-    ∙ ap (λ (list : List SentFrame). list ++ more) (sym (map-append sent_frame sent before))
+    map-append captured_of sent after
+    ∙ ap (λ (list : List Captured). all_captured sent ++ list) is
+    ∙ sym (append_assoc (all_captured sent) (all_captured before) more)
+    ∙ ap (λ (list : List Captured). list ++ more) (sym (map-append captured_of sent before))
 
 module _ (program : Program) (script : List Command) (workers : ℕ) where
-  pub turn_with : (records sent : List Sent) (ends : List RecordEnd) (turn : Turn) (before after : TurnState) →
+  pub turn_with : (records sent : List Sent) (ends : List ToldEnd) (turn : Turn) (before after : TurnState) →
       IsTurn program script records workers turn before after →
       IsTurn program script records workers turn (with_earlier sent ends before) (with_earlier sent ends after)
   turn_with records sent ends (TheRecord number) before after is = record {
@@ -67,7 +68,7 @@ module _ (program : Program) (script : List Command) (workers : ℕ) where
     noted = is.noted;
     counts = is.counts;
     sent = sent_behind sent before.sent after.sent (sent_by is.end) is.sent;
-    ends = ap (λ (list : List RecordEnd). ends ++ list) is.ends
+    ends = ap (λ (list : List ToldEnd). ends ++ list) is.ends
         ∙ sym (append_assoc ends before.ends (record_end (worker_of_frame is.captured.bytes.items workers) is.end ∷ []));
   }
   turn_with records sent ends (TheCommand number) before after is = record {
@@ -79,7 +80,7 @@ module _ (program : Program) (script : List Command) (workers : ℕ) where
     noted = is.noted;
     counts = is.counts;
     sent = ap (λ (list : List Sent). sent ++ list) is.sent;
-    ends = ap (λ (list : List RecordEnd). ends ++ list) is.ends;
+    ends = ap (λ (list : List ToldEnd). ends ++ list) is.ends;
   }
   turn_with records sent ends TheRound before after is = record {
     round = is.round;
@@ -89,10 +90,10 @@ module _ (program : Program) (script : List Command) (workers : ℕ) where
     noted = is.noted;
     counts = is.counts;
     sent = ap (λ (list : List Sent). sent ++ list) is.sent;
-    ends = ap (λ (list : List RecordEnd). ends ++ list) is.ends;
+    ends = ap (λ (list : List ToldEnd). ends ++ list) is.ends;
   }
 
-  pub turns_with : (records sent : List Sent) (ends : List RecordEnd) (turns : List Turn) (before after : TurnState) →
+  pub turns_with : (records sent : List Sent) (ends : List ToldEnd) (turns : List Turn) (before after : TurnState) →
       AreTurns program script records workers turns before after →
       AreTurns program script records workers turns (with_earlier sent ends before) (with_earlier sent ends after)
   turns_with records sent ends [] before after are = ap (with_earlier sent ends) are
@@ -127,20 +128,20 @@ module _ (program : Program) (script : List Command) (workers : ℕ) where
 
 -- ---- handing out
 
-pub handed_out : (sent : List Sent) (ends : List RecordEnd) (state after : TurnState) → after ≡ with_none_kept state →
+pub handed_out : (sent : List Sent) (ends : List ToldEnd) (state after : TurnState) → after ≡ with_none_kept state →
     with_earlier sent ends state ≡ with_earlier (sent ++ state.sent) (ends ++ state.ends) after
 handed_out sent ends state after is =
     sym (ap (with_earlier (sent ++ state.sent) (ends ++ state.ends)) is
-    ∙ ap₂ (λ (s : List Sent) (e : List RecordEnd). record state { sent = s; ends = e }) (append-nil (sent ++ state.sent)) (append-nil (ends ++ state.ends)))
+    ∙ ap₂ (λ (s : List Sent) (e : List ToldEnd). record state { sent = s; ends = e }) (append-nil (sent ++ state.sent)) (append-nil (ends ++ state.ends)))
 
 -- ---- a piece
 
 -- with its turns, those of all records up to its end are taken
 pub piece_taken : (program : Program) (script : List Command) (workers : ℕ) (starts : List ℕ) (taken : ℕ) (records piece sent more : List Sent)
-    (ends more_ends : List RecordEnd) (first before middle after : TurnState) → starts ≡ starts_in script → taken ≡ length records →
+    (ends more_ends : List ToldEnd) (first before middle after : TurnState) → starts ≡ starts_in script → taken ≡ length records →
     after ≡ with_none_kept middle → more ≡ middle.sent → more_ends ≡ middle.ends →
     AreTurns program script records workers (turns_to (starts_in script) (length records)) first (with_earlier sent ends before) →
-    ((all earlier : List Sent) (earlier_ends : List RecordEnd) (begin : TurnState) → HasPiece all taken piece →
+    ((all earlier : List Sent) (earlier_ends : List ToldEnd) (begin : TurnState) → HasPiece all taken piece →
     AreTurns program script all workers (turns_to starts taken) begin (with_earlier earlier earlier_ends before) →
     AreTurns program script all workers (turns_to starts (taken + length piece)) begin (with_earlier earlier earlier_ends middle)) →
     AreTurns program script (records ++ piece) workers (turns_to (starts_in script) (length (records ++ piece))) first
@@ -158,7 +159,7 @@ piece_taken program script workers starts taken records piece sent more ends mor
     turns all sent ends first (piece_behind records piece taken taken_is) was in
     let same : with_earlier sent ends middle ≡ with_earlier (sent ++ more) (ends ++ more_ends) after =
     handed_out sent ends middle after none_kept
-    ∙ ap₂ (λ (s : List Sent) (e : List RecordEnd). with_earlier (sent ++ s) (ends ++ e) after) (sym more_is) (sym more_ends_are) in
+    ∙ ap₂ (λ (s : List Sent) (e : List ToldEnd). with_earlier (sent ++ s) (ends ++ e) after) (sym more_is) (sym more_ends_are) in
     subst (λ (state : TurnState). AreTurns program script all workers (turns_to (starts_in script) (length all)) first state) same
     (subst (λ (s : List ℕ). AreTurns program script all workers (turns_to s (length all)) first (with_earlier sent ends middle)) starts_are
     (subst (λ (n : ℕ). AreTurns program script all workers (turns_to starts n) first (with_earlier sent ends middle)) count now))
@@ -185,15 +186,15 @@ one_at_most (Some (Exited steps Dropped)) = omega arith
 one_at_most (Some (Exited steps Passed)) = omega arith
 one_at_most (Some (Exited steps (IsSent sent))) = omega arith
 
-more_ends : (before after : List RecordEnd) (end : RecordEnd) → after ≡ before ++ end ∷ [] → length after ≡ length before + 1
-more_ends before after end is = ap (λ (list : List RecordEnd). length list) is ∙ length-append before (end ∷ [])
+more_ends : (before after : List ToldEnd) (end : ToldEnd) → after ≡ before ++ end ∷ [] → length after ≡ length before + 1
+more_ends before after end is = ap (λ (list : List ToldEnd). length list) is ∙ length-append before (end ∷ [])
 
-more_sent : (before after : List Sent) (end : Option RunEnd) → sent_frames after ≡ sent_frames before ++ sent_by end → length after ≤ length before + 1
+more_sent : (before after : List Sent) (end : Option RunEnd) → all_captured after ≡ all_captured before ++ sent_by end → length after ≤ length before + 1
 more_sent before after end is =
     let few = one_at_most end in
     let count : length after ≡ length before + length (sent_by end) =
-    sym (length-map after sent_frame) ∙ ap (λ (list : List SentFrame). length list) is ∙ length-append (sent_frames before) (sent_by end)
-    ∙ ap (λ (n : ℕ). n + length (sent_by end)) (length-map before sent_frame) in
+    sym (length-map after captured_of) ∙ ap (λ (list : List Captured). length list) is ∙ length-append (all_captured before) (sent_by end)
+    ∙ ap (λ (n : ℕ). n + length (sent_by end)) (length-map before captured_of) in
     omega (arith, few, count)
 
 same_counted : (before after : TurnState) → after.counts ≡ before.counts → after.sent ≡ before.sent → after.ends ≡ before.ends → IsCounted before →
@@ -201,7 +202,7 @@ same_counted : (before after : TurnState) → after.counts ≡ before.counts →
 same_counted before after counts sent ends were =
     let n : frames_in after.counts ≡ frames_in before.counts = ap (λ (c : Counts). frames_in c) counts in
     let s : length after.sent ≡ length before.sent = ap (λ (list : List Sent). length list) sent in
-    let e : length after.ends ≡ length before.ends = ap (λ (list : List RecordEnd). length list) ends in
+    let e : length after.ends ≡ length before.ends = ap (λ (list : List ToldEnd). length list) ends in
     let each = were.each in
     let at_most = were.at_most in
     record { each = omega (arith, n, e, each); at_most = omega (arith, n, s, at_most) }
@@ -230,16 +231,16 @@ module _ {X Z : Type 0} where
   abbrev with_list : (vec : Vec X Z) (list : List X) → length list < 2 ^ 63 → Vec X Z
   with_list vec list few = record { ptr = vec.ptr; len = length list; cap = length list; alloc = vec.alloc; items = list; ok = (refl, omega arith); small = few }
 
-abbrev pub whole_of : (rest : Outcome) (sent : List Sent) (ends : List RecordEnd) → length sent < 2 ^ 63 → length ends < 2 ^ 63 → Outcome
+abbrev pub whole_of : (rest : Outcome) (sent : List Sent) (ends : List ToldEnd) → length sent < 2 ^ 63 → length ends < 2 ^ 63 → Outcome
 whole_of rest sent ends few_sent few_ends =
     record rest { sent = with_list rest.sent sent few_sent; ends = with_list rest.ends ends few_ends }
 
-pub whole_is : (rest : Outcome) (sent : List Sent) (ends : List RecordEnd) (few_sent : length sent < 2 ^ 63) (few_ends : length ends < 2 ^ 63) →
+pub whole_is : (rest : Outcome) (sent : List Sent) (ends : List ToldEnd) (few_sent : length sent < 2 ^ 63) (few_ends : length ends < 2 ^ 63) →
     IsWholeOutcome rest sent ends (whole_of rest sent ends few_sent few_ends)
 whole_is rest sent ends few_sent few_ends = record { counts = refl; updates = refl; refused = refl; journals = refl; sent_are = refl; ends_are = refl }
 
 -- what is said of one outcome of the whole is said of each
-pub in_turn_too : (program : Program) (script : List Command) (options : Options) (records sent : List Sent) (ends : List RecordEnd)
+pub in_turn_too : (program : Program) (script : List Command) (options : Options) (records sent : List Sent) (ends : List ToldEnd)
     (rest one two : Outcome) → IsWholeOutcome rest sent ends one → IsWholeOutcome rest sent ends two → IsInTurn program script options records one →
     IsInTurn program script options records two
 in_turn_too program script options records sent ends rest one two first second is =

@@ -27,7 +27,7 @@ use Rattle.control.specs.declared.command.Command.{Command}
 use Rattle.map_updates.specs.declared.update.MapUpdate.{MapUpdate}
 use Rattle.actors.specs.declared.outcome.Outcome.{Outcome}
 use Rattle.actors.specs.declared.runner.Ran.{Ran}
-use Rattle.actors.specs.Accounts.{runs_at, sent_frames}
+use Rattle.actors.specs.Accounts.{runs_at}
 use Rattle.actors.specs.Accounted.{IsWorkOf, IsAccounted}
 use Rattle.actors.specs.Actors.{IsUnused, numbers_from, due_to}
 use Rattle.control.specs.Controlling.{opened_controller}
@@ -35,7 +35,7 @@ use Rattle.actors.specs.Commands.{CommandDone, AreNotedOf, HasSet, IsScriptAccou
 use Rattle.actors.specs.Parts.{IsScriptRunBehind, round_count, first_commands, first_deeds}
 use Rattle.actors.specs.RunsInOrder.{IsRunAt}
 use Rattle.actors.specs.RunsOverShards.{IsNewPass, IsRunOf, IsRunIn}
-use Rattle.actors.specs.Shares.{frames_of, share}
+use Rattle.actors.specs.Shares.{frames_of, share, all_captured}
 use Rattle.replay.specs.ExactReplays.{IsInTurn, starts_in, first_maps, first_state}
 use Rattle.replay.specs.InTurn.{TurnMaps}
 use Rattle.machine.specs.Running.{program_of}
@@ -356,7 +356,7 @@ module _ (program : Program) (script : List Command) (options : Options) (record
     work = work;
     counts = turns.counts ∙ ended.counts;
     each_once = turns.each_once;
-    sent = ap sent_frames turns.sent ∙ ended.sent;
+    sent = ap all_captured turns.sent ∙ ended.sent;
     ends = turns.ends ∙ ended.ends;
     commands = script_begun.commands;
     begins = script_begun.begins;

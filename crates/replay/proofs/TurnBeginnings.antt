@@ -1,5 +1,5 @@
 -- A replay on one thread behind the updates before its first record.
-use Rattle.std.proofs.Common.{◌≡◌, inr, ℕ, List, [], ◌∷◌, sym, ap, ◌∙◌, subst}
+use Rattle.std.proofs.Common.{◌≡◌, inr, List, [], ◌∷◌, sym, ap, ◌∙◌, subst}
 use Rattle.ebpf_decode.specs.declared.map.MapDef.{MapDef}
 use Rattle.map_updates.specs.declared.update.MapUpdate.{MapUpdate}
 use Rattle.semantics.specs.declared.options.Options.{Options}

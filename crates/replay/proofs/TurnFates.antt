@@ -3,13 +3,14 @@ use Rattle.std.proofs.Common.{◌≡◌, ◌≢◌, ⊎_elim, ℕ, zero, suc, �
 use Rattle.std.specs.Prelude.{Option, Some, None, if◌then◌else◌}
 use Rattle.std.proofs.lemmas.Bool.{cases_eq}
 use Rattle.semantics.proofs.shared.EachLemmas.{or_set_here, or_set_else}
-use Rattle.actors.specs.declared.outcome.RecordEnd.{RecordEnd}
+use Rattle.semantics.specs.Replay.{Captured}
+use Rattle.actors.specs.declared.outcome.ToldEnd.{ToldEnd}
 use Rattle.actors.specs.declared.runner.Ran.{Ran}
 use Rattle.actors.specs.declared.runner.RunEnd.{RunEnd}
 use Rattle.actors.specs.Shares.{frame_at, is_short, worker_of_frame, share}
 use Rattle.actors.specs.RunJobs.{records_of}
 use Rattle.actors.specs.RunsInOrder.{IsChainOfRuns}
-use Rattle.actors.specs.Accounts.{SentFrame, runs_at, end_at, fate_of, counted, counts_of, sent_by, sent_of, record_end, ends_of, AreRunsOfShares}
+use Rattle.actors.specs.Accounts.{runs_at, end_at, fate_of, counted, counts_of, sent_by, sent_of, record_end, ends_of, AreRunsOfShares}
 use Rattle.actors.proofs.shared.ShareLemmas.{handed_within}
 use Rattle.actors.proofs.shared.AccountLemmas.{handed_own, as_many}
 
@@ -107,7 +108,7 @@ module _ (frames : List (List ℕ)) (workers : ℕ) where
   sent_stays runs runs' zero same = refl
   sent_stays runs runs' (suc most) same =
       ap (λ (fate : Option RunEnd). sent_of frames workers runs' most ++ sent_by fate) (same most (omega arith))
-      ∙ ap (λ (list : List SentFrame). list ++ sent_by (fate_of frames workers runs most))
+      ∙ ap (λ (list : List Captured). list ++ sent_by (fate_of frames workers runs most))
       (sent_stays runs runs' most (λ number below. same number (omega (arith, below))))
 
   pub ends_stay : (runs runs' : List (List Ran)) (most : ℕ) → SameBelow most runs runs' → ends_of frames workers runs' most ≡ ends_of frames workers runs most
@@ -115,5 +116,5 @@ module _ (frames : List (List ℕ)) (workers : ℕ) where
   ends_stay runs runs' (suc most) same =
       ap (λ (fate : Option RunEnd). ends_of frames workers runs' most ++ record_end (worker_of_frame (frame_at frames most) workers) fate ∷ [])
       (same most (omega arith))
-      ∙ ap (λ (list : List RecordEnd). list ++ record_end (worker_of_frame (frame_at frames most) workers) (fate_of frames workers runs most) ∷ [])
+      ∙ ap (λ (list : List ToldEnd). list ++ record_end (worker_of_frame (frame_at frames most) workers) (fate_of frames workers runs most) ∷ [])
       (ends_stay runs runs' most (λ number below. same number (omega (arith, below))))

@@ -1,5 +1,5 @@
 -- What turns do, one after the other.
-use Rattle.std.proofs.Common.{◌≡◌, ⊎_elim, inl, inr, ℕ, zero, suc, ◌+◌, ◌-◌, ◌*◌, ◌%◌, ◌<◌, ◌≤◌, Bool, true, false, nat_lt, List, [], ◌∷◌, ◌++◌, length, map, Some, ℤ, refl, sym, ap, ◌∙◌, subst, arith, add-one}
+use Rattle.std.proofs.Common.{◌≡◌, ⊎_elim, inl, inr, ℕ, zero, suc, ◌+◌, ◌-◌, ◌*◌, ◌%◌, ◌<◌, ◌≤◌, Bool, true, false, nat_lt, List, [], ◌∷◌, ◌++◌, length, map, Some, refl, sym, ap, ◌∙◌, subst, arith, add-one}
 use Rattle.std.specs.Prelude.{◌==◌, All, IsTrue, slice_get, slice_set, slice_index, slice_index_or, if◌then◌else◌, Result, Ok, Err, Option, None, OnErr}
 use Rattle.std.specs.Coded.{le_prop}
 use Rattle.std.proofs.Math.Logic.{∥∥₁_elim}
@@ -8,7 +8,6 @@ use Rattle.std.proofs.lemmas.Bool.{cases_lt}
 use Rattle.std.proofs.lemmas.Bool.Decides.{nat_tests}
 use Rattle.std.proofs.lemmas.List.{length-set}
 use Rattle.std.proofs.lemmas.Option.{get_or_from_slice_get}
-use Rattle.std.proofs.lemmas.List.Elements.{recursion_from_All}
 use Rattle.ebpf_decode.specs.declared.map.MapDef.{MapDef}
 use Rattle.ebpf_decode.specs.declared.version.Version.TheVariants.{V2}
 use Rattle.wire.specs.FrameView.{FrameView}
@@ -32,7 +31,6 @@ use Rattle.map_port.specs.Served.{Maps, served_shard}
 use Rattle.shard_core.specs.JournaledShard.{JournaledShard, opened_shard}
 use Rattle.shards.specs.NewShards.{shard_at}
 use Rattle.shards.specs.Seats.{no_plan}
-use Rattle.shards.proofs.shared.Reserves.{reserve_of}
 use Rattle.shard_port.specs.Asking.{all_left}
 use Rattle.shard_port.specs.PortView.{PortView, IsGivenBy, IsRefusedBy, IsPortReady, AreShardsOf, ServesMaps}
 use Rattle.shard_port.specs.declared.plain.PlainPort.{PlainPort}
@@ -45,13 +43,15 @@ use Rattle.control.specs.declared.command.Action.{Action}
 use Rattle.control.specs.declared.command.Command.{Command}
 use Rattle.control.specs.declared.fault.ControlFault.{ControlFault}
 use Rattle.control.specs.Controlling.{ControllerState, refusal_of}
-use Rattle.actors.specs.declared.runner.RunEnd.{RunEnd}
-use Rattle.actors.specs.declared.runner.RunEnd.TheVariants.{Stopped, Exited}
 use Rattle.actors.specs.Actors.{numbers_from, AreDue}
 use Rattle.actors.specs.Commands.{ServesScript}
 use Rattle.semantics.specs.Replay.{is_keyed}
+use Rattle.actors.proofs.shared.HandLemmas.{numbers_more}
+use Rattle.actors.proofs.shared.Effects.{no_err, fault_in}
 use Rattle.replay.specs.Turns.{Turn, TheCommand, TheRecord, TheRound, due_to, due_before, commands_between, rounds_at, turns_to, all_turns}
-use Rattle.replay.specs.InTurn.{worker_port, EndsInTurn, StopsInTurn, IsExitInTurn, IsRunInTurn, ServesTurns, may_update_at, IsUpdatedAt, IsAskedInTurn, IsReclaimedInTurn, IsPartOfRound, IsRoundTo, TurnState, IsSameSetting, IsTurn, AreTurns}
+use Rattle.actors.specs.declared.runner.RunEnd.{RunEnd}
+use Rattle.actors.specs.declared.runner.RunEnd.TheVariants.{Stopped, Exited}
+use Rattle.replay.specs.InTurn.{worker_port, EndsInTurn, StopsInTurn, ServesTurns, may_update_at, IsAskedInTurn, IsReclaimedInTurn, IsPartOfRound, IsRoundTo, TurnState, IsSameSetting, IsTurn, AreTurns, IsExitInTurn, IsRunInTurn}
 
 -- ---- lists
 
@@ -131,21 +131,6 @@ count_of maps options shards serve =
     ∥∥₁_elim serve le_prop (λ (are : AreShardsOf maps options shards). let n = are.count in omega (arith, n)) in
     omega (arith, up, down)
 
-some_at : {A : Type 0} (xs : List A) (place : ℕ) (d : A) → place < length xs → slice_get xs place ≡ Some (slice_index_or xs place d)
-some_at [] place d below = absurd (omega (arith, below))
-some_at (x ∷ xs) zero d below = refl
-some_at (x ∷ xs) (suc place) d below = some_at xs place d (omega (arith, below))
-
--- and each has the reserve of the options
-pub reserve_at : (maps : List MapDef) (options : Options) (shards : List JournaledShard) → ServesMaps maps options shards → (number : ℕ) → number < length shards →
-    (shard_at shards number).plan.reserve ≡ options.journal
-reserve_at maps options shards serve number below =
-    let same : AreShardsOf maps options shards → (shard_at shards number).plan.reserve ≡ options.journal =
-    λ are. reserve_of maps options number (shard_at shards number).plan (are.each number (shard_at shards number) (some_at shards number (opened_shard no_plan) below)).planned in
-    let up : (shard_at shards number).plan.reserve ≤ options.journal = ∥∥₁_elim serve le_prop (λ (are : AreShardsOf maps options shards). let n = same are in omega (arith, n)) in
-    let down : options.journal ≤ (shard_at shards number).plan.reserve = ∥∥₁_elim serve le_prop (λ (are : AreShardsOf maps options shards). let n = same are in omega (arith, n)) in
-    omega (arith, up, down)
-
 -- the controller may make an update of a map that there is
 pub may_make : (maps : List MapDef) (options : Options) (shards : List JournaledShard) (map : ℕ) (key value : List ℕ) (definition : MapDef) →
     IsPortReady maps options 0 shards → slice_get maps map ≡ Some definition → length key ≡ definition.key_size → length value ≡ definition.value_size →
@@ -158,13 +143,6 @@ may_make maps options shards map key value definition ready known key_size value
     let sized : length value ≡ at.shard.plan.definition.value_size = value_size ∙ ap (λ (one : MapDef). one.value_size) same in
     rw at.known (both_true _ _ (same_test at.shard.plan.number at.shard.plan.number refl)
     (both_true _ _ at.own_key (both_true _ _ (both_true _ _ (same_test _ _ sized) (bytes_test value value_bytes)) refl)))
-
-pub update_serves : CallsKeepServing → (maps : List MapDef) (options : Options) (before after : List JournaledShard) (number : ℕ) (key value : List ℕ)
-    (answer : ℤ) → ServesMaps maps options before → All (λ byte. byte < 256) value → IsUpdatedAt before number key value answer after →
-    ServesMaps maps options after
-update_serves keep maps options before after number key value answer serve bytes made =
-    subst (ServesMaps maps options) (sym made.written)
-    (keep maps options before number made.one _ serve made.known (recursion_from_All (λ byte. byte < 256) value bytes) made.legal)
 
 -- ---- a round
 
@@ -235,11 +213,6 @@ module _ (program : Program) (script : List Command) (records : List Sent) (work
   turns_more turns turn before middle after are one = turns_append turns (turn ∷ []) before middle after are (after, one, refl)
 
 -- ---- commands
-
-numbers_more : (first count : ℕ) → numbers_from first (suc count) ≡ numbers_from first count ++ (first + count) ∷ []
-numbers_more first zero = ap (λ n. n ∷ []) (omega arith)
-numbers_more first (suc count) =
-    ap (λ rest. first ∷ rest) (numbers_more (first + 1) count) ∙ ap (λ n. first ∷ (numbers_from (first + 1) count ++ n ∷ [])) (omega arith)
 
 commands_push : (numbers : List ℕ) (number : ℕ) → map (λ (n : ℕ). TheCommand n) (numbers ++ number ∷ []) ≡ map (λ (n : ℕ). TheCommand n) numbers ++ TheCommand number ∷ []
 commands_push [] number = refl
@@ -372,13 +345,6 @@ round_in_time program script records workers number before after test is turns =
     subst (λ (due : Bool). AreTurns program script records workers (if due then TheRound ∷ [] else []) before after) (sym is) turns
 
 -- ---- what refuses a command first
-
-no_err : {A B : Type 0} (x : A) (e : B) → ◌≡◌ {A = Result A B} (Ok x) (Err e) → ⊥
-no_err x e same = cc
-
-abbrev fault_in : {A : Type 0} → Result A ControlFault → Option ControlFault
-fault_in (Ok x) = None
-fault_in (Err fault) = Some fault
 
 pub none_first : {A : Type 0} (state : ControllerState) (action : Action) (x : A) →
     ((fault : ControlFault) → refusal_of state action ≡ Some fault → ◌≡◌ {A = Result A ControlFault} (Ok x) (Err fault)) →

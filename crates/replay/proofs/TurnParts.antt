@@ -18,20 +18,11 @@ use Rattle.actors.specs.declared.runner.Ran.{Ran}
 use Rattle.actors.specs.Commands.{CommandDone}
 use Rattle.actors.specs.RunsInOrder.{IsChainOfRuns, HasHandled}
 use Rattle.guarantees.specs.TurnByTurn.{Turn, TheCommand, TheRecord, TheRound, TurnDeeds, is_turn_of, turns_of, AreDeedsOfRuns, IsTurnDone}
+use Rattle.actors.proofs.shared.DeedLemmas.{same_more}
 use Rattle.replay.proofs.TurnDeeds.{IsMoreBy, IsPassOf, is_own}
 use Rattle.replay.proofs.TurnFates.{chain_push}
 
 -- ---- lists
-
-same_rest : {A : Type 0} (first one other : List A) → first ++ one ≡ first ++ other → one ≡ other
-same_rest [] one other same = same
-same_rest (x ∷ first) one other same = same_rest first one other (cc same)
-
-pub same_more : (one other before : List Deed) → reverse one ++ before ≡ reverse other ++ before → one ≡ other
-same_more one other before same =
-    same_rest (reverse before) one other
-    (ap (λ (list : List Deed). reverse before ++ list) (sym (reverse-reverse one)) ∙ sym (reverse-append (reverse one) before) ∙ ap reverse same
-    ∙ reverse-append (reverse other) before ∙ ap (λ (list : List Deed). reverse before ++ list) (reverse-reverse other))
 
 pub still_at : {A : Type 0} (xs more : List A) (number : ℕ) (x : A) → slice_get xs number ≡ Some x → slice_get (xs ++ more) number ≡ Some x
 still_at [] more number x known = absurd cc

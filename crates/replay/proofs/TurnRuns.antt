@@ -125,10 +125,6 @@ module _ (plan : ℕ → ShardPlan) (count : ℕ) (numbered : (number : ℕ) →
 
   -- ---- an answer
 
-  abbrev pub call_deeds : ℕ → Call → Reply → PassView → List Deed
-  call_deeds worker call reply pass =
-      Wrote (asked_entry worker call reply) ∷ entered_deeds worker (shard_of_call call) (own_at pass (shard_of_call call))
-
   pub record IsStep (order : List Deed) (pass : PassView) (before after : PortView) (call : Call) (reply : Reply) : Type 0 where
     pub order' : List Deed
     pub pass' : PassView

@@ -22,14 +22,15 @@ use Rattle.runs.specs.FrameRuns.{HasStopped}
 use Rattle.control.specs.declared.command.Command.{Command}
 use Rattle.map_updates.specs.declared.update.MapUpdate.{MapUpdate}
 use Rattle.control.specs.Controlling.{ControllerState}
+use Rattle.semantics.specs.Replay.{Captured}
 use Rattle.actors.specs.declared.account.Counts.{Counts}
 use Rattle.actors.specs.declared.outcome.Applied.{Applied}
-use Rattle.actors.specs.declared.outcome.RecordEnd.{RecordEnd}
+use Rattle.actors.specs.declared.outcome.ToldEnd.{ToldEnd}
 use Rattle.actors.specs.declared.runner.Ran.{Ran}
 use Rattle.actors.specs.declared.runner.RunEnd.{RunEnd}
 use Rattle.actors.specs.declared.runner.RunEnd.TheVariants.{Stopped, Exited}
-use Rattle.actors.specs.Shares.{frames_of, frame_at, is_short, worker_of_frame, share}
-use Rattle.actors.specs.Accounts.{SentFrame, runs_at, end_at, fate_of, counted, counts_of, sent_by, sent_frames, sent_of, record_end, ends_of, AreRunsOfShares}
+use Rattle.actors.specs.Shares.{frames_of, frame_at, is_short, worker_of_frame, share, all_captured}
+use Rattle.actors.specs.Accounts.{runs_at, end_at, fate_of, counted, counts_of, sent_by, sent_of, record_end, ends_of, AreRunsOfShares}
 use Rattle.actors.specs.Actors.{numbers_from}
 use Rattle.actors.specs.Commands.{CommandDone, all_set, made_deeds, command_deeds}
 use Rattle.actors.specs.Parts.{numbers_of, first_commands}
@@ -83,7 +84,7 @@ module _ (program : Program) (updates : List MapUpdate) (script : List Command) 
         (share (frames_of records) options.workers worker number) (runs_at runs worker) (passes worker)
         (turns_of (frames_of records) options.workers worker parts)
     pub counts : state.counts ≡ counts_of (frames_of records) options.workers runs number
-    pub sent : sent_frames state.sent ≡ sent_of (frames_of records) options.workers runs number
+    pub sent : all_captured state.sent ≡ sent_of (frames_of records) options.workers runs number
     pub ends : state.ends ≡ ends_of (frames_of records) options.workers runs number
     -- the controller
     pub controller : PassView
@@ -147,7 +148,7 @@ module _ (program : Program) (updates : List MapUpdate) (script : List Command) 
     order_is = was.order_is;
     handled = was.handled;
     counts = ap (λ (state : TurnState). state.counts) same ∙ was.counts;
-    sent = ap (λ (state : TurnState). sent_frames state.sent) same ∙ was.sent;
+    sent = ap (λ (state : TurnState). all_captured state.sent) same ∙ was.sent;
     ends = ap (λ (state : TurnState). state.ends) same ∙ was.ends;
     controller = was.controller;
     controls = was.controls;
@@ -194,7 +195,7 @@ module _ (program : Program) (updates : List MapUpdate) (script : List Command) 
           order_is = order_more made was.parts TheRound Reclaimer was.order done.order' done.more was.order_is;
           handled = handled_by_others was.runs was.passes number was.parts one (λ worker. refl) was.handled;
           counts = turn.counts ∙ was.counts;
-          sent = ap sent_frames turn.sent ∙ was.sent;
+          sent = ap all_captured turn.sent ∙ was.sent;
           ends = turn.ends ∙ was.ends;
           controller = was.controller;
           controls = others_stay count Reclaimer Controller was.order done.order' was.controller done.more refl was.controls;
@@ -280,7 +281,7 @@ module _ (program : Program) (updates : List MapUpdate) (script : List Command) 
           order_is = order_more made was.parts (TheCommand next) Controller was.order done.order' done.more was.order_is;
           handled = handled_by_others was.runs was.passes number was.parts one (λ worker. refl) was.handled;
           counts = turn.counts ∙ was.counts;
-          sent = ap sent_frames turn.sent ∙ was.sent;
+          sent = ap all_captured turn.sent ∙ was.sent;
           ends = turn.ends ∙ was.ends;
           controller = done.pass';
           controls = done.stands.mine;
@@ -345,7 +346,7 @@ module _ (program : Program) (updates : List MapUpdate) (script : List Command) 
   short_turn : (number next rounds : ℕ) (before after : TurnState) (captured : Sent) → (was : Simulated number next rounds before) →
       frame_at frames number ≡ captured.bytes.items → is_short captured.bytes.items ≡ true → after.all.shards ≡ before.all.shards →
       after.all.maps ≡ before.all.maps → after.all.options ≡ before.all.options → after.controller ≡ before.controller → after.noted ≡ before.noted →
-      after.counts ≡ counted before.counts None → sent_frames after.sent ≡ sent_frames before.sent ++ [] →
+      after.counts ≡ counted before.counts None → all_captured after.sent ≡ all_captured before.sent ++ [] →
       after.ends ≡ before.ends ++ record_end (worker_of_frame captured.bytes.items options.workers) None ∷ [] → slice_get records number ≡ Some captured →
       Stepped (TheRecord number) was.order was.parts (suc number) next rounds after
   short_turn number next rounds before after captured was there short shards maps opts controller noted counts sent ends known =
@@ -374,9 +375,9 @@ module _ (program : Program) (updates : List MapUpdate) (script : List Command) 
               (λ other. ap (λ (test : Bool). not test && (worker_of_frame (frame_at frames number) options.workers == other)) is) was.handled worker below);
           counts = counts ∙ ap (λ (c : Counts). counted c None) was.counts
               ∙ ap (λ (fate : Option RunEnd). counted (counts_of frames options.workers was.runs number) fate) (sym none);
-          sent = sent ∙ ap (λ (list : List SentFrame). list ++ sent_by None) was.sent
+          sent = sent ∙ ap (λ (list : List Captured). list ++ sent_by None) was.sent
               ∙ ap (λ (fate : Option RunEnd). sent_of frames options.workers was.runs number ++ sent_by fate) (sym none);
-          ends = ends ∙ ap (λ (list : List RecordEnd). list ++ record_end (worker_of_frame captured.bytes.items options.workers) None ∷ []) was.ends
+          ends = ends ∙ ap (λ (list : List ToldEnd). list ++ record_end (worker_of_frame captured.bytes.items options.workers) None ∷ []) was.ends
               ∙ ap (λ (bytes : List ℕ). ends_of frames options.workers was.runs number ++ record_end (worker_of_frame bytes options.workers) None ∷ []) (sym there)
               ∙ ap (λ (fate : Option RunEnd). ends_of frames options.workers was.runs number ++
               record_end (worker_of_frame (frame_at frames number) options.workers) fate ∷ []) (sym none);
@@ -517,7 +518,7 @@ module _ (program : Program) (updates : List MapUpdate) (script : List Command) 
     same_below = fates_stay frames options.workers own number ran was.runs below_own was.lists are
 
     long_turn : after.all.maps ≡ before.all.maps → after.all.options ≡ before.all.options → after.controller ≡ before.controller →
-        after.noted ≡ before.noted → after.counts ≡ counted before.counts (Some end) → sent_frames after.sent ≡ sent_frames before.sent ++ sent_by (Some end) →
+        after.noted ≡ before.noted → after.counts ≡ counted before.counts (Some end) → all_captured after.sent ≡ all_captured before.sent ++ sent_by (Some end) →
         after.ends ≡ before.ends ++ record_end own (Some end) ∷ [] → Stepped (TheRecord number) was.order was.parts (suc number) next rounds after
     long_turn maps opts controller noted counts sent ends = record {
       now = record {
@@ -536,9 +537,9 @@ module _ (program : Program) (updates : List MapUpdate) (script : List Command) 
         handled = handled_then;
         counts = counts ∙ ap (λ (c : Counts). counted c (Some end)) (was.counts ∙ sym (counts_stay frames options.workers was.runs runs' number same_below))
             ∙ ap (λ (one : Option RunEnd). counted (counts_of frames options.workers runs' number) one) (sym fate);
-        sent = sent ∙ ap (λ (list : List SentFrame). list ++ sent_by (Some end)) (was.sent ∙ sym (sent_stays frames options.workers was.runs runs' number same_below))
+        sent = sent ∙ ap (λ (list : List Captured). list ++ sent_by (Some end)) (was.sent ∙ sym (sent_stays frames options.workers was.runs runs' number same_below))
             ∙ ap (λ (one : Option RunEnd). sent_of frames options.workers runs' number ++ sent_by one) (sym fate);
-        ends = ends ∙ ap (λ (list : List RecordEnd). list ++ record_end own (Some end) ∷ [])
+        ends = ends ∙ ap (λ (list : List ToldEnd). list ++ record_end own (Some end) ∷ [])
             (was.ends ∙ sym (ends_stay frames options.workers was.runs runs' number same_below))
             ∙ ap (λ (worker : ℕ). ends_of frames options.workers runs' number ++ record_end worker (Some end) ∷ []) (sym who)
             ∙ ap (λ (one : Option RunEnd). ends_of frames options.workers runs' number ++
@@ -568,7 +569,7 @@ module _ (program : Program) (updates : List MapUpdate) (script : List Command) 
       first_commands script ≤ next → slice_get records number ≡ Some captured → (end : Option RunEnd) →
       IsHandledInTurn program options.workers captured before.all.shards end after.all.shards →
       after.all.maps ≡ before.all.maps → after.all.options ≡ before.all.options → after.controller ≡ before.controller → after.noted ≡ before.noted →
-      after.counts ≡ counted before.counts end → sent_frames after.sent ≡ sent_frames before.sent ++ sent_by end →
+      after.counts ≡ counted before.counts end → all_captured after.sent ≡ all_captured before.sent ++ sent_by end →
       after.ends ≡ before.ends ++ record_end (worker_of_frame captured.bytes.items options.workers) end ∷ [] →
       Stepped (TheRecord number) was.order was.parts (suc number) next rounds after
   by_end number next rounds before after captured was ready known None handled maps opts controller noted counts sent ends =

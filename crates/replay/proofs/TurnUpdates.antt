@@ -10,7 +10,6 @@ use Rattle.semantics.specs.declared.options.Options.{Options}
 use Rattle.semantics.specs.ServedCalls.{IsKeyOf}
 use Rattle.shard_core.specs.JournaledShard.{JournaledShard}
 use Rattle.shard_port.specs.PortView.{AreShardsOf}
-use Rattle.shard_port.specs.Sessions.{CallsKeepServing}
 use Rattle.shard_port.proofs.shared.MayAskLemmas.{at_key}
 use Rattle.maglev.specs.declared.backend.Backend.{Backend as Server}
 use Rattle.control.specs.declared.command.Action.{Action}
@@ -21,7 +20,7 @@ use Rattle.control.specs.MapUpdates.{AreMade}
 use Rattle.control.specs.Controlling.{ControllerState, IsCarriedOut, IsLeft, updates_of}
 use Rattle.actors.specs.SharedUpdates.{shard_of_map_key}
 use Rattle.replay.specs.InTurn.{TurnMaps, ServesTurns, may_update_at, IsUpdatedAt, IsFullAt, IsUpdatedInTurn, IsTurnedAwayInTurn}
-use Rattle.replay.proofs.TurnLemmas.{ready_for, may_make, update_serves}
+use Rattle.replay.proofs.TurnLemmas.{ready_for, may_make}
 
 abbrev pub turn_maps : List MapDef → Options → List JournaledShard → TurnMaps
 turn_maps maps options shards = record { maps = maps; options = options; shards = shards }
@@ -101,15 +100,6 @@ module _ {maps : List MapDef} {options : Options} {shards : List JournaledShard}
           of_map = defined at.one at.known;
           nothing = ap (λ (list : List JournaledShard). turn_maps maps options list) same;
         })
-
-    pub still_serves : CallsKeepServing → (shards' : List JournaledShard) → (result : Result ℤ JournalFull) →
-        IfOk result (λ answer. IsUpdatedAt shards number key value answer shards') → OnErr result (shards' ≡ shards) → ServesTurns maps options shards'
-    still_serves keep shards' (Ok answer) made same = record {
-      options_fit = stands.serves.options_fit;
-      maps_are = stands.serves.maps_are;
-      serve = update_serves keep maps options shards shards' number key value answer stands.serves.serve stands.value_bytes made;
-    }
-    still_serves keep shards' (Err fault) made same = subst (ServesTurns maps options) (sym same) stands.serves
 
 -- ---- what a command leaves of the maps and the options
 

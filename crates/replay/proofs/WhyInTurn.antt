@@ -1,10 +1,9 @@
 -- An update that was refused on shards on which the controller alone did something: the answer is the one-thread map's, behind the updates before
 -- it and nothing else.
-use Rattle.std.proofs.Common.{◌≡◌, ◌≢◌, ◌⊎◌, ⊎_elim, ℕ, zero, suc, ◌+◌, ◌*◌, ◌/◌, ◌<◌, List, [], ◌∷◌, ◌++◌, length, take, reverse, Some, refl, sym, ap, ◌∙◌, subst, append_assoc, arith}
-use Rattle.std.specs.Prelude.{Option, filter, slice_get, slice_set, option_map, ℤ, IsTrue, is_some}
+use Rattle.std.proofs.Common.{◌≡◌, ℕ, zero, suc, ◌+◌, ◌/◌, ◌<◌, List, [], ◌∷◌, ◌++◌, length, take, reverse, Some, refl, sym, ap, ◌∙◌, subst, append_assoc, arith}
+use Rattle.std.specs.Prelude.{Option, slice_get, slice_set, option_map, ℤ, IsTrue, is_some}
 use mathlib.Core.List.{reverse-cons}
 use Rattle.std.proofs.lemmas.List.{reverse-reverse}
-use Rattle.std.proofs.lemmas.List.Elements.{filter-append}
 use Rattle.ebpf_decode.specs.declared.map.MapDef.{MapDef}
 use Rattle.map_updates.specs.declared.update.MapUpdate.{MapUpdate}
 use Rattle.semantics.specs.declared.call.Caller.TheVariants.{Controller}
@@ -18,12 +17,12 @@ use Rattle.semantics.specs.declared.plan.ShardPlan.{ShardPlan}
 use Rattle.semantics.specs.Linux.{flags_number, success}
 use Rattle.semantics.specs.History.{shard_of_call, entry_of, IsLegalHistory, IsLegalJournal, IsJournalFull}
 use Rattle.semantics.specs.SequentialShard.{update_answer, shard_after}
-use Rattle.semantics.specs.ShardPlan.{plan_at, AreOptions}
+use Rattle.semantics.specs.ShardPlan.{AreOptions}
 use Rattle.semantics.proofs.shared.PlanLemmas.{some_shards}
-use Rattle.shard_core.specs.JournaledShard.{JournaledShard, opened_shard, state_of, shard_with_entry}
+use Rattle.shard_core.specs.JournaledShard.{JournaledShard, opened_shard, shard_with_entry}
 use Rattle.shards.specs.declared.deeds.Deed.{Deed}
 use Rattle.shards.specs.declared.deeds.Deed.TheVariants.{Wrote, MetFull}
-use Rattle.shards.specs.Deeds.{is_of_shard, entries_made, made_on, AreMet, AreFirst}
+use Rattle.shards.specs.Deeds.{made_on, AreMet, AreFirst}
 use Rattle.shards.specs.Opening.{AreOpened}
 use Rattle.shards.specs.Passes.{PassView}
 use Rattle.shards.specs.SharedMaps.{ArePlans}
@@ -34,6 +33,7 @@ use Rattle.actors.specs.Actors.{IsUnused}
 use Rattle.actors.specs.FirstUpdates.{update_bytes, AreSet, IsWhyLeft}
 use Rattle.actors.specs.SharedUpdates.{UpdatesView, shard_of, controller_update, IsUpdated, IsTurnedAway}
 use Rattle.actors.specs.UpdateFaults.{IsWhyByPass}
+use Rattle.actors.proofs.shared.DeedLemmas.{made_append}
 use Rattle.replay.specs.InTurn.{TurnMaps, IsUpdatedInTurn, IsTurnedAwayInTurn}
 use Rattle.replay.specs.TurnFaults.{IsWhyInTurn}
 use Rattle.replay.proofs.PartLemmas.{within_of}
@@ -41,15 +41,6 @@ use Rattle.replay.proofs.TurnDeeds.{made_here, one_else}
 use Rattle.shard_port.proofs.shared.ReadyLemmas.{plan_number}
 
 -- ---- what was done earlier
-
-entries_append : (first second : List Deed) → entries_made (first ++ second) ≡ entries_made first ++ entries_made second
-entries_append [] second = refl
-entries_append (Wrote entry ∷ first) second = ap (λ (list : List Entry). entry ∷ list) (entries_append first second)
-entries_append (MetFull who call ∷ first) second = entries_append first second
-
-made_append : (number : ℕ) (first second : List Deed) → made_on number (first ++ second) ≡ made_on number first ++ made_on number second
-made_append number first second =
-    ap (filter (is_of_shard number)) (entries_append first second) ∙ filter-append (is_of_shard number) (entries_made first) (entries_made second)
 
 legal_earlier : (plan : ShardPlan) (later earlier : List Entry) → IsLegalHistory plan (later ++ earlier) → IsLegalHistory plan earlier
 legal_earlier plan [] earlier is = is

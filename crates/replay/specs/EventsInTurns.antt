@@ -9,12 +9,12 @@ use Rattle.machine.specs.Running.{program_of}
 use Rattle.control.specs.declared.command.Command.{Command}
 use Rattle.control.specs.ScriptText.{CommandFits}
 use Rattle.actors.specs.declared.outcome.Outcome.{Outcome}
-use Rattle.actors.specs.declared.outcome.RecordEnd.{RecordEnd}
+use Rattle.actors.specs.declared.outcome.ToldEnd.{ToldEnd}
 use Rattle.actors.specs.Accounted.{IsAccounted}
 use Rattle.actors.specs.Captured.{IsCaptured}
 use Rattle.guarantees.specs.TurnByTurn.{HeadlineInTurns}
 use Rattle.replay.specs.ExactReplays.{IsInTurn, starts_in}
-use Rattle.replay.specs.Pieces.{IsReplayedInPieces}
+use Rattle.replay.specs.Pieces.{IsWholeOutcome}
 use Rattle.replay.specs.TurnOrder.{IsExact}
 use Rattle.replay.specs.Turns.{all_turns}
 
@@ -30,11 +30,12 @@ pub record IsListedInTurns (verified : Verified) (script : List Command) (option
   pub exact : IsExact (program_of verified options.shards) script options records outcome
   pub listed : HasListInTurns verified script options records outcome exact.accounted
 
--- with the frames and the ends that were handed out, so it is of one in pieces
-pub record IsListedInPieces (verified : Verified) (script : List Command) (options : Options) (records sent : List Sent) (ends : List RecordEnd)
+-- with the frames and the ends that were handed out, so is the whole of one in pieces
+pub record IsListedInPieces (verified : Verified) (script : List Command) (options : Options) (records sent : List Sent) (ends : List ToldEnd)
     (rest : Outcome) : Type 0 where
-  pub replayed : IsReplayedInPieces (program_of verified options.shards) script options records sent ends rest
-  pub listed : HasListInTurns verified script options records replayed.whole replayed.accounted
+  pub whole : Outcome
+  pub is_whole : IsWholeOutcome rest sent ends whole
+  pub in_turns : IsListedInTurns verified script options records whole
 
 -- it holds of every replay that was made in turn
 abbrev pub EventsComeInTurns : Verified → Type 0

@@ -31,11 +31,11 @@ use Rattle.control.specs.MapUpdates.{UpdateBytes}
 use Rattle.control.specs.Controlling.{ControllerState, IsCarriedOut, IsLeft, refusal_of, first_updates, up_after}
 use Rattle.actors.specs.declared.account.Counts.{Counts}
 use Rattle.actors.specs.declared.outcome.Applied.{Applied}
-use Rattle.actors.specs.declared.outcome.RecordEnd.{RecordEnd}
+use Rattle.actors.specs.declared.outcome.ToldEnd.{ToldEnd}
 use Rattle.actors.specs.declared.runner.RunEnd.{RunEnd}
 use Rattle.actors.specs.declared.runner.RunEnd.TheVariants.{Stopped}
-use Rattle.actors.specs.Shares.{is_short, worker_of_frame}
-use Rattle.actors.specs.Accounts.{counted, sent_by, sent_frames, record_end}
+use Rattle.actors.specs.Shares.{is_short, worker_of_frame, all_captured}
+use Rattle.actors.specs.Accounts.{counted, sent_by, record_end}
 use Rattle.semantics.specs.Replay.{is_keyed}
 use Rattle.actors.specs.RunsOverShards.{start_of, IsTold, steps_in}
 use Rattle.actors.specs.SharedUpdates.{shard_of}
@@ -188,7 +188,7 @@ pub record TurnState : Type 0 where
   pub noted : List Applied
   pub counts : Counts
   pub sent : List Sent
-  pub ends : List RecordEnd
+  pub ends : List ToldEnd
 
 -- the maps and the options are the same, and the controller's table has the same size
 pub record IsSameSetting (before after : TurnState) : Type 0 where
@@ -207,7 +207,7 @@ pub record IsRecordTurn (program : Program) (records : List Sent) (workers numbe
   pub controller : after.controller ≡ before.controller
   pub noted : after.noted ≡ before.noted
   pub counts : after.counts ≡ counted before.counts end
-  pub sent : sent_frames after.sent ≡ sent_frames before.sent ++ sent_by end
+  pub sent : all_captured after.sent ≡ all_captured before.sent ++ sent_by end
   pub ends : after.ends ≡ before.ends ++ record_end (worker_of_frame captured.bytes.items workers) end ∷ []
 
 -- the script's command of this number, with the fault for which it was refused, if for one

@@ -9,13 +9,12 @@ use Rattle.maglev.specs.RingSize.{IsRingSize}
 use Rattle.control.specs.declared.command.Command.{Command}
 use Rattle.replay.specs.declared.in_pieces.PieceReplay.{PieceReplay}
 use Rattle.actors.specs.declared.outcome.Outcome.{Outcome}
-use Rattle.actors.specs.declared.outcome.RecordEnd.{RecordEnd}
-use Rattle.actors.specs.Accounted.{IsAccounted}
+use Rattle.actors.specs.declared.outcome.ToldEnd.{ToldEnd}
 use Rattle.actors.specs.Accounts.{frames_in}
 use Rattle.actors.specs.Commands.{ServesScript}
 use Rattle.replay.specs.ExactReplays.{HasBegun, starts_in, first_state}
 use Rattle.replay.specs.InTurn.{TurnMaps, AreTurns}
-use Rattle.replay.specs.TurnOrder.{IsInTurnOrder}
+use Rattle.replay.specs.TurnOrder.{IsExact}
 use Rattle.replay.specs.TurnStates.{state_in, with_earlier}
 use Rattle.replay.specs.Turns.{due_before, turns_to}
 
@@ -38,7 +37,7 @@ pub record ReplayGoesOn (script : List Command) (replay : PieceReplay) : Type 0 
 -- The first updates were made, and then all turns up to the last of these records, and a round if it was its time. What was sent of them,
 -- and what became of each, was handed out.
 pub record IsUnderway (program : Program) (script : List Command) (options : Options) (updates : List MapUpdate) (records sent : List Sent)
-    (ends : List RecordEnd) (replay : PieceReplay) : Type 0 where
+    (ends : List ToldEnd) (replay : PieceReplay) : Type 0 where
   pub size : ℕ
   pub size_is_served : IsRingSize size
   pub serves : ServesScript program.maps size script
@@ -53,7 +52,7 @@ pub record IsUnderway (program : Program) (script : List Command) (options : Opt
   pub options_are : replay.turns.all.options ≡ options
 
 -- the whole outcome is this one with these sent frames and these ends
-pub record IsWholeOutcome (rest : Outcome) (sent : List Sent) (ends : List RecordEnd) (whole : Outcome) : Type 0 where
+pub record IsWholeOutcome (rest : Outcome) (sent : List Sent) (ends : List ToldEnd) (whole : Outcome) : Type 0 where
   pub counts : whole.counts ≡ rest.counts
   pub updates : whole.updates.items ≡ rest.updates.items
   pub refused : whole.refused.items ≡ rest.refused.items
@@ -62,9 +61,8 @@ pub record IsWholeOutcome (rest : Outcome) (sent : List Sent) (ends : List Recor
   pub ends_are : whole.ends.items ≡ ends
 
 -- with the frames and the ends that were handed out, it is the outcome of an exact replay of all records
-pub record IsReplayedInPieces (program : Program) (script : List Command) (options : Options) (records sent : List Sent) (ends : List RecordEnd)
+pub record IsReplayedInPieces (program : Program) (script : List Command) (options : Options) (records sent : List Sent) (ends : List ToldEnd)
     (rest : Outcome) : Type 0 where
   pub whole : Outcome
   pub is_whole : IsWholeOutcome rest sent ends whole
-  pub accounted : IsAccounted program script options records whole
-  pub in_order : IsInTurnOrder program script options records whole accounted
+  pub exact : IsExact program script options records whole

@@ -7,10 +7,10 @@ use Rattle.semantics.specs.declared.options.Options.{Options}
 use Rattle.semantics.specs.Program.{Program}
 use Rattle.control.specs.declared.command.Command.{Command}
 use Rattle.control.specs.declared.fault.ControlFault.TheVariants.{Memory}
+use Rattle.actors.specs.Shares.{all_captured}
 use Rattle.actors.specs.declared.outcome.Applied.{Applied}
 use Rattle.actors.specs.declared.outcome.Outcome.{Outcome}
-use Rattle.actors.specs.declared.outcome.RecordEnd.{RecordEnd}
-use Rattle.actors.specs.Accounts.{sent_frames}
+use Rattle.actors.specs.declared.outcome.ToldEnd.{ToldEnd}
 use Rattle.replay.specs.ExactReplays.{IsInTurn}
 use Rattle.replay.specs.Pieces.{IsReplayedInPieces}
 
@@ -20,7 +20,7 @@ HadMemory commands = AllByRecursion (λ (one : Applied). one.fault ≢ Some Memo
 
 -- the same frames, each with the same moment
 abbrev pub AreSameFrames : List Sent → List Sent → Type 0
-AreSameFrames one other = sent_frames one ≡ sent_frames other
+AreSameFrames one other = all_captured one ≡ all_captured other
 
 -- two replays return the same: counts, what became of each record, the frames that were sent, the commands that were refused, each with its
 -- fault, and the journals
@@ -39,7 +39,7 @@ ExactReplaysAgree =
     one.updates.items ≡ other.updates.items → HadMemory one.refused.items → HadMemory other.refused.items → ReturnTheSame one other
 
 -- the same of two that were handed their captures in pieces, by all that was handed out of each
-pub record ReturnTheSameInPieces (sent sent' : List Sent) (ends ends' : List RecordEnd) (rest rest' : Outcome) : Type 0 where
+pub record ReturnTheSameInPieces (sent sent' : List Sent) (ends ends' : List ToldEnd) (rest rest' : Outcome) : Type 0 where
   pub counts : rest.counts ≡ rest'.counts
   pub ends_are : ends ≡ ends'
   pub sent_are : AreSameFrames sent sent'
@@ -49,7 +49,7 @@ pub record ReturnTheSameInPieces (sent sent' : List Sent) (ends ends' : List Rec
 -- wherever the two captures were cut
 abbrev pub PiecesAgree : Type 0
 PiecesAgree =
-    (program : Program) (script : List Command) (options : Options) (records others sent sent' : List Sent) (ends ends' : List RecordEnd)
+    (program : Program) (script : List Command) (options : Options) (records others sent sent' : List Sent) (ends ends' : List ToldEnd)
     (rest rest' : Outcome) → AreSameFrames records others → IsReplayedInPieces program script options records sent ends rest →
     IsReplayedInPieces program script options others sent' ends' rest' → rest.updates.items ≡ rest'.updates.items →
     HadMemory rest.refused.items → HadMemory rest'.refused.items → ReturnTheSameInPieces sent sent' ends ends' rest rest'

@@ -1,7 +1,7 @@
 -- How far a replay on one thread is, by what it keeps and what it handed out.
 use Rattle.std.specs.Prelude.{◌≡◌, List, [], ◌++◌}
 use Rattle.wire.specs.declared.records.Sent.{Sent}
-use Rattle.actors.specs.declared.outcome.RecordEnd.{RecordEnd}
+use Rattle.actors.specs.declared.outcome.ToldEnd.{ToldEnd}
 use Rattle.replay.specs.declared.single_thread.Turns.{Turns}
 use Rattle.replay.specs.InTurn.{TurnState}
 
@@ -16,7 +16,7 @@ state_in turns = record {
 }
 
 -- these frames and ends were handed out before
-abbrev pub with_earlier : List Sent → List RecordEnd → TurnState → TurnState
+abbrev pub with_earlier : List Sent → List ToldEnd → TurnState → TurnState
 with_earlier sent ends state = record state { sent = sent ++ state.sent; ends = ends ++ state.ends }
 
 -- nothing is kept of what was sent and what became of the records

@@ -22,7 +22,7 @@ use actors::controller::Commanded;
 use actors::first_updates::copied;
 use actors::reclaimer::Reclaiming;
 use actors::worker::Working;
-use actors::{Applied, Outcome, RecordEnd};
+use actors::{Applied, Outcome, ToldEnd};
 use control::Script;
 use journals::Journals;
 use map_updates::MapUpdate;
@@ -78,7 +78,7 @@ fn outcome_of(
     updates: Vec<MapUpdate>,
     noted: Vec<Applied>,
     sent: Vec<Sent>,
-    ends: Vec<RecordEnd>,
+    ends: Vec<ToldEnd>,
     journals: Journals,
 ) -> Outcome
     ensures counts { result.counts ≡ counts }

@@ -21,7 +21,7 @@ ghost use Rattle.actors.specs.UpdateFaults.{OfUpdate};
 ghost use Rattle.replay.specs.TurnFaults.{IsWhyInTurn};
 ghost use Rattle.actors.specs.Captured.{IsCaptured};
 ghost use Rattle.actors.specs.declared.fault.ReplayFault.TheVariants.{BadOptions, NoThread};
-ghost use Rattle.actors.specs.declared.outcome.RecordEnd.{RecordEnd as End};
+ghost use Rattle.actors.specs.declared.outcome.ToldEnd.{ToldEnd as End};
 
 use crate::laws::{events_come_in_turns, turns_are_accounted};
 use crate::setting::{starts_of, table_for};

@@ -39,7 +39,7 @@ mod turn_shards;
 pub use actors::first_updates::{Unset, set_first};
 pub use actors::{
     Actor, ActorEnded, Applied, Commanded, Commander, Counts, FrameFate, Outcome, PieceOutcome,
-    ROUND_EVERY, Ran, Reclaiming, RecordEnd, ReplayFault, RunEnd, Runner, SharedUpdates,
+    ROUND_EVERY, Ran, Reclaiming, ReplayFault, RunEnd, Runner, SharedUpdates, ToldEnd,
 };
 pub use crew::Handled;
 pub use in_pieces::PieceReplay;

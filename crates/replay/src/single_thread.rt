@@ -16,7 +16,7 @@ ghost use Rattle.control.specs.Controlling.{refusal_of, opened_controller};
 ghost use Rattle.journals.specs.JournalsView.{entries_at};
 ghost use Rattle.shards.specs.NewShards.{shard_at};
 ghost use Rattle.actors.specs.declared.fault.ReplayFault.TheVariants.{BadOptions, NoThread};
-ghost use Rattle.actors.specs.declared.outcome.RecordEnd.{RecordEnd as End};
+ghost use Rattle.actors.specs.declared.outcome.ToldEnd.{ToldEnd as End};
 ghost use Rattle.actors.specs.Accounts.{frames_in, no_counts, counted};
 ghost use Rattle.actors.specs.Commands.{ServesScript};
 ghost use Rattle.actors.specs.RunsOverShards.{IsSentOf, IsTold, steps_in};
@@ -46,7 +46,7 @@ use actors::dispatch::{ROUND_EVERY, due, is_short, worker_of};
 use actors::first_updates::{copied, set_all};
 use actors::worker::{end_of, moment_of};
 use actors::{
-    Applied, FrameFate, Outcome, PieceOutcome, RecordEnd, ReplayFault, RunEnd, all_are_captured,
+    Applied, FrameFate, Outcome, PieceOutcome, ReplayFault, RunEnd, ToldEnd, all_are_captured,
 };
 use control::{Command, ControlFault, Controller, Script, commands_fit};
 use machine::Exit;
@@ -67,7 +67,7 @@ pub(crate) struct Turns {
     pub noted: Vec<Applied>,
     pub counts: Counts,
     pub sent: Vec<Sent>,
-    pub ends: Vec<RecordEnd>,
+    pub ends: Vec<ToldEnd>,
     /// The buffer of all runs, one after the other.
     pub frame: Frame,
     /// Frames that were given back: what is sent later is put into their memory.
@@ -484,8 +484,7 @@ impl Turns {
         } = self;
         let (shards, maps, options) = all.into_parts();
         let made = copied(alloc, updates)?;
-        let room = Vec::with_capacity(alloc, shards.count())?;
-        let journals = journals_of(shards, maps, options, room);
+        let journals = journals_of(shards, maps, options);
         Ok(Outcome {
             counts,
             updates: made,

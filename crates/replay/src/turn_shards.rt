@@ -6,6 +6,7 @@ ghost use Rattle.map_rules.specs.declared.open_fault.OpenFault.TheVariants.{BadO
 ghost use Rattle.semantics.specs.MachineState.{initial_state};
 ghost use Rattle.semantics.specs.ShardPlan.{AreOptions, KeepsRows, are_served_options, recorded};
 ghost use Rattle.journals.specs.JournalsView.{AreJournals};
+ghost use Rattle.journals.specs.KeptEntries.{ArePlanned};
 ghost use Rattle.machine.specs.Running.{program_of};
 ghost use Rattle.shards.specs.NewShards.{shard_at};
 ghost use Rattle.shards.specs.Opening.{AreOpened};
@@ -219,7 +220,7 @@ impl TurnShards {
         ensures maps { result.1.items ≡ self.maps }
         ensures options { result.2 ≡ self.options }
         ensures are { AreJournals result.1.items result.2 (length result.0) }
-        ensures reserved { (number : ℕ) → number < length result.0 → (shard_at result.0 number).plan.reserve ≡ result.2.journal }
+        ensures planned { ArePlanned result.1.items result.2 result.0 }
     {
         let TurnShards {
             shards,

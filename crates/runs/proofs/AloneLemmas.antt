@@ -7,7 +7,7 @@ use Rattle.semantics.specs.declared.call.Entry.{Entry}
 use Rattle.ebpf_decode.specs.declared.map.MapDef.{MapDef}
 use Rattle.semantics.specs.declared.options.Options.{Options}
 use Rattle.semantics.specs.declared.plan.ShardPlan.{ShardPlan}
-use Rattle.shards.proofs.shared.Reserves.{reserve_of}
+use Rattle.semantics.specs.ShardPlan.{plan_at}
 use Rattle.semantics.specs.declared.verdict.Verdict.{Verdict}
 use Rattle.semantics.specs.History.{IsLegalJournal}
 use Rattle.semantics.specs.MachineState.{MachineState}
@@ -93,19 +93,21 @@ pub count_kept : (program : Program) (start : MachineState) (worker : ℕ) (befo
 count_kept program start worker before after frame (Ok exit) ran was = ran.count
 count_kept program start worker before after frame (Err (JournalFull shard)) ran was = was.count
 
--- and each has the plan that it had before, whose reserve is that of the options
-reserve_at : (maps : List MapDef) (options : Options) (updates : List MapUpdate) (before after : List JournaledShard) → AreUpdated maps options updates before →
-    (number : ℕ) → number < length before → (shard_at after number).plan ≡ (shard_at before number).plan → (shard_at after number).plan.reserve ≡ options.journal
-reserve_at maps options updates before after were number below same =
-    ap (λ (p : ShardPlan). p.reserve) same ∙ reserve_of maps options number (shard_at before number).plan (were.planned number below)
+-- and each has the plan that it had before
+planned_at : (maps : List MapDef) (options : Options) (updates : List MapUpdate) (before after : List JournaledShard) → AreUpdated maps options updates before →
+    (number : ℕ) → number < length before → (shard_at after number).plan ≡ (shard_at before number).plan →
+    plan_at maps options number ≡ Some (shard_at after number).plan
+planned_at maps options updates before after were number below same =
+    were.planned number below ∙ ap (λ (p : ShardPlan). Some p) (sym same)
 
-pub reserves_kept : (program : Program) (start : MachineState) (options : Options) (worker : ℕ) (updates : List MapUpdate) (maps : List MapDef) (before after : List JournaledShard)
+pub plans_kept : (program : Program) (start : MachineState) (options : Options) (worker : ℕ) (updates : List MapUpdate) (maps : List MapDef) (before after : List JournaledShard)
     (frame : FrameView) (result : Result Exit Stop) → AreUpdated maps options updates before →
     IfOk result (λ exit. HasRunOver program start worker before after exit.verdict exit.steps frame) →
-    IfErr result (HasStoppedOver program start worker before after frame) → (number : ℕ) → number < length after → (shard_at after number).plan.reserve ≡ options.journal
-reserves_kept program start options worker updates maps before after frame (Ok exit) were ran was number below =
+    IfErr result (HasStoppedOver program start worker before after frame) → (number : ℕ) → number < length after →
+    plan_at maps options number ≡ Some (shard_at after number).plan
+plans_kept program start options worker updates maps before after frame (Ok exit) were ran was number below =
     let there : number < length before = subst (λ (n : ℕ). number < n) ran.count below in
-    reserve_at maps options updates before after were number there (ap (λ (one : JournaledShard). one.plan) (ran.written number there))
-reserves_kept program start options worker updates maps before after frame (Err (JournalFull shard)) were ran was number below =
+    planned_at maps options updates before after were number there (ap (λ (one : JournaledShard). one.plan) (ran.written number there))
+plans_kept program start options worker updates maps before after frame (Err (JournalFull shard)) were ran was number below =
     let there : number < length before = subst (λ (n : ℕ). number < n) was.count below in
-    reserve_at maps options updates before after were number there (ap (λ (one : JournaledShard). one.plan) (was.written number there).1)
+    planned_at maps options updates before after were number there (ap (λ (one : JournaledShard). one.plan) (was.written number there).1)

@@ -4,4 +4,4 @@ pub mod UpdateLemmas
 pub mod OpeningLemmas
 pub mod RunLemmas
 pub mod AloneLemmas
-pub mod PushLemmas
+pub mod Places

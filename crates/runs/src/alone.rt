@@ -31,7 +31,7 @@ pub struct SingleRun {
 
 /// Runs the program of an accepted image on a frame, as a worker of the moment's number, over shards that are opened for it: an array has
 /// zeros, the other maps no keys, except what these updates set before the run, one after the other, as the controller. It takes the memory
-/// of the shards, which it frees except the journals.
+/// of the shards, which are kept with their journals.
 ///
 /// Verdict, frame and number of steps are the program's own on replies that are in the journals: on each shard that it called, Enter, its
 /// calls there with these replies, and Leave. The journals have the updates before that, and nothing else, and are legal: so each reply is
@@ -69,9 +69,8 @@ pub fn run_alone(
     let image = verified.image();
     let mut shards = PlainShards::open(alloc, image, options)?;
     let maps = copied(alloc, maps_of(image))?;
-    let room = Vec::with_capacity(alloc, shards.count())?;
     make_all(image, &options, &mut shards, updates)?;
     let ended = worker_run(verified, options, &mut shards, moment, frame);
-    let journals = journals_of(shards, maps, options, room);
+    let journals = journals_of(shards, maps, options);
     Ok(SingleRun { ended, journals })
 }

@@ -2,6 +2,7 @@ pub mod shared
 mod PlainOpenings
 mod PlanLemmas
 pub mod MapParts
+pub mod ClosedShards
 pub mod Callers
 pub mod Holding
 pub mod AddLemmas

@@ -12,13 +12,9 @@ use Rattle.shards.specs.GuardedView.{keyed}
 use Rattle.shards.specs.OrderRule.{IsOrderOf, KnowsShard, plan_in}
 use Rattle.shards.specs.SharedMaps.{ArePlans}
 use Rattle.shards.proofs.Names.{number_of}
-use Rattle.shards.proofs.shared.Reserves.{reserve_of}
 
 pub numbered : (maps : List MapDef) (options : Options) (count : ℕ) (plan : ℕ → ShardPlan) (number : ℕ) → ArePlans maps options count plan → number < count → (plan number).number ≡ number
 numbered maps options count plan number plans below = number_of options number (plan number) (slice_get maps (number / options.shards)) (plans.each number below)
-
-pub reserved : (maps : List MapDef) (options : Options) (count : ℕ) (plan : ℕ → ShardPlan) (number : ℕ) → ArePlans maps options count plan → number < count → (plan number).reserve ≡ options.journal
-reserved maps options count plan number plans below = reserve_of maps options number (plan number) (plans.each number below)
 
 pub knows_shard : {S P A : Type 0} (plan : ℕ → ShardPlan) (order : TableId) (count callers : ℕ) (maps : List MapDef) (options : Options) (the : Table S (List Account) OrderKey P A) (number : ℕ) →
     IsOrderOf order plan count callers the → ArePlans maps options count plan → number < count → KnowsShard (keyed (plan number) order) the

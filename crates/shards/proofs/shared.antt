@@ -2,4 +2,3 @@
 pub mod Keys
 pub mod Names
 pub mod ImageMaps
-pub mod Reserves

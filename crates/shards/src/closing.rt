@@ -22,8 +22,8 @@ use crate::pass::Pass;
 use crate::rule::Lock;
 use crate::sharing::Shards;
 use crate::showing::close;
-use journal::Journal;
 use journals::Journals;
+use shard_core::Shard;
 use std::marker::PhantomData;
 use std::sync::Wait;
 
@@ -73,11 +73,11 @@ impl<B: Naming> Shards<B> {
             room,
             ..
         } = self;
-        let mut journals = room.into_inner().into_list();
+        let mut closed = room.into_inner().into_list();
         let count = locks.len();
         let mut seat = visitor(&order);
         'shards: for number in 0..count {
-            let journal = settled(
+            let shard = settled(
                 rt,
                 locks.remove(0),
                 number as u32,
@@ -85,16 +85,16 @@ impl<B: Naming> Shards<B> {
                 &mut seat,
                 &mut passes,
             );
-            journals.push_reserved(journal);
+            closed.push_reserved(shard);
         }
         gather_all(&order, &mut seat, passes);
         gather(&order, &mut seat, first.into_seat());
         end(order, seat);
-        Journals::written(maps, options, journals)
+        Journals::written(maps, options, closed)
     }
 }
 
-/// The journal of a shard that nobody calls any more, compared with the passes.
+/// A shard that nobody calls any more, whose journal is compared with the passes.
 fn settled<B: Naming>(
     rt: &impl Wait,
     lock: Lock,
@@ -102,21 +102,21 @@ fn settled<B: Naming>(
     order: &Order,
     seat: &mut OrderSeat,
     passes: &mut Vec<Pass<B>>,
-) -> Journal
+) -> Shard
     requires number { number < B.count }
     requires lock { IsLockOf (B.table number) (keyed (B.plan number) B.order) lock }
     requires numbered { (B.plan number).number ≡ number }
     requires order { (order.now.shared.table_id ≡ B.order) × (0 < B.order.words) }
     requires seat { seat.old.table_id ≡ B.order }
-    ensures legal { IsLegalJournal (B.plan number) result.entries }
-    ensures room { result.reserve ≡ (B.plan number).reserve }
+    ensures legal { IsLegalJournal (B.plan number) result.journal }
+    ensures plan { result.plan ≡ B.plan number }
     ensures settled { (place : ℕ) → place < length passes.old.items →
-        IsSettled (pass_at passes.old.items place).who (view_at (pass_at passes.old.items place) number) result.entries }
+        IsSettled (pass_at passes.old.items place).who (view_at (pass_at passes.old.items place) number) result.journal }
     ensures count { length passes.new.items ≡ length passes.old.items }
     ensures callers { (place : ℕ) → (pass_at passes.new.items place).who ≡ (pass_at passes.old.items place).who }
     ensures deeds { (place : ℕ) → (pass_at passes.new.items place).deeds ≡ (pass_at passes.old.items place).deeds }
     ensures seat { seat.new.table_id ≡ B.order }
-    ensures taken { HasGathered number result.entries seat.old.me seat.new.me }
+    ensures taken { HasGathered number result.journal seat.old.me seat.new.me }
     ensures others { (place other : ℕ) → other ≢ number →
         view_at (pass_at passes.new.items place) other ≡ view_at (pass_at passes.old.items place) other }
 {
@@ -126,7 +126,7 @@ fn settled<B: Naming>(
     }
     let (shard, place) = close(lock, visitor_seat).into_parts();
     gather(order, seat, place.into_seat());
-    shard.into_journal()
+    shard
 }
 
 /// The seat takes in those of the passes.

@@ -28,17 +28,33 @@ impl PlainShards {
         requires map { map < length maps.now }
         ensures { IfOk result (λ entries. AreContentsOfMap maps.now options.now self.now map entries.items) }
     {
-        let definition = definition_of(maps, map);
-        let entries = gathered(
-            alloc,
-            &self.shards,
-            &definition,
-            map as usize,
-            options.shards as usize,
-        )?;
-        let sorted = in_order(definition.kind, entries)?;
-        Ok(sorted)
+        contents_of(alloc, &self.shards, maps, options, map)
     }
+}
+
+/// The same of a list of shards.
+pub fn contents_of(
+    alloc: Global,
+    shards: &[Shard],
+    maps: &[MapDef],
+    options: &Options,
+    map: u32,
+) -> Result<Vec<(Key, Value)>, AllocError>
+    requires options { AreOptions maps.now options.now }
+    requires shards { HavePlans maps.now options.now shards.now }
+    requires map { map < length maps.now }
+    ensures { IfOk result (λ entries. AreContentsOfMap maps.now options.now shards.now map entries.items) }
+{
+    let definition = definition_of(maps, map);
+    let entries = gathered(
+        alloc,
+        shards,
+        &definition,
+        map as usize,
+        options.shards as usize,
+    )?;
+    let sorted = in_order(definition.kind, entries)?;
+    Ok(sorted)
 }
 
 /// The definition of the map at a place.

@@ -13,13 +13,13 @@ ghost use Rattle.shards.specs.OrderRule.{AreShardPlaces};
 ghost use Rattle.shards.specs.SharedMaps.{AreLocks};
 
 use crate::dealer::Dealer;
-use crate::journal_room::JournalRoom;
 use crate::naming::Naming;
 use crate::new_shard::NewShard;
 use crate::order::open_order;
 use crate::order_rule::{Order, OrderPlace};
 use crate::plain_shards::{PlainShards, copied};
 use crate::rule::Lock;
+use crate::shard_room::ShardRoom;
 use crate::sharing::Shards;
 use crate::waiting::Waiting;
 use ebpf_decode::{Image, MapDef};
@@ -115,7 +115,7 @@ impl Opened {
             places,
         } = self;
         let dealt = vec![in alloc; false; options.workers as usize + 2]?;
-        let room = JournalRoom::of(alloc, shards.len())?;
+        let room = ShardRoom::of(alloc, shards.len())?;
         let (locks, rows, rooms) = parted::<B>(alloc, shards)?;
         let shards = Shards {
             locks,

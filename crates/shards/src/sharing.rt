@@ -76,12 +76,12 @@ ghost use Rattle.shards.specs.SharedMaps.{ArePlans};
 ghost use Rattle.shards.specs.Asked.{PassMayAsk, PassMayAskInside, PassIsServed, PassIsRefused, PassEntersAndIsServed, PassIsStopped};
 
 use crate::asks::{Ask, Calls};
-use crate::journal_room::JournalRoom;
 use crate::lock::visit;
 use crate::naming::Naming;
 use crate::order_rule::Order;
 use crate::pass::Pass;
 use crate::rule::Lock;
+use crate::shard_room::ShardRoom;
 use crate::showing::leave;
 use crate::stopped::Stopped;
 use ebpf_decode::MapDef;
@@ -97,8 +97,8 @@ pub struct Shards<B: Naming> {
     pub(crate) order: Order,
     pub(crate) maps: Vec<MapDef>,
     pub(crate) options: Options,
-    /// Room for the journals, which `close` hands out.
-    pub(crate) room: Mutex<JournalRoom<B>>,
+    /// Room for the shards, which `close` hands out in their journals.
+    pub(crate) room: Mutex<ShardRoom<B>>,
     pub(crate) names: PhantomData<B>,
 }
 

@@ -279,7 +279,7 @@ all_joined : (P : Server → Type 0) (one other : List Server) → AllByRecursio
 all_joined P [] other first second = second
 all_joined P (server ∷ one) other first second = (first.0, all_joined P one other first.1 second)
 
-found_one : (P : Server → Type 0) (test : Server → Bool) (up : List Server) (server : Server) → find test up ≡ Some server → AllByRecursion P up → (test server ≡ true) × P server
+pub found_one : (P : Server → Type 0) (test : Server → Bool) (up : List Server) (server : Server) → find test up ≡ Some server → AllByRecursion P up → (test server ≡ true) × P server
 found_one P test [] server found all = absurd cc
 found_one P test (one ∷ up) server found all = by (λ same. found_one P test up server same all.1) (test one) refl found
   where
@@ -319,10 +319,6 @@ few_up size up number address none = by (nat_lt number 256) refl none
         number < 256
     by true is same = grind (arith, nat_tests)
     by false is same = absurd cc
-
-found_down : (found : Option Server) → down_refusal found ≡ None → (server : Server) × (found ≡ Some server)
-found_down (Some server) none = (server, refl)
-found_down None none = absurd cc
 
 -- what the first updates of a command put into a backend's record, and who is up then
 record IsRecorded (known : ℕ → BackendRecord) (up : List Server) (action : Action) : Type 0 where

@@ -19,7 +19,7 @@ use Rattle.control.specs.Controlling.{ControllerState}
 use Rattle.control.specs.MapUpdates.{UpdateBytes, map_update}
 use Rattle.actors.specs.Commands.{AnsweredUpdate, CommandDone, AreDone, IsDoneBy, IsNothing, all_done, made_in, with_updates, with_update, controller_entry}
 use Rattle.actors.specs.SharedUpdates.{shard_of}
-use Rattle.steered_replays.proofs.ResultCounts.{all_both}
+use Rattle.actors.proofs.shared.EveryEntry.{all_both}
 
 -- ---- which updates are made
 

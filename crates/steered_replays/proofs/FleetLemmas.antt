@@ -31,6 +31,7 @@ use Rattle.control.specs.declared.command.Action.TheVariants.{Down}
 use Rattle.control.specs.Controlling.{IsTable, has_number, without_backend, up_after}
 use Rattle.steered_replays.specs.TablesAtEnd.{MapsAt, value_at, up_left, no_record, record_left, AreTablesAtEnd, IsRecordedUp}
 use Rattle.steered_replays.specs.Fleets.{SameTables, slot_of_flow, owner_in, assigned_in, owner_of_flow, IsSentByTable, sent_to, server_of, OwnersAreSentTo, SomeAreSentTo, FramesAreSent, StrangersAgree, StrangersMove}
+use Rattle.steered_replays.proofs.CommandTables.{found_one}
 
 -- ---- the same tables
 
@@ -181,15 +182,6 @@ owner_up size server up owners table slot within =
     let below : place < length all = mod-lt turn.0 (omega arith) in
     let found = found_any (server ∷ up) (slice_index_or all place no_backend).number (number_there size (server ∷ up) place below) in
     record { server = found.0; number = (slice_index_or all place no_backend).number; owner_is = turn.1; found = found.1 }
-
-pub found_one : (P : Server → Type 0) (test : Server → Bool) (up : List Server) (server : Server) → find test up ≡ Some server → AllByRecursion P up → (test server ≡ true) × P server
-found_one P test [] server found all = absurd cc
-found_one P test (one ∷ up) server found all = by (λ same. found_one P test up server same all.1) (test one) refl found
-  where
-    by : (find test up ≡ Some server → (test server ≡ true) × P server) → (t : Bool) → test one ≡ t → (if t then Some one else find test up) ≡ Some server →
-        (test server ≡ true) × P server
-    by later true is same = let it : one ≡ server = cc same in (ap test (sym it) ∙ is, subst P it all.0)
-    by later false is same = later same
 
 -- ---- what a run reads
 

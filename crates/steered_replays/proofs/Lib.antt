@@ -6,6 +6,7 @@ mod ResultCounts
 mod SessionCounts
 -- runs and replays
 mod SteeredLemmas
+mod RuledRuns
 mod RunSums
 mod ControllerShards
 mod TotalLemmas

@@ -1,9 +1,27 @@
 -- The shard and the cell of a key: with several shards to a map, those of its number's remainder and quotient.
-use Rattle.std.proofs.Common.{◌≡◌, ◌≢◌, ℕ, ◌+◌, ◌*◌, ◌%◌, ◌/◌, ◌<◌, ◌==◌, ◌&&◌, Bool, true, false, refl, sym, ◌∙◌, ap, arith}
+use Rattle.std.proofs.Common.{◌≡◌, ◌≢◌, ◌⊎◌, inl, inr, ℕ, List, [], subst, ◌+◌, ◌*◌, ◌%◌, ◌/◌, ◌<◌, ◌==◌, ◌&&◌, Bool, true, false, refl, sym, ◌∙◌, ap, arith}
 use Rattle.std.proofs.Math.Nat.{mod-lt, div-add-mod}
 use Rattle.std.proofs.lemmas.Bool.{eqb-true, eqb-false}
 use Rattle.std.proofs.lemmas.Bool.Decides.{nat_tests}
 use Rattle.std.proofs.lemmas.Nat.{div-mul-add, mod-mul-add}
+use Rattle.ebpf_decode.specs.declared.map.MapKind.{MapKind}
+use Rattle.ebpf_decode.specs.declared.map.MapKind.TheVariants.{Array}
+use Rattle.semantics.specs.declared.call.Entry.{Entry}
+use Rattle.semantics.specs.declared.plan.ShardPlan.{ShardPlan}
+use Rattle.actors.specs.Rounds.{IsReclaimedBy}
+
+-- how many shards a map may have
+abbrev pub IsShards : ℕ → Type 0
+IsShards shards = (shards ≡ 1) ⊎ (shards ≡ 2) ⊎ (shards ≡ 4) ⊎ (shards ≡ 8)
+
+pub some_shard : (shards : ℕ) → IsShards shards → 0 < shards
+some_shard shards (inl is) = omega (arith, is)
+some_shard shards (inr (inl is)) = omega (arith, is)
+some_shard shards (inr (inr (inl is))) = omega (arith, is)
+some_shard shards (inr (inr (inr is))) = omega (arith, is)
+
+pub rounds_none : (kind : MapKind) → kind ≡ Array → (plan : ShardPlan) (number rounds : ℕ) (own seen : List Entry) → IsReclaimedBy kind plan number rounds own seen → own ≡ []
+rounds_none kind array plan number rounds own seen made = subst (λ (k : MapKind). IsReclaimedBy k plan number rounds own seen) array made
 
 pub same_command : (a : ℕ) → (a == a) ≡ true
 same_command a = grind (arith, nat_tests)

@@ -47,9 +47,8 @@ use Rattle.actors.specs.declared.runner.RunEnd.{RunEnd}
 use Rattle.actors.specs.declared.runner.RunEnd.TheVariants.{Stopped, Exited}
 use Rattle.actors.specs.RunsInOrder.{IsRunAt, IsChainOfRuns}
 use Rattle.steered_replays.specs.Counting.{IsQuiet}
-use Rattle.steered_replays.specs.SteeredRuns.{IsSteeredRun, IsSteeredExit, IsSteeredStop}
-use Rattle.steered_replays.proofs.ResultCounts.{all_both, all_parts}
-use Rattle.steered_replays.proofs.SessionCounts.{all_reverse, all_reversed, all_session, in_session, each_exchange}
+use Rattle.steered_replays.proofs.RuledRuns.{IsRuled, IsRuledExit, IsRuledStop}
+use Rattle.actors.proofs.shared.EveryEntry.{all_both, all_parts, all_reverse, all_reversed, all_session, in_session, each_exchange}
 
 -- ---- what a plan asks
 
@@ -239,7 +238,7 @@ record IsQuietRun (sizes : SteeringSizes) (count worker : ℕ) (before after : P
   served : AllByRecursion NamesOwnIn exchanges → AllByRecursion (λ (exchange : Exchange). IsServed sizes exchange.call) exchanges
 
 exit_quiet : (sizes : SteeringSizes) → 0 < sizes.shards → (count worker : ℕ) (captured : Sent) (before : PassView) (end : RunEnd) (after : PassView) →
-    IsSteeredExit sizes count worker captured before end after → IsQuietRun sizes count worker before after
+    IsRuledExit sizes count worker captured before end after → IsQuietRun sizes count worker before after
 exit_quiet sizes some count worker captured before end after exit = record {
   exchanges = exit.exchanges;
   written = record { within = exit.sessions.within; written = λ number within. inl (exit.sessions.written number within) };
@@ -248,7 +247,7 @@ exit_quiet sizes some count worker captured before end after exit = record {
 }
 
 stop_quiet : (plan : ℕ → ShardPlan) (sizes : SteeringSizes) → 0 < sizes.shards → (count worker : ℕ) (captured : Sent) (before after : PassView) →
-    IsSteeredStop plan sizes count worker captured before after → IsQuietRun sizes count worker before after
+    IsRuledStop plan sizes count worker captured before after → IsQuietRun sizes count worker before after
 stop_quiet plan sizes some count worker captured before after stop = record {
   exchanges = stop.exchanges;
   written = record { within = stop.sessions.within; written = λ number within. by number (stop.sessions.written number within) };
@@ -265,7 +264,7 @@ stop_quiet plan sizes some count worker captured before after stop = record {
     by number (inr visited) = inr (visited.first_call, visited.written)
 
 run_quiet : (plan : ℕ → ShardPlan) (sizes : SteeringSizes) → 0 < sizes.shards → (count worker : ℕ) (captured : Sent) (before : PassView) (end : RunEnd) (after : PassView) →
-    IsSteeredRun plan count sizes worker captured before end after → IsQuietRun sizes count worker before after
+    IsRuled plan count sizes worker captured before end after → IsQuietRun sizes count worker before after
 run_quiet plan sizes some count worker captured before Stopped after run = stop_quiet plan sizes some count worker captured before after run
 run_quiet plan sizes some count worker captured before (Exited steps fate) after run = exit_quiet sizes some count worker captured before (Exited steps fate) after run
 
@@ -320,7 +319,7 @@ quiet_entries sizes worker number still (exchange ∷ later) all =
 
 module _ (plan : ℕ → ShardPlan) (count : ℕ) (sizes : SteeringSizes) (some : 0 < sizes.shards) (worker : ℕ) (records : List Sent) where
   abbrev IsRun : PassView → Ran → PassView → Type 0
-  IsRun before ran after = IsRunAt (IsSteeredRun plan count sizes worker) records before ran after
+  IsRun before ran after = IsRunAt (IsRuled plan count sizes worker) records before ran after
 
   quiet_of : (before : PassView) (ran : Ran) (after : PassView) → IsRun before ran after → IsQuietRun sizes count worker before after
   quiet_of before ran after run = run_quiet plan sizes some count worker run.sent before ran.end after run.run
@@ -343,7 +342,7 @@ module _ (plan : ℕ → ShardPlan) (count : ℕ) (sizes : SteeringSizes) (some 
       let here : (other : ℕ) → other < count → AllByRecursion NamesOwnAt (own_at chain.0 other) =
       (λ other inside. chain_earlier NamesOwnAt chain.0 later after chain.2 other inside (named other inside)) in
       let own : AllByRecursion NamesOwnIn run.exchanges =
-      each_exchange NamesOwnAt count worker run.exchanges run.written.within
+      each_exchange (λ (shard : ℕ). NamesOwnAt) count worker run.exchanges run.written.within
       (λ other inside. (run_parts NamesOwnAt count worker run.exchanges before chain.0 run.written other inside (here other inside)).0) in
       chain_quiet chain.0 later after chain.2 named number within still
       (run_whole (λ (entry : Entry). IsQuiet entry.call) count worker run.exchanges before chain.0 run.written number within tt tt

@@ -22,27 +22,19 @@ use Rattle.conntrack.specs.SteeringRule.{flow_update}
 use Rattle.conntrack.specs.Steering.{SteeringSizes, steering_shard, count_call}
 use Rattle.conntrack.specs.Results.{IsResult, IsRaised, IsNotFound, IsNoCell, change_of, changes_in, note_call, count_key, count_lookup}
 use Rattle.steered_replays.specs.Counting.{IsQuiet, IsCounting, raised_by}
+use Rattle.actors.proofs.shared.EveryEntry.{all_both, all_parts}
 use Rattle.steered_replays.proofs.CountLemmas.{quiet_raises}
-
-module _ {A : Type 0} where
-  pub all_both : (P : A → Type 0) (xs ys : List A) → AllByRecursion P xs → AllByRecursion P ys → AllByRecursion P (xs ++ ys)
-  all_both P [] ys first second = second
-  all_both P (x ∷ xs) ys first second = (first.0, all_both P xs ys first.1 second)
-
-  pub all_parts : (P : A → Type 0) (xs ys : List A) → AllByRecursion P (xs ++ ys) → AllByRecursion P xs × AllByRecursion P ys
-  all_parts P [] ys all = (tt, all)
-  all_parts P (x ∷ xs) ys all = (let rest = all_parts P xs ys all.1 in ((all.0, rest.0), rest.1))
 
 -- ---- where a verdict's count is
 
 abbrev pub count_shard : SteeringSizes → Verdict → ℕ
-count_shard setting verdict = steering_shard setting Stats (count_key verdict)
+count_shard sizes verdict = steering_shard sizes Stats (count_key verdict)
 
 abbrev pub count_id : SteeringSizes → Verdict → ℕ
-count_id setting verdict = verdict_number verdict / setting.shards
+count_id sizes verdict = verdict_number verdict / sizes.shards
 
 abbrev pub count_cell : SteeringSizes → Verdict → CellRef
-count_cell setting verdict = record { shard = count_shard setting verdict; id = count_id setting verdict }
+count_cell sizes verdict = record { shard = count_shard sizes verdict; id = count_id sizes verdict }
 
 pub key_number : (verdict : Verdict) → number_of_bytes (count_key verdict) ≡ verdict_number verdict
 key_number Aborted = refl
@@ -50,8 +42,8 @@ key_number Drop = refl
 key_number Pass = refl
 key_number Tx = refl
 
-pub count_shard_is : (setting : SteeringSizes) (verdict : Verdict) → count_shard setting verdict ≡ 5 * setting.shards + verdict_number verdict % setting.shards
-count_shard_is setting verdict = ap (λ n. 5 * setting.shards + n % setting.shards) (key_number verdict)
+pub count_shard_is : (sizes : SteeringSizes) (verdict : Verdict) → count_shard sizes verdict ≡ 5 * sizes.shards + verdict_number verdict % sizes.shards
+count_shard_is sizes verdict = ap (λ n. 5 * sizes.shards + n % sizes.shards) (key_number verdict)
 
 -- the count of another verdict is in another cell or shard
 if_same_number : (shards a b : ℕ) → (test : Bool) → (a == b) ≡ test →
@@ -92,13 +84,13 @@ raised_both number cell (x ∷ xs) ys = (let rest = raised_both number cell xs y
 
 -- a count that was looked up was found
 abbrev pub IsFound : SteeringSizes → Call → Reply → Type 0
-IsFound setting call reply = (verdict : Verdict) → call ≡ count_lookup setting verdict → reply ≡ Cell (count_cell setting verdict)
+IsFound sizes call reply = (verdict : Verdict) → call ≡ count_lookup sizes verdict → reply ≡ Cell (count_cell sizes verdict)
 
 -- ---- the calls before the count
 
 -- the call is one of a map before the counts, and raises none
-record IsAside (setting : SteeringSizes) (call : Call) : Type 0 where
-  before : shard_of_call call < 5 * setting.shards
+record IsAside (sizes : SteeringSizes) (call : Call) : Type 0 where
+  before : shard_of_call call < 5 * sizes.shards
   raises_none : (cell : ℕ) → raised_by cell call ≡ 0
 
 by_call : (Q : Call → Type 0) (call : Call) → AllByRecursion Q (change_of call) → IsQuiet call ⊎ Q call
@@ -118,24 +110,24 @@ quiet_or Q [] all = tt
 quiet_or Q (exchange ∷ later) all =
     let parts = all_parts Q (change_of exchange.call) (changes_in later) all in (by_call Q exchange.call parts.0, quiet_or Q later parts.1)
 
-note_aside : (setting : SteeringSizes) → 0 < setting.shards → (note : Option (List ℕ × List ℕ)) → AllByRecursion (IsAside setting) (note_call setting note)
-note_aside setting some None = tt
-note_aside setting some (Some note) =
-    let part : fnv1a64_of note.0 % setting.shards < setting.shards = mod-lt (fnv1a64_of note.0) some in
+note_aside : (sizes : SteeringSizes) → 0 < sizes.shards → (note : Option (List ℕ × List ℕ)) → AllByRecursion (IsAside sizes) (note_call sizes note)
+note_aside sizes some None = tt
+note_aside sizes some (Some note) =
+    let part : fnv1a64_of note.0 % sizes.shards < sizes.shards = mod-lt (fnv1a64_of note.0) some in
     (record { before = omega (arith, part, some); raises_none = λ cell. refl }, tt)
 
 abbrev IsBefore : SteeringSizes → Exchange → Type 0
-IsBefore setting exchange = IsQuiet exchange.call ⊎ IsAside setting exchange.call
+IsBefore sizes exchange = IsQuiet exchange.call ⊎ IsAside sizes exchange.call
 
-none_raised : (setting : SteeringSizes) (number cell : ℕ) (exchanges : List Exchange) → AllByRecursion (IsBefore setting) exchanges → raised_on number cell exchanges ≡ 0
-none_raised setting number cell [] all = refl
-none_raised setting number cell (exchange ∷ later) all =
-    let rest : raised_on number cell later ≡ 0 = none_raised setting number cell later all.1 in
+none_raised : (sizes : SteeringSizes) (number cell : ℕ) (exchanges : List Exchange) → AllByRecursion (IsBefore sizes) exchanges → raised_on number cell exchanges ≡ 0
+none_raised sizes number cell [] all = refl
+none_raised sizes number cell (exchange ∷ later) all =
+    let rest : raised_on number cell later ≡ 0 = none_raised sizes number cell later all.1 in
     let here : raised_by cell exchange.call ≡ 0 = by_kind all.0 in
     let none : (if shard_of_call exchange.call == number then raised_by cell exchange.call else 0) ≡ 0 = by_test (shard_of_call exchange.call == number) here in
     omega (arith, rest, none)
   where
-    by_kind : IsBefore setting exchange → raised_by cell exchange.call ≡ 0
+    by_kind : IsBefore sizes exchange → raised_by cell exchange.call ≡ 0
     by_kind (inl quiet) = quiet_raises cell exchange.call quiet
     by_kind (inr aside) = aside.raises_none cell
 
@@ -145,35 +137,35 @@ none_raised setting number cell (exchange ∷ later) all =
 
 -- ---- the count
 
-module _ (setting : SteeringSizes) (some : 0 < setting.shards) (verdict : Verdict) where
+module _ (sizes : SteeringSizes) (some : 0 < sizes.shards) (verdict : Verdict) where
   -- the count is found, and raised
-  pub raised_last : (last : List Exchange) → IsRaised setting verdict last ⊎ IsNotFound setting verdict last →
-      AllByRecursion (λ (exchange : Exchange). IsFound setting exchange.call exchange.reply) last →
-      (old : Reply) × (last ≡ (record { call = count_lookup setting verdict; reply = Cell (count_cell setting verdict) })
-      ∷ (record { call = count_call (count_cell setting verdict); reply = old }) ∷ [])
+  pub raised_last : (last : List Exchange) → IsRaised sizes verdict last ⊎ IsNotFound sizes verdict last →
+      AllByRecursion (λ (exchange : Exchange). IsFound sizes exchange.call exchange.reply) last →
+      (old : Reply) × (last ≡ (record { call = count_lookup sizes verdict; reply = Cell (count_cell sizes verdict) })
+      ∷ (record { call = count_call (count_cell sizes verdict); reply = old }) ∷ [])
   raised_last last (inl raised) found =
-      let first = (subst (λ (l : List Exchange). AllByRecursion (λ (exchange : Exchange). IsFound setting exchange.call exchange.reply) l) raised.calls found).0 in
-      let same : raised.cell ≡ count_cell setting verdict = cc (first verdict refl) in (
+      let first = (subst (λ (l : List Exchange). AllByRecursion (λ (exchange : Exchange). IsFound sizes exchange.call exchange.reply) l) raised.calls found).0 in
+      let same : raised.cell ≡ count_cell sizes verdict = cc (first verdict refl) in (
         raised.old,
-        raised.calls ∙ ap (λ (cell : CellRef). (record { call = count_lookup setting verdict; reply = Cell cell })
+        raised.calls ∙ ap (λ (cell : CellRef). (record { call = count_lookup sizes verdict; reply = Cell cell })
             ∷ (record { call = count_call cell; reply = raised.old }) ∷ []) same,
       )
   raised_last last (inr absent) found =
-      let first = (subst (λ (l : List Exchange). AllByRecursion (λ (exchange : Exchange). IsFound setting exchange.call exchange.reply) l) absent.calls found).0 in
+      let first = (subst (λ (l : List Exchange). AllByRecursion (λ (exchange : Exchange). IsFound sizes exchange.call exchange.reply) l) absent.calls found).0 in
       absurd (subst IsNoCell (first verdict refl) absent.no_cell)
 
   raised_once : (other : Verdict) (old : Reply) →
-      raised_on (count_shard setting other) (count_id setting other) ((record { call = count_lookup setting verdict; reply = Cell (count_cell setting verdict) })
-      ∷ (record { call = count_call (count_cell setting verdict); reply = old }) ∷ [])
+      raised_on (count_shard sizes other) (count_id sizes other) ((record { call = count_lookup sizes verdict; reply = Cell (count_cell sizes verdict) })
+      ∷ (record { call = count_call (count_cell sizes verdict); reply = old }) ∷ [])
       ≡ (if verdict_number verdict == verdict_number other then 1 else 0)
   raised_once other old =
-      let lookup : ◌≡◌ {A = ℕ} (if count_shard setting verdict == count_shard setting other then 0 else 0) 0 = nothing (count_shard setting verdict == count_shard setting other) in
-      let added : ◌≡◌ {A = ℕ} (if count_shard setting verdict == count_shard setting other then (if count_id setting verdict == count_id setting other then 1 else 0) else 0)
+      let lookup : ◌≡◌ {A = ℕ} (if count_shard sizes verdict == count_shard sizes other then 0 else 0) 0 = nothing (count_shard sizes verdict == count_shard sizes other) in
+      let added : ◌≡◌ {A = ℕ} (if count_shard sizes verdict == count_shard sizes other then (if count_id sizes verdict == count_id sizes other then 1 else 0) else 0)
       (if verdict_number verdict == verdict_number other then 1 else 0) =
-      ap {B = ℕ} (λ n. (if n == count_shard setting other then (if count_id setting verdict == count_id setting other then 1 else 0) else 0)) (count_shard_is setting verdict)
-      ∙ ap {B = ℕ} (λ n. (if 5 * setting.shards + verdict_number verdict % setting.shards == n then (if count_id setting verdict == count_id setting other then 1 else 0) else 0))
-      (count_shard_is setting other)
-      ∙ if_same_number setting.shards (verdict_number verdict) (verdict_number other) (verdict_number verdict == verdict_number other) refl in
+      ap {B = ℕ} (λ n. (if n == count_shard sizes other then (if count_id sizes verdict == count_id sizes other then 1 else 0) else 0)) (count_shard_is sizes verdict)
+      ∙ ap {B = ℕ} (λ n. (if 5 * sizes.shards + verdict_number verdict % sizes.shards == n then (if count_id sizes verdict == count_id sizes other then 1 else 0) else 0))
+      (count_shard_is sizes other)
+      ∙ if_same_number sizes.shards (verdict_number verdict) (verdict_number other) (verdict_number verdict == verdict_number other) refl in
       omega (arith, lookup, added)
     where
       nothing : (test : Bool) → ◌≡◌ {A = ℕ} (if test then 0 else 0) 0
@@ -181,20 +173,20 @@ module _ (setting : SteeringSizes) (some : 0 < setting.shards) (verdict : Verdic
       nothing false = refl
 
 -- a result raises the count of its verdict once, and no other one
-pub result_raises : (setting : SteeringSizes) → 0 < setting.shards → (frame : FrameView) (exchanges : List Exchange) (verdict : Verdict) (left : FrameView) →
-    IsResult setting frame exchanges verdict left → AllByRecursion (λ (exchange : Exchange). IsFound setting exchange.call exchange.reply) exchanges →
-    (other : Verdict) → raised_on (count_shard setting other) (count_id setting other) exchanges ≡ (if verdict_number verdict == verdict_number other then 1 else 0)
-result_raises setting some frame exchanges verdict left result found other =
-    let number : ℕ = count_shard setting other in
-    let cell : ℕ = count_id setting other in
-    let parts = all_parts (λ (exchange : Exchange). IsFound setting exchange.call exchange.reply) result.before result.last
-    (subst (λ (l : List Exchange). AllByRecursion (λ (exchange : Exchange). IsFound setting exchange.call exchange.reply) l) result.all found) in
-    let last = raised_last setting some verdict result.last result.counted parts.1 in
-    let aside = quiet_or (IsAside setting) result.before
-    (subst (λ (calls : List Call). AllByRecursion (IsAside setting) calls) (sym result.noted) (note_aside setting some (flow_update frame.bytes result.choice))) in
-    let none : raised_on number cell result.before ≡ 0 = none_raised setting number cell result.before aside in
+pub result_raises : (sizes : SteeringSizes) → 0 < sizes.shards → (frame : FrameView) (exchanges : List Exchange) (verdict : Verdict) (left : FrameView) →
+    IsResult sizes frame exchanges verdict left → AllByRecursion (λ (exchange : Exchange). IsFound sizes exchange.call exchange.reply) exchanges →
+    (other : Verdict) → raised_on (count_shard sizes other) (count_id sizes other) exchanges ≡ (if verdict_number verdict == verdict_number other then 1 else 0)
+result_raises sizes some frame exchanges verdict left result found other =
+    let number : ℕ = count_shard sizes other in
+    let cell : ℕ = count_id sizes other in
+    let parts = all_parts (λ (exchange : Exchange). IsFound sizes exchange.call exchange.reply) result.before result.last
+    (subst (λ (l : List Exchange). AllByRecursion (λ (exchange : Exchange). IsFound sizes exchange.call exchange.reply) l) result.all found) in
+    let last = raised_last sizes some verdict result.last result.counted parts.1 in
+    let aside = quiet_or (IsAside sizes) result.before
+    (subst (λ (calls : List Call). AllByRecursion (IsAside sizes) calls) (sym result.noted) (note_aside sizes some (flow_update frame.bytes result.choice))) in
+    let none : raised_on number cell result.before ≡ 0 = none_raised sizes number cell result.before aside in
     let once : raised_on number cell result.last ≡ (if verdict_number verdict == verdict_number other then 1 else 0) =
-    ap (raised_on number cell) last.1 ∙ raised_once setting some verdict other last.0 in
+    ap (raised_on number cell) last.1 ∙ raised_once sizes some verdict other last.0 in
     ap (raised_on number cell) result.all ∙ raised_both number cell result.before result.last
     ∙ ap (λ n. n + raised_on number cell result.last) none ∙ plain (raised_on number cell result.last) ∙ once
   where
@@ -203,25 +195,25 @@ result_raises setting some frame exchanges verdict left result found other =
 
 -- a call of a shard of counts finds, reads or raises one
 abbrev pub IsCountingIn : SteeringSizes → Exchange → Type 0
-IsCountingIn setting exchange = 5 * setting.shards ≤ shard_of_call exchange.call → IsCounting exchange.call
+IsCountingIn sizes exchange = 5 * sizes.shards ≤ shard_of_call exchange.call → IsCounting exchange.call
 
-counting_before : (setting : SteeringSizes) (exchanges : List Exchange) → AllByRecursion (IsBefore setting) exchanges → AllByRecursion (IsCountingIn setting) exchanges
-counting_before setting [] all = tt
-counting_before setting (exchange ∷ later) all = (by_kind all.0, counting_before setting later all.1)
+counting_before : (sizes : SteeringSizes) (exchanges : List Exchange) → AllByRecursion (IsBefore sizes) exchanges → AllByRecursion (IsCountingIn sizes) exchanges
+counting_before sizes [] all = tt
+counting_before sizes (exchange ∷ later) all = (by_kind all.0, counting_before sizes later all.1)
   where
-    by_kind : IsBefore setting exchange → IsCountingIn setting exchange
+    by_kind : IsBefore sizes exchange → IsCountingIn sizes exchange
     by_kind (inl quiet) = λ past. inl quiet
     by_kind (inr aside) = λ past. absurd (let before = aside.before in omega (arith, before, past))
 
-pub result_counts : (setting : SteeringSizes) → 0 < setting.shards → (frame : FrameView) (exchanges : List Exchange) (verdict : Verdict) (left : FrameView) →
-    IsResult setting frame exchanges verdict left → AllByRecursion (IsCountingIn setting) exchanges
-result_counts setting some frame exchanges verdict left result =
-    let aside = quiet_or (IsAside setting) result.before
-    (subst (λ (calls : List Call). AllByRecursion (IsAside setting) calls) (sym result.noted) (note_aside setting some (flow_update frame.bytes result.choice))) in
-    subst (λ (l : List Exchange). AllByRecursion (IsCountingIn setting) l) (sym result.all)
-    (all_both (IsCountingIn setting) result.before result.last (counting_before setting result.before aside) (by_last result.counted))
+pub result_counts : (sizes : SteeringSizes) → 0 < sizes.shards → (frame : FrameView) (exchanges : List Exchange) (verdict : Verdict) (left : FrameView) →
+    IsResult sizes frame exchanges verdict left → AllByRecursion (IsCountingIn sizes) exchanges
+result_counts sizes some frame exchanges verdict left result =
+    let aside = quiet_or (IsAside sizes) result.before
+    (subst (λ (calls : List Call). AllByRecursion (IsAside sizes) calls) (sym result.noted) (note_aside sizes some (flow_update frame.bytes result.choice))) in
+    subst (λ (l : List Exchange). AllByRecursion (IsCountingIn sizes) l) (sym result.all)
+    (all_both (IsCountingIn sizes) result.before result.last (counting_before sizes result.before aside) (by_last result.counted))
   where
-    by_last : IsRaised setting verdict result.last ⊎ IsNotFound setting verdict result.last → AllByRecursion (IsCountingIn setting) result.last
+    by_last : IsRaised sizes verdict result.last ⊎ IsNotFound sizes verdict result.last → AllByRecursion (IsCountingIn sizes) result.last
     by_last (inl raised) =
-        subst (λ (l : List Exchange). AllByRecursion (IsCountingIn setting) l) (sym raised.calls) ((λ past. inl tt), ((λ past. inr (raised.cell, refl)), tt))
-    by_last (inr absent) = subst (λ (l : List Exchange). AllByRecursion (IsCountingIn setting) l) (sym absent.calls) ((λ past. inl tt), tt)
+        subst (λ (l : List Exchange). AllByRecursion (IsCountingIn sizes) l) (sym raised.calls) ((λ past. inl tt), ((λ past. inr (raised.cell, refl)), tt))
+    by_last (inr absent) = subst (λ (l : List Exchange). AllByRecursion (IsCountingIn sizes) l) (sym absent.calls) ((λ past. inl tt), tt)

@@ -35,13 +35,13 @@ use Rattle.actors.specs.SharedUpdates.{shard_of}
 use Rattle.steered_replays.specs.Counting.{IsQuiet}
 use Rattle.steered_replays.specs.SteeredRuns.{IsSteeredReplay}
 use Rattle.steered_replays.specs.TablesAtEnd.{value_in_shard, last_histories, maps_at_end, carried_out, service_left, AreServices, IsPlainReplay, IsMoment}
-use Rattle.steered_replays.proofs.CallerSums.{all_of_callers}
+use Rattle.actors.proofs.shared.Callers.{all_of_callers}
 use Rattle.steered_replays.proofs.CommandTables.{done_actions}
 use Rattle.steered_replays.proofs.HashShards.{IsKeeping, IsAsideOrOwn, last_kept, kept_after, own_keeps, kept_made, is_key_in, updates_keep, same_kept}
 use Rattle.steered_replays.proofs.NoteLemmas.{legal_before}
-use Rattle.steered_replays.proofs.PlaceLemmas.{part_place}
+use Rattle.steered_replays.proofs.PlaceLemmas.{part_place, some_shard}
 use Rattle.steered_replays.proofs.QuietRuns.{IsChanged}
-use Rattle.steered_replays.proofs.ResultCounts.{all_parts}
+use Rattle.actors.proofs.shared.EveryEntry.{all_parts}
 use Rattle.steered_replays.proofs.ServiceTables.{is_service, services_done, service_place}
 use Rattle.steered_replays.proofs.TableLemmas as tables
 use Rattle.steered_replays.proofs.TableLemmas.{IsPlanOf, planned_of, all_places}
@@ -113,7 +113,7 @@ module _ (notes size : ℕ) (is_size : IsRingSize size) (script : List Command) 
   all_done = accounted.commands.done
 
   some : 0 < options.shards
-  some = tables.some_shard options.shards plain.fit.power_of_two
+  some = some_shard options.shards plain.fit.power_of_two
 
   -- one shard of services
   module _ (number : ℕ) (within : number < accounted.count) (low : number < options.shards)

@@ -15,7 +15,7 @@ use Rattle.conntrack.specs.SteeringLaws.{FinishedRunsAreResults}
 use Rattle.conntrack.specs.SteeringRule.{frame_after}
 use Rattle.std.specs.Prelude.{Some}
 use Rattle.steered_replays.specs.StickyFlows.{GetsPastGuards, IsBackendNoted, RunOfNoted}
-use Rattle.steered_replays.specs.StickyRow.{StickyRow, sticky_setting, row_frame, row_key, sticky_plan, row_backend, row_tunnel, row_guards, row_exchanges}
+use Rattle.steered_replays.specs.StickyRow.{StickyRow, sticky_sizes, row_frame, row_key, sticky_plan, row_backend, row_tunnel, row_guards, row_exchanges}
 use Rattle.steered_replays.specs.StickyRow.{row_flow_lookup, row_flow_load, row_backend_lookup, row_backend_load, row_count, row_flows, row_since, row_flows_before}
 use Rattle.steered_replays.specs.StickyRow.{row_backends, row_backends_before}
 
@@ -141,10 +141,10 @@ pub sticky_row : FinishedRunsAreResults → StickyRow
 unfolding row_run
 sticky_row results =
     let sent : FrameView = frame_after (Some row_tunnel) (C.Tx 2 row_backend.address false) row_frame in
-    let plan : plan_outcome (steering sticky_setting row_frame) (replies_in row_exchanges) ≡ record { calls = calls_in row_exchanges; ending = Ended Tx sent } = refl in
+    let plan : plan_outcome (steering sticky_sizes row_frame) (replies_in row_exchanges) ≡ record { calls = calls_in row_exchanges; ending = Ended Tx sent } = refl in
     record {
       left = sent;
-      ends = record { plan = plan; result = results sticky_setting row_frame row_exchanges Tx sent plan };
+      ends = record { plan = plan; result = results sticky_sizes row_frame row_exchanges Tx sent plan };
       run = row_run;
       flows_plan = refl;
       flows_are = refl;

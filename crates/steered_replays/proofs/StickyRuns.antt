@@ -71,11 +71,11 @@ replies_joined [] ys = refl
 replies_joined (x ∷ xs) ys = ap (λ rest. x.reply ∷ rest) (replies_joined xs ys)
 
 -- a counted verdict ends with it
-pub counted_ends : (setting : SteeringSizes) (counted : Verdict) (sent left : FrameView) (verdict : Verdict) (last : List Exchange) →
-    plan_outcome (counted_end setting counted sent) (replies_in last) ≡ done (calls_in last) (Ended verdict left) →
+pub counted_ends : (sizes : SteeringSizes) (counted : Verdict) (sent left : FrameView) (verdict : Verdict) (last : List Exchange) →
+    plan_outcome (counted_end sizes counted sent) (replies_in last) ≡ done (calls_in last) (Ended verdict left) →
     (verdict ≡ counted) × (left ≡ sent)
-counted_ends setting counted sent left verdict [] is = (let ends : Waiting ≡ Ended verdict left = ap (λ (o : RunOutcome). o.ending) is in absurd cc ends)
-counted_ends setting counted sent left verdict (one ∷ rest) is = by one.reply (replies_in rest) (ap (λ (o : RunOutcome). o.ending) is)
+counted_ends sizes counted sent left verdict [] is = (let ends : Waiting ≡ Ended verdict left = ap (λ (o : RunOutcome). o.ending) is in absurd cc ends)
+counted_ends sizes counted sent left verdict (one ∷ rest) is = by one.reply (replies_in rest) (ap (λ (o : RunOutcome). o.ending) is)
   where
     ended : Ended counted sent ≡ Ended verdict left → (verdict ≡ counted) × (left ≡ sent)
     ended is = (cc is, cc is)
@@ -99,24 +99,24 @@ abbrev pub records_of : VipRecord → TunnelRecord → Option Assigned → Recor
 records_of vip tunnel tracked = record { vip = Some vip; tunnel = Some tunnel; tracked = tracked; slot = None }
 
 abbrev pub on_state : SteeringSizes → FrameView → VipRecord → CellRef → ℕ → Plan
-on_state setting frame vip cell state =
+on_state sizes frame vip cell state =
     read cell 0 8 (λ source. read cell 8 8 (λ macs.
-    read_note setting frame vip (records_of vip (tunnel_of (bytes_of_number 8 source ++ (bytes_of_number 8 macs ++ bytes_of_number 8 state))) None)))
+    read_note sizes frame vip (records_of vip (tunnel_of (bytes_of_number 8 source ++ (bytes_of_number 8 macs ++ bytes_of_number 8 state))) None)))
 
 abbrev pub on_assigned : SteeringSizes → FrameView → VipRecord → TunnelRecord → Assigned → Plan
-on_assigned setting frame vip tunnel assigned =
-    unless_tracked setting frame (records_of vip tunnel (Some assigned)) (tracked_choice vip (records_of vip tunnel (Some assigned)))
+on_assigned sizes frame vip tunnel assigned =
+    unless_tracked sizes frame (records_of vip tunnel (Some assigned)) (tracked_choice vip (records_of vip tunnel (Some assigned)))
 
 abbrev pub on_backend : SteeringSizes → FrameView → VipRecord → TunnelRecord → ℕ → ℕ → Plan
-on_backend setting frame vip tunnel number word =
-    on_assigned setting frame vip tunnel (record { number = number; «record» = Some (backend_of (bytes_of_number 8 word)) })
+on_backend sizes frame vip tunnel number word =
+    on_assigned sizes frame vip tunnel (record { number = number; «record» = Some (backend_of (bytes_of_number 8 word)) })
 
 abbrev pub on_word : SteeringSizes → FrameView → VipRecord → TunnelRecord → ℕ → Plan
-on_word setting frame vip tunnel word = read_backend setting (flow_record_of (bytes_of_number 8 word)).backend (on_assigned setting frame vip tunnel)
+on_word sizes frame vip tunnel word = read_backend sizes (flow_record_of (bytes_of_number 8 word)).backend (on_assigned sizes frame vip tunnel)
 
 abbrev pub on_note : SteeringSizes → FrameView → VipRecord → TunnelRecord → Plan
-on_note setting frame vip tunnel =
-    record_of setting Flows (flow_bytes_of frame.bytes) (on_word setting frame vip tunnel) (read_slot setting frame (records_of vip tunnel None))
+on_note sizes frame vip tunnel =
+    record_of sizes Flows (flow_bytes_of frame.bytes) (on_word sizes frame vip tunnel) (read_slot sizes frame (records_of vip tunnel None))
 
 -- ---- the note stays from the Lookup to the Load
 
@@ -158,8 +158,8 @@ index_back n small = omega arith
 
 -- ---- the run
 
-module _ (sticks : FlowsStick) (setting : SteeringSizes) (frame : FrameView) (tunnel : TunnelRecord) (number : ℕ) (backend : BackendRecord) (worker : ℕ)
-    (exchanges : List Exchange) (verdict : Verdict) (left : FrameView) (ends : EndsByRule setting frame exchanges verdict left)
+module _ (sticks : FlowsStick) (sizes : SteeringSizes) (frame : FrameView) (tunnel : TunnelRecord) (number : ℕ) (backend : BackendRecord) (worker : ℕ)
+    (exchanges : List Exchange) (verdict : Verdict) (left : FrameView) (ends : EndsByRule sizes frame exchanges verdict left)
     (run : RunOfNoted frame tunnel number backend worker exchanges) where
   abbrev vip : VipRecord
   vip = vip_of (bytes_of_number 8 run.past.flags)
@@ -179,29 +179,29 @@ module _ (sticks : FlowsStick) (setting : SteeringSizes) (frame : FrameView) (tu
   abbrev past_lookup : List Exchange
   past_lookup = run.flow_load ∷ past_load
 
-  past_guards : plan_after (steering setting frame) (replies_in run.guards) ≡ on_note setting frame vip ready
+  past_guards : plan_after (steering sizes frame) (replies_in run.guards) ≡ on_note sizes frame vip ready
   past_guards =
       let past = run.past in
       let ready_set : ready.is_ready ≡ true = ap (λ (t : TunnelRecord). t.is_ready) (sym past.tunnel_is) ∙ past.is_ready in
       let bare : TunnelRecord = tunnel_of (replicate 16 0 ++ bytes_of_number 8 past.state) in
       let past_state : List Reply = Word past.source ∷ Word past.macs ∷ [] in
       let past_flags : List Reply = Cell past.tunnel_cell ∷ Word past.state ∷ past_state in
-      ap (plan_after (steering setting frame)) past.replies_are
-      ∙ on_left (has_flow frame.bytes) (read_service setting frame) (finish setting frame no_records) (Cell past.service_cell ∷ Word past.flags ∷ past_flags) (passes_test frame.bytes past.has_flow)
-      ∙ on_left (fits_tunnel frame.bytes) (read_tunnel setting frame vip (record no_records { vip = Some vip })) (finish setting frame (record no_records { vip = Some vip })) past_flags past.fits
-      ∙ on_left bare.is_ready (on_state setting frame vip past.tunnel_cell past.state) (finish setting frame (records_of vip bare None)) past_state ready_set
-      ∙ on_right vip.is_notrack (read_slot setting frame (records_of vip ready None)) (on_note setting frame vip ready) [] past.is_tracked
+      ap (plan_after (steering sizes frame)) past.replies_are
+      ∙ on_left (has_flow frame.bytes) (read_service sizes frame) (finish sizes frame no_records) (Cell past.service_cell ∷ Word past.flags ∷ past_flags) (passes_test frame.bytes past.has_flow)
+      ∙ on_left (fits_tunnel frame.bytes) (read_tunnel sizes frame vip (record no_records { vip = Some vip })) (finish sizes frame (record no_records { vip = Some vip })) past_flags past.fits
+      ∙ on_left bare.is_ready (on_state sizes frame vip past.tunnel_cell past.state) (finish sizes frame (records_of vip bare None)) past_state ready_set
+      ∙ on_right vip.is_notrack (read_slot sizes frame (records_of vip ready None)) (on_note sizes frame vip ready) [] past.is_tracked
 
   -- the Lookup of the flow
-  from_lookup : plan_outcome (on_note setting frame vip ready) (replies_in (run.flow_lookup ∷ past_lookup))
+  from_lookup : plan_outcome (on_note sizes frame vip ready) (replies_in (run.flow_lookup ∷ past_lookup))
       ≡ done (calls_in (run.flow_lookup ∷ past_lookup)) (Ended verdict left)
   from_lookup =
       subst (λ (p : Plan). plan_outcome p (replies_in (run.flow_lookup ∷ past_lookup)) ≡ done (calls_in (run.flow_lookup ∷ past_lookup)) (Ended verdict left)) past_guards
-      (goes_on (steering setting frame) run.guards (run.flow_lookup ∷ past_lookup) (Ended verdict left)
-      (subst (λ (xs : List Exchange). plan_outcome (steering setting frame) (replies_in xs) ≡ done (calls_in xs) (Ended verdict left)) run.exchanges_are ends.plan))
+      (goes_on (steering sizes frame) run.guards (run.flow_lookup ∷ past_lookup) (Ended verdict left)
+      (subst (λ (xs : List Exchange). plan_outcome (steering sizes frame) (replies_in xs) ≡ done (calls_in xs) (Ended verdict left)) run.exchanges_are ends.plan))
 
-  lookup_call : run.flow_lookup.call ≡ Lookup (steering_shard setting Flows key) key
-  lookup_call = first_call (Lookup (steering_shard setting Flows key) key) (found_or (λ cell. read cell 0 8 (on_word setting frame vip ready)) (read_slot setting frame (records_of vip ready None)))
+  lookup_call : run.flow_lookup.call ≡ Lookup (steering_shard sizes Flows key) key
+  lookup_call = first_call (Lookup (steering_shard sizes Flows key) key) (found_or (λ cell. read cell 0 8 (on_word sizes frame vip ready)) (read_slot sizes frame (records_of vip ready None)))
       run.flow_lookup past_lookup (Ended verdict left) from_lookup
 
   abbrev noted_cell : CellRef
@@ -219,22 +219,22 @@ module _ (sticks : FlowsStick) (setting : SteeringSizes) (frame : FrameView) (tu
   lookup_reply_is : run.flow_lookup.reply ≡ Cell noted_cell
   lookup_reply_is =
       legal_lookup.0.step.replied ∙ ap (reply_of run.flows run.noted.earlier (shard_after run.flows run.noted.earlier)) lookup_call
-      ∙ (notes_are_found run.flows run.noted.earlier key number run.noted.cell run.noted.kind_is legal_lookup.1 run.noted.noted).0 (steering_shard setting Flows key)
+      ∙ (notes_are_found run.flows run.noted.earlier key number run.noted.cell run.noted.kind_is legal_lookup.1 run.noted.noted).0 (steering_shard sizes Flows key)
 
   -- the Load of the note
-  from_load : plan_outcome (read noted_cell 0 8 (on_word setting frame vip ready)) (replies_in past_lookup) ≡ done (calls_in past_lookup) (Ended verdict left)
+  from_load : plan_outcome (read noted_cell 0 8 (on_word sizes frame vip ready)) (replies_in past_lookup) ≡ done (calls_in past_lookup) (Ended verdict left)
   from_load =
-      subst (λ (reply : Reply). plan_outcome (plan_after (on_note setting frame vip ready) (reply ∷ [])) (replies_in past_lookup) ≡ done (calls_in past_lookup) (Ended verdict left)) lookup_reply_is
-      (goes_on (on_note setting frame vip ready) (run.flow_lookup ∷ []) past_lookup (Ended verdict left) from_lookup)
+      subst (λ (reply : Reply). plan_outcome (plan_after (on_note sizes frame vip ready) (reply ∷ [])) (replies_in past_lookup) ≡ done (calls_in past_lookup) (Ended verdict left)) lookup_reply_is
+      (goes_on (on_note sizes frame vip ready) (run.flow_lookup ∷ []) past_lookup (Ended verdict left) from_lookup)
 
   load_call : run.flow_load.call ≡ Load noted_cell 0 8
-  load_call = first_call (Load noted_cell 0 8) (λ reply. on_word setting frame vip ready (word_in reply)) run.flow_load past_load (Ended verdict left) from_load
+  load_call = first_call (Load noted_cell 0 8) (λ reply. on_word sizes frame vip ready (word_in reply)) run.flow_load past_load (Ended verdict left) from_load
 
   noted_at_load : IsBackendNoted run.flows key number run.noted.cell at_load
   noted_at_load =
       noted_on run.flows key number run.noted.cell run.noted.between (exchange_entry worker run.flow_lookup ∷ run.noted.earlier)
       (noted_on run.flows key number run.noted.cell (exchange_entry worker run.flow_lookup ∷ []) run.noted.earlier run.noted.noted
-      (lookup_leaves run.flows key key run.noted.cell (steering_shard setting Flows key) run.noted.earlier run.flow_lookup.call lookup_call, tt))
+      (lookup_leaves run.flows key key run.noted.cell (steering_shard sizes Flows key) run.noted.earlier run.flow_lookup.call lookup_call, tt))
       run.noted.untouched
 
   load_reply_is : run.flow_load.reply ≡ Word number
@@ -252,15 +252,15 @@ module _ (sticks : FlowsStick) (setting : SteeringSizes) (frame : FrameView) (tu
   abbrev backend_key : List ℕ
   backend_key = bytes_of_number 4 (flow_record_of (bytes_of_number 8 number)).backend
 
-  from_backend : plan_outcome (on_word setting frame vip ready number) (replies_in past_load) ≡ done (calls_in past_load) (Ended verdict left)
+  from_backend : plan_outcome (on_word sizes frame vip ready number) (replies_in past_load) ≡ done (calls_in past_load) (Ended verdict left)
   from_backend =
-      subst (λ (reply : Reply). plan_outcome (plan_after (read noted_cell 0 8 (on_word setting frame vip ready)) (reply ∷ [])) (replies_in past_load) ≡ done (calls_in past_load) (Ended verdict left)) load_reply_is
-      (goes_on (read noted_cell 0 8 (on_word setting frame vip ready)) (run.flow_load ∷ []) past_load (Ended verdict left) from_load)
+      subst (λ (reply : Reply). plan_outcome (plan_after (read noted_cell 0 8 (on_word sizes frame vip ready)) (reply ∷ [])) (replies_in past_load) ≡ done (calls_in past_load) (Ended verdict left)) load_reply_is
+      (goes_on (read noted_cell 0 8 (on_word sizes frame vip ready)) (run.flow_load ∷ []) past_load (Ended verdict left) from_load)
 
-  backend_call : run.backend_lookup.call ≡ Lookup (steering_shard setting Backends backend_key) backend_key
-  backend_call = first_call (Lookup (steering_shard setting Backends backend_key) backend_key)
-      (found_or (λ cell. read cell 0 8 (on_backend setting frame vip ready (flow_record_of (bytes_of_number 8 number)).backend))
-      (on_assigned setting frame vip ready (record { number = (flow_record_of (bytes_of_number 8 number)).backend; «record» = None })))
+  backend_call : run.backend_lookup.call ≡ Lookup (steering_shard sizes Backends backend_key) backend_key
+  backend_call = first_call (Lookup (steering_shard sizes Backends backend_key) backend_key)
+      (found_or (λ cell. read cell 0 8 (on_backend sizes frame vip ready (flow_record_of (bytes_of_number 8 number)).backend))
+      (on_assigned sizes frame vip ready (record { number = (flow_record_of (bytes_of_number 8 number)).backend; «record» = None })))
       run.backend_lookup (run.backend_load ∷ last) (Ended verdict left) from_backend
 
   abbrev at_record : List Entry
@@ -281,7 +281,7 @@ module _ (sticks : FlowsStick) (setting : SteeringSizes) (frame : FrameView) (tu
   backend_reply_is : run.backend_lookup.reply ≡ Cell backend_cell
   backend_reply_is =
       legal_backend.0.step.replied ∙ ap (reply_of run.backends run.up.earlier (shard_after run.backends run.up.earlier)) backend_call
-      ∙ lookups_find run.backends run.up.earlier (shard_after run.backends run.up.earlier) (steering_shard setting Backends backend_key) backend_key run.up.kind_is
+      ∙ lookups_find run.backends run.up.earlier (shard_after run.backends run.up.earlier) (steering_shard sizes Backends backend_key) backend_key run.up.kind_is
       (subst (λ n. n < run.backends.definition.max_entries) (sym index_is) run.up.is_index)
       ∙ ap (λ n. Cell (record { shard = run.backends.number; id = n / run.backends.parts })) index_is
 
@@ -289,14 +289,14 @@ module _ (sticks : FlowsStick) (setting : SteeringSizes) (frame : FrameView) (tu
   word = number_in_cell (shard_after run.backends at_record) (number / run.backends.parts) 0 8
 
   from_record :
-      plan_outcome (plan_after (on_word setting frame vip ready number) (Cell backend_cell ∷ [])) (replies_in (run.backend_load ∷ last))
+      plan_outcome (plan_after (on_word sizes frame vip ready number) (Cell backend_cell ∷ [])) (replies_in (run.backend_load ∷ last))
       ≡ done (calls_in (run.backend_load ∷ last)) (Ended verdict left)
   from_record =
-      subst (λ (reply : Reply). plan_outcome (plan_after (on_word setting frame vip ready number) (reply ∷ [])) (replies_in (run.backend_load ∷ last)) ≡ done (calls_in (run.backend_load ∷ last)) (Ended verdict left)) backend_reply_is
-      (goes_on (on_word setting frame vip ready number) (run.backend_lookup ∷ []) (run.backend_load ∷ last) (Ended verdict left) from_backend)
+      subst (λ (reply : Reply). plan_outcome (plan_after (on_word sizes frame vip ready number) (reply ∷ [])) (replies_in (run.backend_load ∷ last)) ≡ done (calls_in (run.backend_load ∷ last)) (Ended verdict left)) backend_reply_is
+      (goes_on (on_word sizes frame vip ready number) (run.backend_lookup ∷ []) (run.backend_load ∷ last) (Ended verdict left) from_backend)
 
   record_call : run.backend_load.call ≡ Load backend_cell 0 8
-  record_call = first_call (Load backend_cell 0 8) (λ reply. on_backend setting frame vip ready (flow_record_of (bytes_of_number 8 number)).backend (word_in reply)) run.backend_load last (Ended verdict left) from_record
+  record_call = first_call (Load backend_cell 0 8) (λ reply. on_backend sizes frame vip ready (flow_record_of (bytes_of_number 8 number)).backend (word_in reply)) run.backend_load last (Ended verdict left) from_record
 
   record_reply_is : run.backend_load.reply ≡ Word word
   record_reply_is =
@@ -329,19 +329,19 @@ module _ (sticks : FlowsStick) (setting : SteeringSizes) (frame : FrameView) (tu
   all_asked : exchanges ≡ asked ++ last
   all_asked = run.exchanges_are ∙ sym (append_assoc run.guards (run.flow_lookup ∷ run.flow_load ∷ run.backend_lookup ∷ run.backend_load ∷ []) last)
 
-  chosen : plan_after (steering setting frame) (replies_in asked) ≡ ending setting frame (Some tunnel) (Tx number backend.address false)
-  chosen = sticks setting frame tunnel number backend (replies_in asked) run.past.has_flow run.past.fits run.past.is_ready run.up.is_up finds
+  chosen : plan_after (steering sizes frame) (replies_in asked) ≡ ending sizes frame (Some tunnel) (Tx number backend.address false)
+  chosen = sticks sizes frame tunnel number backend (replies_in asked) run.past.has_flow run.past.fits run.past.is_ready run.up.is_up finds
 
   ended : (verdict ≡ V.Tx) × (left ≡ frame_after (Some tunnel) (Tx number backend.address false) frame)
   ended =
-      counted_ends setting V.Tx (frame_after (Some tunnel) (Tx number backend.address false) frame) left verdict last
+      counted_ends sizes V.Tx (frame_after (Some tunnel) (Tx number backend.address false) frame) left verdict last
       (subst (λ (p : Plan). plan_outcome p (replies_in last) ≡ done (calls_in last) (Ended verdict left)) chosen
-      (goes_on (steering setting frame) asked last (Ended verdict left)
-      (subst (λ (xs : List Exchange). plan_outcome (steering setting frame) (replies_in xs) ≡ done (calls_in xs) (Ended verdict left)) all_asked ends.plan)))
+      (goes_on (steering sizes frame) asked last (Ended verdict left)
+      (subst (λ (xs : List Exchange). plan_outcome (steering sizes frame) (replies_in xs) ≡ done (calls_in xs) (Ended verdict left)) all_asked ends.plan)))
 
-  chooses : ChoosesNoted setting frame tunnel number backend exchanges verdict left
+  chooses : ChoosesNoted sizes frame tunnel number backend exchanges verdict left
   chooses = record { asked = asked; last = last; exchanges_are = all_asked; chosen = chosen; verdict_is = ended.0; left_is = ended.1 }
 
 pub noted_flows_stick : FlowsStick → NotedFlowsStick
-noted_flows_stick sticks setting frame tunnel number backend worker exchanges verdict left ends run =
-    chooses sticks setting frame tunnel number backend worker exchanges verdict left ends run
+noted_flows_stick sticks sizes frame tunnel number backend worker exchanges verdict left ends run =
+    chooses sticks sizes frame tunnel number backend worker exchanges verdict left ends run

@@ -8,7 +8,7 @@ use Rattle.conntrack.specs.declared.choosing.Choice.TheVariants as choices
 use Rattle.conntrack.specs.Steering.{steering}
 use Rattle.conntrack.specs.SteeringLaws.{FinishedRunsAreResults}
 use Rattle.conntrack.specs.SteeringRule.{steered_frame}
-use Rattle.steered_replays.specs.StickyRow.{row_backend, row_backend_load, row_backend_lookup, row_backends_before, row_count, row_frame, row_guards, row_tunnel, sticky_setting}
+use Rattle.steered_replays.specs.StickyRow.{row_backend, row_backend_load, row_backend_lookup, row_backends_before, row_count, row_frame, row_guards, row_tunnel, sticky_sizes}
 use Rattle.steered_replays.specs.StrangerRow.{StrangerRow, note_update, row_now, row_ring_before, row_vip, slot_load, slot_lookup, stranger_exchanges, stranger_lookup}
 use Rattle.steered_replays.specs.StrangerRuns.{ReachesNote, RunOfStranger, none_noted, somebody}
 use Rattle.steered_replays.proofs.StickyRow.{row_has_flow}
@@ -47,5 +47,5 @@ row_run = record {
 pub stranger_row : FinishedRunsAreResults → StrangerRow
 stranger_row results =
     let sent : FrameView = steered_frame row_tunnel (choices.Tx 2 row_backend.address true) row_frame in
-    let plan : plan_outcome (steering sticky_setting row_frame) (replies_in stranger_exchanges) ≡ record { calls = calls_in stranger_exchanges; ending = Ended Tx sent } = refl in
-    record { left = sent; ends = record { plan = plan; result = results sticky_setting row_frame stranger_exchanges Tx sent plan }; run = row_run; left_is = refl }
+    let plan : plan_outcome (steering sticky_sizes row_frame) (replies_in stranger_exchanges) ≡ record { calls = calls_in stranger_exchanges; ending = Ended Tx sent } = refl in
+    record { left = sent; ends = record { plan = plan; result = results sticky_sizes row_frame stranger_exchanges Tx sent plan }; run = row_run; left_is = refl }

@@ -24,7 +24,7 @@ use Rattle.semantics.specs.declared.verdict.Verdict.{Verdict}
 use Rattle.semantics.specs.Cells.{word_in}
 use Rattle.semantics.specs.History.{IsLegalHistory}
 use Rattle.semantics.specs.LittleEndian.{bytes_of_number, number_of_bytes}
-use Rattle.semantics.specs.Program.{shard_of_key}
+use Rattle.semantics.specs.Program.{Program, shard_of_key}
 use Rattle.semantics.specs.SequentialShard.{SequentialShard, cell_bytes, cell_of_key, cell_of_kind, lookup_reply, reply_of, shard_after}
 use Rattle.semantics.specs.ShardPlan.{plan_at, plan_for_map}
 use Rattle.semantics.specs.System.{input_frame}
@@ -55,23 +55,23 @@ use Rattle.control.specs.declared.command.Action.TheVariants.{Down}
 use Rattle.control.specs.declared.command.Command.{Command}
 use Rattle.control.specs.Controlling.{IsTable, has_number, without_backend}
 use Rattle.actors.specs.declared.outcome.Outcome.{Outcome}
-use Rattle.actors.specs.declared.runner.Ran.{Ran}
 use Rattle.actors.specs.declared.runner.RunEnd.{RunEnd}
 use Rattle.actors.specs.declared.runner.RunEnd.TheVariants.{Exited, Stopped}
-use Rattle.actors.specs.Accounted.{IsAccounted}
-use Rattle.actors.specs.Accounts.{runs_at}
-use Rattle.actors.specs.RunsInOrder.{IsChainOfRuns, IsRunAt}
-use Rattle.steered_replays.specs.SteeredRuns.{EndsByRule, IsSteeredRun, RunInPlace, runs_in_chain}
+use Rattle.actors.specs.Accounted.{PlacedRun, runs_in_work, IsAccounted}
+use Rattle.actors.specs.RunsOverShards.{IsRunIn}
+use Rattle.semantics.proofs.shared.HoldingLemmas.{each_weaker}
+use Rattle.steered_replays.specs.SteeredRuns.{EndsByRule, IsSteeredRun}
 use Rattle.steered_replays.specs.TablesAtEnd.{AreTablesAtEnd, IsMoment, IsPlainReplay, IsRecordedUp, MapsAt, TablesFollow, carried_out, is_refused, last_histories, no_record, record_left, up_left, value_at, value_in_shard}
 use Rattle.steered_replays.specs.Fleets.{IsSentByTable, OwnersAreSentTo, assigned_in, owner_in, owner_of_flow, sent_to, server_of, slot_of_flow}
 use Rattle.steered_replays.specs.StrangerRuns.{FindsNoNote, IsReadAt, ReachesNote, ReadsOwner, RunOfStranger, SentIfStranger, StrangersAreSent, StrangersMoveBetweenRuns, nobody, none_noted, noted_is_down, somebody, untracked}
-use Rattle.steered_replays.proofs.FleetLemmas.{IsOwned, found_one, flow_slot, is_owned, left_both, owner_back, owner_up, same_owner, same_server}
+use Rattle.steered_replays.proofs.FleetLemmas.{IsOwned, flow_slot, is_owned, left_both, owner_back, owner_up, same_owner, same_server}
 use Rattle.steered_replays.proofs.MovingStrangers.{from_zero, one_more, some_slots}
 use Rattle.steered_replays.proofs.NoteLemmas.{legal_before}
-use Rattle.steered_replays.proofs.PlaceLemmas.{part_place}
+use Rattle.steered_replays.proofs.PlaceLemmas.{part_place, some_shard}
 use Rattle.steered_replays.proofs.StickyReplays.{told_as}
 use Rattle.steered_replays.proofs.StickyRuns.{counted_ends, done, first_call, goes_on, on_left, on_note, on_right, on_state, records_of}
-use Rattle.steered_replays.proofs.TableLemmas.{IsPlanOf, below_all, planned_of, some_shard}
+use Rattle.steered_replays.proofs.TableLemmas.{IsPlanOf, below_all, planned_of}
+use Rattle.steered_replays.proofs.CommandTables.{found_one}
 
 -- ---- bytes
 
@@ -98,9 +98,9 @@ mapped f (Some it) other is = (it, refl, cc)
 
 -- ---- the plan up to the slot
 
-module _ (setting : SteeringSizes) (frame : FrameView) where
+module _ (sizes : SteeringSizes) (frame : FrameView) where
   reached : (vip : VipRecord) (tunnel : TunnelRecord) (replies : List Reply) → ReachesNote frame.bytes vip tunnel replies →
-      plan_after (steering setting frame) replies ≡ read_note setting frame vip (records_of vip tunnel None)
+      plan_after (steering sizes frame) replies ≡ read_note sizes frame vip (records_of vip tunnel None)
   reached vip tunnel replies past =
       let its : VipRecord = vip_of (bytes_of_number 8 past.flags) in
       let ready : TunnelRecord = tunnel_of (bytes_of_number 8 past.source ++ (bytes_of_number 8 past.macs ++ bytes_of_number 8 past.state)) in
@@ -108,30 +108,30 @@ module _ (setting : SteeringSizes) (frame : FrameView) where
       let bare : TunnelRecord = tunnel_of (replicate 16 0 ++ bytes_of_number 8 past.state) in
       let past_state : List Reply = Word past.source ∷ Word past.macs ∷ [] in
       let past_flags : List Reply = Cell past.tunnel_cell ∷ Word past.state ∷ past_state in
-      ap (plan_after (steering setting frame)) past.replies_are
-      ∙ on_left (has_flow frame.bytes) (read_service setting frame) (finish setting frame no_records) (Cell past.service_cell ∷ Word past.flags ∷ past_flags) (passes_test frame.bytes past.has_flow)
-      ∙ on_left (fits_tunnel frame.bytes) (read_tunnel setting frame its (record no_records { vip = Some its })) (finish setting frame (record no_records { vip = Some its })) past_flags past.fits
-      ∙ on_left bare.is_ready (on_state setting frame its past.tunnel_cell past.state) (finish setting frame (records_of its bare None)) past_state ready_set
-      ∙ ap (λ (v : VipRecord). read_note setting frame v (records_of v ready None)) (sym past.vip_is)
-      ∙ ap (λ (t : TunnelRecord). read_note setting frame vip (records_of vip t None)) (sym past.tunnel_is)
+      ap (plan_after (steering sizes frame)) past.replies_are
+      ∙ on_left (has_flow frame.bytes) (read_service sizes frame) (finish sizes frame no_records) (Cell past.service_cell ∷ Word past.flags ∷ past_flags) (passes_test frame.bytes past.has_flow)
+      ∙ on_left (fits_tunnel frame.bytes) (read_tunnel sizes frame its (record no_records { vip = Some its })) (finish sizes frame (record no_records { vip = Some its })) past_flags past.fits
+      ∙ on_left bare.is_ready (on_state sizes frame its past.tunnel_cell past.state) (finish sizes frame (records_of its bare None)) past_state ready_set
+      ∙ ap (λ (v : VipRecord). read_note sizes frame v (records_of v ready None)) (sym past.vip_is)
+      ∙ ap (λ (t : TunnelRecord). read_note sizes frame vip (records_of vip t None)) (sym past.tunnel_is)
 
   -- past the note the slot is read, and no note decides
   record PastNote (vip : VipRecord) (tunnel : TunnelRecord) (replies : List Reply) : Type 0 where
     tracked : Option Assigned
-    goes : plan_after (read_note setting frame vip (records_of vip tunnel None)) replies ≡ read_slot setting frame (records_of vip tunnel tracked)
+    goes : plan_after (read_note sizes frame vip (records_of vip tunnel None)) replies ≡ read_slot sizes frame (records_of vip tunnel tracked)
     none : tracked_choice vip (records_of vip tunnel tracked) ≡ None
 
   past_note : (vip : VipRecord) (tunnel : TunnelRecord) (replies : List Reply) → FindsNoNote vip replies → PastNote vip tunnel replies
   past_note vip tunnel replies (untracked is empty) = record {
     tracked = None;
-    goes = ap (plan_after (read_note setting frame vip (records_of vip tunnel None))) empty
-        ∙ on_left vip.is_notrack (read_slot setting frame (records_of vip tunnel None)) (on_note setting frame vip tunnel) [] is;
+    goes = ap (plan_after (read_note sizes frame vip (records_of vip tunnel None))) empty
+        ∙ on_left vip.is_notrack (read_slot sizes frame (records_of vip tunnel None)) (on_note sizes frame vip tunnel) [] is;
     none = ap (λ (t : Bool). if t then None else choice_of false None) is;
   }
   past_note vip tunnel replies (none_noted is are) = record {
     tracked = None;
-    goes = ap (plan_after (read_note setting frame vip (records_of vip tunnel None))) are
-        ∙ on_right vip.is_notrack (read_slot setting frame (records_of vip tunnel None)) (on_note setting frame vip tunnel) (Null ∷ []) is;
+    goes = ap (plan_after (read_note sizes frame vip (records_of vip tunnel None))) are
+        ∙ on_right vip.is_notrack (read_slot sizes frame (records_of vip tunnel None)) (on_note sizes frame vip tunnel) (Null ∷ []) is;
     none = ap (λ (t : Bool). if t then None else choice_of false None) is;
   }
   past_note vip tunnel replies (noted_is_down is note_cell backend_cell note word down are) =
@@ -143,28 +143,28 @@ module _ (setting : SteeringSizes) (frame : FrameView) where
       ∙ ap (λ (t : Bool). if t then Some (Tx number (backend_of (bytes_of_number 8 word)).address false) else None) down in
       record {
         tracked = Some assigned;
-        goes = ap (plan_after (read_note setting frame vip (records_of vip tunnel None))) are
-            ∙ on_right vip.is_notrack (read_slot setting frame (records_of vip tunnel None)) (on_note setting frame vip tunnel) all is
-            ∙ ap (unless_tracked setting frame (records_of vip tunnel (Some assigned))) none;
+        goes = ap (plan_after (read_note sizes frame vip (records_of vip tunnel None))) are
+            ∙ on_right vip.is_notrack (read_slot sizes frame (records_of vip tunnel None)) (on_note sizes frame vip tunnel) all is
+            ∙ ap (unless_tracked sizes frame (records_of vip tunnel (Some assigned))) none;
         none = none;
       }
 
   -- what is carried out at the end is the choice
   noted_ends : (note : Option (List ℕ × List ℕ)) (counted : Verdict) (sent left : FrameView) (verdict : Verdict) (last : List Exchange) →
-      plan_outcome (noting setting note (counted_end setting counted sent)) (replies_in last) ≡ done (calls_in last) (Ended verdict left) →
+      plan_outcome (noting sizes note (counted_end sizes counted sent)) (replies_in last) ≡ done (calls_in last) (Ended verdict left) →
       (verdict ≡ counted) × (left ≡ sent)
-  noted_ends None counted sent left verdict last is = counted_ends setting counted sent left verdict last is
+  noted_ends None counted sent left verdict last is = counted_ends sizes counted sent left verdict last is
   noted_ends (Some note) counted sent left verdict [] is = (let ends : Waiting ≡ Ended verdict left = ap (λ o. o.ending) is in absurd cc ends)
   noted_ends (Some note) counted sent left verdict (one ∷ last) is =
-      counted_ends setting counted sent left verdict last
-      (goes_on (noting setting (Some note) (counted_end setting counted sent)) (one ∷ []) last (Ended verdict left) is)
+      counted_ends sizes counted sent left verdict last
+      (goes_on (noting sizes (Some note) (counted_end sizes counted sent)) (one ∷ []) last (Ended verdict left) is)
 
   record IsChosen (records : Records) (verdict : Verdict) (left : FrameView) : Type 0 where
     verdict_is : verdict ≡ verdict_of_choice (choice_in frame.bytes records)
     left_is : left ≡ frame_after records.tunnel (choice_in frame.bytes records) frame
 
   finish_ends : (records : Records) (left : FrameView) (verdict : Verdict) (last : List Exchange) →
-      plan_outcome (finish setting frame records) (replies_in last) ≡ done (calls_in last) (Ended verdict left) → IsChosen records verdict left
+      plan_outcome (finish sizes frame records) (replies_in last) ≡ done (calls_in last) (Ended verdict left) → IsChosen records verdict left
   finish_ends records left verdict last is =
       let choice : Choice = choice_in frame.bytes records in
       let ended = noted_ends (flow_update frame.bytes choice) (verdict_of_choice choice) (frame_after records.tunnel choice frame) left verdict last is in
@@ -308,8 +308,8 @@ module _ (notes size : ℕ) (script : List Command) (options : Options) (records
     module _ (captured : Sent) (vip : VipRecord) (tunnel : TunnelRecord) (exchanges : List Exchange) (verdict : Verdict) (left : FrameView)
         (ends : EndsByRule (of_size options.shards size) (input_frame captured.bytes.items) exchanges verdict left)
         (run : RunOfStranger size now (input_frame captured.bytes.items) vip tunnel worker exchanges) where
-      abbrev setting : SteeringSizes
-      setting = of_size options.shards size
+      abbrev sizes : SteeringSizes
+      sizes = of_size options.shards size
 
       abbrev frame : FrameView
       frame = input_frame captured.bytes.items
@@ -320,8 +320,8 @@ module _ (notes size : ℕ) (script : List Command) (options : Options) (records
       slot_below : slot < size
       slot_below = flow_slot size frame.bytes (some_slots size is)
 
-      past : PastNote setting frame vip tunnel (replies_in run.note)
-      past = past_note setting frame vip tunnel (replies_in run.note) run.no_note
+      past : PastNote sizes frame vip tunnel (replies_in run.note)
+      past = past_note sizes frame vip tunnel (replies_in run.note) run.no_note
 
       abbrev known_records : Records
       known_records = records_of vip tunnel past.tracked
@@ -332,14 +332,14 @@ module _ (notes size : ℕ) (script : List Command) (options : Options) (records
       abbrev past_lookup : List Exchange
       past_lookup = run.slot_load ∷ run.rest
 
-      from_slot : plan_outcome (read_slot setting frame known_records) (replies_in (run.slot_lookup ∷ past_lookup)) ≡ done (calls_in (run.slot_lookup ∷ past_lookup)) end_is
+      from_slot : plan_outcome (read_slot sizes frame known_records) (replies_in (run.slot_lookup ∷ past_lookup)) ≡ done (calls_in (run.slot_lookup ∷ past_lookup)) end_is
       from_slot =
           subst (λ (p : Plan). plan_outcome p (replies_in (run.slot_lookup ∷ past_lookup)) ≡ done (calls_in (run.slot_lookup ∷ past_lookup)) end_is) past.goes
-          (goes_on (read_note setting frame vip (records_of vip tunnel None)) run.note (run.slot_lookup ∷ past_lookup) end_is
+          (goes_on (read_note sizes frame vip (records_of vip tunnel None)) run.note (run.slot_lookup ∷ past_lookup) end_is
           (subst (λ (p : Plan). plan_outcome p (replies_in (run.note ++ run.slot_lookup ∷ past_lookup)) ≡ done (calls_in (run.note ++ run.slot_lookup ∷ past_lookup)) end_is)
-          (reached setting frame vip tunnel (replies_in run.guards) run.reaches)
-          (goes_on (steering setting frame) run.guards (run.note ++ run.slot_lookup ∷ past_lookup) end_is
-          (subst (λ (xs : List Exchange). plan_outcome (steering setting frame) (replies_in xs) ≡ done (calls_in xs) end_is) run.exchanges_are ends.plan))))
+          (reached sizes frame vip tunnel (replies_in run.guards) run.reaches)
+          (goes_on (steering sizes frame) run.guards (run.note ++ run.slot_lookup ∷ past_lookup) end_is
+          (subst (λ (xs : List Exchange). plan_outcome (steering sizes frame) (replies_in xs) ≡ done (calls_in xs) end_is) run.exchanges_are ends.plan))))
 
       abbrev slot_bytes : List ℕ
       slot_bytes = ring_bytes (record { owner = slice_get tables.owners slot })
@@ -352,18 +352,18 @@ module _ (notes size : ℕ) (script : List Command) (options : Options) (records
           key_read Ring (ring_entries size) refl refl (omega arith) slot (omega (arith, few_slots, slot_below)) slot_bytes run.slot_lookup run.slot_load slot_value run.slot
 
       abbrev on_slot : ℕ → Plan
-      on_slot word = read_owner setting frame known_records (owner_of word)
+      on_slot word = read_owner sizes frame known_records (owner_of word)
 
       slot_found : run.slot_lookup.reply ≡ Cell slot_read.cell
       slot_found =
-          slot_read.found (steering_shard setting Ring (bytes_of_number 4 slot))
-          (first_call (Lookup (steering_shard setting Ring (bytes_of_number 4 slot)) (bytes_of_number 4 slot))
-          (found_or (λ cell. read cell 0 4 on_slot) (finish setting frame known_records)) run.slot_lookup past_lookup end_is from_slot)
+          slot_read.found (steering_shard sizes Ring (bytes_of_number 4 slot))
+          (first_call (Lookup (steering_shard sizes Ring (bytes_of_number 4 slot)) (bytes_of_number 4 slot))
+          (found_or (λ cell. read cell 0 4 on_slot) (finish sizes frame known_records)) run.slot_lookup past_lookup end_is from_slot)
 
       from_load : plan_outcome (read slot_read.cell 0 4 on_slot) (replies_in past_lookup) ≡ done (calls_in past_lookup) end_is
       from_load =
-          subst (λ (reply : Reply). plan_outcome (plan_after (read_slot setting frame known_records) (reply ∷ [])) (replies_in past_lookup) ≡ done (calls_in past_lookup) end_is) slot_found
-          (goes_on (read_slot setting frame known_records) (run.slot_lookup ∷ []) past_lookup end_is from_slot)
+          subst (λ (reply : Reply). plan_outcome (plan_after (read_slot sizes frame known_records) (reply ∷ [])) (replies_in past_lookup) ≡ done (calls_in past_lookup) end_is) slot_found
+          (goes_on (read_slot sizes frame known_records) (run.slot_lookup ∷ []) past_lookup end_is from_slot)
 
       slot_word : run.slot_load.reply ≡ Word (number_of_bytes (take 4 (drop 0 slot_bytes)))
       slot_word = slot_read.word 0 4 (first_call (Load slot_read.cell 0 4) (λ reply. on_slot (word_in reply)) run.slot_load run.rest end_is from_load)
@@ -371,9 +371,9 @@ module _ (notes size : ℕ) (script : List Command) (options : Options) (records
       abbrev owner : Option ℕ
       owner = owner_in (value_at now Ring (bytes_of_number 4 slot))
 
-      from_owner : plan_outcome (read_owner setting frame known_records owner) (replies_in run.rest) ≡ done (calls_in run.rest) end_is
+      from_owner : plan_outcome (read_owner sizes frame known_records owner) (replies_in run.rest) ≡ done (calls_in run.rest) end_is
       from_owner =
-          subst (λ (o : Option ℕ). plan_outcome (read_owner setting frame known_records o) (replies_in run.rest) ≡ done (calls_in run.rest) end_is) (sym (ap owner_in slot_value))
+          subst (λ (o : Option ℕ). plan_outcome (read_owner sizes frame known_records o) (replies_in run.rest) ≡ done (calls_in run.rest) end_is) (sym (ap owner_in slot_value))
           (subst (λ (reply : Reply). plan_outcome (plan_after (read slot_read.cell 0 4 on_slot) (reply ∷ [])) (replies_in run.rest) ≡ done (calls_in run.rest) end_is) slot_word
           (goes_on (read slot_read.cell 0 4 on_slot) (run.slot_load ∷ []) run.rest end_is from_load))
 
@@ -381,14 +381,14 @@ module _ (notes size : ℕ) (script : List Command) (options : Options) (records
       record IsRead : Type 0 where
         owner_read : Option Assigned
         is_owner : owner_read ≡ owner_of_flow size now frame.bytes
-        chosen : IsChosen setting frame (record known_records { slot = owner_read }) verdict left
+        chosen : IsChosen sizes frame (record known_records { slot = owner_read }) verdict left
 
       read_by : ReadsOwner now worker owner run.rest → IsRead
       read_by (nobody none) = record {
         owner_read = None;
         is_owner = sym (ap (assigned_in now) none);
-        chosen = finish_ends setting frame known_records left verdict run.rest
-            (subst (λ (o : Option ℕ). plan_outcome (read_owner setting frame known_records o) (replies_in run.rest) ≡ done (calls_in run.rest) end_is) none from_owner);
+        chosen = finish_ends sizes frame known_records left verdict run.rest
+            (subst (λ (o : Option ℕ). plan_outcome (read_owner sizes frame known_records o) (replies_in run.rest) ≡ done (calls_in run.rest) end_is) none from_owner);
       }
       read_by (somebody number owner_is lookup load last rest_is its_read) =
           let backend = owners_record (up_left [] acts) tables.table tables.up slot slot_below number owner_is in
@@ -397,15 +397,15 @@ module _ (notes size : ℕ) (script : List Command) (options : Options) (records
           let backend_key : List ℕ = bytes_of_number 4 number in
           let value : value_at now Backends backend_key ≡ Some bytes = tables.backends number few in
           let one = key_read Backends 256 refl refl (omega arith) number (omega (arith, few)) bytes lookup load value its_read in
-          let on_assigned : Option _ → Plan = λ r. finish setting frame (record known_records { slot = Some (record { number = number; «record» = r }) }) in
+          let on_assigned : Option _ → Plan = λ r. finish sizes frame (record known_records { slot = Some (record { number = number; «record» = r }) }) in
           let on_record : ℕ → Plan = λ word. on_assigned (Some (backend_of (bytes_of_number 8 word))) in
-          let plan : Plan = read_backend setting number (λ assigned. finish setting frame (record known_records { slot = Some assigned })) in
+          let plan : Plan = read_backend sizes number (λ assigned. finish sizes frame (record known_records { slot = Some assigned })) in
           let from_backend : plan_outcome plan (replies_in (lookup ∷ load ∷ last)) ≡ done (calls_in (lookup ∷ load ∷ last)) end_is =
           subst (λ (xs : List Exchange). plan_outcome plan (replies_in xs) ≡ done (calls_in xs) end_is) rest_is
-          (subst (λ (o : Option ℕ). plan_outcome (read_owner setting frame known_records o) (replies_in run.rest) ≡ done (calls_in run.rest) end_is) owner_is from_owner) in
+          (subst (λ (o : Option ℕ). plan_outcome (read_owner sizes frame known_records o) (replies_in run.rest) ≡ done (calls_in run.rest) end_is) owner_is from_owner) in
           let found : lookup.reply ≡ Cell one.cell =
-          one.found (steering_shard setting Backends backend_key)
-          (first_call (Lookup (steering_shard setting Backends backend_key) backend_key) (found_or (λ cell. read cell 0 8 on_record) (on_assigned None)) lookup (load ∷ last) end_is from_backend) in
+          one.found (steering_shard sizes Backends backend_key)
+          (first_call (Lookup (steering_shard sizes Backends backend_key) backend_key) (found_or (λ cell. read cell 0 8 on_record) (on_assigned None)) lookup (load ∷ last) end_is from_backend) in
           let from_record : plan_outcome (read one.cell 0 8 on_record) (replies_in (load ∷ last)) ≡ done (calls_in (load ∷ last)) end_is =
           subst (λ (reply : Reply). plan_outcome (plan_after plan (reply ∷ [])) (replies_in (load ∷ last)) ≡ done (calls_in (load ∷ last)) end_is) found
           (goes_on plan (lookup ∷ []) (load ∷ last) end_is from_backend) in
@@ -425,7 +425,7 @@ module _ (notes size : ℕ) (script : List Command) (options : Options) (records
                 ◌∙◌ {b = assigned_in now (Some number)}
                 (ap (λ (v : Option (List ℕ)). Some (record { number = number; «record» = option_map backend_of v })) (sym value))
                 (sym (ap (assigned_in now) owner_is));
-            chosen = finish_ends setting frame (record known_records { slot = Some (record { number = number; «record» = Some (backend_of bytes) }) }) left verdict last at_end;
+            chosen = finish_ends sizes frame (record known_records { slot = Some (record { number = number; «record» = Some (backend_of bytes) }) }) left verdict last at_end;
           }
 
       reads : IsRead
@@ -470,37 +470,40 @@ module _ (follow : TablesFollow) (owners : OwnersAreSentTo) (notes size : ℕ) (
   few_slots_then =
       All-contains (λ n. n < 2 ^ 32) ring_sizes size (All-from_recursion (λ n. n < 2 ^ 32) ring_sizes (omega arith, (omega arith, (omega arith, (omega arith, tt))))) is
 
+  abbrev shipped : Program
+  shipped = shipped_program notes (of_size options.shards size)
+
   sent : (captured : Sent) (before : PassView) (end : RunEnd) (after : PassView)
-      (steered : IsSteeredRun plain.accounted.plan plain.accounted.count (of_size options.shards size) worker captured before end after) →
-      SentIfStranger size (up_left [] acts_then) maps_then plain.accounted.plan plain.accounted.count (of_size options.shards size) worker captured before end after steered
-  sent captured before Stopped after steered = tt
-  sent captured before (Exited steps fate) after steered = λ vip tunnel run.
+      (run : IsRunIn plain.accounted.plan plain.accounted.count shipped worker outcome.journals captured before end after) →
+      IsSteeredRun (of_size options.shards size) plain.accounted.plan plain.accounted.count shipped worker outcome.journals captured before end after run →
+      SentIfStranger size (up_left [] acts_then) maps_then plain.accounted.plan plain.accounted.count shipped worker outcome.journals captured before end after run
+  sent captured before Stopped after run steered = tt
+  sent captured before (Exited steps fate) after run steered = λ vip tunnel stranger.
       let chosen = chosen_by_table notes size script options records outcome plain histories worker acts_then tables_then is few_slots_then captured vip tunnel
-      steered.exchanges steered.verdict steered.frame steered.by_rule run in
+      run.run.exchanges run.verdict run.frame steered stranger in
       record {
         owners = tables_then.owners;
         table = tables_then.table;
         choice = chosen.choice;
         by_table = chosen.by_table;
         choice_is = owners size acts_then maps_then tables_then captured.bytes.items vip chosen.choice (some_slots size is) chosen.by_table;
-        told = told_as captured steered.verdict _ steered.frame _ (Exited steps fate) chosen.verdict_is chosen.left_is steered.told;
+        told = told_as captured run.verdict _ run.frame _ (Exited steps fate) chosen.verdict_is chosen.left_is run.told;
       }
-
-  all_sent : (before : PassView) (runs : List Ran) (after : PassView)
-      (chain : IsChainOfRuns (IsRunAt (IsSteeredRun plain.accounted.plan plain.accounted.count (of_size options.shards size) worker) records) before runs after) →
-      AllByRecursion
-      (λ (one : RunInPlace (IsRunAt (IsSteeredRun plain.accounted.plan plain.accounted.count (of_size options.shards size) worker) records)).
-      SentIfStranger size (up_left [] acts_then) maps_then plain.accounted.plan plain.accounted.count (of_size options.shards size) worker one.run.sent one.before
-      one.ran.end one.after one.run.run)
-      (runs_in_chain (IsRunAt (IsSteeredRun plain.accounted.plan plain.accounted.count (of_size options.shards size) worker) records) before runs after chain)
-  all_sent before [] after chain = tt
-  all_sent before (ran ∷ later) after chain = (sent chain.1.sent before ran.end chain.0 chain.1.run, all_sent chain.0 later after chain.2)
 
 pub strangers_are_sent : TablesFollow → OwnersAreSentTo → StrangersAreSent
 strangers_are_sent follow owners notes size is script options records outcome plain steered commands histories moment worker below =
-    let work = steered.work worker below in
-    all_sent follow owners notes size is script options records outcome plain commands histories moment worker work.handled.before
-    (runs_at plain.accounted.runs worker) work.after work.handled.chain
+    let shipped : Program = shipped_program notes (of_size options.shards size) in
+    each_weaker
+    (λ (one : PlacedRun plain.accounted.plan plain.accounted.count shipped worker outcome.journals records).
+    IsSteeredRun (of_size options.shards size) plain.accounted.plan plain.accounted.count shipped worker outcome.journals one.run.sent one.before
+    one.ran.end one.after one.run.run)
+    (λ (one : PlacedRun plain.accounted.plan plain.accounted.count shipped worker outcome.journals records).
+    SentIfStranger size (up_left [] (carried_out outcome.refused.items 0 (take commands script)))
+    (record { journals = outcome.journals; histories = histories }) plain.accounted.plan plain.accounted.count shipped worker outcome.journals
+    one.run.sent one.before one.ran.end one.after one.run.run)
+    (λ one is_steered. sent follow owners notes size is script options records outcome plain commands histories moment worker one.run.sent one.before
+    one.ran.end one.after one.run.run is_steered)
+    (runs_in_work (plain.accounted.work worker below)) (steered.by_rule worker below)
 
 -- ---- two runs, before a `down` and behind it
 

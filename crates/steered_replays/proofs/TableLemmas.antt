@@ -5,7 +5,6 @@ use Rattle.std.specs.List.{AllByRecursion}
 use Rattle.std.proofs.Math.Nat.{mod-lt}
 use Rattle.std.proofs.lemmas.Bool.{lt-ltb}
 use Rattle.std.proofs.lemmas.Bool.Decides.{nat_tests}
-use Rattle.std.proofs.lemmas.List.Elements.{All-from_recursion, All-contains}
 use Rattle.std.proofs.lemmas.List.{take_all, length-replicate, length-append}
 use Rattle.ebpf_decode.specs.declared.map.MapDef.{MapDef}
 use Rattle.ebpf_decode.specs.declared.map.MapKind.{MapKind}
@@ -23,7 +22,7 @@ use Rattle.semantics.specs.History.{IsLegalHistory}
 use Rattle.semantics.specs.LittleEndian.{number_of_bytes, bytes_of_number}
 use Rattle.semantics.specs.SequentialShard.{SequentialShard, shard_after, cell_bytes, cell_of_key, cell_of_kind}
 use Rattle.semantics.specs.ShardPlan.{plan_at, plan_for_map, capacity}
-use Rattle.maglev.specs.RingSize.{IsRingSize, ring_sizes}
+use Rattle.maglev.specs.RingSize.{IsRingSize}
 use Rattle.maglev.specs.declared.backend.Backend.{Backend as Server}
 use Rattle.conntrack.specs.declared.records.BackendRecord.{BackendRecord}
 use Rattle.conntrack.specs.declared.steering_maps.SteeringMap.TheVariants as maps
@@ -43,25 +42,28 @@ use Rattle.control.specs.Controlling.{ControllerState, IsTable, opened_controlle
 use Rattle.control.specs.MapUpdates.{UpdateBytes, map_update}
 use Rattle.actors.specs.declared.outcome.Applied.{Applied}
 use Rattle.actors.specs.declared.outcome.Outcome.{Outcome}
-use Rattle.actors.specs.Accounted.{IsAccounted}
+use Rattle.actors.specs.Accounted.{IsWorkOf, IsAccounted}
+use Rattle.actors.specs.RunsInOrder.{IsRunAt}
+use Rattle.actors.specs.Shares.{frames_of, share}
 use Rattle.actors.specs.Accounts.{runs_at}
 use Rattle.actors.specs.Actors.{numbers_from}
 use Rattle.actors.specs.Commands.{AnsweredUpdate, CommandDone, AreDone, AreNotedOf, ServesScript, all_set, made_in, with_updates, with_update, controller_entry}
 use Rattle.actors.specs.Parts.{numbers_of, refused_of, round_count}
-use Rattle.actors.specs.Rounds.{IsReclaimedBy}
 use Rattle.actors.specs.SharedUpdates.{shard_of}
 use Rattle.map_updates.specs.declared.update.MapUpdate.{MapUpdate}
 use Rattle.steered_replays.specs.Counting.{IsQuiet}
 use Rattle.steered_replays.specs.SteeredRuns.{IsSteeredReplay}
+use Rattle.steered_replays.proofs.RuledRuns.{IsRuled, work_ruled}
 use Rattle.steered_replays.specs.TablesAtEnd.{value_in_shard, value_at, last_histories, maps_at_end, IsRecordedUp, is_refused, carried_out, MetNoFullJournal, up_left, no_record, record_left, AreTablesAtEnd, IsPlainReplay, IsMoment}
 use Rattle.steered_replays.proofs.ArrayShards.{is_success, IsSetting, IsControlled, cell_after, own_puts, last_put, last_sized, put_made, is_in_cell, updates_put, same_put}
-use Rattle.steered_replays.proofs.CallerSums.{all_of_callers, all_own}
+use Rattle.actors.proofs.shared.Callers.{all_of_callers, all_own}
 use Rattle.steered_replays.proofs.CommandTables.{is_at, IsNoStop, done_actions, and_action, HaveRecords, slot_done, table_done, up_done, size_done, records_done, take_done, take_unstopped}
 use Rattle.steered_replays.proofs.ControllerShards.{IsOfChange, all_made}
 use Rattle.steered_replays.proofs.NoteLemmas.{legal_before}
-use Rattle.steered_replays.proofs.ResultCounts.{all_parts}
-use Rattle.steered_replays.proofs.PlaceLemmas.{same_command, part_place, aside_of, same_place}
+use Rattle.actors.proofs.shared.EveryEntry.{all_parts}
+use Rattle.steered_replays.proofs.PlaceLemmas.{same_command, part_place, aside_of, same_place, IsShards, some_shard, rounds_none}
 use Rattle.steered_replays.proofs.QuietRuns.{NamesOwnAt, IsChanged, all_name_own, chain_quiet}
+use Rattle.actors.proofs.shared.RingSizes.{four_sizes, one_size}
 
 -- ---- the size of the table
 
@@ -69,32 +71,8 @@ abbrev third_entries : List MapDef → ℕ
 third_entries (first ∷ second ∷ third ∷ rest) = third.max_entries
 third_entries _ = 0
 
-abbrev IsSizeOf : ℕ → ℕ → Type 0
-IsSizeOf size other = ring_entries size ≡ ring_entries other → size ≡ other
-
-of_each : (size : ℕ) → IsSizeOf size 7 → IsSizeOf size 251 → IsSizeOf size 4093 → IsSizeOf size 65537 → (other : ℕ) → IsRingSize other → IsSizeOf size other
-of_each size one two three four other is =
-    All-contains (IsSizeOf size) ring_sizes other (All-from_recursion (IsSizeOf size) ring_sizes (one, (two, (three, (four, tt))))) is
-
-one_size : (size other : ℕ) → IsRingSize size → IsRingSize other → ring_entries size ≡ ring_entries other → size ≡ other
-one_size size other is other_is =
-    All-contains (λ n. (m : ℕ) → IsRingSize m → IsSizeOf n m) ring_sizes size
-    (All-from_recursion (λ n. (m : ℕ) → IsRingSize m → IsSizeOf n m) ring_sizes (
-      of_each 7 (λ e. refl) (λ e. absurd (omega (arith, e))) (λ e. absurd (omega (arith, e))) (λ e. absurd (omega (arith, e))),
-      (
-        of_each 251 (λ e. absurd (omega (arith, e))) (λ e. refl) (λ e. absurd (omega (arith, e))) (λ e. absurd (omega (arith, e))),
-        (
-          of_each 4093 (λ e. absurd (omega (arith, e))) (λ e. absurd (omega (arith, e))) (λ e. refl) (λ e. absurd (omega (arith, e))),
-          (
-            of_each 65537 (λ e. absurd (omega (arith, e))) (λ e. absurd (omega (arith, e))) (λ e. absurd (omega (arith, e))) (λ e. refl),
-            tt,
-          ),
-        ),
-      ),
-    )) is other other_is
-
 small_size : (size : ℕ) → IsRingSize size → size ≤ 65538
-small_size size is = All-contains (λ n. n ≤ 65538) ring_sizes size (All-from_recursion (λ n. n ≤ 65538) ring_sizes (omega arith, (omega arith, (omega arith, (omega arith, tt))))) is
+small_size size is = let four = four_sizes size is in omega (arith, four)
 
 -- ---- the commands that were carried out
 
@@ -299,9 +277,6 @@ updates_known maps options number (one ∷ made) history all =
     by true = (inr (refl, tt), all)
     by false = all
 
-rounds_none : (kind : MapKind) → kind ≡ Array → (plan : ShardPlan) (number rounds : ℕ) (own seen : List Entry) → IsReclaimedBy kind plan number rounds own seen → own ≡ []
-rounds_none kind array plan number rounds own seen made = subst (λ (k : MapKind). IsReclaimedBy k plan number rounds own seen) array made
-
 -- ---- the plan of a shard
 
 pub record IsPlanOf (options : Options) (definition : MapDef) (plan : ShardPlan) : Type 0 where
@@ -324,15 +299,6 @@ planned_of options number definition plan is =
       definition_is = ap (λ (p : ShardPlan). p.definition) (sym same);
       workers_are = ap (λ (p : ShardPlan). p.workers) (sym same);
     }
-
-abbrev IsShards : ℕ → Type 0
-IsShards shards = (shards ≡ 1) ⊎ (shards ≡ 2) ⊎ (shards ≡ 4) ⊎ (shards ≡ 8)
-
-pub some_shard : (shards : ℕ) → IsShards shards → 0 < shards
-some_shard shards (inl is) = omega (arith, is)
-some_shard shards (inr (inl is)) = omega (arith, is)
-some_shard shards (inr (inr (inl is))) = omega (arith, is)
-some_shard shards (inr (inr (inr is))) = omega (arith, is)
 
 in_ring : (shards : ℕ) → IsShards shards → (size slot : ℕ) → slot < size → slot / shards < (size + 7) / 8 * 8 / shards
 in_ring shards (inl is) size slot within = subst (λ (s : ℕ). slot / s < (size + 7) / 8 * 8 / s) (sym is) (omega (arith, within))
@@ -377,6 +343,15 @@ module _ (notes size : ℕ) (is_size : IsRingSize size) (script : List Command) 
   abbrev sizes : SteeringSizes
   sizes = of_size options.shards size
 
+  -- the runs of a worker, with what they wrote
+  work : (worker : ℕ) → worker < options.workers →
+      IsWorkOf (IsRunAt (IsRuled accounted.plan accounted.count sizes worker) records)
+      (share (frames_of records) options.workers worker (length records)) worker (runs_at accounted.runs worker) accounted.count outcome.journals accounted.order
+  work worker below =
+      work_ruled accounted.plan accounted.count sizes (shipped_program notes sizes) worker outcome.journals records
+      (share (frames_of records) options.workers worker (length records)) (runs_at accounted.runs worker) accounted.order (accounted.work worker below)
+      (replayed.by_rule worker below)
+
   abbrev whole : ℕ → List Entry
   whole number = last_histories outcome.journals number
 
@@ -387,37 +362,37 @@ module _ (notes size : ℕ) (is_size : IsRingSize size) (script : List Command) 
   some = some_shard options.shards plain.fit.power_of_two
 
   unstopped_all : AllByRecursion IsNoStop all_done
-  unstopped_all = no_stops script accounted.commands.noted all_done accounted.commands.are_noted (subst MetNoFullJournal accounted.commands.refused_are plain.none_full)
+  unstopped_all = no_stops script accounted.commands.of_script.noted all_done accounted.commands.of_script.are_noted (subst MetNoFullJournal accounted.commands.of_script.refused_are plain.none_full)
 
   -- the controller's last state, for a table of this size
   ended_all : (state : ControllerState) × AreDone (opened_controller size) all_done state
-  ended_all = by accounted.commands.serves
+  ended_all = by accounted.commands.of_script.serves
     where
-      by : ServesScript (sized_maps notes size) accounted.commands.size script → (state : ControllerState) × AreDone (opened_controller size) all_done state
+      by : ServesScript (sized_maps notes size) accounted.commands.of_script.size script → (state : ControllerState) × AreDone (opened_controller size) all_done state
       by (inl empty) =
           let none : all_done ≡ [] =
-          none_done script accounted.commands.noted all_done (accounted.commands.each_once ∙ ap (λ (l : List Command). numbers_from 0 (length l)) empty) accounted.commands.are_noted in
+          none_done script accounted.commands.of_script.noted all_done (accounted.commands.of_script.each_once ∙ ap (λ (l : List Command). numbers_from 0 (length l)) empty) accounted.commands.of_script.are_noted in
           (opened_controller size, subst (λ (l : List CommandDone). AreDone (opened_controller size) l (opened_controller size)) (sym none) refl)
       by (inr same) =
-          let one : accounted.commands.size ≡ size = sym (one_size size accounted.commands.size is_size accounted.commands.size_is_served (ap third_entries same.maps_are)) in
-          (accounted.commands.state, subst (λ (n : ℕ). AreDone (opened_controller n) all_done accounted.commands.state) one accounted.commands.are_done)
+          let one : accounted.commands.of_script.size ≡ size = sym (one_size size accounted.commands.of_script.size is_size accounted.commands.of_script.size_is_served (ap third_entries same.maps_are)) in
+          (accounted.commands.of_script.state, subst (λ (n : ℕ). AreDone (opened_controller n) all_done accounted.commands.of_script.state) one accounted.commands.of_script.are_done)
 
   -- one shard in which runs change nothing
   module _ (number : ℕ) (within : number < accounted.count) (still : IsChanged sizes number → ⊥) where
-    nothing_yet : (worker : ℕ) (below : worker < options.workers) → own_at (replayed.work worker below).handled.before number ≡ []
-    nothing_yet worker below = ap (λ (view : CallerView). view.own) ((replayed.work worker below).handled.is_new.nothing number)
+    nothing_yet : (worker : ℕ) (below : worker < options.workers) → own_at (work worker below).handled.before number ≡ []
+    nothing_yet worker below = ap (λ (view : CallerView). view.own) ((work worker below).handled.is_new.nothing number)
 
     worker_named : (worker : ℕ) (below : worker < options.workers) (other : ℕ) → other < accounted.count →
-        AllByRecursion NamesOwnAt (own_at (replayed.work worker below).after other)
+        AllByRecursion NamesOwnAt (own_at (work worker below).after other)
     worker_named worker below other inside =
-        subst (λ (own : List Entry). AllByRecursion NamesOwnAt own) (sym ((replayed.work worker below).own other inside))
+        subst (λ (own : List Entry). AllByRecursion NamesOwnAt own) (sym ((work worker below).own other inside))
         (all_own NamesOwnAt (Worker worker) (whole other) (all_name_own (accounted.plan other) (whole other) (accounted.legal other inside)))
 
     pub worker_quiet : (worker : ℕ) → worker < options.workers → AllByRecursion (λ (entry : Entry). IsQuiet entry.call) (own_entries (Worker worker) (whole number))
     worker_quiet worker below =
-        let work = replayed.work worker below in
-        subst (λ (own : List Entry). AllByRecursion (λ (entry : Entry). IsQuiet entry.call) own) (work.own number within)
-        (chain_quiet accounted.plan accounted.count sizes some worker records work.handled.before (runs_at accounted.runs worker) work.after work.handled.chain
+        let did = work worker below in
+        subst (λ (own : List Entry). AllByRecursion (λ (entry : Entry). IsQuiet entry.call) own) (did.own number within)
+        (chain_quiet accounted.plan accounted.count sizes some worker records did.handled.before (runs_at accounted.runs worker) did.after did.handled.chain
         (worker_named worker below) number within still
         (subst (λ (own : List Entry). AllByRecursion (λ (entry : Entry). IsQuiet entry.call) own) (sym (nothing_yet worker below)) tt))
 
@@ -500,13 +475,13 @@ module _ (notes size : ℕ) (is_size : IsRingSize size) (script : List Command) 
 
     pub changes : AllByRecursion IsOfChange (made_in done)
     changes =
-        let first = take_done (opened_controller accounted.commands.size) all_done accounted.commands.state commands accounted.commands.are_done in
-        all_made (opened_controller accounted.commands.size) done first.0 first.1
+        let first = take_done (opened_controller accounted.commands.of_script.size) all_done accounted.commands.of_script.state commands accounted.commands.of_script.are_done in
+        all_made (opened_controller accounted.commands.of_script.size) done first.0 first.1
 
     pub are_carried : carried_out outcome.refused.items 0 (take commands script) ≡ done_actions done
     are_carried =
-        ap (λ (l : List Applied). carried_out l 0 (take commands script)) accounted.commands.refused_are
-        ∙ carried script accounted.commands.noted all_done 0 script commands (λ k. ap (slice_get script) (from_zero k)) accounted.commands.each_once accounted.commands.are_noted
+        ap (λ (l : List Applied). carried_out l 0 (take commands script)) accounted.commands.of_script.refused_are
+        ∙ carried script accounted.commands.of_script.noted all_done 0 script commands (λ k. ap (slice_get script) (from_zero k)) accounted.commands.of_script.each_once accounted.commands.of_script.are_noted
       where
         from_zero : (k : ℕ) → 0 + k ≡ k
         from_zero k = omega arith
@@ -717,7 +692,7 @@ module _ (notes size : ℕ) (is_size : IsRingSize size) (script : List Command) 
         accounted.commands.own number within
         ∙ ap (λ (updates : List MapUpdate). with_updates (sized_maps notes size) options number (all_set updates ++ made_in all_done) []) plain.none_set
         ∙ ap (λ (l : List CommandDone). with_updates (sized_maps notes size) options number (made_in l) [])
-        (sym (all_taken script accounted.commands.noted all_done 0 script accounted.commands.each_once accounted.commands.are_noted));
+        (sym (all_taken script accounted.commands.of_script.noted all_done 0 script accounted.commands.of_script.each_once accounted.commands.of_script.are_noted));
   }
 
   pub are_left : AreTablesAtEnd size (carried_out outcome.refused.items 0 script) (maps_at_end outcome.journals)

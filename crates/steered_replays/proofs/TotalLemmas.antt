@@ -1,5 +1,5 @@
 -- The counts in the maps are those of the report.
-use Rattle.std.proofs.Common.{◌≡◌, ◌⊎◌, inl, inr, ℕ, ◌+◌, ◌*◌, ◌%◌, ◌/◌, ◌^◌, ◌<◌, ◌≤◌, ◌==◌, ◌++◌, Bool, List, [], ◌∷◌, length, refl, sym, ◌∙◌, ap, subst, arith}
+use Rattle.std.proofs.Common.{◌≡◌, inl, inr, ℕ, ◌+◌, ◌*◌, ◌%◌, ◌/◌, ◌^◌, ◌<◌, ◌≤◌, ◌==◌, ◌++◌, Bool, List, [], ◌∷◌, length, refl, sym, ◌∙◌, ap, subst, arith}
 use Rattle.std.specs.Prelude.{Option, Some, None, reverse, slice_get, if◌then◌else◌}
 use Rattle.std.specs.List.{AllByRecursion}
 use Rattle.std.proofs.Math.Nat.{mod-lt}
@@ -42,23 +42,22 @@ use Rattle.actors.specs.RunJobs.{records_of}
 use Rattle.control.specs.Controlling.{opened_controller}
 use Rattle.actors.specs.Commands.{all_set, made_in, with_updates}
 use Rattle.map_updates.specs.declared.update.MapUpdate.{MapUpdate}
-use Rattle.actors.specs.Rounds.{IsReclaimedBy}
 use Rattle.actors.specs.RunsInOrder.{IsRunAt, IsChainOfRuns}
 use Rattle.actors.specs.Shares.{frames_of, share}
 use Rattle.steered_replays.specs.Counting.{AreCounting, raised, CountsAreExact, LookupsOfArraysFind}
-use Rattle.actors.specs.Accounted.{IsAccounted}
-use Rattle.steered_replays.specs.SteeredRuns.{IsSteeredExit, IsSteeredRun, IsSteeredReplay}
+use Rattle.actors.specs.Accounted.{IsWorkOf, IsAccounted}
+use Rattle.steered_replays.specs.SteeredRuns.{IsSteeredReplay}
+use Rattle.steered_replays.proofs.RuledRuns.{IsRuledExit, IsRuled, work_ruled}
 use Rattle.steered_replays.specs.Totals.{HasCount, AreTotals, shard_of_count}
-use Rattle.steered_replays.proofs.CallerSums.{sum_below, same_sums, none_in_sum, own_sum, raised_by_all, all_of_callers, all_own}
+use Rattle.actors.proofs.shared.Callers.{all_of_callers, all_own}
+use Rattle.steered_replays.proofs.CallerSums.{sum_below, same_sums, none_in_sum, own_sum, raised_by_all}
 use Rattle.steered_replays.proofs.ControllerShards.{none_from_commands}
 use Rattle.steered_replays.proofs.ResultCounts.{count_shard, count_id, key_number, count_shard_is, result_raises, result_counts}
 use Rattle.steered_replays.proofs.RunSums.{is_end, ends_in, told_number, stopped_sum, verdict_sum, count_of}
 use Rattle.steered_replays.proofs.SessionCounts.{session_raises, earlier_own, IsFoundIn, found_exchanges, stays_counting}
+use Rattle.steered_replays.proofs.PlaceLemmas.{IsShards, some_shard, rounds_none}
 
 -- ---- the shards of counts
-
-abbrev IsShards : ℕ → Type 0
-IsShards shards = (shards ≡ 1) ⊎ (shards ≡ 2) ⊎ (shards ≡ 4) ⊎ (shards ≡ 8)
 
 sixth_map : (shards : ℕ) → IsShards shards → (n : ℕ) → (5 * shards + n % shards) / shards ≡ 5
 sixth_map shards (inl is) n = subst (λ (s : ℕ). (5 * s + n % s) / s ≡ 5) (sym is) (omega arith)
@@ -71,12 +70,6 @@ in_cells shards (inl is) n few = subst (λ (s : ℕ). n / s < 8 / s) (sym is) (o
 in_cells shards (inr (inl is)) n few = subst (λ (s : ℕ). n / s < 8 / s) (sym is) (omega (arith, few))
 in_cells shards (inr (inr (inl is))) n few = subst (λ (s : ℕ). n / s < 8 / s) (sym is) (omega (arith, few))
 in_cells shards (inr (inr (inr is))) n few = subst (λ (s : ℕ). n / s < 8 / s) (sym is) (omega (arith, few))
-
-some_shard : (shards : ℕ) → IsShards shards → 0 < shards
-some_shard shards (inl is) = omega (arith, is)
-some_shard shards (inr (inl is)) = omega (arith, is)
-some_shard shards (inr (inr (inl is))) = omega (arith, is)
-some_shard shards (inr (inr (inr is))) = omega (arith, is)
 
 four_verdicts : (verdict : Verdict) → verdict_number verdict < 4
 four_verdicts verdicts.Aborted = omega arith
@@ -155,10 +148,10 @@ module _ (notes size : ℕ) (options : Options) (shards : IsShards options.shard
 
 -- ---- the runs of a worker
 
-exit_of : (plan : ℕ → ShardPlan) (count : ℕ) (setting : SteeringSizes) (worker : ℕ) (captured : Sent) (before : PassView) (end : RunEnd) (after : PassView) →
-    is_end 4 end ≡ 0 → IsSteeredRun plan count setting worker captured before end after → IsSteeredExit setting count worker captured before end after
-exit_of plan count setting worker captured before Stopped after ended run = absurd cc
-exit_of plan count setting worker captured before (Exited steps fate) after ended run = run
+exit_of : (plan : ℕ → ShardPlan) (count : ℕ) (sizes : SteeringSizes) (worker : ℕ) (captured : Sent) (before : PassView) (end : RunEnd) (after : PassView) →
+    is_end 4 end ≡ 0 → IsRuled plan count sizes worker captured before end after → IsRuledExit sizes count worker captured before end after
+exit_of plan count sizes worker captured before Stopped after ended run = absurd cc
+exit_of plan count sizes worker captured before (Exited steps fate) after ended run = run
 
 abbrev HasEnded : Ran → Type 0
 HasEnded ran = is_end 4 ran.end ≡ 0
@@ -168,13 +161,13 @@ all_ended [] none = tt
 all_ended (ran ∷ later) none =
     let both : is_end 4 ran.end + ends_in 4 later ≡ 0 = none in (omega (arith, both), all_ended later (omega (arith, both)))
 
-module _ (plan : ℕ → ShardPlan) (count : ℕ) (setting : SteeringSizes) (some : 0 < setting.shards) (worker : ℕ) (records : List Sent) where
+module _ (plan : ℕ → ShardPlan) (count : ℕ) (sizes : SteeringSizes) (some : 0 < sizes.shards) (worker : ℕ) (records : List Sent) where
   abbrev IsRun : PassView → Ran → PassView → Type 0
-  IsRun before ran after = IsRunAt (IsSteeredRun plan count setting worker) records before ran after
+  IsRun before ran after = IsRunAt (IsRuled plan count sizes worker) records before ran after
 
   exit_in : (before : PassView) (ran : Ran) (after : PassView) → HasEnded ran → (run : IsRun before ran after) →
-      IsSteeredExit setting count worker run.sent before ran.end after
-  exit_in before ran after ended run = exit_of plan count setting worker run.sent before ran.end after ended run.run
+      IsRuledExit sizes count worker run.sent before ran.end after
+  exit_in before ran after ended run = exit_of plan count sizes worker run.sent before ran.end after ended run.run
 
   chain_earlier : (P : Entry → Type 0) (before : PassView) (runs : List Ran) (after : PassView) → IsChainOfRuns IsRun before runs after →
       AllByRecursion HasEnded runs → (number : ℕ) → number < count → AllByRecursion P (own_at after number) → AllByRecursion P (own_at before number)
@@ -188,57 +181,63 @@ module _ (plan : ℕ → ShardPlan) (count : ℕ) (setting : SteeringSizes) (som
 
   -- a run raises the count of what it came to
   run_raises : (before : PassView) (ran : Ran) (after : PassView) → HasEnded ran → IsRun before ran after →
-      ((number : ℕ) → number < count → AllByRecursion (IsFoundIn setting) (own_at after number)) → (verdict : Verdict) → count_shard setting verdict < count →
-      raised (count_id setting verdict) (own_at after (count_shard setting verdict))
-      ≡ is_end (verdict_number verdict) ran.end + raised (count_id setting verdict) (own_at before (count_shard setting verdict))
+      ((number : ℕ) → number < count → AllByRecursion (IsFoundIn sizes) (own_at after number)) → (verdict : Verdict) → count_shard sizes verdict < count →
+      raised (count_id sizes verdict) (own_at after (count_shard sizes verdict))
+      ≡ is_end (verdict_number verdict) ran.end + raised (count_id sizes verdict) (own_at before (count_shard sizes verdict))
   run_raises before ran after ended run found verdict within =
       let exit = exit_in before ran after ended run in
-      let number : ℕ = count_shard setting verdict in
-      let cell : ℕ = count_id setting verdict in
+      let number : ℕ = count_shard sizes verdict in
+      let cell : ℕ = count_id sizes verdict in
       session_raises count worker exit.exchanges before after exit.sessions number cell within
       ∙ ap (λ n. n + raised cell (own_at before number))
-      (result_raises setting some _ exit.exchanges exit.verdict exit.frame exit.by_rule.result
-      (found_exchanges setting count worker exit.exchanges before after exit.sessions found) verdict
+      (result_raises sizes some _ exit.exchanges exit.verdict exit.frame exit.by_rule.result
+      (found_exchanges sizes count worker exit.exchanges before after exit.sessions found) verdict
       ∙ ap {B = ℕ} (λ (n : ℕ). if n == verdict_number verdict then 1 else 0) (told_number run.sent exit.verdict exit.frame ran.end exit.told))
 
   pub chain_raises : (before : PassView) (runs : List Ran) (after : PassView) → IsChainOfRuns IsRun before runs after → AllByRecursion HasEnded runs →
-      ((number : ℕ) → number < count → AllByRecursion (IsFoundIn setting) (own_at after number)) → (verdict : Verdict) → count_shard setting verdict < count →
-      raised (count_id setting verdict) (own_at after (count_shard setting verdict))
-      ≡ ends_in (verdict_number verdict) runs + raised (count_id setting verdict) (own_at before (count_shard setting verdict))
+      ((number : ℕ) → number < count → AllByRecursion (IsFoundIn sizes) (own_at after number)) → (verdict : Verdict) → count_shard sizes verdict < count →
+      raised (count_id sizes verdict) (own_at after (count_shard sizes verdict))
+      ≡ ends_in (verdict_number verdict) runs + raised (count_id sizes verdict) (own_at before (count_shard sizes verdict))
   chain_raises before [] after chain ended found verdict within =
-      ap (λ (pass : PassView). raised (count_id setting verdict) (own_at pass (count_shard setting verdict))) (sym chain)
-      ∙ plain (raised (count_id setting verdict) (own_at before (count_shard setting verdict)))
+      ap (λ (pass : PassView). raised (count_id sizes verdict) (own_at pass (count_shard sizes verdict))) (sym chain)
+      ∙ plain (raised (count_id sizes verdict) (own_at before (count_shard sizes verdict)))
   chain_raises before (ran ∷ later) after chain ended found verdict within =
-      let rest : raised (count_id setting verdict) (own_at after (count_shard setting verdict))
-      ≡ ends_in (verdict_number verdict) later + raised (count_id setting verdict) (own_at chain.0 (count_shard setting verdict)) =
+      let rest : raised (count_id sizes verdict) (own_at after (count_shard sizes verdict))
+      ≡ ends_in (verdict_number verdict) later + raised (count_id sizes verdict) (own_at chain.0 (count_shard sizes verdict)) =
       chain_raises chain.0 later after chain.2 ended.1 found verdict within in
-      let here : raised (count_id setting verdict) (own_at chain.0 (count_shard setting verdict))
-      ≡ is_end (verdict_number verdict) ran.end + raised (count_id setting verdict) (own_at before (count_shard setting verdict)) =
+      let here : raised (count_id sizes verdict) (own_at chain.0 (count_shard sizes verdict))
+      ≡ is_end (verdict_number verdict) ran.end + raised (count_id sizes verdict) (own_at before (count_shard sizes verdict)) =
       run_raises before ran chain.0 ended.0 chain.1
-      (λ number inside. chain_earlier (IsFoundIn setting) chain.0 later after chain.2 ended.1 number inside (found number inside)) verdict within in
+      (λ number inside. chain_earlier (IsFoundIn sizes) chain.0 later after chain.2 ended.1 number inside (found number inside)) verdict within in
       omega (arith, rest, here)
 
   pub chain_counting : (before : PassView) (runs : List Ran) (after : PassView) → IsChainOfRuns IsRun before runs after → AllByRecursion HasEnded runs →
-      (number : ℕ) → number < count → 5 * setting.shards ≤ number → AreCounting (own_at before number) → AreCounting (own_at after number)
+      (number : ℕ) → number < count → 5 * sizes.shards ≤ number → AreCounting (own_at before number) → AreCounting (own_at after number)
   chain_counting before [] after chain ended number within past counting = subst (λ (pass : PassView). AreCounting (own_at pass number)) chain counting
   chain_counting before (ran ∷ later) after chain ended number within past counting =
       let exit = exit_in before ran chain.0 ended.0 chain.1 in
       chain_counting chain.0 later after chain.2 ended.1 number within past
-      (stays_counting setting count worker exit.exchanges before chain.0 exit.sessions
-      (result_counts setting some _ exit.exchanges exit.verdict exit.frame exit.by_rule.result) number within past counting)
+      (stays_counting sizes count worker exit.exchanges before chain.0 exit.sessions
+      (result_counts sizes some _ exit.exchanges exit.verdict exit.frame exit.by_rule.result) number within past counting)
 
 -- ---- the whole
-
-rounds_none : (kind : MapKind) → kind ≡ Array → (plan : ShardPlan) (number rounds : ℕ) (own seen : List Entry) → IsReclaimedBy kind plan number rounds own seen → own ≡ []
-rounds_none kind array plan number rounds own seen made = subst (λ (k : MapKind). IsReclaimedBy k plan number rounds own seen) array made
 
 module _ (exact : CountsAreExact) (finds : LookupsOfArraysFind) (notes size : ℕ) (script : List Command) (options : Options) (records : List Sent) (outcome : Outcome)
     (fit : AreOptions (sized_maps notes size) options)
     (accounted : IsAccounted (shipped_program notes (of_size options.shards size)) script options records outcome)
     (replayed : IsSteeredReplay size (shipped_program notes (of_size options.shards size)) script options records outcome accounted) (none_set : outcome.updates.items ≡ [])
     (none : outcome.counts.stopped ≡ 0) where
-  abbrev setting : SteeringSizes
-  setting = of_size options.shards size
+  abbrev sizes : SteeringSizes
+  sizes = of_size options.shards size
+
+  -- the runs of a worker, with what they wrote
+  work : (worker : ℕ) → worker < options.workers →
+      IsWorkOf (IsRunAt (IsRuled accounted.plan accounted.count sizes worker) records)
+      (share (frames_of records) options.workers worker (length records)) worker (runs_at accounted.runs worker) accounted.count outcome.journals accounted.order
+  work worker below =
+      work_ruled accounted.plan accounted.count sizes (shipped_program notes sizes) worker outcome.journals records
+      (share (frames_of records) options.workers worker (length records)) (runs_at accounted.runs worker) accounted.order (accounted.work worker below)
+      (replayed.by_rule worker below)
 
   abbrev history : ℕ → List Entry
   history number = reverse (entries_at outcome.journals number)
@@ -251,7 +250,7 @@ module _ (exact : CountsAreExact) (finds : LookupsOfArraysFind) (notes size : �
 
   in_order : (worker : ℕ) → worker < options.workers →
       records_of (runs_at runs worker) ≡ share (frames_of records) options.workers worker (length records)
-  in_order worker below = (replayed.work worker below).handled.records_are
+  in_order worker below = (work worker below).handled.records_are
 
   counts_are : (verdict : Verdict) → count_of verdict outcome.counts ≡ sum_below options.workers (λ worker. ends_in (verdict_number verdict) (runs_at runs worker))
   counts_are verdict =
@@ -264,24 +263,24 @@ module _ (exact : CountsAreExact) (finds : LookupsOfArraysFind) (notes size : �
       (sym (stopped_sum (frames_of records) options.workers fit.some_worker runs (length records) in_order)
       ∙ sym (ap (λ (counts : Counts). counts.stopped) accounted.counts) ∙ none) worker below)
 
-  found : (number : ℕ) → number < accounted.count → AllByRecursion (IsFoundIn setting) (history number)
+  found : (number : ℕ) → number < accounted.count → AllByRecursion (IsFoundIn sizes) (history number)
   found number within =
       all_found notes size options fit.power_of_two number (accounted.plan number) (accounted.plans.each number within) finds (history number)
       (accounted.legal number within)
 
   module _ (verdict : Verdict) where
     abbrev number : ℕ
-    number = count_shard setting verdict
+    number = count_shard sizes verdict
 
     abbrev cell : ℕ
-    cell = count_id setting verdict
+    cell = count_id sizes verdict
 
     past : 5 * options.shards ≤ number
-    past = (let is : number ≡ 5 * options.shards + verdict_number verdict % options.shards = count_shard_is setting verdict in omega (arith, is))
+    past = (let is : number ≡ 5 * options.shards + verdict_number verdict % options.shards = count_shard_is sizes verdict in omega (arith, is))
 
     within : number < accounted.count
     within =
-        let is : number ≡ 5 * options.shards + verdict_number verdict % options.shards = count_shard_is setting verdict in
+        let is : number ≡ 5 * options.shards + verdict_number verdict % options.shards = count_shard_is sizes verdict in
         let part : verdict_number verdict % options.shards < options.shards = mod-lt (verdict_number verdict) some in
         let all : accounted.count ≡ 6 * options.shards = accounted.plans.count_is in
         omega (arith, is, part, all)
@@ -295,37 +294,38 @@ module _ (exact : CountsAreExact) (finds : LookupsOfArraysFind) (notes size : �
     array : plan.definition.kind ≡ Array
     array = ap (λ (d : MapDef). d.kind) is_plan.definition_is
 
-    nothing_yet : (worker : ℕ) (below : worker < options.workers) → own_at (replayed.work worker below).handled.before number ≡ []
-    nothing_yet worker below = ap (λ (view : CallerView). view.own) ((replayed.work worker below).handled.is_new.nothing number)
+    nothing_yet : (worker : ℕ) (below : worker < options.workers) → own_at (work worker below).handled.before number ≡ []
+    nothing_yet worker below = ap (λ (view : CallerView). view.own) ((work worker below).handled.is_new.nothing number)
 
     worker_found : (worker : ℕ) (below : worker < options.workers) (other : ℕ) → other < accounted.count →
-        AllByRecursion (IsFoundIn setting) (own_at (replayed.work worker below).after other)
+        AllByRecursion (IsFoundIn sizes) (own_at (work worker below).after other)
     worker_found worker below other inside =
-        subst (λ (own : List Entry). AllByRecursion (IsFoundIn setting) own) (sym ((replayed.work worker below).own other inside))
-        (all_own (IsFoundIn setting) (Worker worker) (history other) (found other inside))
+        subst (λ (own : List Entry). AllByRecursion (IsFoundIn sizes) own) (sym ((work worker below).own other inside))
+        (all_own (IsFoundIn sizes) (Worker worker) (history other) (found other inside))
 
     worker_raises : (worker : ℕ) → worker < options.workers →
         raised cell (own_entries (Worker worker) (history number)) ≡ ends_in (verdict_number verdict) (runs_at runs worker)
     worker_raises worker below =
-        let work = replayed.work worker below in
-        let all : raised cell (own_at work.after number) ≡ ends_in (verdict_number verdict) (runs_at runs worker) + raised cell (own_at work.handled.before number) =
-        chain_raises accounted.plan accounted.count setting some worker records work.handled.before (runs_at runs worker) work.after work.handled.chain
+        let did = work worker below in
+        let all : raised cell (own_at did.after number) ≡ ends_in (verdict_number verdict) (runs_at runs worker) + raised cell (own_at did.handled.before number) =
+        chain_raises accounted.plan accounted.count sizes some worker records did.handled.before (runs_at runs worker) did.after did.handled.chain
         (none_stopped worker below) (worker_found worker below) verdict within in
-        let nothing : raised cell (own_at work.handled.before number) ≡ 0 = ap (raised cell) (nothing_yet worker below) in
-        ap (raised cell) (sym (work.own number within)) ∙ omega (arith, all, nothing)
+        let nothing : raised cell (own_at did.handled.before number) ≡ 0 = ap (raised cell) (nothing_yet worker below) in
+        ap (raised cell) (sym (did.own number within)) ∙ omega (arith, all, nothing)
 
     worker_counting : (worker : ℕ) → worker < options.workers → AreCounting (own_entries (Worker worker) (history number))
     worker_counting worker below =
-        let work = replayed.work worker below in
-        subst AreCounting (work.own number within)
-        (chain_counting accounted.plan accounted.count setting some worker records work.handled.before (runs_at runs worker) work.after work.handled.chain
+        let did = work worker below in
+        subst AreCounting (did.own number within)
+        (chain_counting accounted.plan accounted.count sizes some worker records did.handled.before (runs_at runs worker) did.after did.handled.chain
         (none_stopped worker below) number within past (subst AreCounting (sym (nothing_yet worker below)) tt))
 
     controller_none : own_entries Controller (history number) ≡ []
     controller_none =
         let commands = accounted.commands in
         let none_first = ap (λ (updates : List MapUpdate). with_updates (sized_maps notes size) options number (all_set updates ++ made_in commands.done) []) none_set in
-        commands.own number within ∙ none_first ∙ none_from_commands notes size options some number past (opened_controller commands.size) commands.done commands.state commands.are_done
+        commands.own number within ∙ none_first ∙ none_from_commands notes size options some number past (opened_controller commands.of_script.size) commands.done commands.of_script.state
+        commands.of_script.are_done
 
     reclaimer_none : own_entries Reclaimer (history number) ≡ []
     reclaimer_none =

@@ -32,10 +32,11 @@ use Rattle.steered_replays.specs.LastWords.{front_number, words_over, last_words
 use Rattle.steered_replays.specs.SteeredRuns.{IsSteeredReplay, ReplaysAreSteered}
 use Rattle.steered_replays.specs.TablesAtEnd.{IsPlainReplay, IsRecordedUp, carried_out, last_histories, no_record, record_left, up_left}
 use Rattle.steered_replays.proofs.ArrayShards.{last_put}
-use Rattle.steered_replays.proofs.FleetLemmas.{found_one, owner_up}
-use Rattle.steered_replays.proofs.PlaceLemmas.{part_place}
-use Rattle.steered_replays.proofs.TableLemmas.{AreLastPuts, IsPlanOf, below_all, last_puts, planned_of, some_shard}
+use Rattle.steered_replays.proofs.FleetLemmas.{owner_up}
+use Rattle.steered_replays.proofs.PlaceLemmas.{part_place, some_shard}
+use Rattle.steered_replays.proofs.TableLemmas.{AreLastPuts, IsPlanOf, below_all, last_puts, planned_of}
 use Rattle.steered_replays.proofs.WordLemmas.{after_keeps, after_puts, as_many_after}
+use Rattle.steered_replays.proofs.CommandTables.{found_one}
 
 -- ---- the front of a value
 

@@ -24,80 +24,54 @@ use Rattle.conntrack.specs.SteeringMaps.{sized_maps}
 use Rattle.conntrack.specs.Results.{IsResult}
 use Rattle.steer.specs.SteeringLaws.{of_size, shipped_program}
 use Rattle.journals.specs.JournalsView.{JournalsView, entries_at}
-use Rattle.shards.specs.declared.deeds.Deed.{Deed}
 use Rattle.shards.specs.Passes.{PassView, own_at}
-use Rattle.shard_port.specs.PassSessions.{HasSessions, HasRefusedSessions, session_at}
+use Rattle.shard_port.specs.PassSessions.{session_at}
+use Rattle.machine.specs.declared.exit.Stop.{Stop}
+use Rattle.machine.specs.declared.exit.Stop.TheVariants.{JournalFull}
 use Rattle.runs.specs.FrameRuns.{HasRun, WasRefused}
 use Rattle.control.specs.declared.command.Command.{Command}
 use Rattle.actors.specs.declared.outcome.Outcome.{Outcome}
 use Rattle.actors.specs.declared.runner.Ran.{Ran}
 use Rattle.actors.specs.declared.runner.RunEnd.{RunEnd}
-use Rattle.actors.specs.declared.runner.RunEnd.TheVariants.{Stopped}
-use Rattle.actors.specs.Accounted.{IsAccounted, IsWorkOf}
-use Rattle.actors.specs.Accounts.{runs_at, fate_of}
-use Rattle.actors.specs.RunsInOrder.{IsRunAt, IsChainOfRuns}
-use Rattle.actors.specs.RunsOverShards.{IsTold}
+use Rattle.actors.specs.declared.runner.RunEnd.TheVariants.{Stopped, Exited}
+use Rattle.actors.specs.Accounted.{RunInPlace, PlacedRun, runs_in_work, IsAccounted}
+use Rattle.actors.specs.Accounts.{fate_of}
+use Rattle.actors.specs.RunsOverShards.{StopsFor, IsRunIn}
 use Rattle.actors.specs.Shares.{frames_of, is_short, worker_of_frame, share}
 use Rattle.actors.specs.Captured.{IsCaptured}
 
 -- ---- runs
 
 -- on these calls and replies the rule's plan ends so, and that is a result of the rule
-pub record EndsByRule (setting : SteeringSizes) (frame : FrameView) (exchanges : List Exchange) (verdict : Verdict) (left : FrameView) :
+pub record EndsByRule (sizes : SteeringSizes) (frame : FrameView) (exchanges : List Exchange) (verdict : Verdict) (left : FrameView) :
     Type 0 where
-  pub plan : plan_outcome (steering setting frame) (replies_in exchanges) ≡
+  pub plan : plan_outcome (steering sizes frame) (replies_in exchanges) ≡
       record { calls = calls_in exchanges; ending = Ended verdict left }
-  pub result : IsResult setting frame exchanges verdict left
+  pub result : IsResult sizes frame exchanges verdict left
 
 -- after these calls and replies the rule's plan makes this call, and waits
 abbrev pub WaitsByRule : SteeringSizes → FrameView → List Exchange → Call → Type 0
-WaitsByRule setting frame exchanges next =
-    plan_outcome (steering setting frame) (replies_in exchanges) ≡ record { calls = calls_in exchanges ++ next ∷ []; ending = Waiting }
+WaitsByRule sizes frame exchanges next =
+    plan_outcome (steering sizes frame) (replies_in exchanges) ≡ record { calls = calls_in exchanges ++ next ∷ []; ending = Waiting }
 
--- a run on a record ended: what it asked and was answered, which is among its worker's entries session by session, is what the rule
--- asks; and what became of the record's frame is what the rule's verdict says of it
-pub record IsSteeredExit (setting : SteeringSizes) (count worker : ℕ) (captured : Sent) (before : PassView) (end : RunEnd)
-    (after : PassView) : Type 0 where
-  pub exchanges : List Exchange
-  pub verdict : Verdict
-  pub frame : FrameView
-  pub sessions : HasSessions count worker exchanges before after
-  pub by_rule : EndsByRule setting (input_frame captured.bytes.items) exchanges verdict frame
-  pub told : IsTold captured verdict frame end
+-- where a full journal stopped a run, it waits by the rule for the call that was refused
+abbrev pub StopsByRule : (sizes : SteeringSizes) (plan : ℕ → ShardPlan) (count : ℕ) (program : Program) (worker : ℕ) (journals : JournalsView)
+    (captured : Sent) (before after : PassView) (frame : FrameView) (stop : Stop)
+    → StopsFor plan count program worker journals captured before after frame stop → Type 0
+StopsByRule sizes plan count program worker journals captured before after frame (JournalFull shard) stops =
+    WaitsByRule sizes (input_frame captured.bytes.items) stops.0.exchanges stops.0.refused
 
--- a run on a record was stopped, since a journal was full for the rule's next call
-pub record IsSteeredStop (plan : ℕ → ShardPlan) (setting : SteeringSizes) (count worker : ℕ) (captured : Sent) (before after : PassView) :
-    Type 0 where
-  pub exchanges : List Exchange
-  pub refused : Call
-  pub sessions : HasRefusedSessions plan count worker exchanges refused before after
-  pub by_rule : WaitsByRule setting (input_frame captured.bytes.items) exchanges refused
-
-abbrev pub IsSteeredRun : (ℕ → ShardPlan) → ℕ → SteeringSizes → ℕ → Sent → PassView → RunEnd → PassView → Type 0
-IsSteeredRun plan count setting worker captured before Stopped after = IsSteeredStop plan setting count worker captured before after
-IsSteeredRun plan count setting worker captured before end after = IsSteeredExit setting count worker captured before end after
+-- A run that is accounted for is one of the rule: what it asked and was answered, which is among its worker's entries session by session, is
+-- what the rule asks, and its verdict and its frame are the rule's.
+abbrev pub IsSteeredRun : (sizes : SteeringSizes) (plan : ℕ → ShardPlan) (count : ℕ) (program : Program) (worker : ℕ) (journals : JournalsView)
+    (captured : Sent) (before : PassView) (end : RunEnd) (after : PassView)
+    → IsRunIn plan count program worker journals captured before end after → Type 0
+IsSteeredRun sizes plan count program worker journals captured before Stopped after run =
+    StopsByRule sizes plan count program worker journals captured before after run.frame run.stop run.run
+IsSteeredRun sizes plan count program worker journals captured before (Exited steps fate) after run =
+    EndsByRule sizes (input_frame captured.bytes.items) run.run.exchanges run.verdict run.frame
 
 -- ---- replays
-
--- a run among others: the pass as the runs before it left it, the run, and the pass as it left it
-pub record RunInPlace (IsRun : PassView → Ran → PassView → Type 0) : Type 0 where
-  pub before : PassView
-  pub ran : Ran
-  pub after : PassView
-  pub run : IsRun before ran after
-
--- the runs of a chain, each in its place
-abbrev pub runs_in_chain : (IsRun : PassView → Ran → PassView → Type 0) (before : PassView) (runs : List Ran) (after : PassView)
-    → IsChainOfRuns IsRun before runs after → List (RunInPlace IsRun)
-runs_in_chain IsRun before [] after chain = []
-runs_in_chain IsRun before (ran ∷ later) after chain =
-    record { before = before; ran = ran; after = chain.0; run = chain.1 } ∷ runs_in_chain IsRun chain.0 later after chain.2
-
--- the runs that a worker made
-abbrev pub runs_in_work : {IsRun : PassView → Ran → PassView → Type 0} {shared : List ℕ} {worker : ℕ} {runs : List Ran} {count : ℕ}
-    {journals : JournalsView} {order : List Deed} → IsWorkOf IsRun shared worker runs count journals order → List (RunInPlace IsRun)
-runs_in_work {IsRun} {shared} {worker} {runs} {count} {journals} {order} work =
-    runs_in_chain IsRun work.handled.before runs work.after work.handled.chain
 
 -- the run at this place of these is of the record of this number, and ended so
 pub record IsEndOfRun {IsRun : PassView → Ran → PassView → Type 0} (runs : List (RunInPlace IsRun)) (place number : ℕ) (end : RunEnd) :
@@ -108,25 +82,26 @@ pub record IsEndOfRun {IsRun : PassView → Ran → PassView → Type 0} (runs :
   pub end_is : one.ran.end ≡ end
 
 -- what became of a record: it is short, and was not run; or it is the end of the run at this place of these
-abbrev pub IsSteeredFate : {IsRun : PassView → Ran → PassView → Type 0} → List (RunInPlace IsRun) → ℕ → ℕ → Sent → Option RunEnd → Type 0
-IsSteeredFate runs place number captured None = is_short captured.bytes.items ≡ true
-IsSteeredFate runs place number captured (Some end) = IsEndOfRun runs place number end
+abbrev pub IsFateIn : {IsRun : PassView → Ran → PassView → Type 0} → List (RunInPlace IsRun) → ℕ → ℕ → Sent → Option RunEnd → Type 0
+IsFateIn runs place number captured None = is_short captured.bytes.items ≡ true
+IsFateIn runs place number captured (Some end) = IsEndOfRun runs place number end
 
--- Of the runs that are accounted for: each worker made them by the rule, one after the other, and its entries in the journals are those of
--- these runs. What became of a record, by which it is counted and its frame sent or not, is the end of one of these runs: its worker's
--- behind those of the worker's earlier records.
+-- The runs that are accounted for are runs by the rule. What became of a record, by which it is counted and its frame sent or not, is the end
+-- of one of these runs: its worker's behind those of the worker's earlier records.
 pub record IsSteeredReplay (size : ℕ) (program : Program) (script : List Command) (options : Options) (records : List Sent) (outcome : Outcome)
     (accounted : IsAccounted program script options records outcome) : Type 0 where
-  pub work :
-      (worker : ℕ) → worker < options.workers →
-      IsWorkOf (IsRunAt (IsSteeredRun accounted.plan accounted.count (of_size options.shards size) worker) records)
-      (share (frames_of records) options.workers worker (length records)) worker (runs_at accounted.runs worker) accounted.count
-      outcome.journals accounted.order
+  pub by_rule :
+      (worker : ℕ) (below : worker < options.workers) →
+      AllByRecursion
+      (λ (one : PlacedRun accounted.plan accounted.count program worker outcome.journals records).
+      IsSteeredRun (of_size options.shards size) accounted.plan accounted.count program worker outcome.journals one.run.sent one.before one.ran.end
+      one.after one.run.run)
+      (runs_in_work (accounted.work worker below))
   pub fates :
       (number : ℕ) (captured : Sent) → slice_get records number ≡ Some captured →
       let worker = worker_of_frame captured.bytes.items options.workers in
       (below : worker < options.workers)
-      × IsSteeredFate (runs_in_work (work worker below)) (length (share (frames_of records) options.workers worker number)) number captured
+      × IsFateIn (runs_in_work (accounted.work worker below)) (length (share (frames_of records) options.workers worker number)) number captured
       (fate_of (frames_of records) options.workers accounted.runs number)
 
 -- ---- the runs stand in the journals
@@ -143,19 +118,19 @@ StandsInJournals count worker exchanges before journals =
     StandsAmong worker number exchanges (own_at before number) (own_entries (Worker worker) (reverse (entries_at journals number)))
 
 -- so it is of a run that ended
-abbrev pub StandsIfEnded : (plan : ℕ → ShardPlan) (count : ℕ) (setting : SteeringSizes) (worker : ℕ) (journals : JournalsView)
+abbrev pub StandsIfEnded : (plan : ℕ → ShardPlan) (count : ℕ) (program : Program) (worker : ℕ) (journals : JournalsView)
     (captured : Sent) (before : PassView) (end : RunEnd) (after : PassView)
-    → IsSteeredRun plan count setting worker captured before end after → Type 0
-StandsIfEnded plan count setting worker journals captured before Stopped after run = Unit {0}
-StandsIfEnded plan count setting worker journals captured before end after run = StandsInJournals count worker run.exchanges before journals
+    → IsRunIn plan count program worker journals captured before end after → Type 0
+StandsIfEnded plan count program worker journals captured before Stopped after run = Unit {0}
+StandsIfEnded plan count program worker journals captured before (Exited steps fate) after run =
+    StandsInJournals count worker run.run.exchanges before journals
 
-abbrev pub FateStands : (plan : ℕ → ShardPlan) (count : ℕ) (setting : SteeringSizes) (records : List Sent) (worker : ℕ)
-    (journals : JournalsView) (runs : List (RunInPlace (IsRunAt (IsSteeredRun plan count setting worker) records))) (place number : ℕ)
-    (captured : Sent) (fate : Option RunEnd) → IsSteeredFate runs place number captured fate → Type 0
-FateStands plan count setting records worker journals runs place number captured None steered = Unit {0}
-FateStands plan count setting records worker journals runs place number captured (Some end) steered =
-    StandsIfEnded plan count setting worker journals steered.one.run.sent steered.one.before steered.one.ran.end steered.one.after
-    steered.one.run.run
+abbrev pub FateStands : (plan : ℕ → ShardPlan) (count : ℕ) (program : Program) (worker : ℕ) (journals : JournalsView) (records : List Sent)
+    (runs : List (PlacedRun plan count program worker journals records)) (place number : ℕ) (captured : Sent) (fate : Option RunEnd)
+    → IsFateIn runs place number captured fate → Type 0
+FateStands plan count program worker journals records runs place number captured None is = Unit {0}
+FateStands plan count program worker journals records runs place number captured (Some end) is =
+    StandsIfEnded plan count program worker journals is.one.run.sent is.one.before is.one.ran.end is.one.after is.one.run.run
 
 -- ---- the laws
 
@@ -193,7 +168,7 @@ FatesStand =
     (steered : IsSteeredReplay size program script options records outcome accounted)
     (number : ℕ) (captured : Sent) (known : slice_get records number ≡ Some captured) →
     let worker = worker_of_frame captured.bytes.items options.workers in
-    FateStands accounted.plan accounted.count (of_size options.shards size) records worker outcome.journals
-    (runs_in_work (steered.work worker (steered.fates number captured known).0))
+    FateStands accounted.plan accounted.count program worker outcome.journals records
+    (runs_in_work (accounted.work worker (steered.fates number captured known).0))
     (length (share (frames_of records) options.workers worker number)) number captured
     (fate_of (frames_of records) options.workers accounted.runs number) (steered.fates number captured known).1

@@ -170,19 +170,19 @@ pub record RunOfNoted (frame : FrameView) (tunnel : TunnelRecord) (number : ℕ)
   pub up : StandsUp backends backends_history worker number backend backend_lookup backend_load
 
 -- the run chooses this backend, and does not note it anew
-pub record ChoosesNoted (setting : SteeringSizes) (frame : FrameView) (tunnel : TunnelRecord) (number : ℕ) (backend : BackendRecord)
+pub record ChoosesNoted (sizes : SteeringSizes) (frame : FrameView) (tunnel : TunnelRecord) (number : ℕ) (backend : BackendRecord)
     (exchanges : List Exchange) (verdict : Verdict) (left : FrameView) : Type 0 where
   pub asked : List Exchange
   pub last : List Exchange
   pub exchanges_are : exchanges ≡ asked ++ last
-  pub chosen : plan_after (steering setting frame) (replies_in asked) ≡ ending setting frame (Some tunnel) (Tx number backend.address false)
+  pub chosen : plan_after (steering sizes frame) (replies_in asked) ≡ ending sizes frame (Some tunnel) (Tx number backend.address false)
   pub verdict_is : verdict ≡ V.Tx
   pub left_is : left ≡ encapsulated_frame (tunnel_to tunnel backend.address) frame
 
 -- every run of the rule that is one of a flow that is noted chooses the noted backend
 abbrev pub NotedFlowsStick : Type 0
 NotedFlowsStick =
-    (setting : SteeringSizes) (frame : FrameView) (tunnel : TunnelRecord) (number : ℕ) (backend : BackendRecord) (worker : ℕ)
+    (sizes : SteeringSizes) (frame : FrameView) (tunnel : TunnelRecord) (number : ℕ) (backend : BackendRecord) (worker : ℕ)
     (exchanges : List Exchange) (verdict : Verdict) (left : FrameView) →
-    EndsByRule setting frame exchanges verdict left → RunOfNoted frame tunnel number backend worker exchanges →
-    ChoosesNoted setting frame tunnel number backend exchanges verdict left
+    EndsByRule sizes frame exchanges verdict left → RunOfNoted frame tunnel number backend worker exchanges →
+    ChoosesNoted sizes frame tunnel number backend exchanges verdict left

@@ -14,18 +14,15 @@ use Rattle.journals.specs.JournalsView.{JournalsView, entries_at}
 use Rattle.ipip.specs.Encapsulation.{encapsulated_frame}
 use Rattle.conntrack.specs.declared.records.BackendRecord.{BackendRecord}
 use Rattle.conntrack.specs.declared.records.TunnelRecord.{TunnelRecord}
-use Rattle.conntrack.specs.Steering.{SteeringSizes}
 use Rattle.conntrack.specs.SteeringRule.{tunnel_to}
-use Rattle.steer.specs.SteeringLaws.{of_size}
 use Rattle.shards.specs.Passes.{PassView}
 use Rattle.control.specs.declared.command.Command.{Command}
 use Rattle.actors.specs.declared.outcome.Outcome.{Outcome}
 use Rattle.actors.specs.declared.runner.RunEnd.{RunEnd}
-use Rattle.actors.specs.declared.runner.RunEnd.TheVariants.{Stopped}
-use Rattle.actors.specs.Accounted.{IsAccounted}
-use Rattle.actors.specs.RunsInOrder.{IsRunAt}
-use Rattle.actors.specs.RunsOverShards.{IsTold}
-use Rattle.steered_replays.specs.SteeredRuns.{IsSteeredReplay, IsSteeredRun, RunInPlace, runs_in_work}
+use Rattle.actors.specs.declared.runner.RunEnd.TheVariants.{Stopped, Exited}
+use Rattle.actors.specs.Accounted.{PlacedRun, runs_in_work, IsAccounted}
+use Rattle.actors.specs.RunsOverShards.{IsTold, IsRunIn}
+use Rattle.steered_replays.specs.SteeredRuns.{IsSteeredReplay}
 use Rattle.steered_replays.specs.StickyFlows.{RunOfNoted}
 
 -- the history is the one to which the journal of a shard of the replay leads, by the shard's plan
@@ -45,31 +42,28 @@ pub record IsNotedRun (plans : ℕ → ShardPlan) (count : ℕ) (journals : Jour
   pub backends : IsOfReplay plans count journals run.backends run.backends_history
 
 -- where a run that ended is one of a flow that is noted, its record's frame is sent through the tunnel to the noted backend
-abbrev pub StaysWithBackend : (plans : ℕ → ShardPlan) (count : ℕ) (setting : SteeringSizes) (worker : ℕ) (journals : JournalsView)
+abbrev pub StaysWithBackend : (plans : ℕ → ShardPlan) (count : ℕ) (program : Program) (worker : ℕ) (journals : JournalsView)
     (captured : Sent) (before : PassView) (end : RunEnd) (after : PassView)
-    → IsSteeredRun plans count setting worker captured before end after → Type 0
-StaysWithBackend plans count setting worker journals captured before Stopped after steered = Unit {0}
-StaysWithBackend plans count setting worker journals captured before end after steered =
+    → IsRunIn plans count program worker journals captured before end after → Type 0
+StaysWithBackend plans count program worker journals captured before Stopped after run = Unit {0}
+StaysWithBackend plans count program worker journals captured before (Exited steps fate) after run =
     (tunnel : TunnelRecord) (number : ℕ) (backend : BackendRecord) →
-    IsNotedRun plans count journals (input_frame captured.bytes.items) tunnel number backend worker steered.exchanges →
-    IsTold captured V.Tx (encapsulated_frame (tunnel_to tunnel backend.address) (input_frame captured.bytes.items)) end
+    IsNotedRun plans count journals (input_frame captured.bytes.items) tunnel number backend worker run.run.exchanges →
+    IsTold captured V.Tx (encapsulated_frame (tunnel_to tunnel backend.address) (input_frame captured.bytes.items)) (Exited steps fate)
 
--- so it is of every run that the workers of a replay made by the rule
-abbrev pub FlowsStay : (size : ℕ) (program : Program) (script : List Command) (options : Options) (records : List Sent) (outcome : Outcome)
-    (accounted : IsAccounted program script options records outcome)
-    → IsSteeredReplay size program script options records outcome accounted → Type 0
-FlowsStay size program script options records outcome accounted steered =
+-- so it is of every run of a replay
+abbrev pub FlowsStay : (program : Program) (script : List Command) (options : Options) (records : List Sent) (outcome : Outcome)
+    → IsAccounted program script options records outcome → Type 0
+FlowsStay program script options records outcome accounted =
     (worker : ℕ) (below : worker < options.workers) →
     AllByRecursion
-    (λ (one : RunInPlace (IsRunAt (IsSteeredRun accounted.plan accounted.count (of_size options.shards size) worker) records)).
-    StaysWithBackend accounted.plan accounted.count (of_size options.shards size) worker outcome.journals one.run.sent one.before one.ran.end
-    one.after one.run.run)
-    (runs_in_work (steered.work worker below))
+    (λ (one : PlacedRun accounted.plan accounted.count program worker outcome.journals records).
+    StaysWithBackend accounted.plan accounted.count program worker outcome.journals one.run.sent one.before one.ran.end one.after one.run.run)
+    (runs_in_work (accounted.work worker below))
 
--- in every replay
+-- in every replay whose runs are by the rule
 abbrev pub FlowsStayInReplays : Type 0
 FlowsStayInReplays =
     (size : ℕ) (program : Program) (script : List Command) (options : Options) (records : List Sent) (outcome : Outcome)
-    (accounted : IsAccounted program script options records outcome)
-    (steered : IsSteeredReplay size program script options records outcome accounted) →
-    FlowsStay size program script options records outcome accounted steered
+    (accounted : IsAccounted program script options records outcome) →
+    IsSteeredReplay size program script options records outcome accounted → FlowsStay program script options records outcome accounted

@@ -26,8 +26,8 @@ use Rattle.steered_replays.specs.StickyFlows.{noting_entry, RunOfNoted}
 use Rattle.semantics.specs.declared.call.Caller.TheVariants.{Controller}
 
 -- one shard to a map
-abbrev pub sticky_setting : SteeringSizes
-sticky_setting = record { shards = 1; size = 7 }
+abbrev pub sticky_sizes : SteeringSizes
+sticky_sizes = record { shards = 1; size = 7 }
 
 -- UDP from 10.0.0.9, port 1000, to 10.0.0.1, port 80; the packet has 28 bytes
 abbrev pub row_frame : FrameView
@@ -123,7 +123,7 @@ row_backends = exchange_entry 0 row_backend_load ∷ exchange_entry 0 row_backen
 -- the run ends by the rule, and is one of a flow that is noted
 pub record StickyRow : Type 0 where
   pub left : FrameView
-  pub ends : EndsByRule sticky_setting row_frame row_exchanges Tx left
+  pub ends : EndsByRule sticky_sizes row_frame row_exchanges Tx left
   pub run : RunOfNoted row_frame row_tunnel 2 row_backend 0 row_exchanges
   -- in these histories, of a shard of flows and one of backends
   pub flows_plan : run.flows ≡ sticky_plan Flows 16 4096

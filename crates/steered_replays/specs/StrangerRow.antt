@@ -21,7 +21,7 @@ use Rattle.steered_replays.specs.SteeredRuns.{EndsByRule}
 use Rattle.steered_replays.specs.TablesAtEnd.{MapsAt}
 use Rattle.steered_replays.specs.Fleets.{slot_of_flow}
 use Rattle.steered_replays.specs.StickyRow.{row_backend, row_backend_load, row_backend_lookup, row_backends, row_backends_before, row_cell}
-use Rattle.steered_replays.specs.StickyRow.{row_count, row_frame, row_guards, row_key, row_tunnel, sticky_setting}
+use Rattle.steered_replays.specs.StickyRow.{row_count, row_frame, row_guards, row_key, row_tunnel, sticky_sizes}
 use Rattle.steered_replays.specs.StrangerRuns.{RunOfStranger}
 
 -- ---- what the run asks
@@ -75,6 +75,6 @@ row_vip = vip_of (bytes_of_number 8 0)
 -- the run ends by the rule, finds no note, and sends its frame to the owner of the slot
 pub record StrangerRow : Type 0 where
   pub left : FrameView
-  pub ends : EndsByRule sticky_setting row_frame stranger_exchanges Tx left
+  pub ends : EndsByRule sticky_sizes row_frame stranger_exchanges Tx left
   pub run : RunOfStranger 7 row_now row_frame row_vip row_tunnel 0 stranger_exchanges
   pub left_is : left ≡ steered_frame row_tunnel (choices.Tx 2 row_backend.address true) row_frame

@@ -15,7 +15,7 @@ use Rattle.semantics.specs.declared.options.Options.{Options}
 use Rattle.semantics.specs.declared.plan.ShardPlan.{ShardPlan}
 use Rattle.semantics.specs.CallerLaws.{own_entries}
 use Rattle.semantics.specs.LittleEndian.{bytes_of_number}
-use Rattle.semantics.specs.Program.{shard_of_key}
+use Rattle.semantics.specs.Program.{Program, shard_of_key}
 use Rattle.semantics.specs.System.{input_frame}
 use Rattle.maglev.specs.declared.backend.Backend.{Backend as Server}
 use Rattle.maglev.specs.RingSize.{IsRingSize}
@@ -27,10 +27,10 @@ use Rattle.conntrack.specs.declared.records.VipRecord.{VipRecord}
 use Rattle.conntrack.specs.declared.steering_maps.SteeringMap.{SteeringMap}
 use Rattle.conntrack.specs.declared.steering_maps.SteeringMap.TheVariants.{Backends, Ring}
 use Rattle.conntrack.specs.Layouts.{backend_of, tunnel_of, vip_of}
-use Rattle.conntrack.specs.Steering.{SteeringSizes}
 use Rattle.conntrack.specs.SteeringMaps.{map_kind, map_place, sized_maps}
 use Rattle.conntrack.specs.SteeringRule.{fits_tunnel, steered_frame, verdict_of_choice}
 use Rattle.steer.specs.SteeringLaws.{of_size, shipped_program}
+use Rattle.journals.specs.JournalsView.{JournalsView}
 use Rattle.shards.specs.Passes.{PassView}
 use Rattle.control.specs.declared.command.Action.TheVariants.{Down}
 use Rattle.control.specs.declared.command.Command.{Command}
@@ -38,11 +38,11 @@ use Rattle.control.specs.Controlling.{IsTable}
 use Rattle.actors.specs.declared.outcome.Applied.{Applied}
 use Rattle.actors.specs.declared.outcome.Outcome.{Outcome}
 use Rattle.actors.specs.declared.runner.RunEnd.{RunEnd}
-use Rattle.actors.specs.declared.runner.RunEnd.TheVariants.{Stopped}
+use Rattle.actors.specs.declared.runner.RunEnd.TheVariants.{Stopped, Exited}
 use Rattle.actors.specs.Commands.{made_in, with_updates}
-use Rattle.actors.specs.RunsInOrder.{IsRunAt}
-use Rattle.actors.specs.RunsOverShards.{IsTold}
-use Rattle.steered_replays.specs.SteeredRuns.{IsSteeredReplay, IsSteeredRun, RunInPlace, runs_in_work}
+use Rattle.actors.specs.Accounted.{PlacedRun, runs_in_work}
+use Rattle.actors.specs.RunsOverShards.{IsTold, IsRunIn}
+use Rattle.steered_replays.specs.SteeredRuns.{IsSteeredReplay}
 use Rattle.steered_replays.specs.TablesAtEnd.{MapsAt, IsMoment, IsPlainReplay, carried_out, is_refused, last_histories, up_left, value_at}
 use Rattle.steered_replays.specs.Fleets.{IsSentByTable, owner_in, sent_to, server_of, slot_of_flow}
 
@@ -123,16 +123,16 @@ pub record IsSentToOwner (size : ℕ) (up : List Server) (now : MapsAt) (capture
   pub told : IsTold captured (verdict_of_choice choice) (steered_frame tunnel choice (input_frame captured.bytes.items)) end
 
 -- so it is where a run that ended is one that finds no note
-abbrev pub SentIfStranger : (size : ℕ) (up : List Server) (now : MapsAt) (plans : ℕ → ShardPlan) (count : ℕ) (setting : SteeringSizes)
-    (worker : ℕ) (captured : Sent) (before : PassView) (end : RunEnd) (after : PassView)
-    → IsSteeredRun plans count setting worker captured before end after → Type 0
-SentIfStranger size up now plans count setting worker captured before Stopped after steered = Unit {0}
-SentIfStranger size up now plans count setting worker captured before end after steered =
+abbrev pub SentIfStranger : (size : ℕ) (up : List Server) (now : MapsAt) (plans : ℕ → ShardPlan) (count : ℕ) (program : Program)
+    (worker : ℕ) (journals : JournalsView) (captured : Sent) (before : PassView) (end : RunEnd) (after : PassView)
+    → IsRunIn plans count program worker journals captured before end after → Type 0
+SentIfStranger size up now plans count program worker journals captured before Stopped after run = Unit {0}
+SentIfStranger size up now plans count program worker journals captured before (Exited steps fate) after run =
     (vip : VipRecord) (tunnel : TunnelRecord) →
-    RunOfStranger size now (input_frame captured.bytes.items) vip tunnel worker steered.exchanges →
-    IsSentToOwner size up now captured vip tunnel end
+    RunOfStranger size now (input_frame captured.bytes.items) vip tunnel worker run.run.exchanges →
+    IsSentToOwner size up now captured vip tunnel (Exited steps fate)
 
--- at each moment of a replay, of every run that its workers made by the rule
+-- at each moment of a replay of the shipped program, of every run
 abbrev pub StrangersAreSent : Type 0
 StrangersAreSent =
     (notes size : ℕ) → IsRingSize size → (script : List Command) (options : Options) (records : List Sent) (outcome : Outcome)
@@ -141,11 +141,11 @@ StrangersAreSent =
     (commands : ℕ) (histories : ℕ → List Entry) → IsMoment notes size script options records outcome plain commands histories →
     (worker : ℕ) (below : worker < options.workers) →
     AllByRecursion
-    (λ (one : RunInPlace (IsRunAt (IsSteeredRun plain.accounted.plan plain.accounted.count (of_size options.shards size) worker) records)).
+    (λ (one : PlacedRun plain.accounted.plan plain.accounted.count (shipped_program notes (of_size options.shards size)) worker outcome.journals records).
     SentIfStranger size (up_left [] (carried_out outcome.refused.items 0 (take commands script)))
-    (record { journals = outcome.journals; histories = histories }) plain.accounted.plan plain.accounted.count (of_size options.shards size)
-    worker one.run.sent one.before one.ran.end one.after one.run.run)
-    (runs_in_work (steered.work worker below))
+    (record { journals = outcome.journals; histories = histories }) plain.accounted.plan plain.accounted.count
+    (shipped_program notes (of_size options.shards size)) worker outcome.journals one.run.sent one.before one.ran.end one.after one.run.run)
+    (runs_in_work (plain.accounted.work worker below))
 
 -- A moment may lie right behind any place of a shard's journal where the controller has made there the updates of so many commands, and no
 -- other: so it may lie behind each Load between two commands.

@@ -2,6 +2,7 @@
 -- and the flow of its frame: source, source port, destination, destination port, protocol. What is not known is empty, or null.
 use Rattle.std.specs.Prelude.{ℕ, ◌/◌, ◌%◌, ◌==◌, ◌++◌, List, [], ◌∷◌, codes, decimal, Option, Some, None, if◌then◌else◌, slice_index}
 use Rattle.wire.specs.BigEndian.{be_word_at}
+use Rattle.comparison.specs.Rows.{head_line}
 use Rattle.traffic.specs.Counting.{address_at}
 use Rattle.traffic.specs.Kinds.{is_of_flow_kind, frame_kind_of}
 use Rattle.traffic.specs.declared.kind.FrameKind.{FrameKind}
@@ -174,7 +175,7 @@ abbrev pub record_line : ReportForm → RecordLine → List ℕ → List ℕ
 record_line form line frame =
     line_of_pieces form line.number line.micros line.worker line.verdict line.steps line.case_of.now line.backend line.address frame
 
--- what comes before the first line
+-- what comes before the first line: the head that readers of reports look for
 abbrev pub report_head : ReportForm → List ℕ
-report_head Csv = codes "number,moment,worker,verdict,steps,case,backend,address,source,source_port,destination,destination_port,protocol\n"
+report_head Csv = head_line
 report_head Json = []

@@ -8,6 +8,7 @@ ghost use Rattle.traffic.specs.RecordLines.{number_text, quoted, record_line, si
 use crate::flow_columns::flow_text;
 use crate::kind::FrameKind;
 use crate::printing::address_text;
+use comparison::head_line;
 use std::alloc::{AllocError, Global};
 
 /// How a report is written.
@@ -245,9 +246,7 @@ impl ReportForm {
         ensures { result.now ≡ report_head self }
     {
         match self {
-            ReportForm::Csv => {
-                "number,moment,worker,verdict,steps,case,backend,address,source,source_port,destination,destination_port,protocol\n"
-            }
+            ReportForm::Csv => head_line(),
             ReportForm::Json => "",
         }
     }

@@ -48,6 +48,7 @@ fn run_files<'a>(files: RunFiles<'a>) -> RunFiles<'a> {
         image: read_from(files.image),
         frame: read_from(files.frame),
         journals: option_written(files.journals),
+        maps: option_written(files.maps),
     }
 }
 
@@ -61,6 +62,7 @@ fn replay_files<'a>(files: ReplayFiles<'a>) -> ReplayFiles<'a> {
         script: option_read(files.script),
         journals: option_written(files.journals),
         report: option_written(files.report),
+        maps: option_written(files.maps),
     }
 }
 
@@ -105,9 +107,14 @@ pub(crate) fn with_streams<'a>(settings: Settings<'a>) -> Settings<'a> {
             script: read_from(script),
             ring,
         },
-        Settings::Script { capture, timed } => Settings::Script {
+        Settings::Script {
+            capture,
+            timed,
+            reading,
+        } => Settings::Script {
             capture: read_from(capture),
             timed: read_from(timed),
+            reading,
         },
         Settings::Compare { first, second } => Settings::Compare {
             first: read_from(first),
@@ -141,7 +148,7 @@ fn inputs_of<'a>(settings: &Settings<'a>) -> [Named<'a>; 3] {
             ("JOURNALS", Some(*journals)),
             NONE,
         ],
-        Settings::Script { capture, timed } => [
+        Settings::Script { capture, timed, .. } => [
             ("CAPTURE", Some(*capture)),
             ("TIMED", Some(*timed)),
             NONE,
@@ -175,17 +182,23 @@ fn image_option(files: &ReplayFiles<'_>) -> &'static str {
 }
 
 /// What the command writes.
-fn outputs_of<'a>(settings: &Settings<'a>) -> [Named<'a>; 3] {
+fn outputs_of<'a>(settings: &Settings<'a>) -> [Named<'a>; 4] {
     match settings {
-        Settings::Run { files, .. } => [("--journals", files.journals), NONE, NONE],
-        Settings::Asm { out, .. } => [("OUT", Some(*out)), NONE, NONE],
-        Settings::Shipped { out, .. } => [("OUT", Some(*out)), NONE, NONE],
+        Settings::Run { files, .. } => [
+            ("--journals", files.journals),
+            ("--maps", files.maps),
+            NONE,
+            NONE,
+        ],
+        Settings::Asm { out, .. } => [("OUT", Some(*out)), NONE, NONE, NONE],
+        Settings::Shipped { out, .. } => [("OUT", Some(*out)), NONE, NONE, NONE],
         Settings::Replay(asked) => [
             ("SENT", Some(asked.files.sent)),
             ("--journals", asked.files.journals),
             ("--report", asked.files.report),
+            ("--maps", asked.files.maps),
         ],
-        _ => [NONE, NONE, NONE],
+        _ => [NONE, NONE, NONE, NONE],
     }
 }
 
@@ -212,6 +225,18 @@ fn both_in(names: &[Named<'_>; 3], stream: &str) -> Option<(&'static str, &'stat
     None
 }
 
+/// Two of the four that are this stream, if there are two.
+fn both_of_four(names: &[Named<'_>; 4], stream: &str) -> Option<(&'static str, &'static str)> {
+    let [first, second, third, fourth] = *names;
+    if let Some(both) = both_in(&[first, second, third], stream) {
+        return Some(both);
+    }
+    if let Some(both) = both_in(&[first, second, fourth], stream) {
+        return Some(both);
+    }
+    both_in(&[third, fourth, NONE], stream)
+}
+
 /// Two arguments that are one standard stream, and which stream.
 #[derive(Clone, Copy, Debug)]
 pub(crate) struct Shared {
@@ -229,7 +254,7 @@ pub(crate) fn shared_stream(settings: &Settings<'_>) -> Option<Shared> {
             stream: "input",
         });
     }
-    if let Some((first, second)) = both_in(&outputs_of(settings), STANDARD_OUTPUT) {
+    if let Some((first, second)) = both_of_four(&outputs_of(settings), STANDARD_OUTPUT) {
         return Some(Shared {
             first,
             second,
@@ -241,8 +266,9 @@ pub(crate) fn shared_stream(settings: &Settings<'_>) -> Option<Shared> {
 
 /// Whether the command writes a file to the standard output.
 pub(crate) fn writes_output(settings: &Settings<'_>) -> bool {
-    let [first, second, third] = outputs_of(settings);
+    let [first, second, third, fourth] = outputs_of(settings);
     is_stream(first, STANDARD_OUTPUT)
         || is_stream(second, STANDARD_OUTPUT)
         || is_stream(third, STANDARD_OUTPUT)
+        || is_stream(fourth, STANDARD_OUTPUT)
 }

@@ -9,10 +9,11 @@ use Rattle.semantics.specs.Program.{Program}
 use Rattle.semantics.specs.declared.options.Options.{Options}
 use Rattle.wire.specs.declared.records.Sent.{Sent}
 use Rattle.traffic.specs.Counting.{one_if}
-use Rattle.actors.specs.Accounts.{SentFrame, record_end, sent_by, sent_frame, sent_frames}
+use Rattle.semantics.specs.Replay.{Captured}
+use Rattle.actors.specs.Accounts.{record_end, sent_by}
 use Rattle.actors.specs.Actors.{numbers_from}
-use Rattle.actors.specs.Shares.{worker_of_frame}
-use Rattle.actors.specs.declared.outcome.RecordEnd.{RecordEnd}
+use Rattle.actors.specs.Shares.{worker_of_frame, captured_of, all_captured}
+use Rattle.actors.specs.declared.outcome.ToldEnd.{ToldEnd}
 use Rattle.actors.specs.declared.runner.FrameFate.TheVariants.{Aborted, Dropped, Passed, Sent as IsSent}
 use Rattle.actors.specs.declared.runner.RunEnd.{RunEnd}
 use Rattle.actors.specs.declared.runner.RunEnd.TheVariants.{Stopped, Exited}
@@ -27,7 +28,7 @@ use Rattle.xlb_commands.specs.RecordReports.{is_sent, sent_before}
 use Rattle.xlb_commands.proofs.ReportPieces.{from_none, sent_behind, suc_left}
 
 -- so many ends, and a frame for each that was sent
-abbrev AreAligned : ℕ → List Sent → List RecordEnd → Type 0
+abbrev AreAligned : ℕ → List Sent → List ToldEnd → Type 0
 AreAligned count sent ends = (length ends ≡ count) × (length sent ≡ sent_before ends (length ends))
 
 one_sent : (worker : ℕ) (fate : Option RunEnd) → length (sent_by fate) ≡ one_if (is_sent (record_end worker fate))
@@ -38,7 +39,7 @@ one_sent worker (Some (Exited steps Dropped)) = refl
 one_sent worker (Some (Exited steps Passed)) = refl
 one_sent worker (Some (Exited steps (IsSent sent))) = refl
 
-one_end : (ends : List RecordEnd) (end : RecordEnd)
+one_end : (ends : List ToldEnd) (end : ToldEnd)
     → sent_before (ends ++ end ∷ []) (length (ends ++ end ∷ [])) ≡ sent_before ends (length ends) + one_if (is_sent end)
 one_end ends end =
     ap (λ (n : ℕ). sent_before (ends ++ end ∷ []) n) (length-append ends (end ∷ []))
@@ -50,13 +51,13 @@ one_more : (program : Program) (records : List Sent) (workers number : ℕ) (bef
     → AreAligned (suc count) after.sent after.ends
 one_more program records workers number before after count turn aligned =
     let end = record_end (worker_of_frame turn.captured.bytes.items workers) turn.end in
-    let many : length after.ends ≡ length before.ends + 1 = ap (λ (ends : List RecordEnd). length ends) turn.ends ∙ length-append before.ends (end ∷ []) in
+    let many : length after.ends ≡ length before.ends + 1 = ap (λ (ends : List ToldEnd). length ends) turn.ends ∙ length-append before.ends (end ∷ []) in
     let frames : length after.sent ≡ length before.sent + length (sent_by turn.end) =
-    sym (length-map after.sent sent_frame) ∙ (ap (λ (frames : List SentFrame). length frames) turn.sent
-    ∙ (length-append (sent_frames before.sent) (sent_by turn.end) ∙ ap (λ (n : ℕ). n + length (sent_by turn.end)) (length-map before.sent sent_frame))) in (
+    sym (length-map after.sent captured_of) ∙ (ap (λ (frames : List Captured). length frames) turn.sent
+    ∙ (length-append (all_captured before.sent) (sent_by turn.end) ∙ ap (λ (n : ℕ). n + length (sent_by turn.end)) (length-map before.sent captured_of))) in (
       omega (arith, many, aligned.0),
       frames ∙ (ap₂ (◌+◌) aligned.1 (one_sent (worker_of_frame turn.captured.bytes.items workers) turn.end)
-          ∙ sym (ap (λ (ends : List RecordEnd). sent_before ends (length ends)) turn.ends ∙ one_end before.ends end)),
+          ∙ sym (ap (λ (ends : List ToldEnd). sent_before ends (length ends)) turn.ends ∙ one_end before.ends end)),
     )
 
 abbrev records_among : List Turn → ℕ
@@ -68,8 +69,8 @@ records_among (TheRound ∷ later) = records_among later
 same_state : (count other : ℕ) (before after : TurnState) → other ≡ count → after.sent ≡ before.sent → after.ends ≡ before.ends
     → AreAligned count before.sent before.ends → AreAligned other after.sent after.ends
 same_state count other before after same sent ends aligned = (
-  ap (λ (them : List RecordEnd). length them) ends ∙ (aligned.0 ∙ sym same),
-  ap (λ (them : List Sent). length them) sent ∙ (aligned.1 ∙ ap (λ (them : List RecordEnd). sent_before them (length them)) (sym ends)),
+  ap (λ (them : List ToldEnd). length them) ends ∙ (aligned.0 ∙ sym same),
+  ap (λ (them : List Sent). length them) sent ∙ (aligned.1 ∙ ap (λ (them : List ToldEnd). sent_before them (length them)) (sym ends)),
 )
 
 aligned_on : (program : Program) (script : List Command) (records : List Sent) (workers : ℕ) (turns : List Turn) (before after : TurnState) (count : ℕ)
@@ -125,20 +126,20 @@ all_of_records starts (suc number) =
 
 -- of the records so far
 aligned_so_far : (program : Program) (script : List Command) (options : Options) (updates : List MapUpdate) (records sent : List Sent)
-    (ends : List RecordEnd) (replay : PieceReplay) → IsUnderway program script options updates records sent ends replay
+    (ends : List ToldEnd) (replay : PieceReplay) → IsUnderway program script options updates records sent ends replay
     → ReplayGoesOn script replay → AreAligned (length records) sent ends
 aligned_so_far program script options updates records sent ends replay under goes_on =
     let all = aligned_on program script records options.workers (turns_to (starts_in script) (length records)) _ _ 0 under.in_order (refl, refl) in
     let no_sent : sent ++ replay.turns.sent.items ≡ sent = ap (λ (them : List Sent). sent ++ them) goes_on.none_sent ∙ append-nil sent in
-    let no_ends : ends ++ replay.turns.ends.items ≡ ends = ap (λ (them : List RecordEnd). ends ++ them) goes_on.no_ends ∙ append-nil ends in
+    let no_ends : ends ++ replay.turns.ends.items ≡ ends = ap (λ (them : List ToldEnd). ends ++ them) goes_on.no_ends ∙ append-nil ends in
     let counted = from_none (records_among (turns_to (starts_in script) (length records))) ∙ all_of_records (starts_in script) (length records) in
     subst (λ (them : List Sent). AreAligned (length records) them ends) no_sent
-    (subst (λ (them : List RecordEnd). AreAligned (length records) (sent ++ replay.turns.sent.items) them) no_ends
+    (subst (λ (them : List ToldEnd). AreAligned (length records) (sent ++ replay.turns.sent.items) them) no_ends
     (subst (λ (count : ℕ). AreAligned count (sent ++ replay.turns.sent.items) (ends ++ replay.turns.ends.items)) counted all))
 
 -- and of the records of the next piece
 pub aligned_next : (program : Program) (script : List Command) (options : Options) (updates : List MapUpdate) (past past_sent : List Sent)
-    (past_ends : List RecordEnd) (before : PieceReplay) (records sent : List Sent) (ends : List RecordEnd) (after : PieceReplay)
+    (past_ends : List ToldEnd) (before : PieceReplay) (records sent : List Sent) (ends : List ToldEnd) (after : PieceReplay)
     → IsUnderway program script options updates past past_sent past_ends before → ReplayGoesOn script before
     → IsUnderway program script options updates (past ++ records) (past_sent ++ sent) (past_ends ++ ends) after → ReplayGoesOn script after
     → AreOfRecords records sent ends

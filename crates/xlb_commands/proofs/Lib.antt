@@ -1,6 +1,7 @@
 -- The lemmas that proofs of this crate share.
 pub mod AcceptedJournals
 pub mod Earlier
+pub mod EndMaps
 pub mod EndsInPieces
 pub mod LongImages
 pub mod LookingBack
@@ -8,6 +9,7 @@ pub mod Outcomes
 pub mod PartScripts
 pub mod PieceLemmas
 pub mod ReaderFiles
+pub mod RecordBytes
 pub mod ReportPieces
 pub mod Refusals
 pub mod SameFiles

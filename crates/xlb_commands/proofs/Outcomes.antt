@@ -48,7 +48,7 @@ pub made : (asked : Asked) (records : List Sent) (result : Made) → asked.exact
     → IfOk result (λ outcome. outcome.updates.items ≡ asked.updates.now) → IfOk result (IsOutcome asked records)
 made asked records (Ok outcome) on_threads accounted kept are = record {
   made = record { updates_are = are; accounted = accounted; in_turn = λ is. absurd (not_both asked.exact is on_threads) };
-  headline = record { kept = kept accounted; in_turns = λ is. absurd (not_both asked.exact is on_threads) };
+  listed = record { kept = kept accounted; in_turns = λ is. absurd (not_both asked.exact is on_threads) };
 }
 made asked records (Err why) on_threads accounted kept are = tt
 
@@ -57,7 +57,7 @@ pub made_exact : (asked : Asked) (records : List Sent) (result : Made)
     → IfOk result (λ outcome. outcome.updates.items ≡ asked.updates.now) → IfOk result (IsOutcome asked records)
 made_exact asked records (Ok outcome) listed are = record {
   made = record { updates_are = are; accounted = listed.exact.accounted; in_turn = λ is. listed.exact.in_order };
-  headline = record { kept = listed.listed.kept; in_turns = λ is. listed.listed.in_turns };
+  listed = record { kept = listed.listed.kept; in_turns = λ is. listed.listed.in_turns };
 }
 made_exact asked records (Err why) listed are = tt
 

@@ -7,31 +7,24 @@ use Rattle.control.specs.declared.command.Command.{Command}
 use Rattle.actors.specs.Captured.{IsCaptured}
 use Rattle.replay.specs.Pieces.{IsUnderway}
 use Rattle.replay.specs.declared.in_pieces.PieceReplay.{PieceReplay}
-use Rattle.actors.specs.declared.outcome.RecordEnd.{RecordEnd}
+use Rattle.actors.specs.declared.outcome.ToldEnd.{ToldEnd}
 use Rattle.semantics.specs.Program.{Program}
 use Rattle.semantics.specs.declared.options.Options.{Options}
-use Rattle.wire.specs.CaptureFormat.{record_bytes, records_bytes}
 use Rattle.wire.specs.declared.records.Sent.{Sent}
 use Rattle.xlb_commands.specs.Files.{FileBytes, AreKept}
 use Rattle.command_line.specs.declared.commands.ReplayFiles.{ReplayFiles}
 use Rattle.xlb_commands.specs.InPieces.{AreAdded, AreOfRecords, AreRun, AreTold, AreToldBehind, HaveRun}
 use Rattle.xlb_commands.specs.RecordReports.{backends_in, form_of, runs_shipped, sent_before}
+use Rattle.xlb_commands.proofs.RecordBytes.{added_both, records_bytes-append}
 use Rattle.xlb_commands.proofs.ReportPieces.{lines_of_both, sent_behind}
 use Rattle.traffic.specs.Readings.{unaltered}
 use Rattle.xlb_commands.specs.Replays.{IsCaptureOf}
-
--- the records of a list and of another, one after another
-records_bytes-append : (xs ys : List Sent) → records_bytes (xs ++ ys) ≡ records_bytes xs ++ records_bytes ys
-records_bytes-append [] ys = refl
-records_bytes-append (x ∷ xs) ys =
-    ap (λ (bytes : List ℕ). record_bytes x ++ bytes) (records_bytes-append xs ys)
-    ∙ sym (append_assoc (record_bytes x) (records_bytes xs) (records_bytes ys))
 
 captured_both : (xs ys : List Sent) → AllByRecursion IsCaptured xs → AllByRecursion IsCaptured ys → AllByRecursion IsCaptured (xs ++ ys)
 captured_both [] ys all others = others
 captured_both (x ∷ xs) ys all others = (all.0, captured_both xs ys all.1 others)
 
-run_both : (program : Program) (script : List Command) (options : Options) (a b c : PieceReplay) (xs ys sent later_sent : List Sent) (ends later_ends : List RecordEnd)
+run_both : (program : Program) (script : List Command) (options : Options) (a b c : PieceReplay) (xs ys sent later_sent : List Sent) (ends later_ends : List ToldEnd)
     → AreRun program script options a b xs sent ends → AreRun program script options b c ys later_sent later_ends
     → AreRun program script options a c (xs ++ ys) (sent ++ later_sent) (ends ++ later_ends)
 run_both program script options a b c xs ys sent later_sent ends later_ends first second = λ updates past past_sent past_ends under.
@@ -39,17 +32,13 @@ run_both program script options a b c xs ys sent later_sent ends later_ends firs
     (append_assoc past xs ys)
     (subst (λ (them : List Sent). IsUnderway program script options updates ((past ++ xs) ++ ys) them (past_ends ++ (ends ++ later_ends)) c)
     (append_assoc past_sent sent later_sent)
-    (subst (λ (them : List RecordEnd). IsUnderway program script options updates ((past ++ xs) ++ ys) ((past_sent ++ sent) ++ later_sent) them c)
+    (subst (λ (them : List ToldEnd). IsUnderway program script options updates ((past ++ xs) ++ ys) ((past_sent ++ sent) ++ later_sent) them c)
     (append_assoc past_ends ends later_ends)
     (second updates (past ++ xs) (past_sent ++ sent) (past_ends ++ ends) (first updates past past_sent past_ends under))))
 
-added_both : (a b c : FileBytes) (name more later : List ℕ) → AreAdded a b name more → AreAdded b c name later → AreAdded a c name (more ++ later)
-added_both a b c name more later first second = λ bytes begun.
-    subst (λ (them : List ℕ). c name them) (append_assoc bytes more later) (second (bytes ++ more) (first bytes begun))
-
 -- what is told of records and of others behind them
 module _ (program : Program) (script : List Command) (options : Options) (files : ReplayFiles) where
-  of_both : (xs ys sent later_sent : List Sent) (ends later_ends : List RecordEnd) → AreOfRecords xs sent ends → AreOfRecords ys later_sent later_ends
+  of_both : (xs ys sent later_sent : List Sent) (ends later_ends : List ToldEnd) → AreOfRecords xs sent ends → AreOfRecords ys later_sent later_ends
       → AreOfRecords (xs ++ ys) (sent ++ later_sent) (ends ++ later_ends)
   of_both xs ys sent later_sent ends later_ends one other =
       let records = length-append xs ys in
@@ -60,7 +49,7 @@ module _ (program : Program) (script : List Command) (options : Options) (files 
             ∙ sym (ap (λ (n : ℕ). sent_before (ends ++ later_ends) n) all ∙ sent_behind ends later_ends (length later_ends))),
       )
 
-  told_both : (a b c : FileBytes) (first : ℕ) (xs ys sent later_sent : List Sent) (ends later_ends : List RecordEnd) → AreOfRecords xs sent ends
+  told_both : (a b c : FileBytes) (first : ℕ) (xs ys sent later_sent : List Sent) (ends later_ends : List ToldEnd) → AreOfRecords xs sent ends
       → AreTold a b files script first xs sent ends → AreTold b c files script (first + length xs) ys later_sent later_ends
       → AreTold a c files script first (xs ++ ys) (sent ++ later_sent) (ends ++ later_ends)
   told_both a b c first xs ys sent later_sent ends later_ends fit one other = λ name is.
@@ -68,7 +57,7 @@ module _ (program : Program) (script : List Command) (options : Options) (files 
       (sym (lines_of_both (form_of name) (runs_shipped files) (backends_in script) first xs ys ends later_ends sent later_sent fit.0 fit.1))
       (added_both a b c name _ _ (one name is) (other name is))
 
-  behind_both : (before between : PieceReplay) (a b c : FileBytes) (xs ys sent later_sent : List Sent) (ends later_ends : List RecordEnd)
+  behind_both : (before between : PieceReplay) (a b c : FileBytes) (xs ys sent later_sent : List Sent) (ends later_ends : List ToldEnd)
       → AreRun program script options before between xs sent ends
       → AreToldBehind program script options files before a b xs sent ends
       → AreToldBehind program script options files between b c ys later_sent later_ends
@@ -109,7 +98,7 @@ module _ (program : Program) (script : List Command) (options : Options) (files 
     run = λ updates past past_sent past_ends under.
         subst (λ (records : List Sent). IsUnderway program script options updates records (past_sent ++ []) (past_ends ++ []) a) (sym (append-nil past))
         (subst (λ (them : List Sent). IsUnderway program script options updates past them (past_ends ++ []) a) (sym (append-nil past_sent))
-        (subst (λ (them : List RecordEnd). IsUnderway program script options updates past past_sent them a) (sym (append-nil past_ends)) under));
+        (subst (λ (them : List ToldEnd). IsUnderway program script options updates past past_sent them a) (sym (append-nil past_ends)) under));
     added = λ apart. none_added made made' files.sent.now kept;
     told = λ updates past past_sent past_ends under. ((refl, refl), λ apart name is. none_added made made' name kept);
   }

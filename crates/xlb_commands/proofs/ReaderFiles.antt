@@ -9,7 +9,8 @@ use Rattle.semantics.specs.ShardPlan.{AreOptions}
 use Rattle.control.specs.declared.command.Command.{Command}
 use Rattle.wire.specs.declared.records.Sent.{Sent}
 use Rattle.wire.specs.CaptureFormat.{header_bytes, record_bytes, records_bytes, capture_bytes}
-use Rattle.actors.specs.Accounts.{SentFrame, sent_frames}
+use Rattle.semantics.specs.Replay.{Captured}
+use Rattle.actors.specs.Shares.{all_captured}
 use Rattle.actors.specs.Accounted.{IsAccounted}
 use Rattle.actors.specs.declared.outcome.Outcome.{Outcome}
 use Rattle.guarantees.specs.ReaderReplays.{SendsAsAtOpening}
@@ -17,7 +18,7 @@ use Rattle.actors.specs.Captured.{IsCaptured}
 use Rattle.xlb_commands.specs.Replays.{frame_records, reader_file}
 use Rattle.xlb_commands.proofs.Outcomes.{options_fit}
 
-pub records_are : (sents : List Sent) → records_bytes sents ≡ frame_records (sent_frames sents)
+pub records_are : (sents : List Sent) → records_bytes sents ≡ frame_records (all_captured sents)
 records_are [] = refl
 records_are (sent ∷ sents) = ap (λ (rest : List ℕ). record_bytes sent ++ rest) (records_are sents)
 
@@ -37,4 +38,4 @@ reader_file_is maps code script options records outcome alike fit captured accou
     subst (λ (commands : List Command). IsAccounted (program_over maps code options.shards) commands options records outcome) none accounted in
     ap (λ (rest : List ℕ). header_bytes ++ rest)
     (records_are outcome.sent.items
-    ∙ ap (λ (frames : List SentFrame). frame_records frames) (alike options records outcome fits captured without none_set unstopped))
+    ∙ ap (λ (frames : List Captured). frame_records frames) (alike options records outcome fits captured without none_set unstopped))

@@ -7,7 +7,7 @@ use Rattle.std.proofs.lemmas.Bool.{cases_eq}
 use Rattle.wire.specs.declared.records.Sent.{Sent}
 use Rattle.traffic.specs.Counting.{one_if}
 use Rattle.traffic.specs.declared.record_line.ReportForm.{ReportForm}
-use Rattle.actors.specs.declared.outcome.RecordEnd.{RecordEnd}
+use Rattle.actors.specs.declared.outcome.ToldEnd.{ToldEnd}
 use Rattle.traffic.specs.RecordLines.{line_of_pieces}
 use Rattle.xlb_commands.specs.RecordReports.{backend_at, case_in, end_of, is_sent, line_of_record, line_text, lines_until, sent_address, sent_before}
 use Rattle.xlb_commands.specs.RecordReports.{steps_of_end, target_in, verdict_in, worker_in}
@@ -32,36 +32,36 @@ get_behind : {A : Type 0} (xs ys : List A) (place : ℕ) → slice_get (xs ++ ys
 get_behind [] ys place = ap (λ (n : ℕ). slice_get ys n) (from_none place)
 get_behind (x ∷ xs) ys place = ap (λ (n : ℕ). slice_get (x ∷ (xs ++ ys)) n) (suc_left (length xs) place) ∙ get_behind xs ys place
 
-end_before : (ends later : List RecordEnd) (place : ℕ) → place < length ends → end_of (ends ++ later) place ≡ end_of ends place
+end_before : (ends later : List ToldEnd) (place : ℕ) → place < length ends → end_of (ends ++ later) place ≡ end_of ends place
 end_before [] later place below = absurd (omega (arith, below))
 end_before (end ∷ ends) later zero below = refl
 end_before (end ∷ ends) later (suc place) below = end_before ends later place (omega (arith, below))
 
-end_behind : (ends later : List RecordEnd) (place : ℕ) → end_of (ends ++ later) (length ends + place) ≡ end_of later place
+end_behind : (ends later : List ToldEnd) (place : ℕ) → end_of (ends ++ later) (length ends + place) ≡ end_of later place
 end_behind [] later place = ap (λ (n : ℕ). end_of later n) (from_none place)
 end_behind (end ∷ ends) later place = ap (λ (n : ℕ). end_of (end ∷ (ends ++ later)) n) (suc_left (length ends) place) ∙ end_behind ends later place
 
 -- how many were sent
-sent_up_to : (ends later : List RecordEnd) (count : ℕ) → count ≤ length ends → sent_before (ends ++ later) count ≡ sent_before ends count
+sent_up_to : (ends later : List ToldEnd) (count : ℕ) → count ≤ length ends → sent_before (ends ++ later) count ≡ sent_before ends count
 sent_up_to ends later zero within = refl
 sent_up_to ends later (suc count) within =
     ap₂ (◌+◌) (sent_up_to ends later count (omega (arith, within)))
-    (ap (λ (end : RecordEnd). one_if (is_sent end)) (end_before ends later count (omega (arith, within))))
+    (ap (λ (end : ToldEnd). one_if (is_sent end)) (end_before ends later count (omega (arith, within))))
 
-pub sent_behind : (ends later : List RecordEnd) (count : ℕ)
+pub sent_behind : (ends later : List ToldEnd) (count : ℕ)
     → sent_before (ends ++ later) (length ends + count) ≡ sent_before ends (length ends) + sent_before later count
 sent_behind ends later zero =
     ap (λ (n : ℕ). sent_before (ends ++ later) n) (omega arith) ∙ (sent_up_to ends later (length ends) (omega arith) ∙ omega arith)
 sent_behind ends later (suc count) =
     ap (λ (n : ℕ). sent_before (ends ++ later) n) (suc_right (length ends) count)
-    ∙ (ap₂ (◌+◌) (sent_behind ends later count) (ap (λ (end : RecordEnd). one_if (is_sent end)) (end_behind ends later count))
+    ∙ (ap₂ (◌+◌) (sent_behind ends later count) (ap (λ (end : ToldEnd). one_if (is_sent end)) (end_behind ends later count))
     ∙ plus_assoc (sent_before ends (length ends)) (sent_before later count) (one_if (is_sent (end_of later count))))
   where
     plus_assoc : (a b c : ℕ) → (a + b) + c ≡ a + (b + c)
     plus_assoc a b c = omega arith
 
 -- a record that was sent has its frame among those that were sent
-sent_within : (ends : List RecordEnd) (place count : ℕ) → place < count
+sent_within : (ends : List ToldEnd) (place count : ℕ) → place < count
     → sent_before ends place + one_if (is_sent (end_of ends place)) ≤ sent_before ends count
 sent_within ends place zero below = absurd (omega (arith, below))
 sent_within ends place (suc count) below = ⊎_elim (λ (same : place ≡ count). subst (λ (n : ℕ). sent_before ends place + one_if (is_sent (end_of ends place))
@@ -74,7 +74,7 @@ sent_within ends place (suc count) below = ⊎_elim (λ (same : place ≡ count)
 -- ---- lines
 
 -- the frame of a record that was not sent is in no line
-same_target : (end : RecordEnd) (one other : Option Sent) → (is_sent end ≡ true → one ≡ other) → sent_address end one ≡ sent_address end other
+same_target : (end : ToldEnd) (one other : Option Sent) → (is_sent end ≡ true → one ≡ other) → sent_address end one ≡ sent_address end other
 same_target end one other same = by_test (is_sent end) same
   where
     by_test : (sent : Bool) → (sent ≡ true → one ≡ other) → (if sent then target_in one else None) ≡ (if sent then target_in other else None)
@@ -82,26 +82,26 @@ same_target end one other same = by_test (is_sent end) same
     by_test false same = refl
 
 module _ (form : ReportForm) (is_shipped : Bool) (backends : List (ℕ × ℕ)) where
-  line_with : ℕ → Sent → RecordEnd → Option ℕ → List ℕ
+  line_with : ℕ → Sent → ToldEnd → Option ℕ → List ℕ
   line_with number captured end address =
       line_of_pieces form (number + 1) (captured.seconds * 1000000 + captured.micros) (worker_in end) (verdict_in end) (steps_of_end end)
       (case_in is_shipped captured.bytes.items end) (backend_at backends address) address captured.bytes.items
 
-  same_line : (number : ℕ) (captured : Sent) (end : RecordEnd) (one other : Option Sent) → (is_sent end ≡ true → one ≡ other)
+  same_line : (number : ℕ) (captured : Sent) (end : ToldEnd) (one other : Option Sent) → (is_sent end ≡ true → one ≡ other)
       → line_text form is_shipped backends number captured end one ≡ line_text form is_shipped backends number captured end other
   unfolding line_with
   same_line number captured end one other same =
       ap (λ (address : Option ℕ). line_with number captured end address) (same_target end one other same)
 
   -- records with their ends and what was sent of them, and others behind them
-  module _ (first : ℕ) (xs ys : List Sent) (es fs : List RecordEnd) (ss ts : List Sent) (ends_are : length es ≡ length xs)
+  module _ (first : ℕ) (xs ys : List Sent) (es fs : List ToldEnd) (ss ts : List Sent) (ends_are : length es ≡ length xs)
       (sent_are : length ss ≡ sent_before es (length es)) where
     line_before : (number : ℕ) → number < length xs → (found : Option Sent)
         → line_of_record form is_shipped backends first (es ++ fs) (ss ++ ts) number found
         ≡ line_of_record form is_shipped backends first es ss number found
     line_before number below None = refl
     line_before number below (Some captured) =
-        ap (λ (end : RecordEnd). line_text form is_shipped backends (first + number) captured end
+        ap (λ (end : ToldEnd). line_text form is_shipped backends (first + number) captured end
         (slice_get (ss ++ ts) (sent_before (es ++ fs) number))) (end_before es fs number (omega (arith, below, ends_are)))
         ∙ (ap (λ (place : ℕ). line_text form is_shipped backends (first + number) captured (end_of es number) (slice_get (ss ++ ts) place))
         (sent_up_to es fs number (omega (arith, below, ends_are)))
@@ -127,7 +127,7 @@ module _ (form : ReportForm) (is_shipped : Bool) (backends : List (ℕ × ℕ)) 
         ≡ line_of_record form is_shipped backends (first + length xs) fs ts number found
     line_behind number None = refl
     line_behind number (Some captured) =
-        ap (λ (end : RecordEnd). line_text form is_shipped backends (first + (length xs + number)) captured end
+        ap (λ (end : ToldEnd). line_text form is_shipped backends (first + (length xs + number)) captured end
         (slice_get (ss ++ ts) (sent_before (es ++ fs) (length xs + number))))
         (ap (λ (n : ℕ). end_of (es ++ fs) (n + number)) (sym ends_are) ∙ end_behind es fs number)
         ∙ (ap (λ (found : Option Sent). line_text form is_shipped backends (first + (length xs + number)) captured (end_of fs number) found)

@@ -22,7 +22,8 @@ use Rattle.semantics.specs.ShardPlan.{recorded}
 use Rattle.semantics.specs.declared.options.Options.{Options}
 use Rattle.traffic.specs.declared.readings.Reading.{Reading}
 use Rattle.traffic.specs.Readings.{HasNoRecord, IsRecord, alters, kept_len, read_records, read_rest}
-use Rattle.actors.specs.Accounts.{SentFrame, sent_frame, sent_frames}
+use Rattle.semantics.specs.Replay.{Captured}
+use Rattle.actors.specs.Shares.{captured_of, all_captured}
 use Rattle.actors.specs.declared.outcome.Applied.{Applied}
 use Rattle.actors.specs.declared.outcome.Outcome.{Outcome}
 use Rattle.replay.specs.SameReplays.{AreSameFrames, HadMemory}
@@ -63,10 +64,10 @@ same_script unique one other same (Some name) a b is its =
 
 -- ---- the capture
 
-frame_of : ℕ → ℕ → List ℕ → SentFrame
+frame_of : ℕ → ℕ → List ℕ → Captured
 frame_of seconds micros bytes = record { seconds = seconds; micros = micros; bytes = bytes }
 
-same_frame : (bytes : List ℕ) (s t : Sent) → BeginsWithRecord bytes s → BeginsWithRecord bytes t → sent_frame s ≡ sent_frame t
+same_frame : (bytes : List ℕ) (s t : Sent) → BeginsWithRecord bytes s → BeginsWithRecord bytes t → captured_of s ≡ captured_of t
 unfolding frame_of
 same_frame bytes s t is its =
     let long : length s.bytes.items ≡ length t.bytes.items = sym is.kept ∙ its.kept in
@@ -85,7 +86,7 @@ same_records bytes (s ∷ ss) (t ∷ ts) are its =
     let long : length t.bytes.items ≡ length s.bytes.items = sym its.0.kept ∙ are.0.kept in
     let rest = same_records (drop (16 + length s.bytes.items) bytes) ss ts are.1
     (subst (λ (n : ℕ). AreRecords (drop (16 + n) bytes) ts []) long its.1) in
-    ap (λ (x : SentFrame). x ∷ sent_frames ss) (same_frame bytes s t are.0 its.0) ∙ ap (λ (xs : List SentFrame). sent_frame t ∷ xs) rest
+    ap (λ (x : Captured). x ∷ all_captured ss) (same_frame bytes s t are.0 its.0) ∙ ap (λ (xs : List Captured). captured_of t ∷ xs) rest
 
 -- ---- a capture that is altered: the file's bytes are whole records and a rest in one way
 
@@ -162,20 +163,20 @@ same_capture one other same reading name records others is its =
 
 -- ---- a part of it
 
-first_frame : (x y : SentFrame) (xs ys : List SentFrame) → x ∷ xs ≡ y ∷ ys → x ≡ y
+first_frame : (x y : Captured) (xs ys : List Captured) → x ∷ xs ≡ y ∷ ys → x ≡ y
 first_frame x y xs ys e = cc
 
-later_frames : (x y : SentFrame) (xs ys : List SentFrame) → x ∷ xs ≡ y ∷ ys → xs ≡ ys
+later_frames : (x y : Captured) (xs ys : List Captured) → x ∷ xs ≡ y ∷ ys → xs ≡ ys
 later_frames x y xs ys e = cc
 
 -- the test goes by the frame alone
 abbrev GoesByFrame : (ℕ → Sent → Bool) → Type 0
-GoesByFrame test = (place : ℕ) (s t : Sent) → sent_frame s ≡ sent_frame t → test place s ≡ test place t
+GoesByFrame test = (place : ℕ) (s t : Sent) → captured_of s ≡ captured_of t → test place s ≡ test place t
 
-kept_alike : (keeps its : Bool) (s t : Sent) (ss ts : List Sent) → keeps ≡ its → sent_frame s ≡ sent_frame t → AreSameFrames ss ts
+kept_alike : (keeps its : Bool) (s t : Sent) (ss ts : List Sent) → keeps ≡ its → captured_of s ≡ captured_of t → AreSameFrames ss ts
     → AreSameFrames (if keeps then s ∷ ss else ss) (if its then t ∷ ts else ts)
 kept_alike true true s t ss ts same alike later =
-    ap (λ (x : SentFrame). x ∷ sent_frames ss) alike ∙ ap (λ (xs : List SentFrame). sent_frame t ∷ xs) later
+    ap (λ (x : Captured). x ∷ all_captured ss) alike ∙ ap (λ (xs : List Captured). captured_of t ∷ xs) later
 kept_alike false false s t ss ts same alike later = later
 kept_alike true false s t ss ts same alike later = absurd cc
 kept_alike false true s t ss ts same alike later = absurd cc
@@ -186,15 +187,15 @@ filtered_alike test goes [] [] same = refl
 filtered_alike test goes [] (t ∷ ts) same = absurd cc
 filtered_alike test goes (s ∷ ss) [] same = absurd cc
 filtered_alike test goes (s ∷ ss) (t ∷ ts) same =
-    let alike = first_frame (sent_frame s) (sent_frame t) (sent_frames ss) (sent_frames ts) same in
-    let later = later_frames (sent_frame s) (sent_frame t) (sent_frames ss) (sent_frames ts) same in
+    let alike = first_frame (captured_of s) (captured_of t) (all_captured ss) (all_captured ts) same in
+    let later = later_frames (captured_of s) (captured_of t) (all_captured ss) (all_captured ts) same in
     kept_alike (test 0 s) (test 0 t) s t (filter_at (λ place. test (suc place)) ss) (filter_at (λ place. test (suc place)) ts) (goes 0 s t alike) alike
     (filtered_alike (λ place. test (suc place)) (λ place a b. goes (suc place) a b) ss ts later)
 
 part_by_frame : (of : ℕ) (lost : Option Loss) (number : ℕ) → GoesByFrame (is_in_part of lost number)
-part_by_frame of None number place s t alike = ap (λ (frame : SentFrame). part_of_frame of frame.bytes == number) alike
+part_by_frame of None number place s t alike = ap (λ (frame : Captured). part_of_frame of frame.bytes == number) alike
 part_by_frame of (Some loss) number place s t alike =
-    ap (λ (frame : SentFrame). (if nat_lt place loss.from then part_of_frame of frame.bytes else part_behind of loss.part frame.bytes) == number) alike
+    ap (λ (frame : Captured). (if nat_lt place loss.from then part_of_frame of frame.bytes else part_behind of loss.part frame.bytes) == number) alike
 
 taken_alike : (n : ℕ) (records others : List Sent) → AreSameFrames records others → AreSameFrames (take n records) (take n others)
 taken_alike zero records others same = refl
@@ -202,13 +203,13 @@ taken_alike (suc n) [] [] same = refl
 taken_alike (suc n) [] (t ∷ ts) same = absurd cc
 taken_alike (suc n) (s ∷ ss) [] same = absurd cc
 taken_alike (suc n) (s ∷ ss) (t ∷ ts) same =
-    ap (λ (x : SentFrame). x ∷ sent_frames (take n ss)) (first_frame (sent_frame s) (sent_frame t) (sent_frames ss) (sent_frames ts) same)
-    ∙ ap (λ (xs : List SentFrame). sent_frame t ∷ xs)
-    (taken_alike n ss ts (later_frames (sent_frame s) (sent_frame t) (sent_frames ss) (sent_frames ts) same))
+    ap (λ (x : Captured). x ∷ all_captured (take n ss)) (first_frame (captured_of s) (captured_of t) (all_captured ss) (all_captured ts) same)
+    ∙ ap (λ (xs : List Captured). captured_of t ∷ xs)
+    (taken_alike n ss ts (later_frames (captured_of s) (captured_of t) (all_captured ss) (all_captured ts) same))
 
 as_many : (one other : List Sent) → AreSameFrames one other → length one ≡ length other
 as_many one other same =
-    sym (length-map one sent_frame) ∙ (ap (λ (frames : List SentFrame). length frames) same ∙ length-map other sent_frame)
+    sym (length-map one captured_of) ∙ (ap (λ (frames : List Captured). length frames) same ∙ length-map other captured_of)
 
 same_number : (part : Part) (records others : List Sent) → AreSameFrames records others → (frame : ℕ)
     → number_in_part part.of part.lost part.number records frame ≡ number_in_part part.of part.lost part.number others frame
@@ -272,7 +273,7 @@ same_files_leave_the_same holds image script agree before after its_before its_a
     let program = same_program image (holds before) (holds its_before) same (text_of asked.files.image) asked.flows asked.ring (image_of is.verified)
     (image_of its.verified) is.program_is its.program_is in
     let commands = same_script script (holds before) (holds its_before) same (text_of asked.files.script) is.script its.script is.script_is its.script_is in
-    let captured = same_capture (holds before) (holds its_before) same (capture_reading asked) asked.files.capture.now is.captured its.captured
+    let captured = same_capture (holds before) (holds its_before) same (capture_reading asked.reading) asked.files.capture.now is.captured its.captured
     is.capture its.capture in
     let in_part : script_in asked.part is.captured is.script ≡ script_in asked.part its.captured its.script =
     script_alike asked.part is.captured its.captured captured is.script
@@ -286,19 +287,19 @@ same_files_leave_the_same holds image script agree before after its_before its_a
     one.outcome other.outcome one.made other.made
     (subst HadMemory (sym one.refused_are) had) (subst HadMemory (sym other.refused_are) has) in
     record {
-      sent = λ apart differ. record {
+      sent = λ apart differ behind. record {
         bytes = capture_bytes one.outcome.sent.items;
-        here = one.sent apart differ;
-        there = subst (λ (bytes : List ℕ). holds its_after asked.files.sent.now bytes) (sym wrote.besides.sent) (other.sent apart differ);
+        here = one.sent apart differ behind;
+        there = subst (λ (bytes : List ℕ). holds its_after asked.files.sent.now bytes) (sym wrote.besides.sent) (other.sent apart differ behind);
       };
-      journals = λ apart.
-          journals_left (holds after) (holds its_after) (text_of asked.files.journals) one.outcome other.outcome wrote.journals (one.journals apart)
-          (other.journals apart);
-      report =
+      journals = λ apart behind.
+          journals_left (holds after) (holds its_after) (text_of asked.files.journals) one.outcome other.outcome wrote.journals
+          (one.journals apart behind) (other.journals apart behind);
+      report = λ behind.
           report_left (holds after) (holds its_after) (text_of asked.files.report) (runs_shipped asked.files) (script_in asked.part is.captured is.script)
-          (records_in asked.part is.captured) (records_in asked.part its.captured) one.outcome other.outcome wrote one.report
+          (records_in asked.part is.captured) (records_in asked.part its.captured) one.outcome other.outcome wrote (one.report behind)
           (subst (λ (x : List Command). IsReportFile (holds its_after) (text_of asked.files.report) (runs_shipped asked.files) x
-          (records_in asked.part its.captured) other.outcome) (sym in_part) other.report);
+          (records_in asked.part its.captured) other.outcome) (sym in_part) (other.report behind));
       lines = one.lines
           ∙ ap (λ (list : List Applied). counts_text one.outcome.counts ++ refusals_text list) (sym one.refused_are)
           ∙ wrote.besides.printed

@@ -2,6 +2,7 @@
 use Rattle.std.specs.Prelude.{◌≡◌, ◌≢◌, ◌⊎◌, ◌++◌, ℕ, Bool, false, true, List, Some, codes}
 use Rattle.command_line.specs.Reading.{text_of}
 use Rattle.command_line.specs.declared.commands.ReplayFiles.{ReplayFiles}
+use Rattle.command_line.specs.declared.commands.RunFiles.{RunFiles}
 use Rattle.command_line.specs.declared.commands.Settings.{Settings}
 use Rattle.command_line.specs.declared.commands.Settings.TheVariants.{Run, Asm, Replay}
 use Rattle.xlb_commands.specs.Printable.{in_one_line}
@@ -10,19 +11,31 @@ use Rattle.xlb_commands.specs.Printable.{in_one_line}
 abbrev pub IsReplayInput : ReplayFiles → List ℕ → Type 0
 IsReplayInput files name = (name ≡ files.capture.now) ⊎ ((text_of files.image ≡ Some name) ⊎ (text_of files.script ≡ Some name))
 
--- a replay writes the file of the first name, and reads that of the second, or writes it before: it writes the sent frames, the journals
--- and the report, in this order
+-- a replay reads the file of this name, or writes it before the report
+abbrev pub IsBeforeReport : ReplayFiles → List ℕ → Type 0
+IsBeforeReport files other = IsReplayInput files other ⊎ ((other ≡ files.sent.now) ⊎ (text_of files.journals ≡ Some other))
+
+-- a replay writes the file of the first name, and reads that of the second, or writes it before: it writes the sent frames, the journals,
+-- the report and what the maps hold, in this order
 abbrev pub IsOverInReplay : ReplayFiles → List ℕ → List ℕ → Type 0
 IsOverInReplay files written other = ((written ≡ files.sent.now) × IsReplayInput files other)
     ⊎ (((text_of files.journals ≡ Some written) × (IsReplayInput files other ⊎ (other ≡ files.sent.now)))
-    ⊎ ((text_of files.report ≡ Some written)
-    × (IsReplayInput files other ⊎ ((other ≡ files.sent.now) ⊎ (text_of files.journals ≡ Some other)))))
+    ⊎ (((text_of files.report ≡ Some written) × IsBeforeReport files other)
+    ⊎ ((text_of files.maps ≡ Some written) × (IsBeforeReport files other ⊎ (text_of files.report ≡ Some other)))))
+
+-- a run reads the file of this name
+abbrev pub IsRunInput : RunFiles → List ℕ → Type 0
+IsRunInput files name = (name ≡ files.image.now) ⊎ (name ≡ files.frame.now)
+
+-- a run writes the file of the first name, and reads that of the second, or writes it before: it writes the journals and what the maps hold
+abbrev pub IsOverInRun : RunFiles → List ℕ → List ℕ → Type 0
+IsOverInRun files written other = ((text_of files.journals ≡ Some written) × IsRunInput files other)
+    ⊎ ((text_of files.maps ≡ Some written) × (IsRunInput files other ⊎ (text_of files.journals ≡ Some other)))
 
 -- the command writes the file of the first name, and reads that of the second, or writes it before
 abbrev pub IsOver : Settings → List ℕ → List ℕ → Type 0
 IsOver (Asm text out source) written other = (written ≡ out.now) × (other ≡ text.now)
-IsOver (Run files now worker updates) written other =
-    (text_of files.journals ≡ Some written) × ((other ≡ files.image.now) ⊎ (other ≡ files.frame.now))
+IsOver (Run files now worker updates) written other = IsOverInRun files written other
 IsOver (Replay asked) written other = IsOverInReplay asked.files written other
 IsOver settings written other = ⊥
 
@@ -40,7 +53,8 @@ clash_text written other =
 
 -- a replay writes the file of this name
 abbrev pub IsWrittenInReplay : ReplayFiles → List ℕ → Type 0
-IsWrittenInReplay files name = (name ≡ files.sent.now) ⊎ ((text_of files.journals ≡ Some name) ⊎ (text_of files.report ≡ Some name))
+IsWrittenInReplay files name = (name ≡ files.sent.now)
+    ⊎ ((text_of files.journals ≡ Some name) ⊎ ((text_of files.report ≡ Some name) ⊎ (text_of files.maps ≡ Some name)))
 
 -- the command writes the file of this name, and may write over none
 abbrev pub IsWrittenAnew : Settings → List ℕ → Type 0

@@ -25,6 +25,17 @@ abbrev pub AreAllButKept : FileBytes → FileBytes → List ℕ → Option (List
 AreAllButKept before after written other third =
     (name bytes : List ℕ) → name ≢ written → other ≢ Some name → third ≢ Some name → (before name bytes ↔ after name bytes)
 
+-- the same of two names, which may both be missing
+abbrev pub AreAllKeptButTwo : FileBytes → FileBytes → Option (List ℕ) → Option (List ℕ) → Type 0
+AreAllKeptButTwo before after written other =
+    (name bytes : List ℕ) → written ≢ Some name → other ≢ Some name → (before name bytes ↔ after name bytes)
+
+-- and of four names, of which only the first has to be there
+abbrev pub AreAllButFourKept : FileBytes → FileBytes → List ℕ → Option (List ℕ) → Option (List ℕ) → Option (List ℕ) → Type 0
+AreAllButFourKept before after written other third fourth =
+    (name bytes : List ℕ) → name ≢ written → other ≢ Some name → third ≢ Some name → fourth ≢ Some name →
+    (before name bytes ↔ after name bytes)
+
 -- the file of this name is the encoding of the image
 pub record IsImageFile (files : FileBytes) (name : List ℕ) (image : Contents) : Type 0 where
   pub bytes : List ℕ

@@ -18,11 +18,12 @@ use Rattle.machine.specs.Running.{program_of}
 use Rattle.replay.specs.Pieces.{IsUnderway}
 use Rattle.replay.specs.declared.in_pieces.PieceReplay.{PieceReplay}
 use Rattle.actors.specs.declared.outcome.Outcome.{Outcome}
-use Rattle.actors.specs.declared.outcome.RecordEnd.{RecordEnd}
+use Rattle.actors.specs.declared.outcome.ToldEnd.{ToldEnd}
 use Rattle.traffic.specs.Readings.{unaltered}
 use Rattle.command_line.specs.Reading.{text_of}
 use Rattle.command_line.specs.declared.commands.ReplayFiles.{ReplayFiles}
 use Rattle.xlb_commands.specs.declared.report.Report.{Report}
+use Rattle.xlb_commands.specs.EndMaps.{AreMapsLines, lines_bytes}
 use Rattle.xlb_commands.specs.Files.{FileBytes}
 use Rattle.xlb_commands.specs.RecordReports.{backends_in, form_of, lines_until, runs_shipped, sent_before}
 use Rattle.xlb_commands.specs.Parts.{command_frames, records_in, script_in}
@@ -35,9 +36,9 @@ abbrev pub ReaderHasRoom : ℕ → ReaderView → Type 0
 ReaderHasRoom most reader = 16 * reader.count + length reader.unread + most ≤ 2 ^ 40
 
 -- the replay took the turns of these records: these frames were sent, and each record ended so
-abbrev pub AreRun : Program → List Command → Options → PieceReplay → PieceReplay → List Sent → List Sent → List RecordEnd → Type 0
+abbrev pub AreRun : Program → List Command → Options → PieceReplay → PieceReplay → List Sent → List Sent → List ToldEnd → Type 0
 AreRun program script options before after records sent ends =
-    (updates : List MapUpdate) (past past_sent : List Sent) (past_ends : List RecordEnd)
+    (updates : List MapUpdate) (past past_sent : List Sent) (past_ends : List ToldEnd)
     → IsUnderway program script options updates past past_sent past_ends before
     → IsUnderway program script options updates (past ++ records) (past_sent ++ sent) (past_ends ++ ends) after
 
@@ -50,19 +51,19 @@ abbrev pub AreApartInPieces : ReplayFiles → Type 0
 AreApartInPieces files = text_of files.report ≢ Some files.sent.now
 
 -- the report has the lines of these records more, which come behind the first ones, if it is asked for
-abbrev pub AreTold : FileBytes → FileBytes → ReplayFiles → List Command → ℕ → List Sent → List Sent → List RecordEnd → Type 0
+abbrev pub AreTold : FileBytes → FileBytes → ReplayFiles → List Command → ℕ → List Sent → List Sent → List ToldEnd → Type 0
 AreTold before after files script first records sent ends = (name : List ℕ) → text_of files.report ≡ Some name →
     AreAdded before after name (lines_until (form_of name) (runs_shipped files) (backends_in script) first records ends sent (length records))
 
 -- each record has an end, and each that was sent a frame
-abbrev pub AreOfRecords : List Sent → List Sent → List RecordEnd → Type 0
+abbrev pub AreOfRecords : List Sent → List Sent → List ToldEnd → Type 0
 AreOfRecords records sent ends = (length ends ≡ length records) × (length sent ≡ sent_before ends (length ends))
 
 -- behind records that were run before: what was run is of these records, and the report tells of them
 abbrev pub AreToldBehind : Program → List Command → Options → ReplayFiles → PieceReplay → FileBytes → FileBytes → List Sent → List Sent
-    → List RecordEnd → Type 0
+    → List ToldEnd → Type 0
 AreToldBehind program script options files replay before after records sent ends =
-    (updates : List MapUpdate) (past past_sent : List Sent) (past_ends : List RecordEnd)
+    (updates : List MapUpdate) (past past_sent : List Sent) (past_ends : List ToldEnd)
     → IsUnderway program script options updates past past_sent past_ends replay
     → AreOfRecords records sent ends
     × (AreApartInPieces files → AreTold before after files script (length past) records sent ends)
@@ -72,7 +73,7 @@ pub record HaveRun (program : Program) (script : List Command) (options : Option
     (made made' : FileBytes) (records : List Sent) : Type 0 where
   pub captured : AllByRecursion IsCaptured records
   pub sent : List Sent
-  pub ends : List RecordEnd
+  pub ends : List ToldEnd
   pub run : AreRun program script options before after records sent ends
   pub added : AreApartInPieces files → AreAdded made made' files.sent.now (records_bytes sent)
   pub told : AreToldBehind program script options files before made made' records sent ends
@@ -82,18 +83,18 @@ pub record IsGoing (program : Program) (script : List Command) (options : Option
     (replay : PieceReplay) : Type 0 where
   pub records : List Sent
   pub sent : List Sent
-  pub ends : List RecordEnd
+  pub ends : List ToldEnd
   pub underway : IsUnderway program script options updates records sent ends replay
 
 -- all that a replay promises holds for the outcome of an exact replay of these records, which sent these frames; and the bytes of the
 -- journals and the report are that outcome's
 pub record IsMadeOf (files : ReplayFiles) (verified : Verified) (script : List Command) (options : Options) (recording : Recording) (ring : ℕ)
-    (updates : List MapUpdate) (records sent : List Sent) (ends : List RecordEnd) (report : Report) (journals : List ℕ) : Type 0 where
+    (updates : List MapUpdate) (records sent : List Sent) (ends : List ToldEnd) (report : Report) (journals : List ℕ) : Type 0 where
   pub whole : Outcome
   pub sent_are : whole.sent.items ≡ sent
   pub ends_are : whole.ends.items ≡ ends
   pub made : IsMade true (program_of verified options.shards) updates script (recorded recording options) records whole
-  pub headline : KeepsHeadline true verified script (recorded recording options) records whole made.accounted
+  pub listed : KeepsHeadline true verified script (recorded recording options) records whole made.accounted
   pub by_rule :
       updates ≡ [] →
       FollowsRule (text_of files.image) ring (program_of verified options.shards) script (recorded recording options) records whole made.accounted
@@ -103,6 +104,7 @@ pub record IsMadeOf (files : ReplayFiles) (verified : Verified) (script : List C
   pub text : string_bytes report.text ≡ counts_text whole.counts ++ refusals_text whole.refused.items
   pub none_refused : (whole.refused.items ≡ []) ↔ (report.is_refused ≡ false)
   pub all : report.leaves_out ≡ false → LeavesNothingOut script records whole
+  pub maps_are : AreMapsLines (text_of files.maps) whole.journals (lines_bytes report.maps)
 
 -- the file is a capture, in the part of which the commands of this script have these numbers
 pub record HasNumbers (files : FileBytes) (name : List ℕ) (part : Option Part) (whole : List Command) (numbers : List ℕ) : Type 0 where
@@ -124,7 +126,7 @@ pub record IsReplayLeft (before made made' : FileBytes) (files : ReplayFiles) (p
     (journals : List ℕ) : Type 0 where
   pub captured : List Sent
   pub sent : List Sent
-  pub ends : List RecordEnd
+  pub ends : List ToldEnd
   pub capture : IsCaptureOf before unaltered files.capture.now captured
   pub script_is : script_in part captured whole ≡ script
   pub added : AreApartInPieces files → AreAdded made made' files.sent.now (records_bytes sent)

@@ -4,6 +4,7 @@ pub mod Files
 pub mod Clashes
 pub mod RecordReports
 pub mod Parts
+pub mod EndMaps
 pub mod Replays
 pub mod Tables
 pub mod LastTable

@@ -11,8 +11,8 @@ use Rattle.control.specs.declared.command.Action.{Action}
 use Rattle.control.specs.declared.command.Action.TheVariants.{Up}
 use Rattle.control.specs.declared.command.Command.{Command}
 use Rattle.actors.specs.declared.outcome.Outcome.{Outcome}
-use Rattle.actors.specs.declared.outcome.RecordEnd.{RecordEnd}
-use Rattle.actors.specs.declared.outcome.RecordEnd.TheVariants.{Short, Stopped, Exited}
+use Rattle.actors.specs.declared.outcome.ToldEnd.{ToldEnd}
+use Rattle.actors.specs.declared.outcome.ToldEnd.TheVariants.{Short, Stopped, Exited}
 use Rattle.traffic.specs.Counting.{address_at, one_if, target_of}
 use Rattle.traffic.specs.Holders.{holder_among, holder_in, only_number}
 use Rattle.traffic.specs.Kinds.{frame_kind_of}
@@ -38,7 +38,7 @@ form_of name = form_by (map to_ascii_lowercase name)
 -- ---- what became of a record
 
 -- the worker that ran it
-abbrev pub worker_in : RecordEnd → Option ℕ
+abbrev pub worker_in : ToldEnd → Option ℕ
 worker_in Short = None
 worker_in (Stopped worker) = Some worker
 worker_in (Exited worker verdict steps) = Some worker
@@ -49,13 +49,13 @@ word_of_verdict verdicts.Drop = words.Drop
 word_of_verdict verdicts.Pass = words.Pass
 word_of_verdict verdicts.Tx = words.Tx
 
-abbrev pub verdict_in : RecordEnd → LineVerdict
+abbrev pub verdict_in : ToldEnd → LineVerdict
 verdict_in Short = words.Short
 verdict_in (Stopped worker) = words.Stopped
 verdict_in (Exited worker verdict steps) = word_of_verdict verdict
 
 -- in how many steps its run ended
-abbrev pub steps_of_end : RecordEnd → Option ℕ
+abbrev pub steps_of_end : ToldEnd → Option ℕ
 steps_of_end Short = None
 steps_of_end (Stopped worker) = None
 steps_of_end (Exited worker verdict steps) = Some steps
@@ -65,7 +65,7 @@ abbrev pub is_tx : LineVerdict → Bool
 is_tx words.Tx = true
 is_tx other = false
 
-abbrev pub is_sent : RecordEnd → Bool
+abbrev pub is_sent : ToldEnd → Bool
 is_sent end = is_tx (verdict_in end)
 
 -- the replay runs the shipped program: no image is named. Of another program nobody knows by which rule it decides
@@ -73,7 +73,7 @@ abbrev pub runs_shipped : ReplayFiles → Bool
 runs_shipped files = is_none files.image
 
 -- by which case of the steering rule, if the program is the shipped one
-abbrev pub case_in : Bool → List ℕ → RecordEnd → List ℕ
+abbrev pub case_in : Bool → List ℕ → ToldEnd → List ℕ
 case_in true frame end = case_word (frame_kind_of frame) (verdict_in end)
 case_in false frame end = []
 
@@ -85,7 +85,7 @@ target_in None = None
 target_in (Some sent) = target_of sent.bytes.items
 
 -- the same for a record that was sent as this frame
-abbrev pub sent_address : RecordEnd → Option Sent → Option ℕ
+abbrev pub sent_address : ToldEnd → Option Sent → Option ℕ
 sent_address end sent = if is_sent end then target_in sent else None
 
 -- backends as (number, address), the newest first, with what a command names
@@ -113,35 +113,35 @@ backend_at backends (Some address) = only_number (holder_among address backends)
 
 -- the line of a record, counted from 0: its number, counted from 1, its moment in microseconds, its worker, its verdict, its steps, the
 -- case, the backend and the address, and the flow of its frame
-abbrev pub line_text : ReportForm → Bool → List (ℕ × ℕ) → ℕ → Sent → RecordEnd → Option Sent → List ℕ
+abbrev pub line_text : ReportForm → Bool → List (ℕ × ℕ) → ℕ → Sent → ToldEnd → Option Sent → List ℕ
 line_text form is_shipped backends number captured end sent =
     line_of_pieces form (number + 1) (captured.seconds * 1000000 + captured.micros) (worker_in end) (verdict_in end) (steps_of_end end)
     (case_in is_shipped captured.bytes.items end) (backend_at backends (sent_address end sent)) (sent_address end sent) captured.bytes.items
 
 -- what became of the record of this number
-abbrev pub end_of : List RecordEnd → ℕ → RecordEnd
+abbrev pub end_of : List ToldEnd → ℕ → ToldEnd
 end_of ends number = slice_index_or ends number Short
 
 -- how many of the first N records were sent: the place of the next one among the sent frames
-abbrev pub sent_before : List RecordEnd → ℕ → ℕ
+abbrev pub sent_before : List ToldEnd → ℕ → ℕ
 sent_before ends zero = 0
 sent_before ends (suc number) = sent_before ends number + one_if (is_sent (end_of ends number))
 
 -- the line of the record of this number behind the first ones, if there is one
-abbrev pub line_of_record : ReportForm → Bool → List (ℕ × ℕ) → ℕ → List RecordEnd → List Sent → ℕ → Option Sent → List ℕ
+abbrev pub line_of_record : ReportForm → Bool → List (ℕ × ℕ) → ℕ → List ToldEnd → List Sent → ℕ → Option Sent → List ℕ
 line_of_record form is_shipped backends first ends sent number None = []
 line_of_record form is_shipped backends first ends sent number (Some captured) =
     line_text form is_shipped backends (first + number) captured (end_of ends number) (slice_get sent (sent_before ends number))
 
 -- the lines of N records behind the first ones
-abbrev pub lines_until : ReportForm → Bool → List (ℕ × ℕ) → ℕ → List Sent → List RecordEnd → List Sent → ℕ → List ℕ
+abbrev pub lines_until : ReportForm → Bool → List (ℕ × ℕ) → ℕ → List Sent → List ToldEnd → List Sent → ℕ → List ℕ
 lines_until form is_shipped backends first records ends sent zero = []
 lines_until form is_shipped backends first records ends sent (suc number) =
     lines_until form is_shipped backends first records ends sent number
     ++ line_of_record form is_shipped backends first ends sent number (slice_get records number)
 
 -- the head, and the lines of all records
-abbrev pub report_text : ReportForm → Bool → List Command → List Sent → List RecordEnd → List Sent → List ℕ
+abbrev pub report_text : ReportForm → Bool → List Command → List Sent → List ToldEnd → List Sent → List ℕ
 report_text form is_shipped script records ends sent =
     report_head form ++ lines_until form is_shipped (backends_in script) 0 records ends sent (length records)
 

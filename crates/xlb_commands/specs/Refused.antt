@@ -13,6 +13,7 @@ use Rattle.semantics.specs.Safety.{IsSafeImage}
 use Rattle.semantics.specs.System.{IsInputFrame}
 use Rattle.verifier.specs.declared.reject.Reject.{Reject}
 use Rattle.verifier.specs.Dataflow.{IsFirstReject}
+use Rattle.verifier.specs.Verified.{Verified}
 use Rattle.wire.specs.declared.frame_buffer.FrameFault.TheVariants as frames
 use Rattle.disasm.specs.declared.fault.AsmFault.{AsmFault}
 use Rattle.disasm.specs.declared.fault.AsmFault.TheVariants as texts
@@ -26,8 +27,6 @@ use Rattle.journals.specs.JournalReading.{IsJournalsFile, RefusesJournals}
 use Rattle.audit.specs.declared.fault.AuditFault.{AuditFault}
 use Rattle.audit.specs.Audited.{ExplainsJournals}
 use Rattle.journals.specs.LegalJournals.{AreLegal}
-use Rattle.disasm.specs.AssemblyText.{IsAssemblyText}
-use Rattle.source_form.specs.SourceImage.{IsSource}
 use Rattle.source_form.specs.SourceBeginning.{begins_as_source}
 use Rattle.faults.specs.Refusals.{IsRefusalText}
 use Rattle.ebpf_decode.specs.declared.map.MapDef.{MapDef}
@@ -73,6 +72,7 @@ use Rattle.traffic.specs.Readings.{alters, unaltered}
 use Rattle.traffic.specs.declared.readings.Reading.{Reading}
 use Rattle.fleet.specs.declared.part.Part.{Part}
 use Rattle.xlb_commands.specs.declared.fault.Fault.{Fault}
+use Rattle.xlb_commands.specs.declared.report.Report.{Report}
 use Rattle.xlb_commands.specs.declared.fault.Fault.TheVariants as faults
 use Rattle.xlb_commands.specs.Files.{FileBytes, AreKept, AreOthersKept, IsImageFile, IsJudged}
 use Rattle.xlb_commands.specs.Parts.{records_in, script_in}
@@ -80,9 +80,9 @@ use Rattle.xlb_commands.specs.Clashes.{IsOver, clash_text, IsWrittenAnew, presen
 use Rattle.xlb_commands.specs.FaultLines.{fault_line, mistake_text}
 use Rattle.xlb_commands.specs.Replays.{AreWritten, IsProgramOf, IsScriptFile, IsScriptOf, IsCaptureOf, AreCaptureBytes, program_of_replay}
 use Rattle.xlb_commands.specs.Replays.{AreServedSizes}
-use Rattle.xlb_commands.specs.Replays.{capture_reading, recording_in, IsMade}
+use Rattle.xlb_commands.specs.Replays.{capture_reading, image_of, recording_in, IsMade, IsReplayReport}
 use Rattle.xlb_commands.specs.Results.{IsDone, IsDoneInPart, IsReported, IsMistake, Stream, run_options, program_of_run, start_of_run}
-use Rattle.xlb_commands.specs.Results.{IsUnlikeSaid, setting_of_run}
+use Rattle.xlb_commands.specs.Results.{IsUnlikeSaid, SpellsImage, setting_of_run}
 
 -- ---- files
 
@@ -154,21 +154,18 @@ pub data IsUnwritten (failed : Type 0) (fault : Fault) : Type 0 where
   not_written : IsUnserved failed fault → IsUnwritten failed fault
   no_room : fault ≡ faults.Memory → IsUnwritten failed fault
 
--- xlb asm: the text was not read, or spells no image, and no file changed; or it spells one, whose file was not written
-pub data IsAsmRefusal (files after : FileBytes) (failed : Type 0) (name : List ℕ) (fault : Fault) : Type 0 where
-  no_text_bytes : AreKept files after → IsUnserved failed fault → IsAsmRefusal files after failed name fault
-  no_spelling : (bytes : List ℕ) (why : AsmFault) → AreKept files after → files name bytes → IsSpellingRefusal bytes why
-      → fault ≡ faults.Text why → IsAsmRefusal files after failed name fault
-  no_image_file : (bytes : List ℕ) (image : Contents) → files name bytes → IsAssemblyText bytes image → IsUnwritten failed fault
-      → IsAsmRefusal files after failed name fault
+-- why the bytes spell no image: exactly, or in the source form
+abbrev pub SpellsNone : Bool → List ℕ → Fault → Type 0
+SpellsNone false bytes fault = (why : AsmFault) × IsSpellingRefusal bytes why × (fault ≡ faults.Text why)
+SpellsNone true bytes fault = IsNoSource bytes fault
 
--- xlb asm --source: the same of the source form
-pub data IsSourceRefusal (files after : FileBytes) (failed : Type 0) (name : List ℕ) (fault : Fault) : Type 0 where
-  no_source_bytes : AreKept files after → IsUnserved failed fault → IsSourceRefusal files after failed name fault
-  no_source : (bytes : List ℕ) → AreKept files after → files name bytes → IsNoSource bytes fault
-      → IsSourceRefusal files after failed name fault
-  no_source_image_file : (bytes : List ℕ) (image : Contents) → files name bytes → IsSource bytes image → IsUnwritten failed fault
-      → IsSourceRefusal files after failed name fault
+-- xlb asm: the text was not read, or spells no image, and no file changed; or it spells one, whose file was not written
+pub data IsAsmRefusal (files after : FileBytes) (failed : Type 0) (in_source_form : Bool) (name : List ℕ) (fault : Fault) : Type 0 where
+  no_text_bytes : AreKept files after → IsUnserved failed fault → IsAsmRefusal files after failed in_source_form name fault
+  no_spelling : (bytes : List ℕ) → AreKept files after → files name bytes → SpellsNone in_source_form bytes fault
+      → IsAsmRefusal files after failed in_source_form name fault
+  no_image_file : (bytes : List ℕ) (image : Contents) → files name bytes → SpellsImage in_source_form bytes image → IsUnwritten failed fault
+      → IsAsmRefusal files after failed in_source_form name fault
 
 -- ---- programs that are judged
 
@@ -289,7 +286,8 @@ pub record IsEndedRun (program : Contents) (bytes : List ℕ) (now worker : ℕ)
   pub ended : HasRunAlone (program_of_run program) (start_of_run bytes worker now) run_options worker updates verdict steps frame journals
 
 -- xlb run: no program that may run; no frame; a worker that there is not; no run; one that was stopped; one that came to its end, and
--- memory was refused for its journals or its lines; until then no file changed; or its journals were not written
+-- memory was refused for its journals, its lines or those of the maps; until then no file changed; or its journals were not written; or they
+-- were, and what the maps hold was not
 pub data IsRunRefusal (files after : FileBytes) (failed : Type 0) (run : RunFiles) (now worker : ℕ) (updates : List MapUpdate)
     (fault : Fault) : Type 0 where
   no_run_program : AreKept files after → IsProgramRefusal files failed run.image.now fault
@@ -308,6 +306,11 @@ pub data IsRunRefusal (files after : FileBytes) (failed : Type 0) (run : RunFile
       → IsRunRefusal files after failed run now worker updates fault
   not_filed : (program : Contents) (bytes : List ℕ) → AreRunInputs files run updates program bytes → worker < 8
       → IsEndedRun program bytes now worker updates → AreUnwritten (text_of run.journals) failed fault
+      → IsRunRefusal files after failed run now worker updates fault
+  no_maps_filed : (program : Contents) (bytes : List ℕ) → AreRunInputs files run updates program bytes → worker < 8
+      → (ended : IsEndedRun program bytes now worker updates)
+      → (text_of run.maps ≢ text_of run.journals → AreWritten after (text_of run.journals) ended.journals)
+      → AreUnwritten (text_of run.maps) failed fault
       → IsRunRefusal files after failed run now worker updates fault
 
 -- ---- replays
@@ -387,12 +390,12 @@ pub data IsCaptureRefusal (files : FileBytes) (failed : Type 0) (reading : Readi
       → IsCaptureRefusal files failed reading name fault
 
 -- xlb script: no capture was read; or one was, and the timed script was not; or both were, and this means no script for its records
-pub data IsTimedRefusal (files : FileBytes) (failed : Type 0) (capture timed : List ℕ) (fault : Fault) : Type 0 where
-  no_timed_capture : IsCaptureRefusal files failed unaltered capture fault → IsTimedRefusal files failed capture timed fault
-  no_timed_bytes : (records : List Sent) → IsCaptureOf files unaltered capture records → IsUnserved failed fault
-      → IsTimedRefusal files failed capture timed fault
-  means_none : (records : List Sent) (bytes : List ℕ) (why : ControlFault) → IsCaptureOf files unaltered capture records → files timed bytes
-      → MeansNone records bytes why → fault ≡ faults.Script why → IsTimedRefusal files failed capture timed fault
+pub data IsTimedRefusal (files : FileBytes) (failed : Type 0) (reading : Reading) (capture timed : List ℕ) (fault : Fault) : Type 0 where
+  no_timed_capture : IsCaptureRefusal files failed reading capture fault → IsTimedRefusal files failed reading capture timed fault
+  no_timed_bytes : (records : List Sent) → IsCaptureOf files reading capture records → IsUnserved failed fault
+      → IsTimedRefusal files failed reading capture timed fault
+  means_none : (records : List Sent) (bytes : List ℕ) (why : ControlFault) → IsCaptureOf files reading capture records → files timed bytes
+      → MeansNone records bytes why → fault ≡ faults.Script why → IsTimedRefusal files failed reading capture timed fault
 
 -- why the replay was given up: for its options exactly where no shards are opened with them, or the script has commands and the maps are
 -- not those of steering; else memory was refused, an update was refused or met a full journal, or a thread could not be started (an exact
@@ -422,8 +425,7 @@ pub data IsBrokenOff (failed : Type 0) (fault : Fault) : Type 0 where
   no_replay_memory : fault ≡ faults.Replay replays.Memory → IsBrokenOff failed fault
 
 -- Of a program that may run and whose maps take the updates, a script and the records of a capture: a replay that was given up; one that was
--- made, and memory was refused for its sent frames, its journals, its report or what is printed; until then no file changed; or its files
--- were not written.
+-- made, and memory was refused for its journals, its report or what is printed; until then no file changed; or its files were not written.
 pub data IsUnmade (before after : FileBytes) (failed : Type 0) (names : ReplayFiles) (program : Contents) (script : List Command)
     (options : Options) (recording : Recording) (exact : Bool) (updates : List MapUpdate) (records : List Sent) (fault : Fault) : Type 0 where
   given_up : (why : ReplayFault) → AreKept before after → IsGivenUp exact program.maps updates script options recording why
@@ -457,7 +459,8 @@ pub data IsUnreplayed (files after : FileBytes) (failed : Type 0) (names : Repla
       fault
       → IsUnreplayed files after failed names program script options recording exact reading part updates fault
 
--- xlb replay: no program that may run; no script; or both, and no replay that was made and written down
+-- xlb replay: no program that may run; no script; or both, and no replay that was made and written down; or it was, and what the maps hold
+-- was not written
 pub data IsReplayRefusal (files after : FileBytes) (failed : Type 0) (names : ReplayFiles) (options : Options) (recording : Recording)
     (flows ring : ℕ) (exact : Bool) (reading : Reading) (part : Option Part) (updates : List MapUpdate) (fault : Fault) : Type 0 where
   no_replay_program : AreKept files after → IsReplayProgramRefusal files failed (text_of names.image) flows ring fault
@@ -469,12 +472,18 @@ pub data IsReplayRefusal (files after : FileBytes) (failed : Type 0) (names : Re
       → AreFitting program.maps updates → IsScriptOf files (text_of names.script) script
       → IsUnreplayed files after failed names program script options recording exact reading part updates fault
       → IsReplayRefusal files after failed names options recording flows ring exact reading part updates fault
+  no_maps_file : (verified : Verified) (script : List Command) (report : Report)
+      → IsReplayProgram files (text_of names.image) flows ring (image_of verified) → AreFitting verified.maps updates
+      → IsScriptOf files (text_of names.script) script
+      → IsReplayReport files after names verified script options recording ring exact reading part updates report
+      → AreUnwritten (text_of names.maps) failed fault
+      → IsReplayRefusal files after failed names options recording flows ring exact reading part updates fault
 
 -- the same of what is asked
 abbrev pub IsReplayRefused : FileBytes → FileBytes → Type 0 → ReplaySettings → Fault → Type 0
 IsReplayRefused before after failed asked fault =
     IsReplayRefusal before after failed asked.files asked.options (recording_in asked) asked.flows asked.ring asked.exact
-    (capture_reading asked) asked.part asked.updates.items fault
+    (capture_reading asked.reading) asked.part asked.updates.items fault
 
 -- ---- commands
 
@@ -487,11 +496,11 @@ IsRefusedWith before after failed (Run files now worker updates) fault =
 IsRefusedWith before after failed (Disasm image source) fault = IsTextRefusal before failed image.now fault
 IsRefusedWith before after failed (Audit image journals) fault = IsAuditRefusal before failed image.now journals.now fault
 IsRefusedWith before after failed (Explain about) fault = fault ≡ faults.Memory
-IsRefusedWith before after failed (Asm text out false) fault = IsAsmRefusal before after failed text.now fault
-IsRefusedWith before after failed (Asm text out true) fault = IsSourceRefusal before after failed text.now fault
+IsRefusedWith before after failed (Asm text out source) fault = IsAsmRefusal before after failed source text.now fault
 IsRefusedWith before after failed (Shipped out ring flows) fault = IsShippedFileRefusal before after failed flows ring fault
 IsRefusedWith before after failed (Table script ring) fault = IsTableRefusal before failed script.now ring fault
-IsRefusedWith before after failed (Script capture timed) fault = IsTimedRefusal before failed capture.now timed.now fault
+IsRefusedWith before after failed (Script capture timed reading) fault =
+    IsTimedRefusal before failed (capture_reading reading) capture.now timed.now fault
 IsRefusedWith before after failed (Compare first second) fault = IsComparisonRefusal failed fault
 IsRefusedWith before after failed (Flows report script) fault = IsReportRefusal before failed report.now script.now fault
 IsRefusedWith before after failed (Page report script) fault = IsReportRefusal before failed report.now script.now fault

@@ -4,7 +4,6 @@ use Rattle.std.specs.Prelude.{IsTrue, codes, decimal, length, string_bytes}
 use Rattle.std.specs.List.{AllByRecursion, flat_map}
 use Rattle.ebpf_decode.specs.ImageContents.{Contents}
 use Rattle.ebpf_decode.specs.declared.map.MapDef.{MapDef}
-use Rattle.semantics.specs.Safety.{IsSafeImage}
 use Rattle.semantics.specs.declared.options.Options.{Options}
 use Rattle.semantics.specs.declared.options.Recording.{Recording}
 use Rattle.semantics.specs.declared.options.Recording.TheVariants.{Rows, NoRows}
@@ -29,8 +28,9 @@ use Rattle.journals.specs.JournalsView.{JournalsView}
 use Rattle.journals.specs.JournalText.{journals_text}
 use Rattle.journals.specs.JournalReading.{IsJournalsFile}
 use Rattle.journals.specs.LegalJournals.{AreLegal}
+use Rattle.semantics.specs.Replay.{Captured}
 use Rattle.actors.specs.declared.account.Counts.{Counts}
-use Rattle.actors.specs.Accounts.{SentFrame, frames_in}
+use Rattle.actors.specs.Accounts.{frames_in}
 use Rattle.actors.specs.declared.outcome.Applied.{Applied}
 use Rattle.actors.specs.declared.outcome.Outcome.{Outcome}
 use Rattle.actors.specs.Accounted.{IsAccounted}
@@ -53,9 +53,11 @@ use Rattle.traffic.specs.declared.readings.Reading.{Reading}
 use Rattle.fleet.specs.declared.part.Part.{Part}
 use Rattle.command_line.specs.declared.commands.ReplayFiles.{ReplayFiles}
 use Rattle.command_line.specs.declared.commands.ReplaySettings.{ReplaySettings}
+use Rattle.command_line.specs.declared.commands.Reading.{Reading as AskedReading}
 use Rattle.command_line.specs.Reading.{text_of}
 use Rattle.xlb_commands.specs.declared.report.Report.{Report}
 use Rattle.xlb_commands.specs.Files.{FileBytes, IsImageFile}
+use Rattle.xlb_commands.specs.EndMaps.{AreMapsLines, AreMapsWritten, lines_bytes}
 use Rattle.xlb_commands.specs.Parts.{records_in, script_in}
 use Rattle.xlb_commands.specs.RecordReports.{IsReportFile, runs_shipped}
 
@@ -166,12 +168,8 @@ abbrev pub recording_in : ReplaySettings → Recording
 recording_in asked = recording_of asked.no_journals (text_of asked.files.journals)
 
 -- how the bytes of its capture are read
-abbrev pub capture_reading : ReplaySettings → Reading
-capture_reading asked = record {
-  skip_long = asked.reading.skip_long;
-  pad_cut = asked.reading.pad_cut;
-  allow_cut = asked.reading.allow_cut;
-}
+abbrev pub capture_reading : AskedReading → Reading
+capture_reading asked = record { skip_long = asked.skip_long; pad_cut = asked.pad_cut; allow_cut = asked.allow_cut }
 
 -- the image that was verified
 abbrev pub image_of : Verified → Contents
@@ -186,7 +184,7 @@ program_of_replay image options = record { code = image.code; maps = image.maps;
 pub record IsByRule (ring : ℕ) (program : Program) (script : List Command) (options : Options) (records : List Sent) (outcome : Outcome)
     (accounted : IsAccounted program script options records outcome) : Type 0 where
   pub runs : IsSteeredReplay ring program script options records outcome accounted
-  pub stay : FlowsStay ring program script options records outcome accounted runs
+  pub stay : FlowsStay program script options records outcome accounted
   pub totals : outcome.counts.stopped ≡ 0 → AreTotals outcome
   pub tables : MetNoFullJournal outcome.refused.items →
       AreTablesAtEnd ring (carried_out outcome.refused.items 0 script) (maps_at_end outcome.journals)
@@ -200,13 +198,13 @@ FollowsRule (Some name) ring program script options records outcome accounted = 
 FollowsRule None ring program script options records outcome accounted = IsByRule ring program script options records outcome accounted
 
 -- the record of a frame in a capture file: its moment, its length twice, its bytes
-abbrev pub frame_record : SentFrame → List ℕ
+abbrev pub frame_record : Captured → List ℕ
 frame_record frame =
     (little_bytes 4 frame.seconds ++ little_bytes 4 frame.micros
     ++ little_bytes 4 (length frame.bytes) ++ little_bytes 4 (length frame.bytes))
     ++ frame.bytes
 
-abbrev pub frame_records : List SentFrame → List ℕ
+abbrev pub frame_records : List Captured → List ℕ
 frame_records [] = []
 frame_records (frame ∷ frames) = frame_record frame ++ frame_records frames
 
@@ -249,21 +247,24 @@ pub record IsReplayedWith (after : FileBytes) (files : ReplayFiles) (verified : 
   pub options_are_served : IsTrue (are_served_options verified.maps options)
   pub outcome : Outcome
   pub made : IsMade exact (program_of verified options.shards) updates script (recorded recording options) records outcome
-  pub headline : KeepsHeadline exact verified script (recorded recording options) records outcome made.accounted
+  pub listed : KeepsHeadline exact verified script (recorded recording options) records outcome made.accounted
   pub by_rule :
       updates ≡ [] →
       FollowsRule (text_of files.image) ring (program_of verified options.shards) script (recorded recording options) records outcome
       made.accounted
   pub readers : updates ≡ [] → SendsAlike verified script (recorded recording options) records outcome
   pub refused_are : outcome.refused.items ≡ refused
-  -- the journals are written after the sent frames, and the report after both; two of them have one name in no command that is done
-  -- (Clashes)
+  -- the journals are written after the sent frames, the report after both, and what the maps hold after all three; two of them have one name
+  -- in no command that is done (Clashes)
   pub sent :
-      text_of files.journals ≢ Some files.sent.now → text_of files.report ≢ Some files.sent.now →
+      text_of files.journals ≢ Some files.sent.now → text_of files.report ≢ Some files.sent.now → text_of files.maps ≢ Some files.sent.now →
       after files.sent.now (capture_bytes outcome.sent.items)
-  pub journals : text_of files.report ≢ text_of files.journals → AreWritten after (text_of files.journals) outcome.journals
+  pub journals :
+      text_of files.report ≢ text_of files.journals → text_of files.maps ≢ text_of files.journals →
+      AreWritten after (text_of files.journals) outcome.journals
   pub accepted : (file : List ℕ) → text_of files.journals ≡ Some file → AreAccepted verified.maps outcome.journals
-  pub report : IsReportFile after (text_of files.report) (runs_shipped files) script records outcome
+  pub report :
+      text_of files.maps ≢ text_of files.report → IsReportFile after (text_of files.report) (runs_shipped files) script records outcome
   pub lines : printed ≡ counts_text outcome.counts ++ refusals_text refused
 
 -- the command takes effect before a record of so many, or before all
@@ -275,13 +276,14 @@ pub record LeavesNothingOut (script : List Command) (records : List Sent) (outco
   pub none_stopped : outcome.counts.stopped ≡ 0
   pub in_time : AllByRecursion (IsInTime (length records)) script
 
--- the report is that of such a replay, and says whether a command was refused, and where nothing was left out
+-- the report is that of such a replay, and says whether a command was refused, where nothing was left out, and what the maps hold at the end
 abbrev pub IsReportOf : FileBytes → ReplayFiles → Verified → List Command → Options → Recording → ℕ → Bool → List MapUpdate → List Sent
     → Report → Type 0
 IsReportOf after files verified script options recording ring exact updates records report = (refused : List Applied)
     × (replayed : IsReplayedWith after files verified script options recording ring exact updates records (string_bytes report.text) refused)
     × ((refused ≡ []) ↔ (report.is_refused ≡ false))
     × (report.leaves_out ≡ false → LeavesNothingOut script records replayed.outcome)
+    × AreMapsLines (text_of files.maps) replayed.outcome.journals (lines_bytes report.maps)
 
 -- the capture is read from its file, and the report is that of a replay of this part of it, in which the script's commands have their
 -- numbers in the part
@@ -294,7 +296,7 @@ pub record IsReplayReport (before after : FileBytes) (files : ReplayFiles) (veri
       (records_in part captured) report
 
 -- the program may run, and its maps take the updates; the script and the capture are read from their files, and the replay was made with all
--- three: of the part that is asked for, with the script's commands at their numbers in it
+-- three: of the part that is asked for, with the script's commands at their numbers in it; and what the maps hold at the end is written
 pub record IsReplayed (before after : FileBytes) (asked : ReplaySettings) (printed : List ℕ) (refused : List Applied) : Type 0 where
   -- what the verifier made of the image
   pub verified : Verified
@@ -302,15 +304,15 @@ pub record IsReplayed (before after : FileBytes) (asked : ReplaySettings) (print
   -- where it is the shipped one, its lookup table and its flow table have sizes that are served
   pub sizes : text_of asked.files.image ≡ None → AreServedSizes asked.flows asked.ring
   pub accepted : Accepts verified.version verified.maps verified.code verified.states
-  pub safe : IsSafeImage verified.maps verified.code
   -- its maps take the updates
   pub fits : AreFitting verified.maps asked.updates.items
   pub script : List Command
   pub script_is : IsScriptOf before (text_of asked.files.script) script
   pub captured : List Sent
-  pub capture : IsCaptureOf before (capture_reading asked) asked.files.capture.now captured
+  pub capture : IsCaptureOf before (capture_reading asked.reading) asked.files.capture.now captured
   pub replayed : IsReplayedWith after asked.files verified (script_in asked.part captured script) asked.options (recording_in asked)
       asked.ring asked.exact asked.updates.items (records_in asked.part captured) printed refused
+  pub maps : AreMapsWritten after (text_of asked.files.maps) replayed.outcome.journals
 
 -- a strict replay left nothing out
 abbrev pub IsStrictlyKept : {before after : FileBytes} (asked : ReplaySettings) {printed : List ℕ} {refused : List Applied}

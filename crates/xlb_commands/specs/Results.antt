@@ -1,5 +1,5 @@
 -- What it means that a command is done: the files that it read and wrote, and what it printed.
-use Rattle.std.specs.Prelude.{◌≡◌, ◌<◌, ◌↔◌, ◌++◌, ℕ, List, [], Bool, true, false, Option, IsTrue, codes, decimal, length, string_bytes}
+use Rattle.std.specs.Prelude.{◌≡◌, ◌≢◌, ◌<◌, ◌↔◌, ◌++◌, ℕ, List, [], Bool, true, false, Option, IsTrue, codes, decimal, length, string_bytes}
 use Rattle.std.specs.Io.KnownBytes.{append_known}
 use Rattle.abstract_state.specs.declared.state.State.{State}
 use Rattle.ebpf_decode.specs.ImageContents.{Contents}
@@ -36,10 +36,11 @@ use Rattle.xlb_commands.specs.declared.one_run.RunAnswer.{RunAnswer}
 use Rattle.xlb_commands.specs.declared.one_run.RunAnswer.TheVariants.{Printed, Mistaken}
 use Rattle.xlb_commands.specs.declared.serving.CommandAnswer.{CommandAnswer}
 use Rattle.xlb_commands.specs.declared.serving.CommandAnswer.TheVariants as answers
-use Rattle.xlb_commands.specs.Files.{FileBytes, AreKept, AreOthersKept, AreAllButKept, AreAllKeptBut, IsImageFile, IsJudged}
+use Rattle.xlb_commands.specs.EndMaps.{AreMapsWritten}
+use Rattle.xlb_commands.specs.Files.{FileBytes, AreKept, AreOthersKept, AreAllButFourKept, AreAllKeptButTwo, IsImageFile, IsJudged}
 use Rattle.xlb_commands.specs.declared.replays.ReplayAnswer.{ReplayAnswer}
 use Rattle.xlb_commands.specs.declared.replays.ReplayAnswer.TheVariants as replayed
-use Rattle.xlb_commands.specs.Replays.{AreServedSizes, AreWritten, IsProgramOf, IsReplayedWhole, IsReplayedInPart}
+use Rattle.xlb_commands.specs.Replays.{capture_reading, AreServedSizes, AreWritten, IsProgramOf, IsReplayedWhole, IsReplayedInPart}
 use Rattle.xlb_commands.specs.Tables.{IsTableShown}
 use Rattle.xlb_commands.specs.Timed.{IsScriptShown}
 use Rattle.xlb_commands.specs.Comparing.{IsComparison, IsUnlikeTold}
@@ -114,8 +115,8 @@ setting_of_run image = record { maps = image.maps; code = image.code; options = 
 
 -- The image may run, its maps take the updates, the file of the frame is one, and there is such a worker. What is printed is what the
 -- program's run came to on the frame, at this time and as this worker, over maps in which nothing had happened but these updates: its own
--- trace on replies that are in journals, which are legal and have nothing but the updates and this run's calls. Where a file is named for
--- them, it has these journals. The updates and the run are one list of events of the system.
+-- trace on replies that are in journals, which are legal and have nothing but the updates and this run's calls. Where files are named for
+-- them, they have these journals, and what the maps hold after them. The updates and the run are one list of events of the system.
 pub record IsRun (before after : FileBytes) (files : RunFiles) (now worker : ℕ) (updates : List MapUpdate) (printed : List ℕ) : Type 0 where
   pub program : Contents
   pub file : IsImageFile before files.image.now program
@@ -135,7 +136,9 @@ pub record IsRun (before after : FileBytes) (files : RunFiles) (now worker : ℕ
   pub journals : JournalsView
   pub run : HasRunAlone (program_of_run program) (start_of_run bytes worker now) run_options worker updates verdict steps left journals
   pub of_system : IsAloneInSystem (setting_of_run program) worker now bytes updates (Exited verdict left.bytes steps) journals
-  pub written : AreWritten after (text_of files.journals) journals
+  -- the maps are written after the journals; both have one name in no command that is done (Clashes)
+  pub written : text_of files.maps ≢ text_of files.journals → AreWritten after (text_of files.journals) journals
+  pub maps : AreMapsWritten after (text_of files.maps) journals
   pub lines : printed ≡ run_text verdict steps left.bytes
 
 -- the image may run, and does not take the update at this place, the first such, for this reason; and no file changed
@@ -191,20 +194,17 @@ pub record IsAudited (files : FileBytes) (name journals : List ℕ) (printed : L
   pub legal : AreLegal view
   pub line : printed ≡ codes "legal\n"
 
--- the text of the first file spells the image that the second file now has
-pub record IsAssembled (before after : FileBytes) (source target : List ℕ) : Type 0 where
-  pub text : List ℕ
-  pub read : before source text
-  pub image : Contents
-  pub spelled : IsAssemblyText text image
-  pub written : IsImageFile after target image
+-- the text spells the image: exactly, or in the source form
+abbrev pub SpellsImage : Bool → List ℕ → Contents → Type 0
+SpellsImage false text image = IsAssemblyText text image
+SpellsImage true text image = IsSource text image
 
--- the text of the first file means, in the source form, the image that the second file now has
-pub record IsSourceAssembled (before after : FileBytes) (source target : List ℕ) : Type 0 where
+-- the text of the first file spells, exactly or in the source form, the image that the second file now has
+pub record IsAssembled (before after : FileBytes) (in_source_form : Bool) (source target : List ℕ) : Type 0 where
   pub text : List ℕ
   pub read : before source text
   pub image : Contents
-  pub spelled : IsSource text image
+  pub spelled : SpellsImage in_source_form text image
   pub written : IsImageFile after target image
 
 -- the file has the image of the shipped program for a flow table of so many notes and a lookup table of N slots, sizes that are served
@@ -221,12 +221,11 @@ IsDone before after (Disasm image false) printed = IsDisassembled before image.n
 IsDone before after (Disasm image true) printed = IsSourceShown before image.now printed
 IsDone before after (Audit image journals) printed = IsAudited before image.now journals.now printed
 IsDone before after (Explain about) printed = printed ≡ explained_text about
-IsDone before after (Asm text out false) printed = IsAssembled before after text.now out.now × (printed ≡ [])
-IsDone before after (Asm text out true) printed = IsSourceAssembled before after text.now out.now × (printed ≡ [])
+IsDone before after (Asm text out source) printed = IsAssembled before after source text.now out.now × (printed ≡ [])
 IsDone before after (Shipped out ring flows) printed = IsShippedFile after out.now flows ring × (printed ≡ [])
 IsDone before after (Replay asked) printed = IsReplayedWhole before after asked printed
 IsDone before after (Table script ring) printed = IsTableShown before script.now ring printed false
-IsDone before after (Script capture timed) printed = IsScriptShown before capture.now timed.now printed
+IsDone before after (Script capture timed reading) printed = IsScriptShown before (capture_reading reading) capture.now timed.now printed
 IsDone before after (Compare first second) printed = IsComparison before first.now second.now printed false
 IsDone before after (Flows report script) printed = AreFlowsShown before report.now script.now printed
 IsDone before after (Page report script) printed = IsPageShown before report.now script.now printed
@@ -241,19 +240,20 @@ IsDoneInPart before after other printed = ⊥
 -- no file changes but those that the command is to write, whether it is done or refused
 abbrev pub KeepsFiles : FileBytes → FileBytes → Settings → Type 0
 KeepsFiles before after (Check image explain) = AreKept before after
-KeepsFiles before after (Run files now worker updates) = AreAllKeptBut before after (text_of files.journals)
+KeepsFiles before after (Run files now worker updates) = AreAllKeptButTwo before after (text_of files.journals) (text_of files.maps)
 KeepsFiles before after (Disasm image source) = AreKept before after
 KeepsFiles before after (Audit image journals) = AreKept before after
 KeepsFiles before after (Explain about) = AreKept before after
 KeepsFiles before after (Asm text out source) = AreOthersKept before after out.now
 KeepsFiles before after (Shipped out ring flows) = AreOthersKept before after out.now
 KeepsFiles before after (Table script ring) = AreKept before after
-KeepsFiles before after (Script capture timed) = AreKept before after
+KeepsFiles before after (Script capture timed reading) = AreKept before after
 KeepsFiles before after (Compare first second) = AreKept before after
 KeepsFiles before after (Flows report script) = AreKept before after
 KeepsFiles before after (Page report script) = AreKept before after
 KeepsFiles before after (Replay asked) =
-    AreAllButKept before after asked.files.sent.now (text_of asked.files.journals) (text_of asked.files.report)
+    AreAllButFourKept before after asked.files.sent.now (text_of asked.files.journals) (text_of asked.files.report)
+    (text_of asked.files.maps)
 
 -- a stream: what was written to it, where that is known, and how many of its calls failed
 pub record Stream : Type 0 where
@@ -274,7 +274,7 @@ pub record AreNotesPrinted (before after : Stream) : Type 0 where
 abbrev pub IsNoted : Settings → Stream → Stream → Type 0
 IsNoted (Replay asked) before after = AreNotesPrinted before after
 IsNoted (Table script ring) before after = AreNotesPrinted before after
-IsNoted (Script capture timed) before after = AreNotesPrinted before after
+IsNoted (Script capture timed reading) before after = AreNotesPrinted before after
 IsNoted (Flows report script) before after = AreNotesPrinted before after
 IsNoted (Run files now worker updates) before after = AreNotesPrinted before after
 IsNoted other before after = after ≡ before

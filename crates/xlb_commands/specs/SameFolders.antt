@@ -26,9 +26,12 @@ HaveTheSame one other (Some name) = HaveTheFile one other name
 -- each file that the two commands wrote has the same bytes (no two of them have one name in a command that is done), and they printed the same
 pub record LeaveTheSame (files : ReplayFiles) (one other : FileBytes) (printed others : List ℕ) : Type 0 where
   pub sent :
-      text_of files.journals ≢ Some files.sent.now → text_of files.report ≢ Some files.sent.now → HaveTheFile one other files.sent.now
-  pub journals : text_of files.report ≢ text_of files.journals → HaveTheSame one other (text_of files.journals)
-  pub report : HaveTheSame one other (text_of files.report)
+      text_of files.journals ≢ Some files.sent.now → text_of files.report ≢ Some files.sent.now → text_of files.maps ≢ Some files.sent.now →
+      HaveTheFile one other files.sent.now
+  pub journals :
+      text_of files.report ≢ text_of files.journals → text_of files.maps ≢ text_of files.journals →
+      HaveTheSame one other (text_of files.journals)
+  pub report : text_of files.maps ≢ text_of files.report → HaveTheSame one other (text_of files.report)
   pub lines : printed ≡ others
 
 -- Of two commands `xlb replay --exact` with the same settings, each done in its folder: unless memory was refused to a command of either

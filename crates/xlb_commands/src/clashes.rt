@@ -2,7 +2,7 @@
 
 ghost use Rattle.std.specs.Prelude.{◌≡◌, ◌≢◌, ◌⊎◌, ℕ, List, Some, None, IfOk, IfSome, string_bytes};
 ghost use Rattle.command_line.specs.Reading.{text_of};
-ghost use Rattle.xlb_commands.specs.Clashes.{AreApart, IsOver, IsOverInReplay, IsReplayInput, clash_text};
+ghost use Rattle.xlb_commands.specs.Clashes.{AreApart, IsBeforeReport, IsOver, IsOverInReplay, IsOverInRun, IsReplayInput, IsRunInput, clash_text};
 
 use crate::printable::in_one_line;
 use command_line::{ReplayFiles, RunFiles, Settings};
@@ -90,22 +90,55 @@ fn frames_or_journals_over<'a, D: Folder>(folder: &D, files: &ReplayFiles<'a>) -
     over(folder, files.journals, Some(files.sent))
 }
 
-/// Whether the report of a replay is written over what it reads, or writes before.
-fn report_over<'a, D: Folder>(folder: &D, files: &ReplayFiles<'a>) -> Option<Clash<'a>>
-    ensures found { IfSome result (λ clash. (text_of files.now.report ≡ Some clash.written.now)
-        × (IsReplayInput files.now clash.other.now
-        ⊎ ((clash.other.now ≡ files.now.sent.now) ⊎ (text_of files.now.journals ≡ Some clash.other.now)))) }
+/// Whether a file that is written after the sent frames and the journals of a replay, if there is one, is one of these, or one that it reads.
+fn over_before_report<'a, D: Folder>(
+    folder: &D,
+    written: Option<&'a str>,
+    files: &ReplayFiles<'a>,
+) -> Option<Clash<'a>>
+    ensures found { IfSome result (λ clash. (text_of written.entry ≡ Some clash.written.now) × IsBeforeReport files.now clash.other.now) }
     ensures one { IfSome result (λ clash. D.are_one folder.now clash.written.now clash.other.now) }
-    ensures none { result ≡ None → (name second : List ℕ) → text_of files.now.report ≡ Some name
-        → IsReplayInput files.now second ⊎ ((second ≡ files.now.sent.now) ⊎ (text_of files.now.journals ≡ Some second)) → name ≢ second }
+    ensures none { result ≡ None → (name second : List ℕ) → text_of written.entry ≡ Some name → IsBeforeReport files.now second →
+        name ≢ second }
 {
-    if let Some(clash) = over_inputs(folder, files.report, files) {
+    if let Some(clash) = over_inputs(folder, written, files) {
         return Some(clash);
     }
-    if let Some(clash) = over(folder, files.report, Some(files.sent)) {
+    if let Some(clash) = over(folder, written, Some(files.sent)) {
         return Some(clash);
     }
-    over(folder, files.report, files.journals)
+    over(folder, written, files.journals)
+}
+
+/// Whether what the maps hold after a replay is written over what it reads, or writes before.
+fn maps_over<'a, D: Folder>(folder: &D, files: &ReplayFiles<'a>) -> Option<Clash<'a>>
+    ensures found { IfSome result (λ clash. (text_of files.now.maps ≡ Some clash.written.now)
+        × (IsBeforeReport files.now clash.other.now ⊎ (text_of files.now.report ≡ Some clash.other.now))) }
+    ensures one { IfSome result (λ clash. D.are_one folder.now clash.written.now clash.other.now) }
+    ensures none { result ≡ None → (name second : List ℕ) → text_of files.now.maps ≡ Some name
+        → IsBeforeReport files.now second ⊎ (text_of files.now.report ≡ Some second) → name ≢ second }
+{
+    if let Some(clash) = over_before_report(folder, files.maps, files) {
+        return Some(clash);
+    }
+    over(folder, files.maps, files.report)
+}
+
+/// Whether the report of a replay, or what its maps hold, is written over what it reads, or writes before.
+fn report_or_maps_over<'a, D: Folder>(folder: &D, files: &ReplayFiles<'a>) -> Option<Clash<'a>>
+    ensures found { IfSome result (λ clash. ((text_of files.now.report ≡ Some clash.written.now) × IsBeforeReport files.now clash.other.now)
+        ⊎ ((text_of files.now.maps ≡ Some clash.written.now)
+        × (IsBeforeReport files.now clash.other.now ⊎ (text_of files.now.report ≡ Some clash.other.now)))) }
+    ensures one { IfSome result (λ clash. D.are_one folder.now clash.written.now clash.other.now) }
+    ensures report { result ≡ None → (name second : List ℕ) → text_of files.now.report ≡ Some name → IsBeforeReport files.now second →
+        name ≢ second }
+    ensures maps { result ≡ None → (name second : List ℕ) → text_of files.now.maps ≡ Some name
+        → IsBeforeReport files.now second ⊎ (text_of files.now.report ≡ Some second) → name ≢ second }
+{
+    if let Some(clash) = over_before_report(folder, files.report, files) {
+        return Some(clash);
+    }
+    maps_over(folder, files)
 }
 
 /// The same of all that a replay writes.
@@ -117,21 +150,39 @@ fn over_in_replay<'a, D: Folder>(folder: &D, files: &ReplayFiles<'a>) -> Option<
     if let Some(clash) = frames_or_journals_over(folder, files) {
         return Some(clash);
     }
-    report_over(folder, files)
+    report_or_maps_over(folder, files)
 }
 
-/// The same of the journals of a run.
-fn over_in_run<'a, D: Folder>(folder: &D, files: &RunFiles<'a>) -> Option<Clash<'a>>
-    ensures found { IfSome result (λ clash. (text_of files.now.journals ≡ Some clash.written.now)
-        × ((clash.other.now ≡ files.now.image.now) ⊎ (clash.other.now ≡ files.now.frame.now))) }
+/// Whether a file that is written, if there is one, is one that a run reads.
+fn over_run_inputs<'a, D: Folder>(
+    folder: &D,
+    written: Option<&'a str>,
+    files: &RunFiles<'a>,
+) -> Option<Clash<'a>>
+    ensures found { IfSome result (λ clash. (text_of written.entry ≡ Some clash.written.now) × IsRunInput files.now clash.other.now) }
     ensures one { IfSome result (λ clash. D.are_one folder.now clash.written.now clash.other.now) }
-    ensures none { result ≡ None → (name second : List ℕ) → text_of files.now.journals ≡ Some name
-        → (second ≡ files.now.image.now) ⊎ (second ≡ files.now.frame.now) → name ≢ second }
+    ensures none { result ≡ None → (name second : List ℕ) → text_of written.entry ≡ Some name → IsRunInput files.now second →
+        name ≢ second }
 {
-    if let Some(clash) = over(folder, files.journals, Some(files.image)) {
+    if let Some(clash) = over(folder, written, Some(files.image)) {
         return Some(clash);
     }
-    over(folder, files.journals, Some(files.frame))
+    over(folder, written, Some(files.frame))
+}
+
+/// The same of what a run writes: the journals, and what the maps hold.
+fn over_in_run<'a, D: Folder>(folder: &D, files: &RunFiles<'a>) -> Option<Clash<'a>>
+    ensures found { IfSome result (λ clash. IsOverInRun files.now clash.written.now clash.other.now) }
+    ensures one { IfSome result (λ clash. D.are_one folder.now clash.written.now clash.other.now) }
+    ensures none { result ≡ None → (written other : List ℕ) → IsOverInRun files.now written other → written ≢ other }
+{
+    if let Some(clash) = over_run_inputs(folder, files.journals, files) {
+        return Some(clash);
+    }
+    if let Some(clash) = over_run_inputs(folder, files.maps, files) {
+        return Some(clash);
+    }
+    over(folder, files.maps, files.journals)
 }
 
 /// The first file that a command would write over another one that it has.

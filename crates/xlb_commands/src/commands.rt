@@ -12,12 +12,12 @@ ghost use Rattle.text_lines.specs.NoText.{IsNoText};
 ghost use Rattle.folders.specs.Fronts.{HasFront, IsFrontOf};
 ghost use Rattle.xlb_commands.specs.Files.{AreKept, AreOthersKept, IsImageFile, IsJudged};
 ghost use Rattle.xlb_commands.specs.Results.{IsChecked, IsExplained, IsDisassembled, IsSourceShown, IsAudited, IsAssembled};
-ghost use Rattle.xlb_commands.specs.Results.{IsSourceAssembled};
+ghost use Rattle.xlb_commands.specs.Results.{SpellsImage};
 ghost use Rattle.xlb_commands.specs.Refused.{HasFailed, IsUnserved, IsUnwritten, IsDecodeRefusal, IsImageRefusal, IsProgramRefusal};
 ghost use Rattle.xlb_commands.specs.Refused.{IsFrameRefusal};
 ghost use Rattle.xlb_commands.specs.Refused.{IsNoImage, IsNoSource, IsNotJudged, IsCheckRefusal, IsExplainRefusal, IsTextRefusal};
 ghost use Rattle.xlb_commands.specs.Refused.{IsAuditRefusal};
-ghost use Rattle.xlb_commands.specs.Refused.{IsSpellingRefusal, IsAsmRefusal, IsSourceRefusal, kept_of_image, beyond_images};
+ghost use Rattle.xlb_commands.specs.Refused.{IsSpellingRefusal, IsAsmRefusal, SpellsNone, kept_of_image, beyond_images};
 ghost use Rattle.disasm.specs.declared.fault.AsmFault.TheVariants.{BadLine};
 
 use crate::fault::{Fault, Refusal};
@@ -458,44 +458,38 @@ pub(crate) fn write_image<D: Folder>(
     }
 }
 
-/// Writes the image of a text. Refused with 7 or 8 where the text is not read, and with 21 to 23 where it spells no image: then no file
-/// changes. Refused with 7 or 8 where the image is not written; then no other file changes.
+/// The image that the bytes of a text spell: exactly, or in the source form.
+fn image_of_text(alloc: Global, bytes: &[u8], in_source_form: bool) -> Result<Image, Refusal>
+    ensures found { IfOk result (λ image. SpellsImage in_source_form bytes.now image) }
+    ensures refused { IfErr result (λ refusal. SpellsNone in_source_form bytes.now refusal.fault) }
+{
+    if in_source_form {
+        return image_of_source(alloc, bytes);
+    }
+    match assembled(alloc, bytes) {
+        Ok(image) => Ok(image),
+        Err(fault) => Err(refused_text(alloc, bytes, fault)),
+    }
+}
+
+/// Writes the image of a text, which is exact or in the source form. Refused with 7 or 8 where the text is not read, and with 21 to 23 where it
+/// spells no image: then no file changes. Refused with 7 or 8 where the image is not written; then no other file changes.
 pub fn assemble_file<D: Folder>(
     alloc: Global,
     folder: &mut D,
     text: &str,
     out: &str,
+    in_source_form: bool,
 ) -> Result<String, Refusal>
     requires { D.failure_count folder.old < 2 ^ 64 - 1 }
-    ensures done { OnOk result (IsAssembled (D.holds folder.old) (D.holds folder.new) text.now out.now) }
+    ensures done { OnOk result (IsAssembled (D.holds folder.old) (D.holds folder.new) in_source_form text.now out.now) }
     ensures silent { IfOk result (λ printed. string_bytes printed ≡ []) }
     ensures others { AreOthersKept (D.holds folder.old) (D.holds folder.new) out.now }
     ensures refused { IfErr result (λ refusal. IsAsmRefusal (D.holds folder.old) (D.holds folder.new)
-        (HasFailed (D.failure_count folder.old) (D.failure_count folder.new)) text.now refusal.fault) }
+        (HasFailed (D.failure_count folder.old) (D.failure_count folder.new)) in_source_form text.now refusal.fault) }
 {
     let bytes = bytes_of(alloc, folder, text)?;
-    match assembled(alloc, &bytes) {
-        Ok(image) => write_image(alloc, folder, &image, out),
-        Err(fault) => Err(refused_text(alloc, &bytes, fault)),
-    }
-}
-
-/// Writes the image of a text in the source form. Refused as by `assemble_file`.
-pub fn assemble_source_file<D: Folder>(
-    alloc: Global,
-    folder: &mut D,
-    text: &str,
-    out: &str,
-) -> Result<String, Refusal>
-    requires { D.failure_count folder.old < 2 ^ 64 - 1 }
-    ensures done { OnOk result (IsSourceAssembled (D.holds folder.old) (D.holds folder.new) text.now out.now) }
-    ensures silent { IfOk result (λ printed. string_bytes printed ≡ []) }
-    ensures others { AreOthersKept (D.holds folder.old) (D.holds folder.new) out.now }
-    ensures refused { IfErr result (λ refusal. IsSourceRefusal (D.holds folder.old) (D.holds folder.new)
-        (HasFailed (D.failure_count folder.old) (D.failure_count folder.new)) text.now refusal.fault) }
-{
-    let bytes = bytes_of(alloc, folder, text)?;
-    match image_of_source(alloc, &bytes) {
+    match image_of_text(alloc, &bytes, in_source_form) {
         Ok(image) => write_image(alloc, folder, &image, out),
         Err(refusal) => Err(refusal),
     }

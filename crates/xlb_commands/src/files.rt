@@ -182,6 +182,7 @@ pub(crate) fn write_text_to<D: Folder>(
     requires { D.failure_count folder.old < 2 ^ 64 - 1 }
     ensures written { OnOk result (HasBytes (D.holds folder.new) (text_of name.entry) text.now) }
     ensures others { AreAllKeptBut (D.holds folder.old) (D.holds folder.new) (text_of name.entry) }
+    ensures steady { OnOk result (D.failure_count folder.new ≡ D.failure_count folder.old) }
     ensures refused { IfErr result (λ refusal. AreUnwritten (text_of name.entry)
         (HasFailed (D.failure_count folder.old) (D.failure_count folder.new)) refusal.fault) }
 {

@@ -21,7 +21,7 @@ ghost use Rattle.actors.specs.Parts.{AreBadOptions};
 ghost use Rattle.replay.specs.EventsInTurns.{IsListedInPieces};
 ghost use Rattle.replay.specs.Pieces.{ReplayGoesOn, IsUnderway, IsReplayedInPieces};
 ghost use Rattle.actors.specs.declared.outcome.Outcome.{Outcome as Made};
-ghost use Rattle.actors.specs.declared.outcome.RecordEnd.{RecordEnd as End};
+ghost use Rattle.actors.specs.declared.outcome.ToldEnd.{ToldEnd as End};
 ghost use Rattle.command_line.specs.Reading.{text_of};
 ghost use Rattle.xlb_commands.specs.Files.{AreKept};
 ghost use Rattle.xlb_commands.specs.AskedReplays.{IsConsistent, IsAnswered, IsAnsweredBy, IsDenied, IsDeniedBy, IsMadeInTurn, LeavesOthers};
@@ -34,6 +34,7 @@ ghost use Rattle.xlb_commands.specs.Refused.{HasFailed, IsBrokenOff, IsGivenUp, 
 ghost use Rattle.traffic.specs.Readings.{unaltered};
 ghost use Rattle.xlb_commands.specs.Replays.{IsCaptureOf, IsMade};
 
+use crate::end_maps::maps_lines;
 use crate::fault::{Fault, Refusal};
 use crate::files::journal_bytes;
 use crate::left_out::is_left_out;
@@ -106,7 +107,7 @@ impl Seen {
 }
 
 /// Opens a capture, if it can be read in pieces and has a header.
-fn open_reader<D: Folder>(
+pub(crate) fn open_reader<D: Folder>(
     alloc: Global,
     folder: &mut D,
     name: &str,
@@ -426,6 +427,7 @@ fn left_in_pieces(
     let summing = going.summing;
     let outcome = ended(alloc, asked, going.replay)?;
     let journals = journal_bytes(alloc, asked.files.journals, &outcome.journals)?;
+    let maps = maps_lines(alloc, asked.files.maps, &outcome.journals)?;
     let notes = Notes::of(asked, altered)
         .text_of_pieces(alloc, asked.script, &outcome, stopped, &summing)
         .ok();
@@ -437,6 +439,7 @@ fn left_in_pieces(
         &outcome.refused,
         left_out,
         notes,
+        maps,
     )?;
     Ok(LeftInPieces { journals, report })
 }
@@ -513,7 +516,7 @@ fn replay_seen<D: Folder, P: Progress + Sync>(
     ensures done { IfOk result (λ found. IfSome found
         (IsAnsweredBy (D.holds folder.old) (D.holds folder.new) asked.entry whole.entry.script.now)) }
     ensures none { IfOk result (λ found. IfNone found (AreKept (D.holds folder.old) (D.holds folder.new))) }
-    ensures steady { IfOk result (λ found. IfNone found (D.failure_count folder.new ≡ D.failure_count folder.old)) }
+    ensures steady { OnOk result (D.failure_count folder.new ≡ D.failure_count folder.old) }
     ensures kept { LeavesOthers (D.holds folder.old) (D.holds folder.new) asked.entry }
     ensures refused { IfErr result (λ refusal. IsDeniedBy (D.holds folder.old) (D.holds folder.new)
         (HasFailed (D.failure_count folder.old) (D.failure_count folder.new)) asked.entry whole.entry.script.now refusal.fault) }
@@ -559,7 +562,7 @@ pub(crate) fn replay_in_pieces<D: Folder, P: Progress + Sync>(
     requires consistent { IsConsistent asked }
     ensures done { IfOk result (λ found. IfSome found (IsAnswered (D.holds folder.old) (D.holds folder.new) asked.entry)) }
     ensures none { IfOk result (λ found. IfNone found (AreKept (D.holds folder.old) (D.holds folder.new))) }
-    ensures steady { IfOk result (λ found. IfNone found (D.failure_count folder.new ≡ D.failure_count folder.old)) }
+    ensures steady { OnOk result (D.failure_count folder.new ≡ D.failure_count folder.old) }
     ensures kept { LeavesOthers (D.holds folder.old) (D.holds folder.new) asked.entry }
     ensures refused { IfErr result (λ refusal. IsDenied (D.holds folder.old) (D.holds folder.new)
         (HasFailed (D.failure_count folder.old) (D.failure_count folder.new)) asked.entry refusal.fault) }

@@ -2,9 +2,11 @@
 //! audited.
 #![tactic(auto)]
 
+mod captures;
 mod clashes;
 mod commands;
 mod comparing;
+mod end_maps;
 mod fault;
 mod fault_lines;
 mod files;
@@ -26,6 +28,7 @@ mod record_report;
 mod records;
 mod replays;
 mod report;
+mod sent_records;
 mod serving;
 mod shipping;
 mod summing;

@@ -1,7 +1,7 @@
 //! The files of an exact replay in pieces: the sent frames and the report are in the making while its records are run.
 
 ghost use Rattle.std.specs.Prelude.{◌≡◌, ◌≢◌, ◌↔◌, ◌+◌, ◌-◌, ◌<◌, ◌^◌, ℕ, List, Some, true, IfErr, IfOk, OnOk, length};
-ghost use Rattle.wire.specs.CaptureFormat.{header_bytes, records_bytes};
+ghost use Rattle.wire.specs.CaptureFormat.{capture_bytes, header_bytes, records_bytes};
 ghost use Rattle.journals.specs.JournalsView.{JournalsView};
 ghost use Rattle.journals.specs.JournalText.{journals_text};
 ghost use Rattle.command_line.specs.Reading.{text_of};
@@ -13,15 +13,19 @@ ghost use Rattle.xlb_commands.specs.Refused.{AreUnfiled, HasFailed, IsUnserved};
 ghost use Rattle.xlb_commands.specs.Replays.{HasBytes};
 
 use crate::fault::Refusal;
-use crate::files::{unserved, write_journals_to};
+use crate::files::{unserved, write_journals_to, write_to};
 use crate::record_report::{form_of, piece_lines};
 use crate::replays::{Asked, bytes_of_frames};
+use crate::sent_records::records_of_frames;
 use actors::PieceOutcome;
 use command_line::ReplayFiles;
 use folders::{Folder, FolderFault};
 use std::alloc::Global;
 use traffic::Backends;
-use wire::{CAPTURE_HEADER_LEN, MemorySink, Sent};
+use wire::{MemorySink, Sent};
+
+/// How many frames' records are in memory at a time.
+const AT_A_TIME: usize = 1024;
 
 /// Adds bytes to the file that is being made under this name.
 fn add_bytes<D: Folder>(
@@ -63,10 +67,10 @@ pub(crate) fn add_frames<D: Folder>(
     ensures refused { IfErr result
         (λ refusal. IsUnserved (HasFailed (D.failure_count folder.old) (D.failure_count folder.new)) refusal.fault) }
 {
-    let Ok(file) = bytes_of_frames(alloc, frames) else {
+    let Ok(records) = records_of_frames(alloc, frames) else {
         return Err(unserved(alloc, folder, name, FolderFault::Memory));
     };
-    add_bytes(alloc, folder, name, &file.bytes()[CAPTURE_HEADER_LEN..])
+    add_bytes(alloc, folder, name, &records)
 }
 
 /// Adds the header of a capture to the file that is being made under this name.
@@ -206,54 +210,96 @@ pub(crate) fn begin_files<D: Folder>(
     }
 }
 
-/// Gives the file that is being made under this name the name.
+/// Gives the file that is being made under this name the name. Where it cannot have it, all that are in the making are removed.
 fn finish_file<D: Folder>(alloc: Global, folder: &mut D, name: &str) -> Result<(), Refusal>
     requires failures { D.failure_count folder.old < 2 ^ 64 - 1 }
     ensures made { OnOk result ((bytes : List ℕ) → D.is_begun folder.old name.now bytes → D.holds folder.new name.now bytes) }
     ensures others { AreOthersKept (D.holds folder.old) (D.holds folder.new) name.now }
-    ensures others_begun { AreOthersKept (D.is_begun folder.old) (D.is_begun folder.new) name.now }
+    ensures others_begun { OnOk result (AreOthersKept (D.is_begun folder.old) (D.is_begun folder.new) name.now) }
     ensures steady { OnOk result (D.failure_count folder.new ≡ D.failure_count folder.old) }
     ensures refused { IfErr result
         (λ refusal. IsUnserved (HasFailed (D.failure_count folder.old) (D.failure_count folder.new)) refusal.fault) }
 {
     match folder.finish(name) {
         Ok(()) => Ok(()),
-        Err(fault) => Err(unserved(alloc, folder, name, fault)),
+        Err(fault) => {
+            let refusal = unserved(alloc, folder, name, fault);
+            folder.give_up();
+            Err(refusal)
+        }
     }
 }
 
-/// Gives the file of the sent frames its name, after it writes the journals, and after both gives the report its name, where files are named
-/// for these.
-fn finish_files<D: Folder>(
+/// Adds the records of frames to the capture that is being made under this name, so many at a time that their bytes take little memory. Where
+/// they cannot be added, all that are in the making are removed.
+fn add_all_frames<D: Folder>(
     alloc: Global,
     folder: &mut D,
-    files: &ReplayFiles<'_>,
-    journals: &MemorySink,
+    name: &str,
+    frames: &[Sent],
 ) -> Result<(), Refusal>
-    requires failures { D.failure_count folder.old < 2 ^ 64 - 1 }
-    requires apart { AreApartInPieces files.now }
-    ensures sent { OnOk result ((bytes : List ℕ) → D.is_begun folder.old files.now.sent.now bytes →
-        text_of files.now.journals ≢ Some files.now.sent.now → D.holds folder.new files.now.sent.now bytes) }
-    ensures journals { OnOk result (text_of files.now.report ≢ text_of files.now.journals →
-        HasBytes (D.holds folder.new) (text_of files.now.journals) journals.now.bytes) }
-    ensures report { OnOk result ((name bytes : List ℕ) → text_of files.now.report ≡ Some name → D.is_begun folder.old name bytes →
-        D.holds folder.new name bytes) }
-    ensures others { AreAllButKept (D.holds folder.old) (D.holds folder.new) files.now.sent.now (text_of files.now.journals)
-        (text_of files.now.report) }
-    ensures refused { IfErr result (λ refusal. (bytes : List ℕ) (view : JournalsView) →
-        D.is_begun folder.old files.now.sent.now bytes → ((file : List ℕ) → text_of files.now.journals ≡ Some file →
-        journals.now.bytes ≡ journals_text view) → AreUnfiled (D.holds folder.old) (D.holds folder.new)
-        (HasFailed (D.failure_count folder.old) (D.failure_count folder.new)) files.now bytes view refusal.fault) }
+    requires { D.failure_count folder.old < 2 ^ 64 - 1 }
+    ensures added { OnOk result (AreAdded (D.is_begun folder.old) (D.is_begun folder.new) name.now (records_bytes frames.now)) }
+    ensures kept { AreKept (D.holds folder.old) (D.holds folder.new) }
+    ensures steady { OnOk result (D.failure_count folder.new ≡ D.failure_count folder.old) }
+    ensures refused { IfErr result
+        (λ refusal. IsUnserved (HasFailed (D.failure_count folder.old) (D.failure_count folder.new)) refusal.fault) }
 {
-    finish_file(alloc, folder, files.sent)?;
-    write_journals_to(alloc, folder, files.journals, journals)?;
-    match files.report {
-        Some(name) => finish_file(alloc, folder, name),
-        None => Ok(()),
+    let mut rest = frames;
+    'pieces: while !rest.is_empty() {
+        let (first, later) = rest.split_at(rest.len().min(AT_A_TIME));
+        if let Err(refusal) = add_frames(alloc, folder, name, first) {
+            folder.give_up();
+            return Err(refusal);
+        }
+        rest = later;
     }
+    Ok(())
 }
 
-/// Gives the files their names, or writes them, as `finish_files`; where one cannot be, what is still in the making is removed.
+/// Writes the capture of these frames with all its bytes in memory.
+fn write_whole<D: Folder>(
+    alloc: Global,
+    folder: &mut D,
+    name: &str,
+    frames: &[Sent],
+) -> Result<(), Refusal>
+    requires { D.failure_count folder.old < 2 ^ 64 - 1 }
+    ensures written { OnOk result (D.holds folder.new name.now (capture_bytes frames.now)) }
+    ensures others { AreOthersKept (D.holds folder.old) (D.holds folder.new) name.now }
+    ensures steady { OnOk result (D.failure_count folder.new ≡ D.failure_count folder.old) }
+    ensures refused { IfErr result
+        (λ refusal. IsUnserved (HasFailed (D.failure_count folder.old) (D.failure_count folder.new)) refusal.fault) }
+{
+    let Ok(file) = bytes_of_frames(alloc, frames) else {
+        return Err(unserved(alloc, folder, name, FolderFault::Memory));
+    };
+    write_to(alloc, folder, name, &file)
+}
+
+/// Writes the capture of these frames: in pieces, or whole where the folder makes no file of this name in pieces.
+pub(crate) fn write_frames<D: Folder>(
+    alloc: Global,
+    folder: &mut D,
+    name: &str,
+    frames: &[Sent],
+) -> Result<(), Refusal>
+    requires { D.failure_count folder.old < 2 ^ 64 - 1 }
+    ensures written { OnOk result (D.holds folder.new name.now (capture_bytes frames.now)) }
+    ensures others { AreOthersKept (D.holds folder.old) (D.holds folder.new) name.now }
+    ensures steady { OnOk result (D.failure_count folder.new ≡ D.failure_count folder.old) }
+    ensures refused { IfErr result
+        (λ refusal. IsUnserved (HasFailed (D.failure_count folder.old) (D.failure_count folder.new)) refusal.fault) }
+{
+    if !begin_sent(alloc, folder, name)? {
+        return write_whole(alloc, folder, name, frames);
+    }
+    add_all_frames(alloc, folder, name, frames)?;
+    finish_file(alloc, folder, name)
+}
+
+/// Gives the file of the sent frames its name, then writes the journals, and then gives the report its name, where files are named for these.
+/// Where one of them fails, what is still in the making is removed.
 pub(crate) fn write_pieces<D: Folder>(
     alloc: Global,
     folder: &mut D,
@@ -268,6 +314,7 @@ pub(crate) fn write_pieces<D: Folder>(
         HasBytes (D.holds folder.new) (text_of files.now.journals) journals.now.bytes) }
     ensures report { OnOk result ((name bytes : List ℕ) → text_of files.now.report ≡ Some name → D.is_begun folder.old name bytes →
         D.holds folder.new name bytes) }
+    ensures steady { OnOk result (D.failure_count folder.new ≡ D.failure_count folder.old) }
     ensures others { AreAllButKept (D.holds folder.old) (D.holds folder.new) files.now.sent.now (text_of files.now.journals)
         (text_of files.now.report) }
     ensures refused { IfErr result (λ refusal. (bytes : List ℕ) (view : JournalsView) →
@@ -275,7 +322,13 @@ pub(crate) fn write_pieces<D: Folder>(
         journals.now.bytes ≡ journals_text view) → AreUnfiled (D.holds folder.old) (D.holds folder.new)
         (HasFailed (D.failure_count folder.old) (D.failure_count folder.new)) files.now bytes view refusal.fault) }
 {
-    let done = finish_files(alloc, folder, files, journals);
-    folder.give_up();
-    done
+    finish_file(alloc, folder, files.sent)?;
+    if let Err(refusal) = write_journals_to(alloc, folder, files.journals, journals) {
+        folder.give_up();
+        return Err(refusal);
+    }
+    match files.report {
+        Some(name) => finish_file(alloc, folder, name),
+        None => Ok(()),
+    }
 }

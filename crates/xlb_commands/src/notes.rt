@@ -6,7 +6,7 @@ use crate::summing::{Moved, Summing, Sums};
 use command_line::{DEFAULT_FLOWS, DEFAULT_RING};
 use control::{Action, ControlFault, Script};
 use journals::Journals;
-use replay::{Applied, Counts, Outcome, RecordEnd};
+use replay::{Applied, Counts, Outcome, ToldEnd};
 use std::alloc::{AllocError, Global};
 use text_lines::cut;
 use traffic::Refused;
@@ -209,7 +209,8 @@ impl Notes<'_> {
         }
         let high = low.saturating_add(1);
         let line = format!(in alloc;
-            "with {most} backends up, each has {low} or {high} of the lookup table's {ring} slots: a larger --ring N, at most 65537, is more even\n"
+            "with {most} backends up, each has {low} or {high} of the lookup table's {ring} slots: a larger --ring N, at most 65537, with \
+             --no-journals, is more even\n"
         )?;
         text.push_str(line.as_str())
     }
@@ -256,7 +257,7 @@ impl Notes<'_> {
             return Ok(());
         }
         let line = format!(in alloc;
-            "cut {cut}: bytes were left out when these records were captured; flows of such frames may be judged wrongly\n"
+            "cut {cut}: bytes were left out when these records were captured, and such a frame may be passed as malformed: --pad-cut fills them up\n"
         )?;
         text.push_str(line.as_str())
     }
@@ -370,7 +371,10 @@ fn put_refused(
     }
     let lines = script.text(alloc)?;
     for one in refused.iter().take(MOST_LINES) {
-        put_command(alloc, text, lines.as_str(), one)?;
+        let Some(command) = script.commands().get(one.command) else {
+            return Ok(());
+        };
+        put_command(alloc, text, lines.as_str(), one, command.action)?;
     }
     if refused.len() > MOST_LINES {
         let more = refused.len().saturating_sub(MOST_LINES);
@@ -385,13 +389,14 @@ fn put_command(
     text: &mut String,
     lines: &str,
     one: &Applied,
+    action: Action,
 ) -> Result<(), AllocError> {
     let Some(fault) = one.fault else {
         return Ok(());
     };
     let command = line_at(lines, one.command);
     let line = one.command.saturating_add(1);
-    let why = why_refused(fault);
+    let why = why_refused(fault, action);
     text.push_str(&format!(in alloc; "line {line} of the script, {command}: {why}\n")?)
 }
 
@@ -406,11 +411,13 @@ fn line_at(text: &str, place: usize) -> &str {
     line
 }
 
-/// Why a command was refused.
-fn why_refused(fault: ControlFault) -> &'static str {
+/// Why this command was refused.
+fn why_refused(fault: ControlFault, action: Action) -> &'static str {
     match fault {
-        ControlFault::UnknownBackend =>
-            "no such backend is up, or there is no such number: numbers are below 256 and below the ring's size",
+        ControlFault::UnknownBackend => match action {
+            Action::Down { .. } => "no such backend is up",
+            _ => "a backend's number is below 256 and below the ring's size",
+        },
         ControlFault::BackendTwice => "this number or this address is up",
         ControlFault::Refused { answer } if answer == -12 =>
             "the map refused it: no cell is free until retired ones are reclaimed",
@@ -423,9 +430,9 @@ fn why_refused(fault: ControlFault) -> &'static str {
 }
 
 /// The first record, counted from 0, whose run a full journal stopped.
-pub(crate) fn first_stopped(ends: &[RecordEnd]) -> Option<usize> {
+pub(crate) fn first_stopped(ends: &[ToldEnd]) -> Option<usize> {
     ends.iter()
-        .position(|end| matches!(end, RecordEnd::Stopped { .. }))
+        .position(|end| matches!(end, ToldEnd::Stopped { .. }))
 }
 
 /// The same record, counted from 1.
@@ -447,8 +454,8 @@ fn put_full(alloc: Global, text: &mut String, journals: &Journals) -> Result<(),
         }
     }
     text.push_str(
-        "frames whose run needs a full journal are not run to their end: --journal N, at most 1048576, --shards N, at most 8, and --no-journals \
-         make more room\n",
+        "frames whose run needs a full journal are not run to their end: --no-journals has room for all, --journal N and --shards N \
+         (at most 1048576 and 8) for more\n",
     )
 }
 

@@ -9,13 +9,14 @@ ghost use Rattle.guarantees.specs.RunsAlone.{IsAloneInSystem, ending_at};
 ghost use Rattle.guarantees.specs.SystemRuns.{setting_of};
 ghost use Rattle.map_updates.specs.Misfits.{AreFitting};
 ghost use Rattle.command_line.specs.Reading.{text_of};
-ghost use Rattle.xlb_commands.specs.Files.{AreAllKeptBut};
+ghost use Rattle.xlb_commands.specs.Files.{AreAllKeptButTwo};
 ghost use Rattle.xlb_commands.specs.Results.{IsRunAnswer, run_options, start_of_run};
 ghost use Rattle.xlb_commands.specs.Refused.{HasFailed, IsRunFault, IsRunRefusal};
 
 use crate::commands::{frame_of, judged_of};
+use crate::end_maps::{maps_lines, text_of_lines};
 use crate::fault::{Fault, Refusal};
-use crate::files::{journal_bytes, write_journals_to};
+use crate::files::{journal_bytes, write_journals_to, write_text_to};
 use crate::hints;
 use crate::report::outcome;
 use command_line::RunFiles;
@@ -76,14 +77,14 @@ pub enum RunAnswer {
     Mistaken { place: usize, misfit: Misfit },
 }
 
-/// Runs an image on one frame, with maps in which nothing has happened but these updates, and writes the journals where a file is named for
-/// them. Updates that the image's maps do not take are a mistake of the command line: then no frame is read.
+/// Runs an image on one frame, with maps in which nothing has happened but these updates, and writes the journals, and then what the maps
+/// hold, where files are named for them. Updates that the image's maps do not take are a mistake of the command line: then no frame is read.
 ///
 /// Refused, in this order: with 7 or 8 where the image is not read, 10 to 20 where it is none, 30 to 49 where it may not run; with 7 or
 /// 8 where the frame is not read, 6, 8 or 9 where it is none; with 51 where there is no such worker; with 51 or 52 where the maps are
 /// not opened, 93 for the first update that a map refuses, 94 for the first for which a journal is full; with 60 where a full journal
 /// stops the run; with 52 or 8 where memory is refused for the journals' bytes or the lines. Until then no file changes. Last, with 7
-/// or 8 where the journals are not written.
+/// or 8 where the journals are not written, or what the maps hold.
 pub fn run_once<D: Folder>(
     alloc: Global,
     folder: &mut D,
@@ -94,7 +95,7 @@ pub fn run_once<D: Folder>(
 ) -> Result<RunAnswer, Refusal>
     requires { D.failure_count folder.old < 2 ^ 64 - 1 }
     ensures done { IfOk result (IsRunAnswer (D.holds folder.old) (D.holds folder.new) files.now now worker updates.now) }
-    ensures kept { AreAllKeptBut (D.holds folder.old) (D.holds folder.new) (text_of files.now.journals) }
+    ensures kept { AreAllKeptButTwo (D.holds folder.old) (D.holds folder.new) (text_of files.now.journals) (text_of files.now.maps) }
     ensures refused { IfErr result (λ refusal. IsRunRefusal (D.holds folder.old) (D.holds folder.new)
         (HasFailed (D.failure_count folder.old) (D.failure_count folder.new)) files.now now worker updates.now refusal.fault) }
 {
@@ -111,8 +112,10 @@ pub fn run_once<D: Folder>(
         Err(stop) => return Err(Refusal::from(Fault::Run(stop))),
     };
     let file = journal_bytes(alloc, files.journals, &journals)?;
+    let maps = maps_lines(alloc, files.maps, &journals)?;
     let text = outcome(alloc, exit, &frame)?;
     write_journals_to(alloc, folder, files.journals, &file)?;
+    write_text_to(alloc, folder, files.maps, text_of_lines(&maps))?;
     Ok(RunAnswer::Printed { text, notes })
 }
 

@@ -38,7 +38,10 @@ fn there_in_replay<'a, D: Folder>(folder: &D, files: &ReplayFiles<'a>) -> Option
     if let Some(name) = if_there(folder, files.journals) {
         return Some(name);
     }
-    if_there(folder, files.report)
+    if let Some(name) = if_there(folder, files.report) {
+        return Some(name);
+    }
+    if_there(folder, files.maps)
 }
 
 /// The first file that is to be written, and is there, of a command that may write over none.

@@ -14,7 +14,7 @@ ghost use Rattle.xlb_commands.specs.declared.fault.Fault.TheVariants.{Memory};
 use crate::fault::Refusal;
 use actors::PieceOutcome;
 use control::{Action, Command, Script};
-use replay::{Outcome, RecordEnd};
+use replay::{Outcome, ToldEnd};
 use semantics::Verdict;
 use std::alloc::{AllocError, Global};
 use text_lines::finishes;
@@ -41,13 +41,13 @@ pub(crate) fn form_of(alloc: Global, name: &str) -> Result<ReportForm, AllocErro
 }
 
 /// The worker that ran a record.
-fn worker_in(end: RecordEnd) -> Option<u64>
+fn worker_in(end: ToldEnd) -> Option<u64>
     ensures { result ≡ worker_in end }
 {
     match end {
-        RecordEnd::Short => None,
-        RecordEnd::Stopped { worker } => Some(u64::from(worker)),
-        RecordEnd::Exited { worker, .. } => Some(u64::from(worker)),
+        ToldEnd::Short => None,
+        ToldEnd::Stopped { worker } => Some(u64::from(worker)),
+        ToldEnd::Exited { worker, .. } => Some(u64::from(worker)),
     }
 }
 
@@ -64,23 +64,23 @@ fn word_of_verdict(verdict: Verdict) -> LineVerdict
 }
 
 /// What became of a record, in a word.
-pub(crate) fn verdict_in(end: RecordEnd) -> LineVerdict
+pub(crate) fn verdict_in(end: ToldEnd) -> LineVerdict
     ensures { result ≡ verdict_in end }
 {
     match end {
-        RecordEnd::Short => LineVerdict::Short,
-        RecordEnd::Stopped { .. } => LineVerdict::Stopped,
-        RecordEnd::Exited { verdict, .. } => word_of_verdict(verdict),
+        ToldEnd::Short => LineVerdict::Short,
+        ToldEnd::Stopped { .. } => LineVerdict::Stopped,
+        ToldEnd::Exited { verdict, .. } => word_of_verdict(verdict),
     }
 }
 
 /// In how many steps the run of a record ended.
-fn steps_in(end: RecordEnd) -> Option<u64>
+fn steps_in(end: ToldEnd) -> Option<u64>
     ensures { result ≡ steps_of_end end }
 {
     match end {
-        RecordEnd::Exited { steps, .. } => Some(steps),
-        RecordEnd::Short | RecordEnd::Stopped { .. } => None,
+        ToldEnd::Exited { steps, .. } => Some(steps),
+        ToldEnd::Short | ToldEnd::Stopped { .. } => None,
     }
 }
 
@@ -95,7 +95,7 @@ pub(crate) fn is_tx(verdict: LineVerdict) -> bool
 }
 
 /// The case of the steering rule, if the program is the shipped one, which follows it.
-fn case_in(is_shipped: bool, frame: &[u8], end: RecordEnd) -> &'static str
+fn case_in(is_shipped: bool, frame: &[u8], end: ToldEnd) -> &'static str
     ensures { result.now ≡ case_in is_shipped frame.now end }
 {
     if is_shipped {
@@ -106,7 +106,7 @@ fn case_in(is_shipped: bool, frame: &[u8], end: RecordEnd) -> &'static str
 }
 
 /// The address to which the frame of a record was sent, which is at this place among the sent ones.
-fn address_in(end: RecordEnd, sent: &[Sent], place: usize) -> Option<u32>
+fn address_in(end: ToldEnd, sent: &[Sent], place: usize) -> Option<u32>
     ensures { result ≡ sent_address end (slice_get sent.now place) }
 {
     if is_tx(verdict_in(end)) && place < sent.len() {
@@ -181,7 +181,7 @@ impl Lines<'_> {
         alloc: Global,
         number: usize,
         captured: &Sent,
-        end: RecordEnd,
+        end: ToldEnd,
         place: usize,
     ) -> Result<String, AllocError>
         requires named { HasNamed self.now.table.now (backends_in self.now.script.now) }
@@ -211,7 +211,7 @@ impl Lines<'_> {
         text: &mut String,
         first: usize,
         records: &[Sent],
-        ends: &[RecordEnd],
+        ends: &[ToldEnd],
     ) -> Result<(), AllocError>
         requires named { HasNamed self.now.table.now (backends_in self.now.script.now) }
         requires numbers { first + length records.now < 2 ^ 64 }
@@ -232,12 +232,12 @@ impl Lines<'_> {
 }
 
 /// What became of the record of this number.
-fn end_at(ends: &[RecordEnd], number: usize) -> RecordEnd
+fn end_at(ends: &[ToldEnd], number: usize) -> ToldEnd
     ensures { result ≡ end_of ends.now number }
 {
     match ends.get(number) {
         Some(end) => *end,
-        None => RecordEnd::Short,
+        None => ToldEnd::Short,
     }
 }
 

@@ -55,17 +55,22 @@ fn about_part(alloc: Global, part: &str, bytes: usize, there: usize) -> Result<S
 fn about_kept(alloc: Global, kept: u32, had: u32, there: usize) -> Result<String, AllocError> {
     if there < kept as usize {
         let missing = (kept as usize).saturating_sub(there);
+        let hint = if kept as usize <= MAX_FRAME {
+            ": xlb replay --allow-cut reads up to there"
+        } else {
+            ""
+        };
         return format!(in alloc;
-            "the record keeps {kept} bytes by its head, and the file has {there} of them, {missing} too few"
+            "the record keeps {kept} bytes by its head, and the file has {there} of them, {missing} too few{hint}"
         );
     }
     if kept as usize <= MAX_FRAME {
         return format!(in alloc;
-            "the record keeps {kept} bytes of a frame of {had}, and a frame has at most {MAX_FRAME}: --skip-long skips such records, and counts them"
+            "the record keeps {kept} bytes of a frame of {had}, and a frame has at most {MAX_FRAME}: xlb replay --skip-long skips such records"
         );
     }
     format!(in alloc;
-        "the record keeps {kept} bytes, and a frame has at most {MAX_FRAME}: --skip-long skips such records, and counts them"
+        "the record keeps {kept} bytes, and a frame has at most {MAX_FRAME}: xlb replay --skip-long skips such records"
     )
 }
 

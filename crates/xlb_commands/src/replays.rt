@@ -1,6 +1,6 @@
 //! What `xlb replay` does with its files.
 
-ghost use Rattle.std.specs.Prelude.{◌≡◌, ◌≢◌, ◌↔◌, ◌+◌, ◌++◌, ◌-◌, ◌<◌, ◌^◌, ℕ, [], true, false};
+ghost use Rattle.std.specs.Prelude.{◌≡◌, ◌≢◌, ◌↔◌, ◌⊎◌, ◌+◌, ◌++◌, ◌-◌, ◌<◌, ◌^◌, ℕ, [], true, false};
 ghost use Rattle.std.specs.Prelude.{List, Some, None, IfErr, IfOk, IsErrOf, IsTrue, OnOk, length, string_bytes};
 ghost use Rattle.semantics.specs.Safety.{IsSafeImage};
 ghost use Rattle.std.specs.List.{AllByRecursion};
@@ -31,25 +31,30 @@ ghost use Rattle.steered_replays.specs.TablesAtEnd.{AreServices, AreTablesAtEnd,
 ghost use Rattle.steered_replays.specs.Totals.{AreTotals};
 ghost use Rattle.journals.specs.JournalText.{journals_text};
 ghost use Rattle.journals.specs.FileJournals.{ReadBackWhereLegal};
+ghost use Rattle.journals.specs.LegalJournals.{AreLegal};
 ghost use Rattle.command_line.specs.Reading.{text_of};
 ghost use Rattle.xlb_commands.specs.AskedReplays.{IsConsistent, HasBadOptions, IsAnswered, IsDenied, IsOutcome, IsWhyNone, LeavesOthers};
-ghost use Rattle.xlb_commands.specs.AskedReplays.{IsAnsweredOf, IsDeniedOf};
-ghost use Rattle.xlb_commands.specs.Files.{AreKept, AreAllButKept};
+ghost use Rattle.xlb_commands.specs.AskedReplays.{IsAnsweredOf, IsDeniedOf, LacksMaps, LeavesAllOthers};
+ghost use Rattle.xlb_commands.specs.EndMaps.{AreMapsLines, lines_bytes};
+ghost use Rattle.xlb_commands.specs.Files.{AreKept, AreAllButFourKept, AreAllButKept};
 ghost use Rattle.xlb_commands.specs.InPieces.{AreApartInPieces};
 ghost use Rattle.xlb_commands.specs.Refused.{HasFailed, LacksRoom, AreUnfiled, IsReplayProgramRefusal, IsScriptFileRefusal};
 ghost use Rattle.xlb_commands.specs.Refused.{IsScriptRefusal};
 ghost use Rattle.xlb_commands.specs.Refused.{IsNoCapture, IsNoCaptureIn, IsCaptureRefusal, IsReplayRefused};
-ghost use Rattle.xlb_commands.specs.Replays.{LeavesNothingOut};
+ghost use Rattle.xlb_commands.specs.Replays.{LeavesNothingOut, capture_reading};
 ghost use Rattle.traffic.specs.Readings.{alters, unaltered};
 ghost use Rattle.xlb_commands.specs.Replays.{IsProgramOf, IsScriptOf, IsScriptFile, IsCaptureIn, IsCaptureOf, HasBytes};
 ghost use Rattle.xlb_commands.specs.Replays.{recording_of, counts_text, refusals_text, AreServedSizes, AreWritten};
 ghost use Rattle.xlb_commands.specs.RecordReports.{form_of, report_text, runs_shipped};
 
+use crate::captures::kept_capture;
 use crate::commands::judged_of;
+use crate::end_maps::{maps_lines, text_of_lines};
 use crate::fault::{Fault, Refusal};
-use crate::files::{bytes_of, journal_bytes, write_journals_to, write_text_to, write_to};
+use crate::files::{bytes_of, journal_bytes, write_journals_to, write_text_to};
 use crate::in_pieces::replay_in_pieces;
 use crate::left_out::is_left_out;
+use crate::made_in_pieces::write_frames;
 use crate::notes::{Altered, Notes};
 use crate::one_run::maps_of;
 use crate::parts::script_of_part;
@@ -64,7 +69,6 @@ use control::{Script, parse_script};
 use fleet::Part;
 use folders::Folder;
 use guarantees::readers::readers_send_as_at_opening;
-use journals::Journals;
 use map_updates::{MapUpdate, Misfit, first_misfit};
 use replay::{Outcome, ReplayFault, replay, replay_in_turn};
 use semantics::{Options, Recording};
@@ -241,8 +245,19 @@ fn records_in(
     }
 }
 
-/// The capture of a file, and in `altered` which of its records are not as their frames were.
-pub(crate) fn capture_of<D: Folder>(
+/// How the records of a capture are read for these options.
+pub(crate) fn capture_reading(asked: command_line::Reading) -> Reading
+    ensures { result ≡ capture_reading asked }
+{
+    Reading {
+        skip_long: asked.skip_long,
+        pad_cut: asked.pad_cut,
+        allow_cut: asked.allow_cut,
+    }
+}
+
+/// The capture of a file whose bytes are in memory while it is read.
+fn capture_of_bytes<D: Folder>(
     alloc: Global,
     folder: &mut D,
     name: &str,
@@ -259,6 +274,30 @@ pub(crate) fn capture_of<D: Folder>(
     let bytes = bytes_of(alloc, folder, name)?;
     let capture = records_in(alloc, &bytes, reading, altered)?;
     Ok(capture)
+}
+
+/// The capture of a file, and in `altered` which of its records are not as their frames were.
+pub(crate) fn capture_of<D: Folder>(
+    alloc: Global,
+    folder: &mut D,
+    name: &str,
+    reading: Reading,
+    altered: &mut Altered,
+) -> Result<Capture, Refusal>
+    requires { D.failure_count folder.old < 2 ^ 64 - 1 }
+    ensures capture { IfOk result (λ capture. IsCaptureOf (D.holds folder.old) reading name.now capture.records.items) }
+    ensures kept { AreKept (D.holds folder.old) (D.holds folder.new) }
+    ensures steady { OnOk result (D.failure_count folder.new ≡ D.failure_count folder.old) }
+    ensures refused { IfErr result (λ refusal. IsCaptureRefusal (D.holds folder.old)
+        (HasFailed (D.failure_count folder.old) (D.failure_count folder.new)) reading name.now refusal.fault) }
+{
+    if reading.alters() {
+        return capture_of_bytes(alloc, folder, name, reading, altered);
+    }
+    match kept_capture(alloc, folder, name, altered)? {
+        Some(capture) => Ok(capture),
+        None => capture_of_bytes(alloc, folder, name, reading, altered),
+    }
 }
 
 /// The bytes of a capture file of these frames.
@@ -373,10 +412,9 @@ pub(crate) fn given_up(
     Refusal::hinted(Fault::Replay(fault), hint)
 }
 
-/// What a replay leaves, in memory: the bytes of its files, and its report.
+/// What a replay leaves besides the sent frames, in memory: the bytes of its files, and its report.
 #[derive(Drop)]
 struct Leavings {
-    sent: MemorySink,
     journals: MemorySink,
     /// The line of each record.
     lines: String,
@@ -397,7 +435,7 @@ fn left_of(
     requires frames { length capture.now.records.items ≡ frames_in outcome.now.counts }
     requires ends { length outcome.now.ends.items ≡ length capture.now.records.items }
     requires rows { (file : List ℕ) → text_of files.now.journals ≡ Some file → KeepsRows outcome.now.journals.options.journal }
-    ensures sent { IfOk result (λ left. left.sent.bytes ≡ capture_bytes outcome.now.sent.items) }
+    requires legal { AreLegal outcome.now.journals }
     ensures journals { IfOk result (λ left. (file : List ℕ) → text_of files.now.journals ≡ Some file →
         left.journals.bytes ≡ journals_text outcome.now.journals) }
     ensures reads_back { IfOk result (λ left. (file : List ℕ) → text_of files.now.journals ≡ Some file →
@@ -411,9 +449,9 @@ fn left_of(
     ensures whole { IfOk result (λ left. (outcome.now.refused.items ≡ []) ↔ (left.report.is_refused ≡ false)) }
     ensures all { IfOk result (λ left. left.report.leaves_out ≡ false →
         LeavesNothingOut script.now capture.now.records.items outcome.now) }
+    ensures maps { IfOk result (λ left. AreMapsLines (text_of files.now.maps) outcome.now.journals (lines_bytes left.report.maps)) }
     ensures refused { IfErr result (λ refusal. LacksRoom (text_of files.now.journals) refusal.fault) }
 {
-    let sent = bytes_of_frames(alloc, &outcome.sent)?;
     let journals = journal_bytes(alloc, files.journals, &outcome.journals)?;
     let lines = report_for(
         alloc,
@@ -423,6 +461,7 @@ fn left_of(
         capture,
         outcome,
     )?;
+    let maps = maps_lines(alloc, files.maps, &outcome.journals)?;
     let frames = capture.records.len();
     let left_out = is_left_out(altered, script, frames);
     let report = replayed(
@@ -432,9 +471,9 @@ fn left_of(
         &outcome.refused,
         left_out,
         notes,
+        maps,
     )?;
     Ok(Leavings {
-        sent,
         journals,
         lines,
         report,
@@ -447,21 +486,24 @@ fn write_files<D: Folder>(
     folder: &mut D,
     files: &ReplayFiles<'_>,
     left: &Leavings,
-    journals: &Journals,
+    outcome: &Outcome,
 ) -> Result<(), Refusal>
     requires failures { D.failure_count folder.old < 2 ^ 64 - 1 }
-    requires journals { (file : List ℕ) → text_of files.now.journals ≡ Some file → left.now.journals.bytes ≡ journals_text journals.now }
+    requires journals { (file : List ℕ) → text_of files.now.journals ≡ Some file →
+        left.now.journals.bytes ≡ journals_text outcome.now.journals }
     ensures sent { OnOk result (text_of files.now.journals ≢ Some files.now.sent.now → text_of files.now.report ≢ Some files.now.sent.now →
-        D.holds folder.new files.now.sent.now left.now.sent.bytes) }
+        D.holds folder.new files.now.sent.now (capture_bytes outcome.now.sent.items)) }
     ensures journals { OnOk result (text_of files.now.report ≢ text_of files.now.journals →
-        AreWritten (D.holds folder.new) (text_of files.now.journals) journals.now) }
+        AreWritten (D.holds folder.new) (text_of files.now.journals) outcome.now.journals) }
     ensures report { OnOk result (HasBytes (D.holds folder.new) (text_of files.now.report) (string_bytes left.now.lines)) }
+    ensures steady { OnOk result (D.failure_count folder.new ≡ D.failure_count folder.old) }
     ensures others { AreAllButKept (D.holds folder.old) (D.holds folder.new) files.now.sent.now (text_of files.now.journals)
         (text_of files.now.report) }
     ensures refused { IfErr result (λ refusal. AreUnfiled (D.holds folder.old) (D.holds folder.new)
-        (HasFailed (D.failure_count folder.old) (D.failure_count folder.new)) files.now left.now.sent.bytes journals.now refusal.fault) }
+        (HasFailed (D.failure_count folder.old) (D.failure_count folder.new)) files.now (capture_bytes outcome.now.sent.items)
+        outcome.now.journals refusal.fault) }
 {
-    write_to(alloc, folder, files.sent, &left.sent)?;
+    write_frames(alloc, folder, files.sent, &outcome.sent)?;
     write_journals_to(alloc, folder, files.journals, &left.journals)?;
     write_text_to(alloc, folder, files.report, left.lines.as_str())?;
     Ok(())
@@ -521,6 +563,7 @@ fn replay_records<R: Threads + Wait + Sync, D: Folder, P: Progress + Sync>(
     requires failures { D.failure_count folder.old < 2 ^ 64 - 1 }
     requires consistent { IsConsistent asked }
     ensures done { IfOk result (IsAnsweredOf (D.holds folder.new) asked.entry capture.now.records.items) }
+    ensures steady { OnOk result (D.failure_count folder.new ≡ D.failure_count folder.old) }
     ensures kept { LeavesOthers (D.holds folder.old) (D.holds folder.new) asked.entry }
     ensures refused { IfErr result (λ refusal. IsDeniedOf (D.holds folder.old) (D.holds folder.new)
         (HasFailed (D.failure_count folder.old) (D.failure_count folder.new)) asked.entry capture.now.records.items refusal.fault) }
@@ -554,7 +597,7 @@ fn replay_records<R: Threads + Wait + Sync, D: Folder, P: Progress + Sync>(
         altered,
         notes,
     )?;
-    write_files(alloc, folder, files, &left, &outcome.journals)?;
+    write_files(alloc, folder, files, &left, &outcome)?;
     Ok(left.report)
 }
 
@@ -569,6 +612,7 @@ fn replay_whole<R: Threads + Wait + Sync, D: Folder, P: Progress + Sync>(
     requires failures { D.failure_count folder.old < 2 ^ 64 - 1 }
     requires consistent { IsConsistent asked }
     ensures done { IfOk result (IsAnswered (D.holds folder.old) (D.holds folder.new) asked.entry) }
+    ensures steady { OnOk result (D.failure_count folder.new ≡ D.failure_count folder.old) }
     ensures kept { LeavesOthers (D.holds folder.old) (D.holds folder.new) asked.entry }
     ensures refused { IfErr result (λ refusal. IsDenied (D.holds folder.old) (D.holds folder.new)
         (HasFailed (D.failure_count folder.old) (D.failure_count folder.new)) asked.entry refusal.fault) }
@@ -606,6 +650,7 @@ fn replay_once<R: Threads + Wait + Sync, D: Folder, P: Progress + Sync>(
     requires failures { D.failure_count folder.old < 2 ^ 64 - 1 }
     requires consistent { IsConsistent asked }
     ensures done { IfOk result (IsAnswered (D.holds folder.old) (D.holds folder.new) asked.entry) }
+    ensures steady { OnOk result (D.failure_count folder.new ≡ D.failure_count folder.old) }
     ensures kept { LeavesOthers (D.holds folder.old) (D.holds folder.new) asked.entry }
     ensures refused { IfErr result (λ refusal. IsDenied (D.holds folder.old) (D.holds folder.new)
         (HasFailed (D.failure_count folder.old) (D.failure_count folder.new)) asked.entry refusal.fault) }
@@ -620,10 +665,34 @@ fn replay_once<R: Threads + Wait + Sync, D: Folder, P: Progress + Sync>(
     }
 }
 
-/// Runs the frames of a capture, and writes those that are sent, and the journals and a line for each record where files are named for
-/// them. All input is read and checked before anything starts: the image, the script, the capture, then the options. Before the first frame
-/// the controller makes the updates; ones that the image's maps do not take are a mistake of the command line, and then neither script nor
-/// capture is read. No file is made where one is refused, nor where memory is refused for anything that is written or printed.
+/// Makes the replay, and last of all writes what the maps hold then, where a file is named for it.
+fn replay_with_maps<R: Threads + Wait + Sync, D: Folder, P: Progress + Sync>(
+    rt: &R,
+    alloc: Global,
+    folder: &mut D,
+    asked: Asked<'_>,
+    progress: &P,
+) -> Result<Report, Refusal>
+    requires failures { D.failure_count folder.old < 2 ^ 64 - 1 }
+    requires consistent { IsConsistent asked }
+    ensures done { IfOk result (IsAnswered (D.holds folder.old) (D.holds folder.new) asked.entry) }
+    ensures maps { IfOk result (λ report. HasBytes (D.holds folder.new) (text_of asked.entry.files.now.maps) (lines_bytes report.maps)) }
+    ensures kept { LeavesAllOthers (D.holds folder.old) (D.holds folder.new) asked.entry }
+    ensures refused { IfErr result (λ refusal. IsDenied (D.holds folder.old) (D.holds folder.new)
+        (HasFailed (D.failure_count folder.old) (D.failure_count folder.new)) asked.entry refusal.fault
+        ⊎ LacksMaps (D.holds folder.old) (D.holds folder.new)
+        (HasFailed (D.failure_count folder.old) (D.failure_count folder.new)) asked.entry refusal.fault) }
+{
+    let report = replay_once(rt, alloc, folder, asked, progress)?;
+    write_text_to(alloc, folder, asked.files.maps, text_of_lines(&report.maps))?;
+    Ok(report)
+}
+
+/// Runs the frames of a capture, and writes those that are sent, and the journals, a line for each record and what the maps hold at the end
+/// where files are named for them. All input is read and checked before anything starts: the image, the script, the capture, then the
+/// options. Before the first frame the controller makes the updates; ones that the image's maps do not take are a mistake of the command
+/// line, and then neither script nor capture is read. No file is made where one is refused, nor where memory is refused for anything that
+/// is written or printed.
 pub fn replay_files<R: Threads + Wait + Sync, D: Folder, P: Progress + Sync>(
     rt: &R,
     alloc: Global,
@@ -633,8 +702,8 @@ pub fn replay_files<R: Threads + Wait + Sync, D: Folder, P: Progress + Sync>(
 ) -> Result<ReplayAnswer, Refusal>
     requires failures { D.failure_count folder.old < 2 ^ 64 - 1 }
     ensures done { IfOk result (IsReplayAnswer (D.holds folder.old) (D.holds folder.new) settings.now) }
-    ensures kept { AreAllButKept (D.holds folder.old) (D.holds folder.new) settings.now.files.sent.now
-        (text_of settings.now.files.journals) (text_of settings.now.files.report) }
+    ensures kept { AreAllButFourKept (D.holds folder.old) (D.holds folder.new) settings.now.files.sent.now
+        (text_of settings.now.files.journals) (text_of settings.now.files.report) (text_of settings.now.files.maps) }
     ensures refused { IfErr result (λ refusal. IsReplayRefused (D.holds folder.old) (D.holds folder.new)
         (HasFailed (D.failure_count folder.old) (D.failure_count folder.new)) settings.now refusal.fault) }
 {
@@ -656,13 +725,9 @@ pub fn replay_files<R: Threads + Wait + Sync, D: Folder, P: Progress + Sync>(
         flows: settings.flows,
         exact: settings.exact,
         summary: settings.summary,
-        reading: Reading {
-            skip_long: settings.reading.skip_long,
-            pad_cut: settings.reading.pad_cut,
-            allow_cut: settings.reading.allow_cut,
-        },
+        reading: capture_reading(settings.reading),
         part: settings.part,
     };
-    let report = replay_once(rt, alloc, folder, asked, progress)?;
+    let report = replay_with_maps(rt, alloc, folder, asked, progress)?;
     Ok(ReplayAnswer::Made(report.of_strict(settings.strict)))
 }

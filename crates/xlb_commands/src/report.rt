@@ -23,6 +23,8 @@ pub struct Report {
     pub leaves_out: bool,
     /// Lines for people, which go to the error stream.
     pub notes: Option<String>,
+    /// The lines of what the maps hold at the end of a replay, where a file is named for them.
+    pub maps: Option<String>,
 }
 
 impl Report {
@@ -35,6 +37,7 @@ impl Report {
             is_refused: false,
             leaves_out: false,
             notes: None,
+            maps: None,
         }
     }
 
@@ -47,6 +50,7 @@ impl Report {
             is_refused: differs,
             leaves_out: false,
             notes: None,
+            maps: None,
         }
     }
 
@@ -195,8 +199,8 @@ fn put_refusals(alloc: Global, text: &mut String, refused: &[Applied]) -> Result
     Ok(())
 }
 
-/// What a replay came to: its counts, of `frames` frames in all, and the commands that were refused; with these notes. `left_out`: besides
-/// runs that were stopped something was left out.
+/// What a replay came to: its counts, of `frames` frames in all, and the commands that were refused; with these notes, and these lines of its
+/// maps. `left_out`: besides runs that were stopped something was left out.
 pub fn replayed(
     alloc: Global,
     frames: usize,
@@ -204,11 +208,13 @@ pub fn replayed(
     refused: &[Applied],
     left_out: bool,
     notes: Option<String>,
+    maps: Option<String>,
 ) -> Result<Report, AllocError>
     requires { frames ≡ frames_in counts }
     ensures text { IfOk result (λ report. string_bytes report.text ≡ counts_text counts ++ refusals_text refused.now) }
     ensures refused { IfOk result (λ report. (refused.now ≡ []) ↔ (report.is_refused ≡ false)) }
     ensures all { IfOk result (λ report. report.leaves_out ≡ false → (counts.stopped ≡ 0) × (left_out ≡ false)) }
+    ensures maps { IfOk result (λ report. report.maps ≡ maps) }
 {
     let mut text = counts_text(alloc, frames, counts)?;
     put_refusals(alloc, &mut text, refused)?;
@@ -217,5 +223,6 @@ pub fn replayed(
         is_refused: !refused.is_empty(),
         leaves_out: counts.stopped > 0 || left_out,
         notes,
+        maps,
     })
 }

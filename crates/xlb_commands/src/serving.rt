@@ -13,8 +13,7 @@ ghost use Rattle.xlb_commands.specs.Refused.{printed_notes};
 
 use crate::clashes::{Clash, clash_of};
 use crate::commands::{
-    assemble_file, assemble_source_file, audit_file, check, check_explained, disassemble,
-    disassemble_source,
+    assemble_file, audit_file, check, check_explained, disassemble, disassemble_source,
 };
 use crate::comparing::{ComparisonAnswer, compare_files};
 use crate::fault::{Fault, Refusal};
@@ -23,7 +22,7 @@ use crate::looking_back::{ReportAnswer, flows_of_files, page_of_files};
 use crate::one_run::{RunAnswer, run_once};
 use crate::present::{in_the_way, present_text};
 use crate::progress::Progress;
-use crate::replays::{ReplayAnswer, replay_files};
+use crate::replays::{ReplayAnswer, capture_reading, replay_files};
 use crate::report::Report;
 use crate::shipping::write_shipped;
 use crate::tables::table_file;
@@ -75,6 +74,7 @@ impl CommandAnswer {
             is_refused: false,
             leaves_out: false,
             notes,
+            maps: None,
         })
     }
 }
@@ -122,11 +122,7 @@ fn answer<R: Threads + Wait + Sync, D: Folder, P: Progress + Sync>(
         }
         Settings::Explain { about } => Ok(CommandAnswer::reported(explained(alloc, about)?)),
         Settings::Asm { text, out, source } => {
-            if *source {
-                Ok(CommandAnswer::reported(assemble_source_file(alloc, folder, text, out)?))
-            } else {
-                Ok(CommandAnswer::reported(assemble_file(alloc, folder, text, out)?))
-            }
+            Ok(CommandAnswer::reported(assemble_file(alloc, folder, text, out, *source)?))
         }
         Settings::Shipped { out, ring, flows } => {
             Ok(CommandAnswer::reported(write_shipped(alloc, folder, *flows, *ring, out)?))
@@ -134,8 +130,13 @@ fn answer<R: Threads + Wait + Sync, D: Folder, P: Progress + Sync>(
         Settings::Table { script, ring } => {
             Ok(CommandAnswer::Reported(table_file(alloc, folder, script, *ring)?))
         }
-        Settings::Script { capture, timed } => {
-            Ok(CommandAnswer::Reported(timed_file(alloc, folder, capture, timed)?))
+        Settings::Script {
+            capture,
+            timed,
+            reading,
+        } => {
+            let reading = capture_reading(*reading);
+            Ok(CommandAnswer::Reported(timed_file(alloc, folder, capture, timed, reading)?))
         }
         Settings::Compare { first, second } => {
             match compare_files(alloc, folder, first, second)? {

@@ -2,7 +2,7 @@
 
 use crate::record_report::{is_tx, verdict_in};
 use control::Script;
-use replay::RecordEnd;
+use replay::ToldEnd;
 use std::alloc::{AllocError, Global};
 use traffic::{FrameTally, LineVerdict, RecordTally};
 use wire::Sent;
@@ -42,7 +42,7 @@ pub(crate) enum Summing {
 }
 
 /// The verdict of each record.
-fn verdicts_of(alloc: Global, ends: &[RecordEnd]) -> Result<Vec<LineVerdict>, AllocError> {
+fn verdicts_of(alloc: Global, ends: &[ToldEnd]) -> Result<Vec<LineVerdict>, AllocError> {
     ends.iter().map(|end| verdict_in(*end)).collect(alloc)
 }
 
@@ -68,7 +68,7 @@ impl Moved {
     }
 
     /// Notes the next records, of which the frames at these places among all that were ever sent went elsewhere.
-    fn note(&mut self, places: &[usize], ends: &[RecordEnd]) -> Result<(), AllocError> {
+    fn note(&mut self, places: &[usize], ends: &[ToldEnd]) -> Result<(), AllocError> {
         let mut next: usize = 0;
         'records: for end in ends {
             if is_tx(verdict_in(*end)) {
@@ -101,7 +101,7 @@ impl Sums {
         script: &Script,
         records: &[Sent],
         sent: &[Sent],
-        ends: &[RecordEnd],
+        ends: &[ToldEnd],
     ) -> Result<(), AllocError> {
         let places = self.frames.note(alloc, records, sent)?;
         let verdicts = verdicts_of(alloc, ends)?;
@@ -129,7 +129,7 @@ impl Summing {
         script: &Script,
         records: &[Sent],
         sent: &[Sent],
-        ends: &[RecordEnd],
+        ends: &[ToldEnd],
     ) {
         let noted = match self {
             Summing::Counted(sums) => sums.note(alloc, script, records, sent, ends),

@@ -46,6 +46,7 @@ fn shown(alloc: Global, script: &Script, ring: u32) -> Result<Report, AllocError
         is_refused,
         leaves_out: false,
         notes,
+        maps: None,
     })
 }
 

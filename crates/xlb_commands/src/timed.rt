@@ -24,16 +24,9 @@ use wire::Sent;
 /// The most late lines that are named.
 const MOST_LINES: usize = 10;
 
-/// How the capture's records are read.
-const AS_THEY_ARE: Reading = Reading {
-    skip_long: false,
-    pad_cut: false,
-    allow_cut: false,
-};
-
 /// What a line of a timed script is.
 const EXPECTED: &str =
-    "expected a moment (2026-11-28T10:03:00Z, 1764324180.25, or +180s from the first record), a space, and a command\n";
+    "expected a moment (2026-11-28T10:03:00Z, 1764324180.25, or +180s from the first record), a space, a command (down 17), and a line feed alone\n";
 
 /// Whether these words, as the only line, are a timed script.
 fn is_right_alone(alloc: Global, words: &str, records: &[Sent]) -> Result<bool, AllocError> {
@@ -66,7 +59,7 @@ fn about_line(
     if falls(alloc, bytes, records, line)? {
         return format!(in alloc; "line {line}: its moment is before that of a line above\n");
     }
-    let mut text = format!(in alloc; "line {line} is none of a timed script\n")?;
+    let mut text = format!(in alloc; "line {line} is not one of a timed script\n")?;
     text.push_str(EXPECTED)?;
     Ok(text)
 }
@@ -111,23 +104,25 @@ fn meant(alloc: Global, bytes: &[u8], records: &[Sent]) -> Result<TimedScript, R
     }
 }
 
-/// Prints the script that a timed script's file means for the capture of another file. Refused as a replay refuses the capture, then with 7
-/// or 8 where the timed script is not read, 90 with the first of its lines that is wrong, or 95. No file changes.
+/// Prints the script that a timed script's file means for the capture of another file, which is read in this way.
+/// Refused as a replay refuses the capture, then with 7 or 8 where the timed script is not read, 90 with the first
+/// of its lines that is wrong, or 95. No file changes.
 pub fn timed_file<D: Folder>(
     alloc: Global,
     folder: &mut D,
     capture: &str,
     timed: &str,
+    reading: Reading,
 ) -> Result<Report, Refusal>
     requires { D.failure_count folder.old < 2 ^ 64 - 1 }
-    ensures done { IfOk result (λ report. IsScriptShown (D.holds folder.old) capture.now timed.now (string_bytes report.text)) }
+    ensures done { IfOk result (λ report. IsScriptShown (D.holds folder.old) reading capture.now timed.now (string_bytes report.text)) }
     ensures whole { IfOk result (λ report. report.is_refused ≡ false) }
     ensures kept { AreKept (D.holds folder.old) (D.holds folder.new) }
     ensures refused { IfErr result (λ refusal. IsTimedRefusal (D.holds folder.old)
-        (HasFailed (D.failure_count folder.old) (D.failure_count folder.new)) capture.now timed.now refusal.fault) }
+        (HasFailed (D.failure_count folder.old) (D.failure_count folder.new)) reading capture.now timed.now refusal.fault) }
 {
     let mut altered = Altered::default();
-    let captured = capture_of(alloc, folder, capture, AS_THEY_ARE, &mut altered)?;
+    let captured = capture_of(alloc, folder, capture, reading, &mut altered)?;
     let bytes = bytes_of(alloc, folder, timed)?;
     let made = meant(alloc, &bytes, &captured.records)?;
     let notes = about_late(alloc, &made.late).ok();
@@ -136,5 +131,6 @@ pub fn timed_file<D: Folder>(
         is_refused: false,
         leaves_out: false,
         notes,
+        maps: None,
     })
 }

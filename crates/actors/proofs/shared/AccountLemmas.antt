@@ -10,9 +10,6 @@ use Rattle.actors.specs.RunJobs.{records_of}
 use Rattle.actors.specs.Accounts.{lists_of, runs_at, end_at, AreRunsOfShares, AreNext}
 use Rattle.actors.proofs.shared.ShareLemmas.{share_handed, share_not, handed_within}
 
-pub handed_short : (frames : List (List ℕ)) (workers worker number : ℕ) → is_short (frame_at frames number) ≡ true → is_handed frames workers worker number ≡ false
-handed_short frames workers worker number short = rw short refl
-
 equal_test : (m n : ℕ) → m ≡ n → (m == n) ≡ true
 equal_test m n is = grind (arith, nat_tests)
 
@@ -46,13 +43,6 @@ run_within frames workers count number runs are long below there =
     let room = handed_within frames workers worker number count held there in
     let same = sym (as_many (runs_at runs worker)) ∙ ap (λ l. length l) (are worker below) in
     omega (arith, room, same)
-
-pub next_short : (frames : List (List ℕ)) (workers number : ℕ) (next : List ℕ) → is_short (frame_at frames number) ≡ true
-    → AreNext frames workers number next → AreNext frames workers (suc number) next
-next_short frames workers number next short were = record {
-  count = were.count;
-  each = λ worker below. were.each worker below ∙ sym (share_not frames workers worker number (handed_short frames workers worker number short));
-}
 
 pub next_long : (frames : List (List ℕ)) (workers number : ℕ) (next : List ℕ) (place : ℕ) → is_short (frame_at frames number) ≡ false
     → worker_of_frame (frame_at frames number) workers < workers

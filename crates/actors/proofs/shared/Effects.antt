@@ -159,10 +159,10 @@ counted_within plan within who count = record {
   refused = λ before after update refused. refused.refused_within;
 }
 
-no_err : {A B : Type 0} (x : A) (e : B) → ◌≡◌ {A = Result A B} (Ok x) (Err e) → ⊥
+pub no_err : {A B : Type 0} (x : A) (e : B) → ◌≡◌ {A = Result A B} (Ok x) (Err e) → ⊥
 no_err x e same = cc
 
-abbrev fault_in : {A : Type 0} → Result A ControlFault → Option ControlFault
+abbrev pub fault_in : {A : Type 0} → Result A ControlFault → Option ControlFault
 fault_in (Ok x) = None
 fault_in (Err fault) = Some fault
 

@@ -31,10 +31,6 @@ pub round_due : (place number : ℕ) (before after : List (List Job)) → (numbe
     → ArePutAt place (if number % 64 == 0 then Note ∷ [] else []) before after
 round_due place number before after due put = rw due put
 
-pub round_not_due : (place number : ℕ) (before after : List (List Job)) → (number % 64 == 0) ≡ false → after ≡ before
-    → ArePutAt place (if number % 64 == 0 then Note ∷ [] else []) before after
-round_not_due place number before after due is = rw due (none_put_at place before after is)
-
 pub both_ended : (workers : ℕ) (before middle after : List (List Job)) → middle ≡ with_job_at workers End before → after ≡ with_job_at (workers + 1) End middle
     → AreBothEnded workers before after
 both_ended workers before middle after first second =
@@ -49,7 +45,7 @@ both_ended workers before middle after first second =
 
 -- ---- commands
 
-numbers_more : (first count : ℕ) → numbers_from first (suc count) ≡ numbers_from first count ++ (first + count) ∷ []
+pub numbers_more : (first count : ℕ) → numbers_from first (suc count) ≡ numbers_from first count ++ (first + count) ∷ []
 numbers_more first zero = ap (λ n. n ∷ []) (omega arith)
 numbers_more first (suc count) =
     ap (λ rest. first ∷ rest) (numbers_more (first + 1) count) ∙ ap (λ n. first ∷ (numbers_from (first + 1) count ++ n ∷ [])) (omega arith)

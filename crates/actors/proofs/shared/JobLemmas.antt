@@ -3,12 +3,12 @@ use Rattle.std.proofs.Common.{◌≡◌, ℕ, zero, suc, ◌+◌, List, [], ◌�
 use Rattle.std.specs.Prelude.{replicate}
 use Rattle.std.proofs.lemmas.List.{append-nil}
 use Rattle.rx_queues.specs.declared.job.Job.{Job}
-use Rattle.rx_queues.specs.declared.job.Job.TheVariants.{Command as CommandJob, Note, End}
+use Rattle.rx_queues.specs.declared.job.Job.TheVariants.{Command as CommandJob, Note}
 use Rattle.semantics.specs.declared.plan.ShardPlan.{ShardPlan}
 use Rattle.shards.specs.Passes.{PassView}
 use Rattle.actors.specs.declared.outcome.Applied.{Applied}
 use Rattle.actors.specs.Actors.{IsUnused}
-use Rattle.actors.specs.ActorJobs.{command_jobs, AreCommandsTaken, AreRoundsMade}
+use Rattle.actors.specs.ActorJobs.{command_jobs}
 use Rattle.actors.specs.Rounds.{AreReclaimed}
 use Rattle.actors.proofs.shared.RoundLemmas.{no_round}
 
@@ -31,14 +31,6 @@ one_since before after after' jobs jobs' last since noted taken = record {
   later = since.later ++ last ∷ [];
   noted = noted ∙ ap (λ all. all ++ last ∷ []) since.noted ∙ append_assoc before since.later (last ∷ []);
   each_once = taken ∙ ap (λ all. all ++ CommandJob last.command ∷ []) since.each_once ∙ sym (command_jobs_more since.later last);
-}
-
-pub end_since : (before after : List Applied) (jobs jobs' : List Job) → AreNotedSince before after jobs → jobs' ≡ jobs ++ End ∷ [] →
-    AreCommandsTaken before after jobs'
-end_since before after jobs jobs' since taken = record {
-  later = since.later;
-  noted = since.noted;
-  each_once = taken ∙ ap (λ all. all ++ End ∷ []) since.each_once;
 }
 
 notes_more : (rounds : ℕ) → replicate rounds Note ++ Note ∷ [] ≡ replicate (suc rounds) Note
@@ -66,11 +58,3 @@ one_note plan count jobs jobs' before after taken more round = record {
   where
     one_over : (n : ℕ) → suc n ≡ n + 1
     one_over n = omega arith
-
-pub last_note : (plan : ℕ → ShardPlan) (count : ℕ) (jobs jobs' : List Job) (pass : PassView) → AreNotesTaken plan count jobs pass →
-    jobs' ≡ jobs ++ End ∷ [] → AreRoundsMade plan count jobs' pass
-last_note plan count jobs jobs' pass taken more = record {
-  rounds = taken.rounds;
-  notes = more ∙ ap (λ all. all ++ End ∷ []) taken.notes;
-  reclaimed = taken.reclaimed;
-}

@@ -122,9 +122,6 @@ pub record AreEndedUpTo (done : ℕ) (before after : List (List Job)) : Type 0 w
   pub ended : (worker : ℕ) → worker < done → put_at after worker ≡ put_at before worker ++ End ∷ []
   pub left : (worker : ℕ) → done ≤ worker → put_at after worker ≡ put_at before worker
 
-pub none_ended : (puts : List (List Job)) → AreEndedUpTo 0 puts puts
-none_ended puts = record { count = refl; ended = λ worker below. absurd (omega (arith, below)); left = λ worker past. refl }
-
 pub one_ended : (done : ℕ) (before after : List (List Job)) → done < length before → AreEndedUpTo done before after
     → AreEndedUpTo (done + 1) before (with_job_at done End after)
 one_ended done before after within were = record {

@@ -1,6 +1,6 @@
 -- One round more, shard by shard.
 use Rattle.std.proofs.Common.{◌≡◌, ◌≢◌, ◌<◌, ◌≤◌, ℕ, zero, suc, ◌+◌, Bool, true, false, List, [], ◌∷◌, ◌++◌, length, refl, sym, ap, ◌∙◌, subst, arith, inl, inr}
-use Rattle.std.specs.Prelude.{◌==◌, reverse, Result, Ok, Err, if◌then◌else◌}
+use Rattle.std.specs.Prelude.{◌==◌, reverse, if◌then◌else◌}
 use Rattle.std.specs.List.{AllByRecursion}
 use Rattle.std.proofs.lemmas.Bool.Decides.{nat_tests}
 use Rattle.std.proofs.lemmas.List.{append_assoc, append-nil, reverse-append, reverse-reverse}
@@ -10,13 +10,10 @@ use Rattle.semantics.specs.declared.call.Caller.TheVariants.{Reclaimer}
 use Rattle.semantics.specs.declared.call.Call.TheVariants.{Reclaim}
 use Rattle.semantics.specs.declared.call.Reply.TheVariants.{Freed}
 use Rattle.semantics.specs.declared.call.Entry.{Entry}
-use Rattle.semantics.specs.declared.full.JournalFull.{JournalFull}
 use Rattle.semantics.specs.declared.plan.ShardPlan.{ShardPlan}
 use Rattle.semantics.specs.History.{IsJournalFull}
 use Rattle.shards.specs.CallerView.{CallerView, BeginsWith}
 use Rattle.shards.specs.declared.deeds.Deed.{Deed}
-use Rattle.shards.specs.declared.deeds.Deed.TheVariants.{Wrote, MetFull}
-use Rattle.shards.specs.Deeds.{deed_by}
 use Rattle.shards.specs.Passes.{PassView, view_at, own_at, seen_at, IsElsewhereSame}
 use Rattle.shards.specs.Asked.{PassIsServed, PassIsRefused}
 use Rattle.actors.specs.Actors.{IsUnused}
@@ -142,14 +139,6 @@ nothing_by Hash plan number = record { each = tt; one_a_round = omega arith; few
 nothing_by LruHash plan number = record { each = tt; one_a_round = omega arith; fewer_if_full = λ fewer. absurd (omega (arith, fewer)) }
 
 -- ---- the deeds of a round
-
--- a Reclaim was served, or met a full journal
-pub asked_did : (number : ℕ) (before after : PassView) (result : Result ℕ JournalFull) → before.who ≡ Reclaimer →
-    after.deeds ≡ deed_by before.who (Reclaim number) Freed result ∷ before.deeds → HasAsked number before after
-asked_did number before after (Ok freed) who did =
-    let deed : Deed = Wrote (record { who = before.who; call = Reclaim number; reply = Freed freed }) in
-    (deed, inl (freed, ap (λ one. Wrote (record { who = one; call = Reclaim number; reply = Freed freed })) who), did)
-asked_did number before after (Err full) who did = (MetFull before.who (Reclaim number), inr (ap (λ one. MetFull one (Reclaim number)) who), did)
 
 pub keyed_did : (kind : MapKind) (number : ℕ) (before after : PassView) → is_keyed kind ≡ true → HasAsked number before after →
     HasTurned (is_keyed kind) number before after

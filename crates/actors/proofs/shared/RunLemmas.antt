@@ -1,9 +1,12 @@
 -- The runs of a worker: one more, and the end.
-use Rattle.std.proofs.Common.{◌≡◌, ℕ, List, [], ◌∷◌, ◌++◌, refl, sym, ap, ◌∙◌, subst, arith}
+use Rattle.std.proofs.Common.{◌≡◌, ℕ, List, [], ◌∷◌, ◌++◌, refl, sym, ap, ◌∙◌, subst}
+use Rattle.std.specs.List.{AllByRecursion}
 use Rattle.rx_queues.specs.declared.job.Job.{Job}
 use Rattle.rx_queues.specs.declared.job.Job.TheVariants.{Frame, End}
+use Rattle.shards.specs.Passes.{PassView}
 use Rattle.actors.specs.declared.runner.Ran.{Ran}
-use Rattle.actors.specs.RunJobs.{jobs_of}
+use Rattle.actors.specs.Accounted.{RunInPlace, runs_in_chain}
+use Rattle.actors.specs.RunJobs.{jobs_of, records_of}
 use Rattle.actors.specs.RunsInOrder.{IsChainOfRuns, IsOneMore, HasWorked}
 
 -- the jobs that were taken so far are those of the runs
@@ -53,3 +56,19 @@ all_run IsNew IsRun taken now runs state sofar is = record {
   is_new = sofar.is_new;
   chain = sofar.chain;
 }
+
+-- ---- the runs of a chain in their places
+
+-- what follows of each run from what holds of its number
+pub all_in_chain : (IsRun : PassView → Ran → PassView → Type 0) (P : Ran → Type 0) (Q : RunInPlace IsRun → Type 0) →
+    ((one : RunInPlace IsRun) → P one.ran → Q one) → (before : PassView) (runs : List Ran) (after : PassView)
+    (chain : IsChainOfRuns IsRun before runs after) → AllByRecursion P runs → AllByRecursion Q (runs_in_chain IsRun before runs after chain)
+all_in_chain IsRun P Q turns before [] after chain all = tt
+all_in_chain IsRun P Q turns before (ran ∷ later) after chain all = (
+  turns (record { before = before; ran = ran; after = chain.0; run = chain.1 }) all.0,
+  all_in_chain IsRun P Q turns chain.0 later after chain.2 all.1,
+)
+
+pub of_records : (P : ℕ → Type 0) (runs : List Ran) → AllByRecursion P (records_of runs) → AllByRecursion (λ (ran : Ran). P ran.number) runs
+of_records P [] all = tt
+of_records P (ran ∷ later) all = (all.0, of_records P later all.1)

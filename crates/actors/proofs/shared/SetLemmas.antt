@@ -15,7 +15,7 @@ use Rattle.semantics.specs.declared.plan.ShardPlan.{ShardPlan}
 use Rattle.semantics.specs.Linux.{success}
 use Rattle.shards.specs.CallerView.{CallerView}
 use Rattle.shards.specs.declared.deeds.Deed.{Deed}
-use Rattle.shards.specs.Passes.{PassView, own_at}
+use Rattle.shards.specs.Passes.{PassView}
 use Rattle.control.specs.MapUpdates.{UpdateBytes, IsUpdateOf}
 use Rattle.actors.specs.declared.fault.ReplayFault.{ReplayFault}
 use Rattle.actors.specs.declared.fault.ReplayFault.TheVariants.{BadOptions, Memory, NoThread, Refused, Full}

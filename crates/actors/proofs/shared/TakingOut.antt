@@ -73,7 +73,7 @@ short_fate : (frames : List (List ℕ)) (workers : ℕ) (before after : List (Li
     → fate_of frames workers after number ≡ fate_of frames workers before number
 short_fate frames workers before after number short = rw short refl
 
-long_fate : (frames : List (List ℕ)) (workers : ℕ) (runs : List (List Ran)) (number : ℕ) → is_short (frame_at frames number) ≡ false
+pub long_fate : (frames : List (List ℕ)) (workers : ℕ) (runs : List (List Ran)) (number : ℕ) → is_short (frame_at frames number) ≡ false
     → fate_of frames workers runs number ≡ end_at (runs_at runs (worker_of_frame (frame_at frames number) workers))
     (length (share frames workers (worker_of_frame (frame_at frames number) workers) number))
 long_fate frames workers runs number long = rw long refl

@@ -7,9 +7,10 @@ ghost use Rattle.shard_port.specs.PlainPorts.{IsSamePort};
 ghost use Rattle.bench_parts.specs.FrameOptions.{bench_options};
 
 use super::rows::{FRAMES, FrameRow, Put, SIZE, frame_bytes, tunnel_put};
+use anyhow::{Error, bail};
 use ebpf_decode::{Image, MapDef};
 use machine::MapPort;
-use semantics::{JournalFull, Key, Options, Value};
+use semantics::{Key, Options, Value};
 use shard_port::PlainPort;
 use shards::PlainShards;
 use wire::flow_of;
@@ -53,39 +54,40 @@ fn definition_at(maps: &[MapDef], map: u32) -> Option<MapDef>
     maps.get(map as usize).copied()
 }
 
-/// Sets the value of a key. False where there is no such map, or the map refuses.
-fn put_one(port: &mut PlainPort, maps: &[MapDef], put: &Put) -> Result<bool, JournalFull>
+/// Sets the value of a key. Fails where there is no such map, the bytes are too few for it, the map refuses, or its journal is full.
+fn put_one(port: &mut PlainPort, maps: &[MapDef], put: &Put) -> Result<(), Error>
     requires { port.old.image.now.maps ≡ maps.now }
     ensures { IsSamePort port.old port.new }
 {
     let map = put.map.place();
     let Some(definition) = definition_at(maps, map) else {
-        return Ok(false);
+        bail!("there is no map {map}");
     };
     let Some(key) = key_of(&put.key, definition.key_size) else {
-        return Ok(false);
+        bail!("map {map} has longer keys");
     };
     let Some(value) = value_of(&put.value, definition.value_size) else {
-        return Ok(false);
+        bail!("map {map} has longer values");
     };
-    Ok(port.update(map, &key, &value, 0)? == 0)
+    match port.update(map, &key, &value, 0)? {
+        0 => Ok(()),
+        answer => bail!("map {map} answers {answer}"),
+    }
 }
 
 /// The slots of the lookup table.
-fn put_slots(port: &mut PlainPort, maps: &[MapDef]) -> Result<bool, JournalFull>
+fn put_slots(port: &mut PlainPort, maps: &[MapDef]) -> Result<(), Error>
     requires { port.old.image.now.maps ≡ maps.now }
     ensures { IsSamePort port.old port.new }
 {
     'slots: for slot in 0..SIZE {
-        if !put_one(port, maps, &FrameRow::slot_put(slot))? {
-            return Ok(false);
-        }
+        put_one(port, maps, &FrameRow::slot_put(slot))?;
     }
-    Ok(true)
+    Ok(())
 }
 
 /// The service and the notes of the frames' flows.
-fn put_flows(port: &mut PlainPort, maps: &[MapDef], row: &FrameRow) -> Result<bool, JournalFull>
+fn put_flows(port: &mut PlainPort, maps: &[MapDef], row: &FrameRow) -> Result<(), Error>
     requires { port.old.image.now.maps ≡ maps.now }
     ensures { IsSamePort port.old port.new }
 {
@@ -93,48 +95,40 @@ fn put_flows(port: &mut PlainPort, maps: &[MapDef], row: &FrameRow) -> Result<bo
         let Some(flow) = flow_of(&frame_bytes(row, number)) else {
             continue;
         };
-        if let Some(put) = row.vip_put(&flow)
-            && !put_one(port, maps, &put)?
-        {
-            return Ok(false);
+        if let Some(put) = row.vip_put(&flow) {
+            put_one(port, maps, &put)?;
         }
-        if let Some(put) = row.noted_put(&flow)
-            && !put_one(port, maps, &put)?
-        {
-            return Ok(false);
+        if let Some(put) = row.noted_put(&flow) {
+            put_one(port, maps, &put)?;
         }
     }
-    Ok(true)
+    Ok(())
 }
 
-/// All of them.
-fn put_all(port: &mut PlainPort, maps: &[MapDef], row: &FrameRow) -> Result<bool, JournalFull>
+/// What the maps hold before the frames of the row come.
+fn put_all(port: &mut PlainPort, maps: &[MapDef], row: &FrameRow) -> Result<(), Error>
     requires { port.old.image.now.maps ≡ maps.now }
     ensures { IsSamePort port.old port.new }
 {
-    let is_put = put_one(port, maps, &tunnel_put())?
-        && put_one(port, maps, &row.backend_put(0))?
-        && put_one(port, maps, &row.backend_put(1))?
-        && put_slots(port, maps)?;
-    if is_put {
-        put_flows(port, maps, row)
-    } else {
-        Ok(false)
-    }
+    put_one(port, maps, &tunnel_put())?;
+    put_one(port, maps, &row.backend_put(0))?;
+    put_one(port, maps, &row.backend_put(1))?;
+    put_slots(port, maps)?;
+    put_flows(port, maps, row)
 }
 
-/// All of them, in a session of their own. False where one is refused.
+/// The same, in a session of its own.
 pub(crate) fn put_session(
     image: &Image,
     shards: &mut PlainShards,
     row: &FrameRow,
-) -> Result<bool, JournalFull>
+) -> Result<(), Error>
     requires options { AreOptions image.now.maps bench_options }
     requires shards { ServesMaps image.now.maps bench_options shards.old }
     ensures { ServesMaps image.now.maps bench_options shards.new }
 {
     let mut port = PlainPort::over(image, options(), shards, PUTTER);
-    let is_put = put_all(&mut port, image.maps(), row);
+    let put = put_all(&mut port, image.maps(), row);
     port.finish();
-    is_put
+    put
 }

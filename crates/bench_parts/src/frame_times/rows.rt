@@ -11,7 +11,7 @@ pub(crate) const FRAMES: u32 = 1000;
 /// How many slots the lookup table has.
 pub(crate) const SIZE: u32 = 4093;
 
-/// A row.
+/// Frames of one kind, each of a flow of its own, and what the maps hold before they come.
 #[derive(Clone, Copy, Debug)]
 pub(crate) struct FrameRow {
     pub(crate) name: &'static str,

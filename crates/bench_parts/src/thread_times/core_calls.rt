@@ -1,10 +1,11 @@
-//! The same calls on a shard of a single caller, without lock, word and pass.
+//! Lookups and loads on one shard without lock, word and pass: what shared shards are compared with.
 
 ghost use Rattle.std.specs.Prelude.{◌≡◌, [], IfOk, IfSome, OnOk};
 ghost use Rattle.semantics.specs.PlanLimits.{IsPlan};
 ghost use Rattle.bench_parts.specs.Alone.{alone_plan, IsAlone, HoldsAlone};
 
 use super::shared_calls::{KEYS, LOOKUPS, MAP, OPTIONS, THREADS};
+use crate::scattered::scattered;
 use anyhow::Error;
 use journal::CellRange;
 use semantics::{Caller, JournalFull, ShardPlan};
@@ -30,7 +31,7 @@ fn plan() -> ShardPlan
     }
 }
 
-/// Enters.
+/// The worker enters the shard, in which nothing has happened.
 fn enter(shard: &mut Shard) -> Result<(), JournalFull>
     requires planned { shard.old.plan ≡ alone_plan }
     requires opened { shard.old.journal ≡ [] }
@@ -81,13 +82,13 @@ fn work(shard: &mut Shard) -> Result<u64, JournalFull>
     enter(shard)?;
     let mut sum = 0u64;
     'keys: for number in 0..LOOKUPS {
-        let key = number.wrapping_mul(40503) & (KEYS - 1);
+        let key = scattered(number, KEYS);
         sum = sum.wrapping_add(look_and_load(shard, key)?);
     }
     Ok(sum)
 }
 
-/// The time of all of them.
+/// The time of all lookups and loads of a thread, on a shard that it alone has.
 pub fn timed_core(rt: &impl Clock, alloc: Global) -> Result<u128, Error> {
     let mut shard = Shard::open(alloc, plan())?;
     let start = Instant::now(rt)?;

@@ -4,6 +4,7 @@ ghost use Rattle.std.specs.Prelude.{◌≡◌, ◌<◌, true, IfOk, IfSome, OnOk
 ghost use Rattle.shards.specs.Passes.{own_at};
 ghost use Rattle.bench_parts.specs.Measured.{measured_plan, IsPassReady, IsPassAtWork, PassHoldsThere};
 
+use crate::scattered::scattered;
 use ebpf_decode::{MapDef, MapKind};
 use journal::CellRange;
 use semantics::{Caller, JournalFull, Options};
@@ -72,7 +73,7 @@ pub fn task_of<B: Naming>(
     Ok(CallTask { pass, shard })
 }
 
-/// Enters.
+/// The worker enters the shard.
 fn enter<B: Naming>(
     rt: &impl Wait,
     shards: &Shards<B>,
@@ -149,7 +150,7 @@ pub fn work<B: Naming>(
     enter(rt, shards, &mut pass, shard)?;
     let mut sum = 0u64;
     'keys: for number in 0..LOOKUPS {
-        let key = number.wrapping_mul(40503) & (KEYS - 1);
+        let key = scattered(number, KEYS);
         let loaded = look_and_load(rt, shards, &mut pass, shard, key)?;
         sum = sum.wrapping_add(loaded);
     }

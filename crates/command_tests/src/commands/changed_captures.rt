@@ -138,7 +138,7 @@ const ROWS: [Row; 4] = [
     ("it has fewer records", 1030, &HEADER, 3, b"", 0, "frames 3\nshort 0\nstopped 0\naborted 0\ndrop 0\npass 0\ntx 3\n", ""),
     ("it is cut in its second piece", 1030, &HEADER, 1029, CUT_FRAME, 1, "",
         "fault 5 CutFrame record 1030\n  at byte 30894 of 30911\n  \
-         the record keeps 14 bytes by its head, and the file has 1 of them, 13 too few\n"),
+         the record keeps 14 bytes by its head, and the file has 1 of them, 13 too few: xlb replay --allow-cut reads up to there\n"),
     ("it is empty", 1030, b"", 0, b"", 1, "",
         "fault 4 CutHead record 0\n  at byte 0 of 0\n  a header has 24 bytes, and the file ends after 0 of them\n"),
 ];
@@ -183,7 +183,7 @@ fn served<R: Abort + Threads + Wait + Sync>(
         &mut out,
         &mut err,
     );
-    holds_of(rt, "a capture that changes", "twice", folder.openings == 2);
+    holds_of(rt, "a capture that changes", "again", folder.openings > 1);
     Given {
         status,
         out,

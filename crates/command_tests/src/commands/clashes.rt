@@ -16,11 +16,13 @@ const KEPT: &[u8] = b"as it was";
 type Row = (&'static str, &'static str, &'static str, &'static str);
 
 #[rattlefmt::skip]
-const ROWS: [Row; 18] = [
+const ROWS: [Row; 25] = [
     ("an image over its text",       "xlb asm kept kept",                             "kept", "kept"),
     ("an image over its source",     "xlb asm --source kept kept",                    "kept", "kept"),
     ("a run's journals and frame",   "xlb run image kept --journals kept",            "kept", "kept"),
     ("a run's journals and image",   "xlb run kept frame --journals kept",            "kept", "kept"),
+    ("a run's maps and frame",       "xlb run image kept --maps kept",                "kept", "kept"),
+    ("a run's maps and journals",    "xlb run image frame --journals kept --maps kept", "kept", "kept"),
     ("sent frames and capture",      "xlb replay kept kept",                          "kept", "kept"),
     ("sent frames and image",        "xlb replay frame kept --image kept",            "kept", "kept"),
     ("sent frames and program",      "xlb replay frame kept --program kept",          "kept", "kept"),
@@ -34,6 +36,11 @@ const ROWS: [Row; 18] = [
     ("a report and script",          "xlb replay frame sent --script kept --report kept", "kept", "kept"),
     ("a report and sent frames",     "xlb replay frame kept --report kept",           "kept", "kept"),
     ("a report and journals",        "xlb replay frame sent --journals kept --report kept", "kept", "kept"),
+    ("maps and capture",             "xlb replay kept sent --maps kept",              "kept", "kept"),
+    ("maps and script",              "xlb replay frame sent --script kept --maps kept", "kept", "kept"),
+    ("maps and sent frames",         "xlb replay frame kept --maps kept",             "kept", "kept"),
+    ("maps and journals",            "xlb replay frame sent --journals kept --maps kept", "kept", "kept"),
+    ("maps and a report",            "xlb replay frame sent --report kept --maps kept", "kept", "kept"),
     ("before any fault of a file",   "xlb replay nosuch kept --image nosuch --journals kept --workers 9", "kept", "kept"),
 ];
 
@@ -81,10 +88,11 @@ fn names_are_shown_in_one_line(rt: HostRuntime) {
 
 /// What a row shows, and a command that would write the file `kept`, which is there.
 #[rattlefmt::skip]
-const THERE: [(&str, &str); 5] = [
+const THERE: [(&str, &str); 6] = [
     ("sent frames",                 "xlb replay frame kept --no-clobber"),
     ("journals",                    "xlb replay frame sent --journals kept --no-clobber"),
     ("a report",                    "xlb replay frame sent --report kept --no-clobber"),
+    ("what the maps hold",          "xlb replay frame sent --maps kept --no-clobber"),
     ("a report, and exact",         "xlb replay frame sent --report kept --exact --no-clobber"),
     ("before any fault of a file",  "xlb replay nosuch kept --image nosuch --no-clobber --workers 9"),
 ];

@@ -59,7 +59,7 @@ type Row = (
 #[rattlefmt::skip]
 const ROWS: [Row; 10] = [
     ("a cut record",                16,   0,  "--workers 1", 0, TWO_TX,
-        "  cut 1: bytes were left out when these records were captured; flows of such frames may be judged wrongly\n", TWO_ZEROS),
+        "  cut 1: bytes were left out when these records were captured, and such a frame may be passed as malformed: --pad-cut fills them up\n", TWO_ZEROS),
     ("it is padded",                16,   0,  "--pad-cut", 0, TWO_TX,
         "  padded 1: these records were filled with zeros, to the length of their frames\n", PADDED),
     ("it is padded in turn",        16,   0,  "--pad-cut --exact", 0, TWO_TX,
@@ -67,7 +67,7 @@ const ROWS: [Row; 10] = [
     ("no record is cut",            14,   0,  "--pad-cut --allow-cut", 0, TWO_TX, "", TWO_ZEROS),
     ("a cut end is refused",        14,   29, "--pad-cut", 1, "",
         "fault 5 CutFrame record 3\n  at byte 84 of 113\n  \
-         the record keeps 14 bytes by its head, and the file has 13 of them, 1 too few\n", ""),
+         the record keeps 14 bytes by its head, and the file has 13 of them, 1 too few: xlb replay --allow-cut reads up to there\n", ""),
     ("it is left out",              14,   29, "--allow-cut", 0, TWO_TX,
         "  left out 29: bytes of record 3, within which the capture ends\n", TWO_ZEROS),
     ("in turn, within a head",      16,   8,  "--allow-cut --pad-cut --exact", 0, TWO_TX,
@@ -75,13 +75,13 @@ const ROWS: [Row; 10] = [
          left out 8: bytes of record 3, within which the capture ends\n", PADDED),
     ("a frame of 9000 bytes",       9000, 0,  "--pad-cut --allow-cut", 1, "",
         "fault 6 FrameTooLong record 2\n  at byte 54 of 84\n  \
-         the record keeps 14 bytes of a frame of 9000, and a frame has at most 2048: --skip-long skips such records, and counts them\n", ""),
+         the record keeps 14 bytes of a frame of 9000, and a frame has at most 2048: xlb replay --skip-long skips such records\n", ""),
     ("it is skipped",               9000, 29, "--pad-cut --allow-cut --skip-long", 0, ONE_TX,
         "  long 1: records above 2048 bytes were skipped\n  \
          left out 29: bytes of record 3, within which the capture ends\n", ONE_ZERO),
     ("a cut end behind it",         9000, 29, "--pad-cut --skip-long", 1, "",
         "fault 5 CutFrame record 2\n  at byte 84 of 113\n  \
-         the record keeps 14 bytes by its head, and the file has 13 of them, 1 too few\n", ""),
+         the record keeps 14 bytes by its head, and the file has 13 of them, 1 too few: xlb replay --allow-cut reads up to there\n", ""),
 ];
 
 /// Holds what a replay comes to against a row.

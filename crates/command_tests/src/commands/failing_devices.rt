@@ -21,20 +21,23 @@ const JOURNALS: &str =
 type Row = (&'static str, u64, &'static [&'static str]);
 
 #[rattlefmt::skip]
-const ROWS: [Row; 13] = [
+const ROWS: [Row; 16] = [
     ("xlb check image", 1, &[]),
     ("xlb check --explain image", 1, &[]),
     ("xlb run image frame", 2, &[]),
     ("xlb run image frame --journals made", 3, &["made"]),
+    ("xlb run image frame --journals made --maps more", 4, &["made", "more"]),
     ("xlb disasm image", 1, &[]),
     ("xlb asm text made", 2, &["made"]),
     ("xlb shipped made", 1, &["made"]),
     ("xlb audit image journals", 2, &[]),
     ("xlb explain 7", 0, &[]),
-    ("xlb replay capture made --script script --ring 7 --journal 256 --journals more", 4, &["made", "more"]),
-    ("xlb replay capture made --script script --ring 7 --journal 256 --journals more --report lines", 5, &["made", "more", "lines"]),
+    ("xlb replay capture made --script script --ring 7 --journal 256 --journals more", 11, &["made", "more"]),
+    ("xlb replay capture made --script script --ring 7 --journal 256 --journals more --report lines", 12, &["made", "more", "lines"]),
+    ("xlb replay capture made --script script --ring 7 --journal 256 --maps more --report lines", 12, &["made", "lines", "more"]),
     ("xlb replay capture made --script script --ring 7 --journal 256 --exact", 15, &["made"]),
     ("xlb replay capture made --script script --ring 7 --journal 256 --exact --journals more", 16, &["made", "more"]),
+    ("xlb replay capture made --script script --ring 7 --journal 256 --exact --maps more", 16, &["made", "more"]),
 ];
 
 /// The files that the commands read.

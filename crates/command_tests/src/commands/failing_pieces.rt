@@ -67,11 +67,11 @@ const FAILING: [Failing; 29] = [
     ("records that are skipped need it",             "--exact --skip-long", FolderCall::Read, 0, 1, NO_READ, None),
     ("records that are padded need it",              "--exact --pad-cut", FolderCall::Read, 0, 1, NO_READ, None),
     ("an end that may be cut needs it",              "--exact --allow-cut", FolderCall::Read, 0, 1, NO_READ, None),
-    ("and so does a replay with threads",            "--workers 1", FolderCall::Read, 0, 1, NO_READ, None),
+    ("a replay with threads reads it in pieces",     "--workers 1", FolderCall::Read, 0, 0, "", ALL_SENT),
     ("a part is not read whole",                     "--exact --part 0/1", FolderCall::Read, 0, 0, "", ALL_SENT),
     ("its second reading is not opened",             "--exact --part 0/1", FolderCall::Open, 1, 1, NO_READ, None),
     ("the frames of its second piece are not added", "--exact --part 0/1", FolderCall::Add, 2, 1, NO_SENT, None),
-    ("a part with threads needs the whole capture",  "--workers 1 --part 0/1", FolderCall::Read, 0, 1, NO_READ, None),
+    ("a part with threads is not opened",            "--workers 1 --part 0/1", FolderCall::Open, 0, 1, NO_READ, None),
 ];
 
 /// What a replay leaves in a folder with a call that fails.

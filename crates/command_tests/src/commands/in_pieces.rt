@@ -360,8 +360,7 @@ const FOURTH_REFUSED: &str =
 const LATE: &str =
     "  line 4 of the script and 1 more come behind the last record: no frame is run after that\n";
 
-const UNKNOWN: &str =
-    "  line 4 of the script, 1024 down 7: no such backend is up, or there is no such number: numbers are below 256 and below the ring's size\n";
+const UNKNOWN: &str = "  line 4 of the script, 1024 down 7: no such backend is up\n";
 
 #[rattlefmt::skip]
 const STEERED: [Steered; 6] = [
@@ -439,12 +438,12 @@ const STOPPED: [(&str, &str, u16, &str, &str); 3] = [
     ("room for all", "--journal 4120", 1030, "frames 1030\nshort 0\nstopped 0\naborted 0\ndrop 0\npass 1030\ntx 0\n", ""),
     ("full in the second piece", "--journal 4104", 1030, "frames 1030\nshort 0\nstopped 4\naborted 0\ndrop 0\npass 1026\ntx 0\n",
         "  record 1027 is the first whose run was stopped\n  the journal of shard 0 is full, of map 0\n  \
-         frames whose run needs a full journal are not run to their end: --journal N, at most 1048576, --shards N, at most 8, \
-         and --no-journals make more room\n"),
+         frames whose run needs a full journal are not run to their end: --no-journals has room for all, --journal N and \
+         --shards N (at most 1048576 and 8) for more\n"),
     ("full in the first piece", "--journal 16", 1030, "frames 1030\nshort 0\nstopped 1026\naborted 0\ndrop 0\npass 4\ntx 0\n",
         "  record 5 is the first whose run was stopped\n  the journal of shard 0 is full, of map 0\n  \
-         frames whose run needs a full journal are not run to their end: --journal N, at most 1048576, --shards N, at most 8, \
-         and --no-journals make more room\n"),
+         frames whose run needs a full journal are not run to their end: --no-journals has room for all, --journal N and \
+         --shards N (at most 1048576 and 8) for more\n"),
 ];
 
 /// Compares the replay of frames whose runs need four entries each of a journal.
@@ -544,7 +543,7 @@ const REFUSED: [RefusedRow; 4] = [
         "fault 4 CutHead record 0\n  at byte 0 of 0\n  a header has 24 bytes, and the file ends after 0 of them\n"),
     ("a cut frame", &HEADER, 1029, CUT_FRAME, 
         "fault 5 CutFrame record 1030\n  at byte 30894 of 30911\n  \
-         the record keeps 14 bytes by its head, and the file has 1 of them, 13 too few\n"),
+         the record keeps 14 bytes by its head, and the file has 1 of them, 13 too few: xlb replay --allow-cut reads up to there\n"),
     ("a cut head", &HEADER, 1029, b"\x01\0\0\0\x02\0\0\0\x0e\0\0\0\x0e\0\0", 
         "fault 4 CutHead record 1030\n  at byte 30894 of 30909\n  the head of a record has 16 bytes, and the file ends after 15 of them\n"),
     ("a record that is too long", &HEADER, 1029, &LONG_HEAD, 

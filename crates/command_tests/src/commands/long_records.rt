@@ -58,11 +58,11 @@ type Row = (
 const ROWS: [Row; 3] = [
     ("a long record is refused", 30, "--workers 1", 1, "", 
         "fault 6 FrameTooLong record 2\n  at byte 54 of 2149\n  \
-         the record keeps 2049 bytes, and a frame has at most 2048: --skip-long skips such records, and counts them\n", ""),
+         the record keeps 2049 bytes, and a frame has at most 2048: xlb replay --skip-long skips such records\n", ""),
     ("a long record is skipped", 30, "--skip-long", 0, TWO_TX, "  long 1: records above 2048 bytes were skipped\n", TWO_ZEROS),
     ("a cut record behind it",   29, "--skip-long", 1, "", 
         "fault 5 CutFrame record 2\n  at byte 2119 of 2148\n  \
-         the record keeps 14 bytes by its head, and the file has 13 of them, 1 too few\n", ""),
+         the record keeps 14 bytes by its head, and the file has 13 of them, 1 too few: xlb replay --allow-cut reads up to there\n", ""),
 ];
 
 /// Holds what a replay comes to against a row.

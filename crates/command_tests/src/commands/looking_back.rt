@@ -32,14 +32,14 @@ const EVICTED: &str = "\
 
 /// What is said of the first of these.
 const ONE_DOWN: &str = "  1 flows with a sent frame, 1 of them moved
-  0 flows lost frames
+  0 flows had no backend for a frame, 0 lost a frame behind a sent one
   1 frames moved: 1 down, 0 evicted, 0 untracked, 0 readdressed, 0 unknown
   1 changes of udp 198.51.100.7:40000 to 203.0.113.1:80: 0 >down 1
 ";
 
 /// What is said of the second of these.
 const ONE_EVICTED: &str = "  1 flows with a sent frame, 1 of them moved
-  0 flows lost frames
+  0 flows had no backend for a frame, 0 lost a frame behind a sent one
   1 frames moved: 0 down, 1 evicted, 0 untracked, 0 readdressed, 0 unknown
   1 changes of udp 198.51.100.7:40000 to 203.0.113.1:80: 0 >evicted 1
 ";

@@ -145,11 +145,11 @@ const THREE_TX: &str = "frames 3\nshort 0\nstopped 0\naborted 0\ndrop 0\npass 0\
 /// Notes below reports.
 const FULL: &str = "  record 5 is the first whose run was stopped
   the journal of shard 0 is full, of map 0
-  frames whose run needs a full journal are not run to their end: --journal N, at most 1048576, --shards N, at most 8, and --no-journals make more room
+  frames whose run needs a full journal are not run to their end: --no-journals has room for all, --journal N and --shards N (at most 1048576 and 8) for more
 ";
 
 pub(super) const CUT_TWO: &str =
-    "  cut 2: bytes were left out when these records were captured; flows of such frames may be judged wrongly\n";
+    "  cut 2: bytes were left out when these records were captured, and such a frame may be passed as malformed: --pad-cut fills them up\n";
 
 const RING_8: &str =
     "  --ring 8 has no effect: it is the size of the shipped program's lookup table\n";
@@ -209,7 +209,7 @@ const ROWS: [Row; 20] = [
     ("a full journal",           READS_ONE, "", FIVE_ZEROS, "--image image --journal 16", 0, FIVE, FULL, HEAD),
     ("a backend that isn't up", "", "0 down 3\n", HEAD, "--script script", 1,
         "frames 0\nshort 0\nstopped 0\naborted 0\ndrop 0\npass 0\ntx 0\ncommand 1 refused 91\n",
-        "  line 1 of the script, 0 down 3: no such backend is up, or there is no such number: numbers are below 256 and below the ring's size\n",
+        "  line 1 of the script, 0 down 3: no such backend is up\n",
         HEAD),
     ("a backend twice", "", "0 up 0 10.0.0.1\n0 up 0 10.0.0.1\n", HEAD, "--script script", 1,
         "frames 0\nshort 0\nstopped 0\naborted 0\ndrop 0\npass 0\ntx 0\ncommand 2 refused 92\n",
@@ -223,7 +223,7 @@ const ROWS: [Row; 20] = [
     ("commands behind the last record", "", "0 up 0 10.0.0.1\n1 down 0\n9 up 0 10.0.0.1\n", HEAD, "--script script --exact", 0, NO_FRAME,
         "  line 2 of the script and 1 more come behind the last record: no frame is run after that\n", HEAD),
     ("few slots for each backend", "", "0 up 0 10.0.0.1\n0 up 1 10.0.0.2\n", HEAD, "--script script --ring 7", 0, NO_FRAME,
-        "  with 2 backends up, each has 3 or 4 of the lookup table's 7 slots: a larger --ring N, at most 65537, is more even\n", HEAD),
+        "  with 2 backends up, each has 3 or 4 of the lookup table's 7 slots: a larger --ring N, at most 65537, with --no-journals, is more even\n", HEAD),
     ("an image before a script", UNSET, "0 up\n", "", "--image image", 1, "",
         "fault 35 UnsetRegister slot 0 register 0\n  xlb check --explain IMAGE says why\n", ""),
     ("a ring before a script",   "", "0 up\n", "", "--script script --ring 8", 1, "",
@@ -238,7 +238,7 @@ const ROWS: [Row; 20] = [
         "fault 4 CutHead record 0\n  at byte 0 of 0\n  a header has 24 bytes, and the file ends after 0 of them\n", ""),
     ("a cut third record",       SENDS, "", CUT_ZEROS, "--image image", 1, "", 
         "fault 5 CutFrame record 3\n  at byte 84 of 101\n  \
-         the record keeps 14 bytes by its head, and the file has 1 of them, 13 too few\n", ""),
+         the record keeps 14 bytes by its head, and the file has 1 of them, 13 too few: xlb replay --allow-cut reads up to there\n", ""),
     ("nine workers",             SENDS, "", ZEROS_14, "--image image --workers 9", 1, "",
         "fault 51 BadOptions\n  --workers 9\n  expected 1 to 8\n", ""),
     ("a script without its maps", SENDS, "0 down 3\n", ZEROS_14, "--program image --script script", 1, "", NO_MAPS, ""),
@@ -258,7 +258,7 @@ const STEERED: [Row; 8] = [
     ("a summary of another program", SENDS, "", DATAGRAM, "--image image --summary", 0, ONE_TX,
         "  1 frame of TCP or UDP that fit into a tunnel\n  1 frame sent, by the program\n", DATAGRAM),
     ("a summary of two shares in two shards", "", TWO_BACKENDS, HEAD, "--script script --ring 7 --shards 2 --summary", 0, NO_FRAME,
-        "  with 2 backends up, each has 3 or 4 of the lookup table's 7 slots: a larger --ring N, at most 65537, is more even\n  \
+        "  with 2 backends up, each has 3 or 4 of the lookup table's 7 slots: a larger --ring N, at most 65537, with --no-journals, is more even\n  \
          4 of 7 slots of the lookup table for backend 2, 192.0.2.3, at the end\n  \
          3 of 7 slots of the lookup table for backend 6, 192.0.2.4, at the end\n", HEAD),
     ("commands behind the first frame", "", "0 up 0 192.0.2.1\n1 down 0\n", HEAD, "--script script", 0, NO_FRAME, LATE_NOT_EXACT, HEAD),

@@ -47,7 +47,7 @@ command 3 refused 91
 
 const WHY_REFUSED: &str =
     "  line 2 of the script, 0 up 0 192.0.2.2: this number or this address is up
-  line 3 of the script, 0 down 3: no such backend is up, or there is no such number: numbers are below 256 and below the ring's size
+  line 3 of the script, 0 down 3: no such backend is up
 ";
 
 /// The table of the backend with the largest number.
@@ -55,7 +55,7 @@ const OF_255: &str =
     "command 1 frame 0 moved 4093 least 4093\nbackend 255 address 192.0.2.1 slots 4093 percent 100.00\n";
 
 const WHY_NOT_256: &str =
-    "  line 1 of the script, 0 up 256 192.0.2.1: no such backend is up, or there is no such number: numbers are below 256 and below the ring's size\n";
+    "  line 1 of the script, 0 up 256 192.0.2.1: a backend's number is below 256 and below the ring's size\n";
 
 /// Of three backends the last one goes down: its two slots change hands, and a third leaves a backend that stays.
 const LAST_DOWN: &str = "0 up 0 192.0.2.1\n0 up 1 192.0.2.2\n0 up 2 192.0.2.3\n20 down 2\n";

@@ -47,14 +47,14 @@ const MEANT: &str = "0 up 0 192.0.2.1\n0 up 1 192.0.2.2\n1 down 1\n2 up 1 192.0.
 /// What is said of the first line of a timed script, and of the seventh.
 const FIRST: &str = "\
 fault 90 BadLine line 1
-  line 1 is none of a timed script
-  expected a moment (2026-11-28T10:03:00Z, 1764324180.25, or +180s from the first record), a space, and a command
+  line 1 is not one of a timed script
+  expected a moment (2026-11-28T10:03:00Z, 1764324180.25, or +180s from the first record), a space, a command (down 17), and a line feed alone
 ";
 
 const SEVENTH: &str = "\
 fault 90 BadLine line 7
-  line 7 is none of a timed script
-  expected a moment (2026-11-28T10:03:00Z, 1764324180.25, or +180s from the first record), a space, and a command
+  line 7 is not one of a timed script
+  expected a moment (2026-11-28T10:03:00Z, 1764324180.25, or +180s from the first record), a space, a command (down 17), and a line feed alone
 ";
 
 /// What is said of a second line that says an earlier moment than the first one.

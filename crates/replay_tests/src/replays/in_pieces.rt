@@ -14,7 +14,7 @@ use super::{
 use crate::asserting::{holds_of, same_bytes_of, same_fact};
 use control::{Script, parse_script};
 use replay::{
-    Counts, NoGate, Outcome, PieceOutcome, PieceReplay, RecordEnd, ReplayFault, replay_in_turn,
+    Counts, NoGate, Outcome, PieceOutcome, PieceReplay, ReplayFault, ToldEnd, replay_in_turn,
 };
 use semantics::{Options, Recording};
 use shard_port::Gate;
@@ -68,7 +68,7 @@ fn whole<R: Abort>(
 struct HandedOut {
     /// The frames that were sent, as a file has their records.
     sent: Vec<u8>,
-    ends: Vec<RecordEnd>,
+    ends: Vec<ToldEnd>,
 }
 
 impl HandedOut {

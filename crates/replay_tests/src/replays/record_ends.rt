@@ -2,7 +2,7 @@
 
 use super::{COUNTS_TO_THREE, capture, gated, one_record, program, segment};
 use crate::asserting::same_fact;
-use replay::{NoGate, RecordEnd};
+use replay::{NoGate, ToldEnd};
 use semantics::Verdict;
 use std::alloc::Global;
 use std::process::Abort;
@@ -59,17 +59,17 @@ fn ends_are<R: Threads + Abort + Wait + Sync>(
     text: &str,
     capture: &Capture,
     workers: u32,
-    wanted: &[RecordEnd],
+    wanted: &[ToldEnd],
 ) {
     let verified = program(rt, alloc, text);
     let outcome = gated(rt, alloc, &verified, capture, "", workers, 16, &NoGate);
-    let ends: &[RecordEnd] = &outcome.ends;
+    let ends: &[ToldEnd] = &outcome.ends;
     same_fact(rt, name, "the ends", &ends, &wanted);
 }
 
 /// A run in `steps` steps.
-fn exited(worker: u8, verdict: Verdict, steps: u64) -> RecordEnd {
-    RecordEnd::Exited {
+fn exited(worker: u8, verdict: Verdict, steps: u64) -> ToldEnd {
+    ToldEnd::Exited {
         worker,
         verdict,
         steps,
@@ -77,15 +77,15 @@ fn exited(worker: u8, verdict: Verdict, steps: u64) -> RecordEnd {
 }
 
 /// The program takes eight instructions for each frame that has a byte 13, which is its answer.
-pub(super) fn ends_of_byte_13s() -> [RecordEnd; 7] {
+pub(super) fn ends_of_byte_13s() -> [ToldEnd; 7] {
     [
         exited(0, Verdict::Aborted, 8),
-        RecordEnd::Short,
+        ToldEnd::Short,
         exited(0, Verdict::Drop, 8),
         exited(0, Verdict::Pass, 8),
         exited(0, Verdict::Tx, 8),
         exited(0, Verdict::Aborted, 8),
-        RecordEnd::Short,
+        ToldEnd::Short,
     ]
 }
 
@@ -111,7 +111,7 @@ fn a_stopped_run_has_no_steps(rt: HostRuntime) {
     let wanted = [
         exited(0, Verdict::Tx, 18),
         exited(0, Verdict::Tx, 18),
-        RecordEnd::Stopped { worker: 0 },
+        ToldEnd::Stopped { worker: 0 },
     ];
     ends_are(
         &rt,

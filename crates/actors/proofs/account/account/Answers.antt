@@ -1,5 +1,5 @@
 use Rattle.std.proofs.Common.{◌≡◌, ◌+◌, List, [], ◌∷◌, ◌++◌, length, sym, ap, ◌∙◌, subst, arith}
-use Rattle.actors.specs.declared.outcome.RecordEnd.{RecordEnd}
+use Rattle.actors.specs.declared.outcome.ToldEnd.{ToldEnd}
 use Rattle.actors.specs.Shares.{frames_of, frame_at, worker_of_frame}
 use Rattle.actors.specs.Accounts.{lists_of, fate_of, counts_of, counted, sent_of, sent_by, ends_of, record_end, AreRunsOfShares, AreFatesFrom, AreNext}
 use Rattle.actors.proofs.shared.TakingOut.{counts_next, sent_next, ends_next}
@@ -28,8 +28,8 @@ records-preserved c =
       counts = c.count.ensures.counted ∙ ap (λ counts. counted counts fate) i.counts ∙ ap (λ f. counted (counts_of frames workers runs number) f) is
           ∙ sym (counts_next frames workers runs number);
       frames = c.count.ensures.one_more ∙ ap (λ n. n + 1) i.frames;
-      ends = c.in_ok-push.ensures.items ∙ ap (λ (list : List RecordEnd). list ++ c.record_end.result ∷ []) i.ends
-          ∙ ap (λ (told : RecordEnd). ends_of frames workers runs number ++ told ∷ []) (c.record_end.ensures ∙ ap (record_end worker) is
+      ends = c.in_ok-push.ensures.items ∙ ap (λ (list : List ToldEnd). list ++ c.record_end.result ∷ []) i.ends
+          ∙ ap (λ (told : ToldEnd). ends_of frames workers runs number ++ told ∷ []) (c.record_end.ensures ∙ ap (record_end worker) is
           ∙ ap (λ n. record_end n (fate_of frames workers runs number)) (c.worker_at-worker.ensures.worker
           ∙ ap (worker_of_frame (frame_at frames number)) i.workers))
           ∙ sym (ends_next frames workers runs number);

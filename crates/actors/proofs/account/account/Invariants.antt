@@ -1,6 +1,6 @@
 use Rattle.std.proofs.Common.{◌≡◌, length}
-use Rattle.actors.specs.Shares.{frames_of}
-use Rattle.actors.specs.Accounts.{lists_of, counts_of, frames_in, sent_of, sent_frames, ends_of, AreNext, AreRunsOfShares, AreFatesFrom}
+use Rattle.actors.specs.Shares.{frames_of, all_captured}
+use Rattle.actors.specs.Accounts.{lists_of, counts_of, frames_in, sent_of, ends_of, AreNext, AreRunsOfShares, AreFatesFrom}
 use Rattle.actors.proofs.account.account.Given as goal
 
 pub record Gathered (l : goal.Live-records) : Type 0 where
@@ -11,7 +11,7 @@ pub record Gathered (l : goal.Live-records) : Type 0 where
   pub counts : l.counts ≡ counts_of (frames_of l.capture.records.items) (length l.fn.runs.items) (lists_of l.fn.runs.items) l.number
   pub frames : frames_in l.counts ≡ l.number
   pub workers : l.workers ≡ length l.fn.runs.items
-  pub sent : sent_frames l.all.items ≡ sent_of (frames_of l.capture.records.items) (length l.fn.runs.items) (lists_of l.fn.runs.items) l.number
+  pub sent : all_captured l.all.items ≡ sent_of (frames_of l.capture.records.items) (length l.fn.runs.items) (lists_of l.fn.runs.items) l.number
   pub ends : l.ends.items ≡ ends_of (frames_of l.capture.records.items) (length l.fn.runs.items) (lists_of l.fn.runs.items) l.number
 
 abbrev pub invariant-records : goal.invariant-records

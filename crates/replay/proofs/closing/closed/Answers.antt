@@ -5,8 +5,8 @@ use Rattle.std.specs.declared.alloc.Global.{Global}
 use Rattle.map_updates.specs.declared.update.MapUpdate.{MapUpdate}
 use Rattle.machine.specs.Running.{program_of}
 use Rattle.shards.specs.SharedMaps.{ArePlans}
-use Rattle.actors.specs.Accounts.{lists_of, AreRunsOfShares, counts_of, sent_of, sent_frames, ends_of}
-use Rattle.actors.specs.Shares.{frames_of}
+use Rattle.actors.specs.Accounts.{lists_of, AreRunsOfShares, counts_of, sent_of, ends_of}
+use Rattle.actors.specs.Shares.{frames_of, all_captured}
 use Rattle.actors.specs.Parts.{IsScriptRunBehind, round_count}
 use Rattle.actors.specs.RunsOverShards.{pass_in}
 use Rattle.actors.specs.Accounted.{IsAccounted}
@@ -77,7 +77,7 @@ returns-clause-accounted g c =
           (λ worker below. owned.first worker (omega (arith, below, workers_passes)));
       counts = subst (λ n. c.in_ok-counts.counts ≡ counts_of frames n (lists_of lists) (length records)) as_many c.in_ok-counts.ensures.counts;
       each_once = c.in_ok-counts.ensures.frames;
-      sent = subst (λ n. sent_frames c.in_ok-counts.sent.items ≡ sent_of frames n (lists_of lists) (length records)) as_many c.in_ok-counts.ensures.sent;
+      sent = subst (λ n. all_captured c.in_ok-counts.sent.items ≡ sent_of frames n (lists_of lists) (length records)) as_many c.in_ok-counts.ensures.sent;
       ends = subst (λ n. c.in_ok-counts.ends.items ≡ ends_of frames n (lists_of lists) (length records)) as_many c.in_ok-counts.ensures.ends;
       commands = begun.commands;
       begins = begun.begins;

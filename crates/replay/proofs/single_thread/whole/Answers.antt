@@ -14,4 +14,4 @@ returns-clause-in_turn g c = λ options under.
     let done = c.in_ok-rest.ensures.replayed program options records sent ends
     (c.in_ok-done.ensures.underway options c.args.updates.now [] [] [] under) in
     in_turn_too program c.args.script.now options records sent ends rest done.whole c.with_records.result done.is_whole c.with_records.ensures.whole
-    done.in_order.turns
+    done.exact.in_order.turns

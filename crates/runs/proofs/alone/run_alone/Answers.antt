@@ -1,14 +1,18 @@
 use Rattle.std.proofs.Common.{◌≡◌, ◌*◌, List, length, sym, ap, ◌∙◌, subst}
 use Rattle.std.proofs.lemmas.Result.{IfOk-weaker, IfErr-weaker}
 use Rattle.ebpf_decode.specs.declared.map.MapDef.{MapDef}
-use Rattle.semantics.specs.ShardPlan.{AreOptions}
+use Rattle.std.specs.Prelude.{Some}
+use Rattle.semantics.specs.ShardPlan.{AreOptions, plan_at}
+use Rattle.runs.proofs.Places.{found_at, found_within}
+use Rattle.shard_core.specs.JournaledShard.{JournaledShard, opened_shard}
+use Rattle.shards.specs.Seats.{no_plan}
 use Rattle.semantics.specs.MachineState.{initial_state}
 use Rattle.journals.specs.JournalsView.{AreImageMaps}
 use Rattle.machine.specs.Running.{program_of}
 use Rattle.shards.proofs.shared.ImageMaps.{image_maps}
 use Rattle.runs.specs.Updates.{AreUpdated}
 use Rattle.runs.proofs.OpeningLemmas.{outside_updated}
-use Rattle.runs.proofs.AloneLemmas.{run_alone_by, stop_alone_by, count_kept, reserves_kept}
+use Rattle.runs.proofs.AloneLemmas.{run_alone_by, stop_alone_by, count_kept, plans_kept}
 use Rattle.runs.proofs.alone.run_alone.Goals as goal
 
 pub worker_run-ended-requires-clause-outside : goal.worker_run-ended-requires-clause-outside
@@ -30,12 +34,16 @@ journals_of-journals-requires-clause-are c =
       one_each = kept ∙ c.in_ok-make_all.ensures.made.count ∙ ap (λ (maps : List MapDef). length maps * c.args.options.shards) (sym of_image);
     }
 
-pub journals_of-journals-requires-clause-reserved : goal.journals_of-journals-requires-clause-reserved
-journals_of-journals-requires-clause-reserved c =
-    reserves_kept (program_of c.args.verified.now c.args.options.shards)
+pub journals_of-journals-requires-clause-planned : goal.journals_of-journals-requires-clause-planned
+journals_of-journals-requires-clause-planned c = λ number shard there.
+    let after = c.worker_run-ended.new.shards in
+    let kept = plans_kept (program_of c.args.verified.now c.args.options.shards)
     (initial_state c.args.frame.now c.args.moment.now.worker c.args.moment.now.now_ns) c.args.options c.args.moment.now.worker c.args.updates.now
-    c.image-image.result.now.maps c.make_all.new.shards c.worker_run-ended.new.shards c.worker_run-ended.new.frame c.worker_run-ended.result
-    c.in_ok-make_all.ensures.made c.worker_run-ended.ensures.exit c.worker_run-ended.ensures.stop
+    c.image-image.result.now.maps c.make_all.new.shards after c.worker_run-ended.new.frame c.worker_run-ended.result
+    c.in_ok-make_all.ensures.made c.worker_run-ended.ensures.exit c.worker_run-ended.ensures.stop number (found_within after number shard there) in
+    let of_image : c.in_ok-maps.maps.items ≡ c.image-image.result.now.maps = c.in_ok-maps.ensures ∙ c.maps_of.ensures.maps in
+    ap (λ (maps : List MapDef). plan_at maps c.args.options number) of_image ∙ kept
+    ∙ ap (λ (one : JournaledShard). Some one.plan) (sym (found_at after number shard (opened_shard no_plan) there))
 
 pub returns-clause-exit : goal.returns-clause-exit
 returns-clause-exit c =

@@ -1,72 +1,47 @@
-use Rattle.std.proofs.Common.{◌≡◌, ◌<◌, ◌+◌, ℕ, List, [], ◌∷◌, length, sym, ap, ◌∙◌, subst, arith, length-append}
+use Rattle.std.proofs.Common.{◌≡◌, ℕ, zero, suc, List, [], ◌∷◌, refl, sym, ap, ◌∙◌, subst, length, ◌<◌}
+use Rattle.std.proofs.lemmas.List.{length-map}
 use Rattle.std.specs.Prelude.{slice_index_or}
 use Rattle.semantics.specs.declared.call.Entry.{Entry}
 use Rattle.semantics.specs.History.{IsLegalJournal}
-use Rattle.shard_core.specs.JournaledShard.{JournaledShard, opened_shard}
-use Rattle.semantics.specs.Each.{Each}
-use Rattle.shards.specs.Seats.{no_plan}
+use Rattle.shard_core.specs.JournaledShard.{JournaledShard}
+use Rattle.journals.specs.JournalsView.{JournalsView, entries_at}
+use Rattle.journals.specs.KeptEntries.{ArePlanned, written_entries}
 use Rattle.shards.specs.NewShards.{shard_at}
-use Rattle.semantics.proofs.shared.EachLemmas.{each_first, each_rest, each_start, at_or}
-use Rattle.runs.proofs.PushLemmas.{pushed_at, none_yet}
-use Rattle.std.proofs.lemmas.List.{length-map, map-append}
-use Rattle.journal.specs.Journaled.{Journaled}
-use Rattle.journals.specs.KeptEntries.{written_entries, HaveRoom}
-use Rattle.semantics.proofs.shared.CellBytes.{each_append}
 use Rattle.runs.proofs.closing.journals_of.Goals as goal
 
-abbrev IsStill : List JournaledShard → ℕ → JournaledShard → Type 0
-IsStill shards number shard = shard ≡ shard_at shards number
+-- the journal of the shard of a number, among those of all
+journal_at : (shards : List JournaledShard) (number : ℕ) → slice_index_or (written_entries shards) number [] ≡ (shard_at shards number).journal
+journal_at [] number = refl
+journal_at (one ∷ rest) zero = refl
+journal_at (one ∷ rest) (suc number) = journal_at rest number
 
-pub shards-init : goal.shards-init
-shards-init c =
-    let same = ap (λ (xs : List JournaledShard). length xs) c.into_list-shards.ensures in
-    let is = c.len-count.ensures in
-    let ok = c.into_list-shards.result.ok.0 in
-    record {
-      left = each_start (IsStill c.args.shards) c.into_list-shards.result.items
-          (λ place shard there. at_or c.into_list-shards.result.items place shard (opened_shard no_plan) there
-          ∙ ap (λ (xs : List JournaledShard). shard_at xs place) c.into_list-shards.ensures);
-      together = omega (arith, same);
-      count_is = omega (arith, is, ok, same);
-      made = c.requires.empty;
-      capacity = (let r = c.requires.room in omega (arith, r, is, ok, same));
-      reserved = none_yet (λ (j : Journaled). j.reserve ≡ c.args.options.journal) c.args.room.items c.requires.empty;
-      written = λ k below. absurd (omega (arith, below));
-      legal = λ k below. absurd (omega (arith, below));
-    }
+-- and among those of journals that these shards wrote
+entries_are : (shards written : List JournaledShard) (journals : JournalsView) (number : ℕ) → written ≡ shards
+    → journals.shards ≡ written_entries written → entries_at journals number ≡ (shard_at shards number).journal
+entries_are shards written journals number same is =
+    ap (λ (lists : List (List Entry)). slice_index_or lists number []) is ∙ journal_at written number
+    ∙ ap (λ (them : List JournaledShard). (shard_at them number).journal) same
 
-pub shards-preserved : goal.shards-preserved
-shards-preserved c =
-    let i = c.shards.invariant in
-    let number = c.shards.number in
-    let some_left : 0 < length c.shards.shards.items = (let t = i.together in let n = i.count_is in let below = c.shards-test.true in omega (arith, t, n, below)) in
-    let first : c.remove.result ≡ shard_at c.args.shards number =
-    each_first (IsStill c.args.shards) number c.shards.shards.items c.remove.result i.left some_left c.remove.ensures.value in
-    let one = c.into_journal.ensures in
-    let journal : List Entry = c.into_journal.result.entries in
-    let journals : List (List Entry) = written_entries c.shards.room.items in
-    let many : length journals ≡ number = length-map c.shards.room.items (λ (j : Journaled). j.entries) ∙ i.made in
-    let entries : journal ≡ c.remove.result.journal = one.entries in
-    let pushed = c.push_reserved.ensures.items in
-    let items = ap written_entries pushed ∙ map-append (λ (j : Journaled). j.entries) c.shards.room.items (c.into_journal.result ∷ []) in
-    record {
-      left = subst (λ xs. Each (IsStill c.args.shards) (number + 1) xs) (sym c.remove.ensures.items)
-          (each_rest (IsStill c.args.shards) number c.shards.shards.items i.left);
-      together = (let t = i.together in let shorter = c.remove.ensures.len in let a = c.shards.shards.ok.0 in let b = c.remove.new.self.ok.0 in omega (arith, t, shorter, a, b, some_left));
-      count_is = i.count_is;
-      made = ap (λ xs. length xs) pushed ∙ length-append c.shards.room.items (c.into_journal.result ∷ []) ∙ ap (λ n. n + 1) i.made;
-      capacity = (let r = i.capacity in let grown = c.push_reserved.ensures.capacity in omega (arith, r, grown));
-      reserved = subst (HaveRoom c.args.options.journal) (sym pushed)
-          (each_append (λ (j : Journaled). j.reserve ≡ c.args.options.journal) c.shards.room.items (c.into_journal.result ∷ []) i.reserved (
-            one.reserve ∙ ap (λ (s : JournaledShard). s.plan.reserve) first
-                ∙ c.requires.reserved number (let t = i.together in omega (arith, t, some_left)),
-            tt,
-          ));
-      written = subst (λ (js : List (List Entry)). (k : ℕ) → k < number + 1 → slice_index_or js k [] ≡ (shard_at c.args.shards k).journal) (sym items)
-          (pushed_at (λ k (j : List Entry). j ≡ (shard_at c.args.shards k).journal) journals journal [] number many i.written
-          (entries ∙ ap (λ (one : JournaledShard). one.journal) first));
-      legal = subst (λ (js : List (List Entry)). (k : ℕ) → k < number + 1 → IsLegalJournal (shard_at c.args.shards k).plan (slice_index_or js k [])) (sym items)
-          (pushed_at (λ k (j : List Entry). IsLegalJournal (shard_at c.args.shards k).plan j) journals journal [] number many i.legal
-          (subst (λ (j : List Entry). IsLegalJournal (shard_at c.args.shards number).plan j) (sym entries)
-          (subst (λ (one : JournaledShard). IsLegalJournal one.plan c.remove.result.journal) first one.legal)));
-    }
+pub written-requires-clause-planned : goal.written-requires-clause-planned
+written-requires-clause-planned c =
+    subst (λ (shards : List JournaledShard). ArePlanned c.args.maps.items c.args.options shards) (sym c.into_list-shards.ensures) c.requires.planned
+
+pub returns-clause-count : goal.returns-clause-count
+returns-clause-count c =
+    ap (λ (journals : JournalsView). length journals.shards) c.written.ensures
+    ∙ length-map c.into_list-shards.result.items (λ (one : JournaledShard). one.journal)
+    ∙ ap (λ (shards : List JournaledShard). length shards) c.into_list-shards.ensures
+
+pub returns-clause-written : goal.returns-clause-written
+returns-clause-written c = λ number below.
+    entries_are c.args.shards c.into_list-shards.result.items c.written.result number c.into_list-shards.ensures
+    (ap (λ (journals : JournalsView). journals.shards) c.written.ensures)
+
+pub returns-clause-legal : goal.returns-clause-legal
+returns-clause-legal c = λ number below.
+    let entries = entries_are c.args.shards c.into_list-shards.result.items c.written.result number c.into_list-shards.ensures
+    (ap (λ (journals : JournalsView). journals.shards) c.written.ensures) in
+    subst (λ (list : List Entry). IsLegalJournal (shard_at c.args.shards number).plan list) (sym entries)
+    (subst (λ (shards : List JournaledShard). IsLegalJournal (shard_at shards number).plan (shard_at shards number).journal) c.into_list-shards.ensures
+    ((rw c.deref.ensures.value at c.are_legal.ensures) number
+    (subst (λ (shards : List JournaledShard). number < length shards) (sym c.into_list-shards.ensures) below)))

@@ -2,7 +2,6 @@ use Rattle.std.proofs.Common.{◌≡◌, ◌<◌, ◌+◌, ℕ, List, [], ◌∷
 use Rattle.std.specs.Prelude.{reverse}
 use Rattle.atomic_table.specs.Table.{Me}
 use Rattle.semantics.specs.declared.call.Entry.{Entry}
-use Rattle.semantics.specs.declared.plan.ShardPlan.{ShardPlan}
 use Rattle.semantics.specs.History.{IsLegalHistory}
 use Rattle.shards.specs.declared.deeds.OrderPart.TheVariants.{OnShard}
 use Rattle.shards.specs.GuardedView.{KeyedPlan, GuardedView, keyed}
@@ -48,21 +47,20 @@ passes-preserved g c =
 pub returns-clause-settled : goal.returns-clause-settled
 returns-clause-settled g c =
     let i = c.passes.invariant in
-    let written : reverse c.into_journal.result.entries ≡ (view_of c.passes.visitor_seat.me).seen =
-    ap (λ (j : List Entry). reverse j) (c.into_journal.ensures.entries ∙ c.into_parts-shard.ensures.shard.1) ∙ c.close.ensures.written in
+    let written : reverse c.into_parts-shard.result.0.journal ≡ (view_of c.passes.visitor_seat.me).seen =
+    ap (λ (j : List Entry). reverse j) c.into_parts-shard.ensures.shard.1 ∙ c.close.ensures.written in
     λ place below. settled_by _ _ _ _ written (i.shown place (let t = c.passes-test.false in let e = i.end_is in omega (arith, t, e, below)))
 
 pub returns-clause-legal : goal.returns-clause-legal
 returns-clause-legal g c =
     let i = c.passes.invariant in
-    let written : reverse c.into_journal.result.entries ≡ (view_of c.passes.visitor_seat.me).seen =
-    ap (λ (j : List Entry). reverse j) (c.into_journal.ensures.entries ∙ c.into_parts-shard.ensures.shard.1) ∙ c.close.ensures.written in
+    let written : reverse c.into_parts-shard.result.0.journal ≡ (view_of c.passes.visitor_seat.me).seen =
+    ap (λ (j : List Entry). reverse j) c.into_parts-shard.ensures.shard.1 ∙ c.close.ensures.written in
     subst (IsLegalHistory (g.B.Naming.plan c.args.number)) (sym written) i.legal
 
-pub returns-clause-room : goal.returns-clause-room
-returns-clause-room g c =
-    c.into_journal.ensures.reserve ∙ ap (λ (p : ShardPlan). p.reserve) c.into_parts-shard.ensures.shard.0
-    ∙ ap (λ (k : KeyedPlan). k.plan.reserve) (c.close.ensures.key ∙ c.passes.invariant.lock.3)
+pub returns-clause-plan : goal.returns-clause-plan
+returns-clause-plan g c =
+    c.into_parts-shard.ensures.shard.0 ∙ ap (λ (k : KeyedPlan). k.plan) (c.close.ensures.key ∙ c.passes.invariant.lock.3)
 
 pub gather-requires-clause-other : goal.gather-requires-clause-other
 gather-requires-clause-other g c =
@@ -89,7 +87,7 @@ returns-clause-taken g c =
     let me = c.into_seat.result.me in
     let is = seat_of_place place me (OnShard guarded.key.plan.number) rests.1 seat.2 seat.3 in record {
       deeds = deeds_at place;
-      written = c.into_parts-shard.ensures.written ∙ ap (λ (l : List Entry). reverse l) (sym (c.into_journal.ensures.entries ∙ c.into_parts-shard.ensures.shard.1));
+      written = c.into_parts-shard.ensures.written ∙ ap (λ (l : List Entry). reverse l) (sym c.into_parts-shard.ensures.shard.1);
       more = gathered c.args.seat.now.me c.gather.new.seat.me me (OnShard c.args.number) (deeds_at place) c.gather.ensures.both
           (is.0 ∙ ap (λ (n : ℕ). (account (OnShard n) (account_deeds me.0) ∷ [], [])) same) is.1;
     }

@@ -20,7 +20,7 @@ returns-in-Asm-clause-none g c = λ none.
 pub returns-in-Run-clause-none : goal.returns-in-Run-clause-none
 returns-in-Run-clause-none g c = λ none.
     let is : c.args.settings.now ≡ Run c.in-Run.files c.in-Run.now c.in-Run.worker c.in-Run.updates = search rules in
-    subst (λ (it : Settings). AreApart it) (sym is) (λ written other over. c.over_in_run.ensures.none none written other over.0 over.1)
+    subst (λ (it : Settings). AreApart it) (sym is) (λ written other over. c.over_in_run.ensures.none none written other over)
 
 pub returns-in-Replay-clause-none : goal.returns-in-Replay-clause-none
 returns-in-Replay-clause-none g c = λ none.

@@ -1,6 +1,6 @@
 use Rattle.std.proofs.Common.{◌∙◌, ℕ, List, ap, subst, sym}
 use Rattle.std.proofs.lemmas.Option.{IfSome_then}
-use Rattle.std.proofs.lemmas.Result.{err_from_is_err_and, IfErr-weaker, IfOk-weaker}
+use Rattle.std.proofs.lemmas.Result.{err_from_is_err_and, IfErr-weaker, IfOk-weaker, on_ok_weaker}
 use Rattle.xlb_commands.specs.Parts.{command_frames}
 use Rattle.xlb_commands.specs.Taking.{AreNumbers, script_at}
 use Rattle.traffic.specs.declared.readings.Reading.{Reading}
@@ -71,6 +71,10 @@ returns-in-None-clause-done g c =
     (λ found is. IfSome_then found is (λ report it. report_before _ _ _ _ _ _ _ _ _ _ _ _ _ report c.look_through.ensures.kept it))
     c.replay_seen.ensures.done
 
+pub returns-in-None-clause-steady : goal.returns-in-None-clause-steady
+returns-in-None-clause-steady g c =
+    on_ok_weaker c.replay_seen.result (λ same. same ∙ c.in_ok-seen.ensures.steady) c.replay_seen.ensures.steady
+
 pub returns-in-None-clause-refused : goal.returns-in-None-clause-refused
 returns-in-None-clause-refused g c =
     IfErr-weaker c.replay_seen.result _ _
@@ -86,6 +90,10 @@ returns-in-Some-numbered-clause-done g c =
     IfOk-weaker c.replay_seen-in-Some-numbered.result _ _
     (λ found is. IfSome_then found is (λ report it. report_before _ _ _ _ _ _ _ _ _ _ _ _ _ report c.look_through.ensures.kept it))
     c.replay_seen-in-Some-numbered.ensures.done
+
+pub returns-in-Some-numbered-clause-steady : goal.returns-in-Some-numbered-clause-steady
+returns-in-Some-numbered-clause-steady g c =
+    on_ok_weaker c.replay_seen-in-Some-numbered.result (λ same. same ∙ c.in_ok-seen.ensures.steady) c.replay_seen-in-Some-numbered.ensures.steady
 
 pub returns-in-Some-numbered-clause-kept : goal.returns-in-Some-numbered-clause-kept
 returns-in-Some-numbered-clause-kept g c = all_but_kept _ _ _ _ _ _ c.look_through.ensures.kept c.replay_seen-in-Some-numbered.ensures.kept

@@ -10,7 +10,7 @@ use Rattle.xlb_commands.specs.RecordReports.{IsReportFile, form_of, report_text,
 use Rattle.xlb_commands.specs.InPieces.{AreApartInPieces, AreTold}
 use Rattle.traffic.specs.RecordLines.{report_head}
 use Rattle.actors.specs.declared.outcome.Outcome.{Outcome}
-use Rattle.actors.specs.declared.outcome.RecordEnd.{RecordEnd}
+use Rattle.actors.specs.declared.outcome.ToldEnd.{ToldEnd}
 use Rattle.command_line.specs.declared.commands.ReplayFiles.{ReplayFiles}
 use Rattle.xlb_commands.specs.declared.fault.Fault.{Fault}
 use Rattle.xlb_commands.specs.declared.replays.Asked.{Asked}
@@ -51,7 +51,7 @@ unmade_by before after failed asked script captured fault capture same is =
 
 -- the report that is made in pieces is that of all records
 report_of : (first made after : FileBytes) (files : ReplayFiles) (name : Option (List ℕ)) → text_of files.report ≡ name
-    → (script : List Command) (records sent : List Sent) (ends : List RecordEnd) (whole : Outcome) → whole.sent.items ≡ sent → whole.ends.items ≡ ends
+    → (script : List Command) (records sent : List Sent) (ends : List ToldEnd) (whole : Outcome) → whole.sent.items ≡ sent → whole.ends.items ≡ ends
     → ((file : List ℕ) → text_of files.report ≡ Some file → first file (report_head (form_of file)))
     → AreTold first made files script 0 records sent ends
     → ((file bytes : List ℕ) → text_of files.report ≡ Some file → made file bytes → after file bytes)
@@ -59,7 +59,7 @@ report_of : (first made after : FileBytes) (files : ReplayFiles) (name : Option 
 report_of first made after files None is script records sent ends whole sent_are ends_are begun told written = tt
 report_of first made after files (Some file) is script records sent ends whole sent_are ends_are begun told written =
     subst (λ (them : List Sent). after file (report_text (form_of file) (runs_shipped files) script records whole.ends.items them)) (sym sent_are)
-    (subst (λ (them : List RecordEnd). after file (report_text (form_of file) (runs_shipped files) script records them sent)) (sym ends_are)
+    (subst (λ (them : List ToldEnd). after file (report_text (form_of file) (runs_shipped files) script records them sent)) (sym ends_are)
     (written file _ is (told file is (report_head (form_of file)) (begun file is))))
 
 -- a failure between two calls that had none
@@ -131,17 +131,17 @@ returns-in-Ok-Some-clause-done g c =
           accounted = made_of.made.accounted;
           in_turn = λ exact. made_of.made.in_turn refl;
         };
-        headline = record { kept = made_of.headline.kept; in_turns = λ exact. made_of.headline.in_turns refl };
+        listed = record { kept = made_of.listed.kept; in_turns = λ exact. made_of.listed.in_turns refl };
         by_rule = made_of.by_rule;
         readers = made_of.readers;
         refused_are = refl;
-        sent = λ other third. c.in_ok-write_pieces-in-Ok-Some.ensures.sent (capture_bytes made_of.whole.sent.items)
+        sent = λ other third apart. c.in_ok-write_pieces-in-Ok-Some.ensures.sent (capture_bytes made_of.whole.sent.items)
             (subst (λ (sent : List Sent). g.D.Folder.is_begun c.left_by_pieces.new.folder asked.files.now.sent.now (header_bytes ++ records_bytes sent))
             (sym made_of.sent_are) begun) other;
-        journals = λ apart. written_down (g.D.Folder.holds c.write_pieces.new.folder) (text_of asked.files.now.journals) _ made_of.whole.journals
+        journals = λ apart behind. written_down (g.D.Folder.holds c.write_pieces.new.folder) (text_of asked.files.now.journals) _ made_of.whole.journals
             made_of.journals_are (c.in_ok-write_pieces-in-Ok-Some.ensures.journals apart);
         accepted = made_of.accepted;
-        report = report_of (g.D.Folder.is_begun c.begin_files.new.folder) (g.D.Folder.is_begun c.left_by_pieces.new.folder)
+        report = λ behind. report_of (g.D.Folder.is_begun c.begin_files.new.folder) (g.D.Folder.is_begun c.left_by_pieces.new.folder)
             (g.D.Folder.holds c.write_pieces.new.folder) asked.files.now (text_of asked.files.now.report) refl asked.script.now
             (records_in asked.part left.captured) left.sent left.ends made_of.whole made_of.sent_are made_of.ends_are
             (c.in_ok-begin_files.ensures.report c.if-not-branch.false) (left.told c.requires.apart)
@@ -150,6 +150,7 @@ returns-in-Ok-Some-clause-done g c =
       },
       made_of.none_refused,
       made_of.all,
+      made_of.maps_are,
     )
 
 -- the replay was broken off, or it was made and memory was refused for what it leaves

@@ -1,5 +1,6 @@
 use Rattle.xlb_commands.proofs.Earlier.{all_but_kept, report_before, unreplayed_before}
-use Rattle.std.proofs.lemmas.Result.{IfErr-weaker, IfOk-weaker}
+use Rattle.std.proofs.Common.{◌∙◌}
+use Rattle.std.proofs.lemmas.Result.{IfErr-weaker, IfOk-weaker, on_ok_weaker}
 use Rattle.xlb_commands.proofs.Refusals.{failed_since}
 use Rattle.xlb_commands.proofs.replays.replay_once.Goals as goal
 
@@ -9,6 +10,10 @@ returns-in-Ok-None-clause-done g c =
     IfOk-weaker c.replay_whole-in-Ok-None.result _ _
     (λ report is. report_before _ _ _ _ _ _ _ _ _ _ _ _ _ report none is)
     c.replay_whole-in-Ok-None.ensures.done
+
+pub returns-in-Ok-None-clause-steady : goal.returns-in-Ok-None-clause-steady
+returns-in-Ok-None-clause-steady g c =
+    on_ok_weaker c.replay_whole-in-Ok-None.result (λ same. same ∙ c.in-Ok-None.ensures.steady) c.replay_whole-in-Ok-None.ensures.steady
 
 pub returns-in-Ok-None-clause-kept : goal.returns-in-Ok-None-clause-kept
 returns-in-Ok-None-clause-kept g c =
@@ -20,5 +25,5 @@ returns-in-Ok-None-clause-refused g c =
     let none = rw c.in-Ok-None.field-0-is at c.in-Ok-None.ensures.none in
     IfErr-weaker c.replay_whole-in-Ok-None.result _ _
     (λ refusal is. unreplayed_before _ _ _ _ _ _ _ _ _ _ _ _ _ _ refusal.fault none
-    (failed_since _ _ _ (rw c.in-Ok-None.field-0-is at c.in-Ok-None.ensures.steady)) is)
+    (failed_since _ _ _ c.in-Ok-None.ensures.steady) is)
     c.replay_whole-in-Ok-None.ensures.refused

@@ -9,16 +9,13 @@ use Rattle.actors.specs.Accounts.{ends_of}
 use Rattle.actors.specs.Shares.{frames_of}
 use Rattle.actors.specs.declared.outcome.Outcome.{Outcome}
 use Rattle.actors.specs.declared.runner.Ran.{Ran}
-use Rattle.journals.specs.JournalsView.{JournalsView}
 use Rattle.machine.specs.Running.{program_of}
 use Rattle.command_line.specs.Reading.{text_of}
-use Rattle.command_line.specs.declared.commands.ReplayFiles.{ReplayFiles}
-use Rattle.xlb_commands.specs.declared.fault.Fault.{Fault}
 use Rattle.xlb_commands.specs.Files.{FileBytes}
 use Rattle.xlb_commands.specs.RecordReports.{IsReportFile, form_of, report_text, runs_shipped}
 use Rattle.xlb_commands.specs.Replays.{HasBytes}
-use Rattle.xlb_commands.specs.Refused.{AreUnfiled, given_up, not_reported, not_written_down}
-use Rattle.xlb_commands.proofs.AcceptedJournals.{accepted_of}
+use Rattle.xlb_commands.specs.Refused.{given_up, not_reported, not_written_down}
+use Rattle.xlb_commands.proofs.AcceptedJournals.{accepted_of, are_legal}
 use Rattle.xlb_commands.proofs.Outcomes.{had_good, options_fit, rule_of, served_options}
 use Rattle.xlb_commands.proofs.ReaderFiles.{reader_file_is}
 use Rattle.xlb_commands.proofs.Refusals.{kept_still}
@@ -38,11 +35,6 @@ length_ends frames workers runs zero = refl
 length_ends frames workers runs (suc count) =
     length-append (ends_of frames workers runs count) _ ∙ (ap (λ (n : ℕ). n + 1) (length_ends frames workers runs count) ∙ add-one count)
 
-unfiled_as : (before after : FileBytes) (failed : Type 0) (names : ReplayFiles) (made sent : List ℕ) (journals : JournalsView) (fault : Fault)
-    → made ≡ sent → AreUnfiled before after failed names made journals fault → AreUnfiled before after failed names sent journals fault
-unfiled_as before after failed names made sent journals fault same is =
-    subst (λ (it : List ℕ). AreUnfiled before after failed names it journals fault) same is
-
 pub left_of-requires-clause-frames : goal.left_of-requires-clause-frames
 left_of-requires-clause-frames g c = sym c.in-Ok.ensures.made.made.accounted.each_once
 
@@ -55,6 +47,12 @@ pub left_of-requires-clause-rows : goal.left_of-requires-clause-rows
 left_of-requires-clause-rows g c = λ file is.
     subst (λ (o : Options). KeepsRows o.journal) (sym c.in-Ok.ensures.made.made.accounted.options_are)
     (subst (λ (r : Recording). KeepsRows (room_for r c.args.asked.options.journal)) (sym (c.requires.consistent.rows file is)) c.in-Ok.ensures.served)
+
+pub left_of-requires-clause-legal : goal.left_of-requires-clause-legal
+left_of-requires-clause-legal g c =
+    let asked = c.args.asked in
+    are_legal (program_of asked.verified.now asked.options.shards) asked.script.now (recorded asked.recording asked.options)
+    c.args.capture.now.records.items c.in-Ok.outcome c.in-Ok.ensures.made.made.accounted
 
 pub returns-clause-done : goal.returns-clause-done
 returns-clause-done g c =
@@ -71,7 +69,7 @@ returns-clause-done g c =
             (had_good asked.verified.now.maps asked.script.now asked.options c.replay_at.result outcome c.in-Ok.is c.replay_at.ensures.bad_options);
         outcome = outcome;
         made = c.in-Ok.ensures.made.made;
-        headline = c.in-Ok.ensures.made.headline;
+        listed = c.in-Ok.ensures.made.listed;
         by_rule = λ none. rule_of (text_of asked.files.now.image) asked.ring program asked.script.now options records outcome account
             (λ shipped.
             let steered = c.steered_where_shipped.ensures.steered shipped asked.script.now options records outcome fit c.all_are_captured.ensures
@@ -91,17 +89,16 @@ returns-clause-done g c =
             (c.readers_send_alike.ensures.sends reads) c.options.ensures.fit c.all_are_captured.ensures account
             (c.in-Ok.ensures.made.made.updates_are ∙ none_set) none unstopped;
         refused_are = refl;
-        sent = λ other third.
-            subst (λ (it : List ℕ). g.D.Folder.holds c.write_files.new.folder asked.files.now.sent.now it) c.in_ok-left.ensures.sent
-            (c.in_ok-write_files.ensures.sent other third);
-        journals = c.in_ok-write_files.ensures.journals;
+        sent = λ other third apart. c.in_ok-write_files.ensures.sent other third;
+        journals = λ apart behind. c.in_ok-write_files.ensures.journals apart;
         accepted = λ file named. accepted_of _ _ _ _ outcome account (c.in_ok-left.ensures.reads_back file named);
-        report = report_stands (g.D.Folder.holds c.write_files.new.folder) (text_of asked.files.now.report) (runs_shipped asked.files.now)
+        report = λ behind. report_stands (g.D.Folder.holds c.write_files.new.folder) (text_of asked.files.now.report) (runs_shipped asked.files.now)
             asked.script.now records outcome _ c.in_ok-left.ensures.lines c.in_ok-write_files.ensures.report;
         lines = c.in_ok-left.ensures.text;
       },
       c.in_ok-left.ensures.whole,
       c.in_ok-left.ensures.all,
+      c.in_ok-left.ensures.maps,
     )
 
 pub returns-in-Err-clause-refused : goal.returns-in-Err-clause-refused
@@ -116,5 +113,4 @@ pub returns-in_err-write_files-clause-refused : goal.returns-in_err-write_files-
 returns-in_err-write_files-clause-refused g c =
     let p = err_from_is_err_and c.from_residual-in_err-write_files.result c.from_residual-in_err-write_files.ensures.1 in
     rw (p.1, p.2)
-    (not_written_down c.in-Ok.outcome c.in-Ok.ensures.made.made
-    (unfiled_as _ _ _ _ _ _ _ _ c.in_ok-left.ensures.sent c.in_err-write_files.ensures.refused))
+    (not_written_down c.in-Ok.outcome c.in-Ok.ensures.made.made c.in_err-write_files.ensures.refused)

@@ -1,5 +1,5 @@
 use Rattle.std.proofs.Common.{◌≡◌, ◌∙◌, List, Option, Some, None, ap, refl, subst, sym}
-use Rattle.std.proofs.lemmas.Result.{err_from_is_err_and, IfErr-weaker, IfOk-weaker}
+use Rattle.std.proofs.lemmas.Result.{err_from_is_err_and, IfErr-weaker, IfOk-weaker, on_ok_weaker}
 use Rattle.fleet.specs.declared.part.Part.{Part}
 use Rattle.wire.specs.declared.records.Sent.{Sent}
 use Rattle.control.specs.declared.command.Command.{Command}
@@ -59,6 +59,10 @@ returns-in-None-clause-done g c =
     (answer_of _ _ c.args.asked None c.in_ok-capture.capture.records.items _ _ report c.in-None.is captured refl refl is))
     c.replay_records.ensures.done
 
+pub returns-in-None-clause-steady : goal.returns-in-None-clause-steady
+returns-in-None-clause-steady g c =
+    on_ok_weaker c.replay_records.result (λ same. same ∙ c.in_ok-capture.ensures.steady) c.replay_records.ensures.steady
+
 pub returns-in-None-clause-kept : goal.returns-in-None-clause-kept
 returns-in-None-clause-kept g c = all_but_kept _ _ _ _ _ _ c.capture_of.ensures.kept c.replay_records.ensures.kept
 
@@ -80,6 +84,10 @@ returns-in_ok-script-in-Some-clause-done g c =
     (c.in_ok-script-in-Some.ensures ∙ ap (λ (them : List Sent). script_in (Some c.in-Some.part) them c.args.asked.script.now) c.deref.ensures.value)
     c.taken_from-taken.ensures is))
     c.replay_records-in-Some.ensures.done
+
+pub returns-in_ok-script-in-Some-clause-steady : goal.returns-in_ok-script-in-Some-clause-steady
+returns-in_ok-script-in-Some-clause-steady g c =
+    on_ok_weaker c.replay_records-in-Some.result (λ same. same ∙ c.in_ok-capture.ensures.steady) c.replay_records-in-Some.ensures.steady
 
 pub returns-in_ok-script-in-Some-clause-kept : goal.returns-in_ok-script-in-Some-clause-kept
 returns-in_ok-script-in-Some-clause-kept g c = all_but_kept _ _ _ _ _ _ c.capture_of.ensures.kept c.replay_records-in-Some.ensures.kept

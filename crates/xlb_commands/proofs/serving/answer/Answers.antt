@@ -1,8 +1,10 @@
 use Rattle.std.proofs.Common.{◌≡◌, ◌∙◌, ℕ, List, [], true, false, rules, refl, subst, sym, ap, string_bytes, true≢false}
 use Rattle.std.specs.Borrow.{Bor}
+use Rattle.command_line.specs.declared.commands.Reading.{Reading}
 use Rattle.command_line.specs.declared.commands.Settings.{Settings}
 use Rattle.command_line.specs.declared.commands.Settings.TheVariants.{Script, Shipped, Table}
 use Rattle.xlb_commands.specs.Files.{FileBytes}
+use Rattle.xlb_commands.specs.Replays.{capture_reading}
 use Rattle.xlb_commands.specs.Results.{IsAnswer, IsShippedFile}
 use Rattle.xlb_commands.specs.Tables.{IsTableShown}
 use Rattle.xlb_commands.specs.Timed.{IsScriptShown}
@@ -42,14 +44,14 @@ returns-in_ok-table_file-in-Table-clause-answered g c =
     c.in_ok-table_file-in-Table.ensures.done
 
 -- the script that a timed script means is printed, whole
-script_shown : (before after : FileBytes) (settings : Settings) (capture timed : Bor (List ℕ)) (answer : CommandAnswer) (report : Report)
-    → settings ≡ Script capture timed → answer ≡ answers.Reported report → report.is_refused ≡ false
-    → IsScriptShown before capture.now timed.now (string_bytes report.text) → IsAnswer before after settings answer
-script_shown before after settings capture timed answer report same is whole shown =
+script_shown : (before after : FileBytes) (settings : Settings) (capture timed : Bor (List ℕ)) (reading : Reading) (answer : CommandAnswer) (report : Report)
+    → settings ≡ Script capture timed reading → answer ≡ answers.Reported report → report.is_refused ≡ false
+    → IsScriptShown before (capture_reading reading) capture.now timed.now (string_bytes report.text) → IsAnswer before after settings answer
+script_shown before after settings capture timed reading answer report same is whole shown =
     rw (same, is) ((λ _. shown), (λ refused. true≢false (sym refused ∙ whole)))
 
 pub returns-in_ok-timed_file-in-Script-clause-answered : goal.returns-in_ok-timed_file-in-Script-clause-answered
 returns-in_ok-timed_file-in-Script-clause-answered g c =
-    let same : c.args.settings.now ≡ Script c.in-Script.capture c.in-Script.timed = search rules in
-    script_shown _ _ c.args.settings.now c.in-Script.capture c.in-Script.timed _ c.in_ok-timed_file-in-Script.field-0 same refl
-    c.in_ok-timed_file-in-Script.ensures.whole c.in_ok-timed_file-in-Script.ensures.done
+    let same : c.args.settings.now ≡ Script c.in-Script.capture c.in-Script.timed c.in-Script.reading = search rules in
+    script_shown _ _ c.args.settings.now c.in-Script.capture c.in-Script.timed c.in-Script.reading _ c.in_ok-timed_file-in-Script.field-0 same refl
+    c.in_ok-timed_file-in-Script.ensures.whole (rw c.capture_reading-reading.ensures at c.in_ok-timed_file-in-Script.ensures.done)

@@ -1,4 +1,4 @@
-use Rattle.std.proofs.Common.{◌≡◌, List, sym, ap, ◌∙◌, subst}
+use Rattle.std.proofs.Common.{List, sym, ap, ◌∙◌, subst}
 use Rattle.ebpf_decode.specs.declared.map.MapDef.{MapDef}
 use Rattle.actors.specs.Commands.{HasSet, ServesScript}
 use Rattle.actors.specs.SharedUpdates.{UpdatesView}

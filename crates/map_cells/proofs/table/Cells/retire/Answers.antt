@@ -6,7 +6,7 @@ use Rattle.map_cells.proofs.table.Cells.retire.Goals as goal
 pub invariant_of-self : goal.invariant_of-self
 invariant_of-self c =
     let inside = c.self.inside in
-    let some = kept_place inside.size inside.bytes.items inside.place_of.items c.args.id (rw (← c.self.view_is) at c.requires.kept) in
+    let some = kept_place inside.size inside.bytes.items inside.place_of.places c.args.id (rw (← c.self.view_is) at c.requires.kept) in
     let fresh = rw (← c.self.view_is) at c.requires.once in
     let latest = rw (← c.self.view_is) at c.requires.latest in
     let room = rw (← c.self.view_is) at c.requires.room in
@@ -16,9 +16,9 @@ invariant_of-self c =
       small_size = c.self.invariant.small_size;
       few = c.self.invariant.few;
       bytes_room = c.self.invariant.bytes_room;
-      id_room = c.self.invariant.id_room;
+      place_room = c.self.invariant.place_room;
       free_room = c.self.invariant.free_room;
       retired_room = omega (arith, c.self.invariant.retired_room, c.push_back-placed.ensures.capacity);
       allotted = c.self.invariant.allotted;
-      waiting = waiting_retired inside.place_of.items inside.retired.items c.args.id c.args.stamp c.self.invariant.waiting some fresh latest;
+      waiting = waiting_retired inside.place_of.places inside.retired.items c.args.id c.args.stamp c.self.invariant.waiting some fresh latest;
     })

@@ -5,7 +5,7 @@ use Rattle.machine.specs.Running.{program_of}
 use Rattle.control.specs.declared.command.Command.{Command}
 use Rattle.wire.specs.declared.records.Sent.{Sent}
 use Rattle.actors.specs.declared.account.Counts.{Counts}
-use Rattle.actors.specs.declared.outcome.RecordEnd.{RecordEnd}
+use Rattle.actors.specs.declared.outcome.ToldEnd.{ToldEnd}
 use Rattle.actors.specs.Accounts.{frames_in}
 use Rattle.replay.specs.ExactReplays.{IsInTurn, HasBegun, starts_in, first_state}
 use Rattle.replay.specs.InTurn.{AreTurns}
@@ -38,11 +38,11 @@ returns-clause-replayed c = λ program options records sent ends under.
     let counted : frames_in before.counts ≡ taken = c.requires.counted in
     let few = c.requires.few in
     let no_more_sent : sent ++ before.sent ≡ sent = ap (λ (list : List Sent). sent ++ list) c.requires.none_sent ∙ append-nil sent in
-    let no_more_ends : ends ++ before.ends ≡ ends = ap (λ (list : List RecordEnd). ends ++ list) c.requires.no_ends ∙ append-nil ends in
+    let no_more_ends : ends ++ before.ends ≡ ends = ap (λ (list : List ToldEnd). ends ++ list) c.requires.no_ends ∙ append-nil ends in
     let few_sent : length sent < 2 ^ 63 =
     (let at_most = each.at_most in let n = ap (λ (list : List Sent). length list) no_more_sent in omega (arith, at_most, n, counted, few)) in
     let few_ends : length ends < 2 ^ 63 =
-    (let all = each.each in let n = ap (λ (list : List RecordEnd). length list) no_more_ends in omega (arith, all, n, counted, few)) in
+    (let all = each.each in let n = ap (λ (list : List ToldEnd). length list) no_more_ends in omega (arith, all, n, counted, few)) in
     let whole = whole_of rest sent ends few_sent few_ends in
     let was : AreTurns program c.commands.result.now records options.workers (turns_to starts taken) first (with_earlier sent ends before) =
     subst (λ (n : ℕ). AreTurns program c.commands.result.now records options.workers (turns_to starts n) first (with_earlier sent ends before))
@@ -71,31 +71,24 @@ returns-clause-replayed c = λ program options records sent ends under.
       counts = given.counts;
       each_once = ap (λ (counts : Counts). frames_in counts) given.counts ∙ told.counted ∙ counted ∙ under.taken;
       sent = sym (ap (λ (list : List Sent). sent ++ list) told.ends.sent ∙ no_more_sent);
-      ends = sym (ap (λ (list : List RecordEnd). ends ++ list) told.ends.ends ∙ no_more_ends);
+      ends = sym (ap (λ (list : List ToldEnd). ends ++ list) told.ends.ends ∙ no_more_ends);
       refused = given.refused;
       count_is = given.count;
       journals = given.journals;
       legal = given.legal;
     } in
-    let exact = c.turns_are_accounted.ensures program script options records whole under.options_fit in_turn in
     record {
       whole = whole;
       is_whole = whole_is rest sent ends few_sent few_ends;
-      accounted = exact.accounted;
-      in_order = exact.in_order;
+      exact = c.turns_are_accounted.ensures program script options records whole under.options_fit in_turn;
     }
 
 pub returns-clause-one_list : goal.returns-clause-one_list
 returns-clause-one_list c = λ options records sent ends captured under.
     let made = returns-clause-replayed c (program_of c.args.verified.now options.shards) options records sent ends under in
-    let listed = c.events_come_in_turns.ensures c.args.script.now options records made.whole under.options_fit captured c.commands_fit.ensures
-    made.in_order.turns in
     record {
-      replayed = record {
-        whole = made.whole;
-        is_whole = made.is_whole;
-        accounted = listed.exact.accounted;
-        in_order = listed.exact.in_order;
-      };
-      listed = listed.listed;
+      whole = made.whole;
+      is_whole = made.is_whole;
+      in_turns = c.events_come_in_turns.ensures c.args.script.now options records made.whole under.options_fit captured c.commands_fit.ensures
+          made.exact.in_order.turns;
     }

@@ -3,7 +3,7 @@ use Rattle.wire.specs.declared.records.Sent.{Sent}
 use Rattle.semantics.specs.declared.options.Options.{Options}
 use Rattle.machine.specs.Running.{program_of}
 use Rattle.control.specs.declared.command.Command.{Command}
-use Rattle.actors.specs.declared.outcome.RecordEnd.{RecordEnd}
+use Rattle.actors.specs.declared.outcome.ToldEnd.{ToldEnd}
 use Rattle.replay.specs.ExactReplays.{starts_in, first_state}
 use Rattle.replay.specs.InTurn.{TurnState, AreTurns}
 use Rattle.replay.specs.Pieces.{HasPiece}
@@ -25,15 +25,15 @@ returns-clause-underway g c = λ options updates records sent ends under.
     let told = c.in_ok-next.ensures in
     let same_script : c.commands-commands.result.now ≡ script = c.commands-commands.ensures in
     let starts_are : starts ≡ starts_in script = c.deref-starts.ensures.value ∙ c.requires.goes_on.starts in
-    let turns : (all earlier : List Sent) (earlier_ends : List RecordEnd) (begin : TurnState) → HasPiece all taken piece →
+    let turns : (all earlier : List Sent) (earlier_ends : List ToldEnd) (begin : TurnState) → HasPiece all taken piece →
     AreTurns (program_of verified options.shards) script all options.workers (turns_to starts taken) begin (with_earlier earlier earlier_ends before) →
     AreTurns (program_of verified options.shards) script all options.workers (turns_to starts (taken + length piece)) begin
     (with_earlier earlier earlier_ends middle) =
-    subst (λ (o : Options). (all earlier : List Sent) (earlier_ends : List RecordEnd) (begin : TurnState) → HasPiece all taken piece →
+    subst (λ (o : Options). (all earlier : List Sent) (earlier_ends : List ToldEnd) (begin : TurnState) → HasPiece all taken piece →
     AreTurns (program_of verified o.shards) script all o.workers (turns_to starts taken) begin (with_earlier earlier earlier_ends before) →
     AreTurns (program_of verified o.shards) script all o.workers (turns_to starts (taken + length piece)) begin
     (with_earlier earlier earlier_ends middle)) under.options_are
-    (subst (λ (s : List Command). (all earlier : List Sent) (earlier_ends : List RecordEnd) (begin : TurnState) → HasPiece all taken piece →
+    (subst (λ (s : List Command). (all earlier : List Sent) (earlier_ends : List ToldEnd) (begin : TurnState) → HasPiece all taken piece →
     AreTurns (program_of verified before.all.options.shards) s all before.all.options.workers (turns_to starts taken) begin
     (with_earlier earlier earlier_ends before) →
     AreTurns (program_of verified before.all.options.shards) s all before.all.options.workers (turns_to starts (taken + length piece)) begin

@@ -1,6 +1,6 @@
 use Rattle.std.proofs.Common.{◌<◌, ◌++◌, ◌∷◌, [], length, refl, ◌∙◌, ap}
 use Rattle.semantics.proofs.shared.EachLemmas.{got_there}
-use Rattle.actors.specs.declared.outcome.RecordEnd.{RecordEnd}
+use Rattle.actors.specs.declared.outcome.ToldEnd.{ToldEnd}
 use Rattle.actors.specs.Accounts.{record_end}
 use Rattle.actors.specs.Shares.{worker_of_frame}
 use Rattle.replay.proofs.single_thread.Turns.record.Goals as goal
@@ -20,7 +20,7 @@ returns-clause-turn c = λ records number there.
       noted = refl;
       counts = c.count.ensures.counted;
       sent = c.in_ok-send.ensures;
-      ends = c.in_ok-push.ensures.items ∙ ap (λ (one : RecordEnd). c.args.self.now.ends.items ++ one ∷ [])
+      ends = c.in_ok-push.ensures.items ∙ ap (λ (one : ToldEnd). c.args.self.now.ends.items ++ one ∷ [])
           (c.record_end.ensures
           ∙ ap (λ worker. record_end worker c.in_ok-end.end)
           (c.worker_of-worker.ensures.worker ∙ ap (worker_of_frame c.deref.result.now) c.workers.ensures.workers

@@ -1,10 +1,9 @@
 use Rattle.std.proofs.Common.{◌≡◌, ◌<◌, ◌+◌, ℕ, List, [], ◌∷◌, length, sym, ap, ◌∙◌, subst, arith, length-append}
-use Rattle.std.specs.Prelude.{slice_index_or}
+use Rattle.std.specs.Prelude.{Some, slice_index_or}
 use Rattle.std.proofs.lemmas.List.{length-map, map-append}
 use Rattle.semantics.specs.declared.call.Entry.{Entry}
-use Rattle.journal.specs.Journaled.{Journaled}
-use Rattle.journals.specs.KeptEntries.{written_entries, HaveRoom}
-use Rattle.semantics.proofs.shared.CellBytes.{each_append}
+use Rattle.shard_core.specs.JournaledShard.{JournaledShard}
+use Rattle.journals.specs.KeptEntries.{written_entries, ArePlanned}
 use Rattle.semantics.specs.History.{IsLegalJournal}
 use Rattle.journals.specs.JournalsView.{JournalsView, entries_at}
 use Rattle.shards.specs.CallerView.{IsSettled}
@@ -18,12 +17,13 @@ use Rattle.shards.specs.declared.deeds.Account.{Account}
 use Rattle.shards.specs.declared.deeds.OrderPart.TheVariants.{ByCaller, AtFirst}
 use Rattle.semantics.specs.declared.options.Options.{Options}
 use Rattle.shards.specs.OrderRule.{account, IsOneOfAccounts, IsEnd}
-use Rattle.shards.proofs.OrderShards.{numbered, reserved}
+use Rattle.shards.proofs.ClosedShards.{planned_more}
+use Rattle.shards.proofs.OrderShards.{numbered}
 use Rattle.shards.proofs.OrderClosing.{HasShard, gathered, gathered_more, one_order_gathered}
 use Rattle.shards.proofs.sharing.Shards.close_behind.Goals as goal
 
-pub settled-journal-requires-clause-lock : goal.settled-journal-requires-clause-lock
-settled-journal-requires-clause-lock g c =
+pub settled-shard-requires-clause-lock : goal.settled-shard-requires-clause-lock
+settled-shard-requires-clause-lock g c =
     let i = c.shards.invariant in
     let some_left : 0 < length c.shards.locks.items = (let t = i.together in let e = c.shards-test.true in omega (arith, t, e)) in
     each_first (λ n lock. IsLockOf (g.B.Naming.table n) (keyed (g.B.Naming.plan n) g.B.Naming.order) lock) c.shards.number c.shards.locks.items c.remove.result i.left some_left c.remove.ensures.value
@@ -33,14 +33,14 @@ shards-preserved g c =
     let i = c.shards.invariant in
     let old = c.args.passes.items in
     let now = c.shards.passes.items in
-    let after = c.settled-journal.new.passes.items in
+    let after = c.settled-shard.new.passes.items in
     let number = c.shards.number in
-    let written : List Journaled = c.shards.journals.items in
+    let written : List JournaledShard = c.shards.closed.items in
     let journals : List (List Entry) = written_entries written in
-    let journal : List Entry = c.settled-journal.result.entries in
-    let many : length journals ≡ number = length-map written (λ (j : Journaled). j.entries) ∙ i.made in
-    let s = c.settled-journal.ensures in
-    let items = ap written_entries c.push_reserved.ensures.items ∙ map-append (λ (j : Journaled). j.entries) written (c.settled-journal.result ∷ []) in
+    let journal : List Entry = c.settled-shard.result.journal in
+    let many : length journals ≡ number = length-map written (λ (s : JournaledShard). s.journal) ∙ i.made in
+    let s = c.settled-shard.ensures in
+    let items = ap written_entries c.push_reserved.ensures.items ∙ map-append (λ (s : JournaledShard). s.journal) written (c.settled-shard.result ∷ []) in
     record {
       count_is = i.count_is;
       together = (let t = i.together in let shorter = c.remove.ensures.len in let a = c.shards.locks.ok.0 in let b = c.remove.new.self.ok.0 in let e = c.shards-test.true in omega (arith, t, shorter, a, b, e));
@@ -52,11 +52,11 @@ shards-preserved g c =
       maps_are = i.maps_are;
       options_fit = i.options_fit;
       one_each = i.one_each;
-      made = ap (λ xs. length xs) c.push_reserved.ensures.items ∙ length-append written (c.settled-journal.result ∷ []) ∙ ap (λ n. n + 1) i.made;
+      made = ap (λ xs. length xs) c.push_reserved.ensures.items ∙ length-append written (c.settled-shard.result ∷ []) ∙ ap (λ n. n + 1) i.made;
       room = (let r = i.room in let grown = c.push_reserved.ensures.capacity in omega (arith, r, grown));
-      reserved = subst (HaveRoom c.self.inside.options.journal) (sym c.push_reserved.ensures.items)
-          (each_append (λ (j : Journaled). j.reserve ≡ c.self.inside.options.journal) written (c.settled-journal.result ∷ []) i.reserved
-          (s.room ∙ reserved _ _ _ _ number i.plans (let e = i.count_is in let t = c.shards-test.true in omega (arith, e, t)), tt));
+      planned = subst (ArePlanned c.self.inside.maps.items c.self.inside.options) (sym c.push_reserved.ensures.items)
+          (planned_more c.self.inside.maps.items c.self.inside.options written c.settled-shard.result number i.made i.planned
+          (i.plans.each number (let e = i.count_is in let t = c.shards-test.true in omega (arith, e, t)) ∙ ap Some (sym s.plan)));
       passes = s.count ∙ i.passes;
       legal = subst (λ (js : List (List Entry)). (k : ℕ) → k < number + 1 → IsLegalJournal (g.B.Naming.plan k) (slice_index_or js k [])) (sym items)
           (legal_more old now after journals number journal many g.B.Naming.plan s.legal i.legal);
@@ -65,8 +65,8 @@ shards-preserved g c =
       order_is = i.order_is;
       plans = i.plans;
       seat_is = s.seat;
-      gathered = subst (λ (js : List (List Entry)). (k : ℕ) → k < number + 1 → HasShard k (slice_index_or js k []) c.settled-journal.new.seat.me.0) (sym items)
-          (gathered_more number journals journal c.shards.seat.me c.settled-journal.new.seat.me many s.taken i.gathered);
+      gathered = subst (λ (js : List (List Entry)). (k : ℕ) → k < number + 1 → HasShard k (slice_index_or js k []) c.settled-shard.new.seat.me.0) (sym items)
+          (gathered_more number journals journal c.shards.seat.me c.settled-shard.new.seat.me many s.taken i.gathered);
       untouched = untouched_less old now after journals number journal many i.callers i.untouched i.passes s.others;
       settled = subst (λ (js : List (List Entry)). (k m : ℕ) → k < length old → m < number + 1 → IsSettled (pass_at old k).who (view_at (pass_at old k) m) (slice_index_or js m [])) (sym items)
           (settled_more old now after journals number journal many i.callers i.untouched i.passes s.settled i.settled);
@@ -79,8 +79,8 @@ returns-clause-settled g c =
     subst (λ (js : JournalsView). IsSettled (pass_at c.args.passes.items place).who (view_at (pass_at c.args.passes.items place) number) (entries_at js number)) (sym c.written.ensures)
     (i.settled place number below (let t = i.together in let e = c.shards-test.false in let n = i.count_is in omega (arith, t, e, n, less)))
 
-pub settled-journal-requires-clause-numbered : goal.settled-journal-requires-clause-numbered
-settled-journal-requires-clause-numbered g c =
+pub settled-shard-requires-clause-numbered : goal.settled-shard-requires-clause-numbered
+settled-shard-requires-clause-numbered g c =
     let i = c.shards.invariant in
     numbered _ _ g.B.Naming.count g.B.Naming.plan c.shards.number i.plans (let e = i.count_is in let t = c.shards-test.true in omega (arith, e, t))
 

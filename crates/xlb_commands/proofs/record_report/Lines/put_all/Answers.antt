@@ -3,7 +3,7 @@ use Rattle.std.specs.Prelude.{slice_get}
 use Rattle.wire.specs.declared.records.Sent.{Sent}
 use Rattle.traffic.specs.Counting.{one_if}
 use Rattle.traffic.specs.declared.record_line.ReportForm.{ReportForm}
-use Rattle.actors.specs.declared.outcome.RecordEnd.{RecordEnd}
+use Rattle.actors.specs.declared.outcome.ToldEnd.{ToldEnd}
 use Rattle.xlb_commands.specs.RecordReports.{backends_in, end_of, is_sent, is_tx, line_of_record, line_text, lines_until, sent_before, verdict_in}
 use Rattle.xlb_commands.proofs.record_report.Lines.put_all.Goals.{then-is_tx, else-is_tx}
 use Rattle.xlb_commands.proofs.record_report.Lines.put_all.Goals as goal
@@ -14,17 +14,17 @@ member_at [] place x inside is = absurd (omega arith)
 member_at (y ∷ ys) zero x inside is = ap (λ (it : _). Some it) (sym is)
 member_at (y ∷ ys) (suc place) x inside is = member_at ys place x (omega arith) is
 
-module _ (form : ReportForm) (is_shipped : Bool) (backends : List (ℕ × ℕ)) (first : ℕ) (records : List Sent) (ends : List RecordEnd)
+module _ (form : ReportForm) (is_shipped : Bool) (backends : List (ℕ × ℕ)) (first : ℕ) (records : List Sent) (ends : List ToldEnd)
     (sent : List Sent) where
   -- a text with the lines so far, and one more
-  one_line : (number place : ℕ) (captured : Sent) (end : RecordEnd) (old before line after : List ℕ) → slice_get records number ≡ Some captured
+  one_line : (number place : ℕ) (captured : Sent) (end : ToldEnd) (old before line after : List ℕ) → slice_get records number ≡ Some captured
       → end ≡ end_of ends number → place ≡ sent_before ends number → before ≡ old ++ lines_until form is_shipped backends first records ends sent number
       → line ≡ line_text form is_shipped backends (first + number) captured end (slice_get sent place) → after ≡ before ++ line
       → after ≡ old ++ lines_until form is_shipped backends first records ends sent (number + 1)
   one_line number place captured end old before line after found end_is place_is were is_line put =
       let same : line ≡ line_of_record form is_shipped backends first ends sent number (slice_get records number) =
       is_line
-      ∙ (ap (λ (it : RecordEnd). line_text form is_shipped backends (first + number) captured it (slice_get sent place)) end_is
+      ∙ (ap (λ (it : ToldEnd). line_text form is_shipped backends (first + number) captured it (slice_get sent place)) end_is
       ∙ (ap (λ (it : ℕ). line_text form is_shipped backends (first + number) captured (end_of ends number) (slice_get sent it)) place_is
       ∙ ap (λ (it : _). line_of_record form is_shipped backends first ends sent number it) (sym found))) in
       put ∙ (ap₂ (◌++◌) were same
@@ -32,7 +32,7 @@ module _ (form : ReportForm) (is_shipped : Bool) (backends : List (ℕ × ℕ)) 
       ∙ ap (λ (n : ℕ). old ++ lines_until form is_shipped backends first records ends sent n) (sym (add-one number))))
 
 -- one more is sent, or none
-one_place : (ends : List RecordEnd) (number place next : ℕ) (sent : Bool) → place ≡ sent_before ends number → sent ≡ is_sent (end_of ends number)
+one_place : (ends : List ToldEnd) (number place next : ℕ) (sent : Bool) → place ≡ sent_before ends number → sent ≡ is_sent (end_of ends number)
     → next ≡ place + one_if sent → next ≡ sent_before ends (number + 1)
 one_place ends number place next sent place_is sent_is next_is =
     next_is ∙ (ap₂ (◌+◌) place_is (ap one_if sent_is) ∙ ap (λ (n : ℕ). sent_before ends n) (sym (add-one number)))
