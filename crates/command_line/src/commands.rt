@@ -103,7 +103,7 @@ pub struct ReplaySettings<'a> {
     pub reading: Reading,
     /// The part of the capture that is replayed; the whole capture where it is missing.
     pub part: Option<Part>,
-    /// Whether no rows of journals are kept, which then have room for 134,217,728 calls each; then no file is named for them.
+    /// Whether no rows of journals are kept, which then have room for 4,000,000,000 calls each; then no file is named for them.
     pub no_journals: bool,
     /// Whether a replay that leaves something out is done in part: a run that was stopped, a record that was skipped or cut, a command
     /// behind the last record.

@@ -593,7 +593,7 @@ fn with_limits<'a>(alloc: Global, command: Command<'a>) -> Result<Command<'a>, A
     let no_journals = switch(
         alloc,
         NO_JOURNALS,
-        "Keeps no rows of journals, so that each shard may have 134217728 calls",
+        "Keeps no rows of journals, so that each shard may have 4000000000 calls",
     );
     with_cares(alloc, command.arg(no_journals)?)
 }

@@ -152,7 +152,7 @@ With --strict the status is 1 where a run was stopped, a record was skipped, cut
 or filled up, or a command comes behind the last record. With --no-clobber a
 file that is to be written and is there already is a mistake, with status 2.
 With --no-journals no rows of journals are kept: a frame costs less time and no
-memory for rows, and each shard may have 134217728 calls, whatever --journal is."
+memory for rows, and each shard may have 4000000000 calls, whatever --journal is."
 }
 
 pub fn after_script<'a>() -> &'a str {

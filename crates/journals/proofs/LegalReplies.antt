@@ -37,7 +37,7 @@ use Rattle.semantics.proofs.shared.CallNumbers.{narrow_load, narrow_atomic, not_
 
 -- before an entry for which there was room
 abbrev IsShort : List Entry → Type 0
-IsShort history = length history ≤ 134217728
+IsShort history = length history ≤ 4000000000
 
 short_where : (plan : ShardPlan) (history : List Entry) → IsPlan plan →
     nat_lt plan.reserve (length history + inside_count history + 0 + 1) ≡ false → IsShort history

@@ -211,7 +211,7 @@ fn accounted_replay<R: Threads + Wait + Sync, G: Gate + Sync>(
 /// Each reply to a run, to the controller and to the reclaimer goes through the gate: the actor that has it calls the gate, and holds no
 /// lock then.
 ///
-/// Where no rows of journals are kept, a journal has room for 134,217,728 entries, and all of this holds of journals that proofs alone
+/// Where no rows of journals are kept, a journal has room for 4,000,000,000 entries, and all of this holds of journals that proofs alone
 /// know.
 ///
 /// Refused with 51 where no shards of the image's maps can be opened with the options, or where there are commands and the image's maps

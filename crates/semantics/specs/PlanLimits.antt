@@ -1,5 +1,5 @@
 -- What the plan of a shard is, whatever its map's kind: sizes that the image format allows, a part of the map's entries as large as
--- every other, 1 to 8 workers, and a journal of 16 to 134,217,728 entries.
+-- every other, 1 to 8 workers, and a journal of 16 to 4,000,000,000 entries.
 use Rattle.std.specs.Prelude.{◌≡◌, ℕ, ◌%◌, ◌<◌, ◌≤◌, List, Some}
 use Rattle.std.specs.List.{AllByRecursion}
 use Rattle.ebpf_decode.specs.declared.map.MapKind.{MapKind}
@@ -37,7 +37,7 @@ pub record IsPlan (plan : ShardPlan) : Type 0 where
   pub some_worker : 1 ≤ plan.workers
   pub at_most_eight : plan.workers ≤ 8
   pub least_reserve : 16 ≤ plan.reserve
-  pub greatest_reserve : plan.reserve ≤ 134217728
+  pub greatest_reserve : plan.reserve ≤ 4000000000
 
 -- each shard of maps of the image format, opened with options that fit them, has such a plan
 abbrev pub ShardsHavePlans : Type 0

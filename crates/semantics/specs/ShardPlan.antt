@@ -41,17 +41,17 @@ pub record AreOptions (maps : List MapDef) (options : Options) : Type 0 where
   pub power_of_two : (options.shards ≡ 1) ⊎ (options.shards ≡ 2) ⊎ (options.shards ≡ 4) ⊎ (options.shards ≡ 8)
   pub in_equal_parts : All (λ (definition : MapDef). definition.max_entries % options.shards ≡ 0) maps
   pub least_journal : 16 ≤ options.journal
-  pub greatest_journal : options.journal ≤ 134217728
+  pub greatest_journal : options.journal ≤ 4000000000
 
 -- with journals whose rows are kept
 pub record AreServedOptions (maps : List MapDef) (options : Options) : Type 0 where
   pub fit : AreOptions maps options
   pub rows : KeepsRows options.journal
 
--- how many entries a journal has room for: without rows 2^27
+-- how many entries a journal has room for: without rows so many that the ids of cells are still below 2^32
 abbrev pub room_for : Recording → ℕ → ℕ
 room_for Rows journal = journal
-room_for NoRows journal = 134217728
+room_for NoRows journal = 4000000000
 
 -- the options of shards that are opened so
 abbrev pub recorded : Recording → Options → Options

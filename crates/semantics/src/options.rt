@@ -15,15 +15,15 @@ pub const LEAST_ENTRIES: u32 = 16;
 /// The most room of a journal whose rows are kept, in entries.
 pub const MOST_ENTRIES: u32 = 1_048_576;
 
-/// The room of a journal without rows: 2^27 entries.
-const UNRECORDED: u32 = 134_217_728;
+/// The room of a journal without rows: 4,000,000,000 entries.
+const UNRECORDED: u32 = 4_000_000_000;
 
 /// Whether shards keep the rows of their journals.
 #[derive(Clone, Copy, Debug, PartialEq, Eq)]
 pub enum Recording {
     /// They do, so a journal has room for as many entries as the options say, and can be read.
     Rows,
-    /// They do not: a journal has room for 134,217,728 entries, which are counted and cannot be read.
+    /// They do not: a journal has room for 4,000,000,000 entries, which are counted and cannot be read.
     NoRows,
 }
 

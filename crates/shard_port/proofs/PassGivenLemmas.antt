@@ -67,7 +67,7 @@ few_shards maps options count plan plans are image =
 pub record IsSmallShard (options : Options) (plan : ShardPlan) (number : ℕ) (maps : List MapDef) : Type 0 where
   pub below : plan.number < 128
   pub sizes : HasImageSizes plan.definition
-  pub short : plan.reserve ≤ 134217728
+  pub short : plan.reserve ≤ 4000000000
   pub numbered : plan.number ≡ number
   pub defined : slice_get maps (number / options.shards) ≡ Some plan.definition
 
@@ -79,7 +79,7 @@ small_shard maps options count plan number plans are image within =
     let same : (plan number).number ≡ number = planned.0 in
     let reserve : (plan number).reserve ≡ options.journal =
     plan_reserve options number (slice_get maps (number / options.shards)) (plan number) (plans.each number within) in
-    let most : options.journal ≤ 134217728 = are.greatest_journal in
+    let most : options.journal ≤ 4000000000 = are.greatest_journal in
     record {
       below = omega (arith, within, few, same);
       sizes = sizes_at maps (number / options.shards) (plan number).definition (image_sizes V2 maps image.allowed) planned.4;
@@ -98,7 +98,7 @@ small_lookup maps options count plan number worker before after key reply plans 
     let step = legal_step (plan number) number worker before after (Lookup number key) reply asked in
     let room : length history + inside_count history + 0 + 1 ≤ (plan number).reserve =
     not_over (plan number).reserve (length history + inside_count history + 0 + 1) step.0.room in
-    let most : (plan number).reserve ≤ 134217728 = at.short in
+    let most : (plan number).reserve ≤ 4000000000 = at.short in
     let short : length history < 2 ^ 32 = omega (arith, room, most) in
     let small : has_small_cell (lookup_reply (plan number) (cell_of_key (plan number) (shard_after (plan number) history) key)) ≡ true =
     small_of_kind (plan number).definition.kind (plan number) history key refl at.below at.sizes.most_entries short in
