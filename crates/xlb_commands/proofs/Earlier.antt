@@ -11,7 +11,7 @@ use Rattle.journals.specs.JournalsView.{JournalsView}
 use Rattle.journals.specs.JournalText.{journals_text}
 use Rattle.command_line.specs.declared.commands.ReplayFiles.{ReplayFiles}
 use Rattle.command_line.specs.Reading.{text_of}
-use Rattle.traffic.specs.declared.readings.Reading.{Reading}
+use Rattle.capture_readings.specs.declared.readings.Reading.{Reading}
 use Rattle.fleet.specs.declared.part.Part.{Part}
 use Rattle.xlb_commands.specs.declared.fault.Fault.{Fault}
 use Rattle.xlb_commands.specs.declared.report.Report.{Report}
@@ -111,8 +111,8 @@ unreplayed_before a b c failed since names program script options recording exac
     (no_part captured taken still capture some is) =
     no_part captured taken (kept_twice a b c kept still) (capture_before a b kept reading names.capture.now captured capture) some is
 unreplayed_before a b c failed since names program script options recording exact reading part updates fault kept so
-    (broken_off captured is_exact all no_report still capture fit broken) =
-    broken_off captured is_exact all no_report (kept_twice a b c kept still)
+    (broken_off captured is_exact no_report still capture fit broken) =
+    broken_off captured is_exact no_report (kept_twice a b c kept still)
     (capture_before a b kept reading names.capture.now captured capture) fit (broken_since failed since fault so broken)
 unreplayed_before a b c failed since names program script options recording exact reading part updates fault kept so
     (unmade captured capture is) =

@@ -17,7 +17,8 @@ use Rattle.xlb_commands.specs.InPieces.{AreAdded, AreOfRecords, AreRun, AreTold,
 use Rattle.xlb_commands.specs.RecordReports.{backends_in, form_of, runs_shipped, sent_before}
 use Rattle.xlb_commands.proofs.RecordBytes.{added_both, records_bytes-append}
 use Rattle.xlb_commands.proofs.ReportPieces.{lines_of_both, sent_behind}
-use Rattle.traffic.specs.Readings.{unaltered}
+use Rattle.capture_readings.specs.declared.readings.Reading.{Reading}
+use Rattle.folders.proofs.shared.ReadingLemmas.{still_same}
 use Rattle.xlb_commands.specs.Replays.{IsCaptureOf}
 
 captured_both : (xs ys : List Sent) → AllByRecursion IsCaptured xs → AllByRecursion IsCaptured ys → AllByRecursion IsCaptured (xs ++ ys)
@@ -121,20 +122,21 @@ module _ (program : Program) (script : List Command) (options : Options) (files 
   }
 
 -- what is left of the file is the same
-pub read_still : (has left left' : List ℕ → Type 0) (records : List Sent) (reader : ReaderView) → ((bytes : List ℕ) → (left bytes ↔ left' bytes))
-    → IsReadTo has left records reader → IsReadTo has left' records reader
-read_still has left left' records reader same is = record {
+pub read_still : (reading : Reading) (has left left' : List ℕ → Type 0) (records : List Sent) (reader : ReaderView)
+    → ((bytes : List ℕ) → (left bytes ↔ left' bytes)) → IsReadTo reading has left records reader → IsReadTo reading has left' records reader
+read_still reading has left left' records reader same is = record {
+  reading_is = is.reading_is;
   counted = is.counted;
   rest = is.rest;
-  left = (same is.rest).0 is.left;
-  file = λ behind there. is.file behind ((same behind).1 there);
+  left = still_same reader.source left left' (λ bytes. (same bytes).0) is.rest is.left;
+  file = λ behind there. is.file behind (still_same reader.source left' left (λ bytes. (same bytes).1) behind there);
 }
 
 -- the whole file is a capture
-pub capture_is : (files : FileBytes) (name : List ℕ) (records : List Sent) (cut : ℕ) → IsReadWhole (files name) records cut
-    → IsCaptureOf files unaltered name records
-capture_is files name records cut whole = record {
-  bytes = whole.all;
-  read = whole.held;
-  spelled = record { left = whole.all; left_are = refl; spelled = whole.capture };
+pub capture_is : (files : FileBytes) (reading : Reading) (name : List ℕ) (records : List Sent) (cut : ℕ) → IsReadWhole reading (files name) records cut
+    → IsCaptureOf files reading name records
+capture_is files reading name records cut whole = record {
+  bytes = whole.held.all;
+  read = whole.held.held;
+  spelled = record { left = whole.all; left_are = whole.held.bytes_are; spelled = whole.capture };
 }

@@ -68,8 +68,8 @@ use Rattle.command_line.specs.declared.commands.Settings.{Settings}
 use Rattle.command_line.specs.declared.commands.Settings.TheVariants.{Check, Run, Disasm, Audit, Explain, Asm, Shipped, Replay, Table}
 use Rattle.command_line.specs.declared.commands.Settings.TheVariants.{Script, Compare, Flows, Page}
 use Rattle.timed_scripts.specs.MeantScript.{ExplainsTimedScript as MeansNone}
-use Rattle.traffic.specs.Readings.{alters, unaltered}
-use Rattle.traffic.specs.declared.readings.Reading.{Reading}
+use Rattle.capture_readings.specs.Readings.{AreCaptureBytes, alters}
+use Rattle.capture_readings.specs.declared.readings.Reading.{Reading}
 use Rattle.fleet.specs.declared.part.Part.{Part}
 use Rattle.xlb_commands.specs.declared.fault.Fault.{Fault}
 use Rattle.xlb_commands.specs.declared.report.Report.{Report}
@@ -78,7 +78,7 @@ use Rattle.xlb_commands.specs.Files.{FileBytes, AreKept, AreOthersKept, IsImageF
 use Rattle.xlb_commands.specs.Parts.{records_in, script_in}
 use Rattle.xlb_commands.specs.Clashes.{IsOver, clash_text, IsWrittenAnew, present_text}
 use Rattle.xlb_commands.specs.FaultLines.{fault_line, mistake_text}
-use Rattle.xlb_commands.specs.Replays.{AreWritten, IsProgramOf, IsScriptFile, IsScriptOf, IsCaptureOf, AreCaptureBytes, program_of_replay}
+use Rattle.xlb_commands.specs.Replays.{AreWritten, IsProgramOf, IsScriptFile, IsScriptOf, IsCaptureOf, program_of_replay}
 use Rattle.xlb_commands.specs.Replays.{AreServedSizes}
 use Rattle.xlb_commands.specs.Replays.{capture_reading, image_of, recording_in, IsMade, IsReplayReport}
 use Rattle.xlb_commands.specs.Results.{IsDone, IsDoneInPart, IsReported, IsMistake, Stream, run_options, program_of_run, start_of_run}
@@ -450,7 +450,7 @@ pub data IsUnreplayed (files after : FileBytes) (failed : Type 0) (names : Repla
   no_part : (captured : List Sent) (taken : Part) → AreKept files after → IsCaptureOf files reading names.capture.now captured
       → part ≡ Some taken → fault ≡ faults.Memory
       → IsUnreplayed files after failed names program script options recording exact reading part updates fault
-  broken_off : (captured : List Sent) → exact ≡ true → reading ≡ unaltered → text_of names.report ≢ Some names.sent.now
+  broken_off : (captured : List Sent) → exact ≡ true → text_of names.report ≢ Some names.sent.now
       → AreKept files after → IsCaptureOf files reading names.capture.now captured
       → (¬ AreBadOptions program.maps options (script_in part captured script)) → IsBrokenOff failed fault
       → IsUnreplayed files after failed names program script options recording exact reading part updates fault

@@ -14,7 +14,7 @@ ghost use Rattle.semantics.specs.ShardPlan.{KeepsRows, recorded};
 ghost use Rattle.semantics.specs.declared.options.Options.{Options as ShardOptions};
 ghost use Rattle.machine.specs.Running.{program_of};
 ghost use Rattle.wire.specs.declared.records.Sent.{Sent as Record};
-ghost use Rattle.folders.specs.PieceReading.{IsReadTo, ReadsOn, ReadsToEnd};
+ghost use Rattle.folders.specs.PieceReading.{HasRoom, IsReadTo, ReadsOn, ReadsToEnd, most_to_come};
 ghost use Rattle.actors.specs.Captured.{IsCaptured};
 ghost use Rattle.map_updates.specs.Misfits.{AreFitting};
 ghost use Rattle.actors.specs.Parts.{AreBadOptions};
@@ -25,13 +25,12 @@ ghost use Rattle.actors.specs.declared.outcome.ToldEnd.{ToldEnd as End};
 ghost use Rattle.command_line.specs.Reading.{text_of};
 ghost use Rattle.xlb_commands.specs.Files.{AreKept};
 ghost use Rattle.xlb_commands.specs.AskedReplays.{IsConsistent, IsAnswered, IsAnsweredBy, IsDenied, IsDeniedBy, IsMadeInTurn, LeavesOthers};
-ghost use Rattle.xlb_commands.specs.InPieces.{AreApartInPieces, HasGoneThrough, HasNumbers, ReaderHasRoom, HaveRun, IsGoing};
+ghost use Rattle.xlb_commands.specs.InPieces.{AreApartInPieces, HasGoneThrough, HasNumbers, HaveRun, IsGoing};
 ghost use Rattle.xlb_commands.specs.InPieces.{IsReplayLeft, IsMadeOf};
 ghost use Rattle.xlb_commands.specs.RecordReports.{HasNamed, backends_in};
 ghost use Rattle.xlb_commands.specs.Parts.{command_frames, records_in, records_next};
 ghost use Rattle.xlb_commands.specs.Taking.{GoesPast, HasFound, IsAbreast, script_at};
 ghost use Rattle.xlb_commands.specs.Refused.{HasFailed, IsBrokenOff, IsGivenUp, IsUnserved, LacksRoom};
-ghost use Rattle.traffic.specs.Readings.{unaltered};
 ghost use Rattle.xlb_commands.specs.Replays.{IsCaptureOf, IsMade};
 
 use crate::end_maps::maps_lines;
@@ -48,6 +47,7 @@ use crate::report::{Report, replayed};
 use crate::summing::Summing;
 use crate::taking::{Taking, before_all, go_past, has_numbers};
 use actors::{PieceOutcome, all_are_captured};
+use capture_readings::Reading;
 use command_line::ReplayFiles;
 use control::Script;
 use folders::{CaptureReader, Folder, FolderFault, RecordBuffer};
@@ -62,8 +62,8 @@ use wire::{Capture, MemorySink};
 struct Seen {
     /// How many records it has.
     records: u64,
-    /// How many of them have fewer bytes than the frames that were captured.
-    cut: u64,
+    /// Which of them are not as their frames were.
+    altered: Altered,
     taking: Taking,
 }
 
@@ -95,14 +95,28 @@ impl Seen {
     /// What was seen of a capture that was read to its end.
     fn of(reader: &CaptureReader, taking: Taking) -> Seen
         ensures records { result.records ≡ reader.now.count }
-        ensures cut { result.cut ≡ reader.now.cut }
+        ensures cut { result.altered.cut ≡ reader.now.cut }
         ensures taking { result.taking ≡ taking }
     {
         Seen {
             records: reader.count(),
-            cut: reader.cut(),
+            altered: altered_by(reader),
             taking,
         }
+    }
+}
+
+/// Which of the records that were read are not as their frames were.
+pub(crate) fn altered_by(reader: &CaptureReader) -> Altered
+    ensures { result.cut ≡ reader.now.cut }
+{
+    let done = reader.alterations();
+    Altered {
+        cut: reader.cut(),
+        long: done.skipped,
+        padded: done.padded,
+        left_over: done.left_over,
+        whole: reader.count().saturating_add(done.skipped),
     }
 }
 
@@ -111,17 +125,18 @@ pub(crate) fn open_reader<D: Folder>(
     alloc: Global,
     folder: &mut D,
     name: &str,
+    reading: Reading,
 ) -> Result<Option<CaptureReader>, Refusal>
     requires { D.failure_count folder.old < 2 ^ 64 - 1 }
-    ensures opened { IfOk result (λ found. IfSome found (IsReadTo (D.holds folder.old name.now) (D.is_left folder.new) [])) }
-    ensures room { IfOk result (λ found. IfSome found (ReaderHasRoom (D.most_left folder.new))) }
+    ensures opened { IfOk result (λ found. IfSome found (IsReadTo reading (D.holds folder.old name.now) (D.is_left folder.new) [])) }
+    ensures room { IfOk result (λ found. IfSome found (HasRoom (D.most_left folder.new))) }
     ensures kept { AreKept (D.holds folder.old) (D.holds folder.new) }
     ensures made { AreKept (D.is_begun folder.old) (D.is_begun folder.new) }
     ensures steady { OnOk result (D.failure_count folder.new ≡ D.failure_count folder.old) }
     ensures refused { IfErr result
         (λ refusal. IsUnserved (HasFailed (D.failure_count folder.old) (D.failure_count folder.new)) refusal.fault) }
 {
-    match CaptureReader::open(alloc, folder, name) {
+    match CaptureReader::open(alloc, folder, name, reading) {
         Ok(found) => Ok(found),
         Err(fault) => match unserved_capture(alloc, folder, name, fault) {
             Some(refusal) => Err(refusal),
@@ -139,7 +154,7 @@ fn look_through<D: Folder>(
 ) -> Result<Option<Seen>, Refusal>
     requires { D.failure_count folder.old < 2 ^ 64 - 1 }
     ensures capture { IfOk result (λ found. IfSome found (λ seen. (records : List Record)
-        × IsCaptureOf (D.holds folder.old) unaltered asked.entry.files.now.capture.now records
+        × IsCaptureOf (D.holds folder.old) asked.entry.reading asked.entry.files.now.capture.now records
         × (seen.records ≡ length records)
         × HasFound asked.entry.part (command_frames asked.entry.script.now) records seen.taking)) }
     ensures kept { AreKept (D.holds folder.old) (D.holds folder.new) }
@@ -148,7 +163,7 @@ fn look_through<D: Folder>(
         (λ refusal. IsUnserved (HasFailed (D.failure_count folder.old) (D.failure_count folder.new)) refusal.fault) }
 {
     let name = asked.files.capture;
-    let Some(mut reader) = open_reader(alloc, folder, name)? else {
+    let Some(mut reader) = open_reader(alloc, folder, name, asked.reading)? else {
         return Ok(None);
     };
     let mut taking = before_all(alloc, folder, name, asked.part, asked.script)?;
@@ -286,7 +301,7 @@ fn take_piece<D: Folder>(
 ) -> Result<PieceStep, Refusal>
     requires failures { D.failure_count folder.old < 2 ^ 64 - 1 }
     requires named { HasNamed table.now (backends_in asked.script.now) }
-    requires room { ReaderHasRoom (D.most_left folder.old) reader.old }
+    requires room { HasRoom (D.most_left folder.old) reader.old }
     requires abreast { IsAbreast asked.part taking.old reader.old }
     requires goes_on { ReplayGoesOn asked.script.now going.old.replay }
     requires maps { going.old.replay.turns.all.maps ≡ asked.verified.now.maps }
@@ -302,9 +317,9 @@ fn take_piece<D: Folder>(
         × HaveRun (program_of asked.entry.verified.now asked.entry.options.shards) asked.entry.script.now
         (recorded asked.entry.recording asked.entry.options) asked.entry.files.now going.old.replay going.new.replay
         (D.is_begun folder.old) (D.is_begun folder.new) (records_next asked.entry.part reader.old.count records)) }
-    ensures room { IfOk result (λ step. step ≢ PieceStep.Changed → ReaderHasRoom (D.most_left folder.new) reader.new) }
+    ensures room { IfOk result (λ step. step ≢ PieceStep.Changed → HasRoom (D.most_left folder.new) reader.new) }
     ensures fewer { IfOk result (λ step. step ≡ PieceStep.More →
-        length reader.new.unread + D.most_left folder.new < length reader.old.unread + D.most_left folder.old) }
+        most_to_come (D.most_left folder.new) reader.new < most_to_come (D.most_left folder.old) reader.old) }
     ensures goes_on { IfOk result (λ step. step ≢ PieceStep.Changed → ReplayGoesOn asked.entry.script.now going.new.replay) }
     ensures maps { IfOk result (λ step. step ≢ PieceStep.Changed → going.new.replay.turns.all.maps ≡ asked.entry.verified.now.maps) }
     ensures kept { AreKept (D.holds folder.old) (D.holds folder.new) }
@@ -337,7 +352,7 @@ fn go_through<D: Folder, P: Progress>(
     requires named { HasNamed table.now (backends_in asked.script.now) }
     requires goes_on { ReplayGoesOn asked.script.now going.old.replay }
     requires maps { going.old.replay.turns.all.maps ≡ asked.verified.now.maps }
-    ensures gone { IfOk result (λ gone. gone ≡ true → HasGoneThrough (D.holds folder.old) asked.entry.files.now.capture.now
+    ensures gone { IfOk result (λ gone. gone ≡ true → HasGoneThrough (D.holds folder.old) asked.entry.reading asked.entry.files.now.capture.now
         asked.entry.part whole.entry.script.now whole.entry.numbers.now
         (program_of asked.entry.verified.now asked.entry.options.shards) asked.entry.script.now
         (recorded asked.entry.recording asked.entry.options) asked.entry.files.now going.old.replay going.new.replay
@@ -348,7 +363,7 @@ fn go_through<D: Folder, P: Progress>(
     ensures refused { IfErr result
         (λ refusal. IsBrokenOff (HasFailed (D.failure_count folder.old) (D.failure_count folder.new)) refusal.fault) }
 {
-    let Some(mut reader) = open_reader(alloc, folder, asked.files.capture)? else {
+    let Some(mut reader) = open_reader(alloc, folder, asked.files.capture, asked.reading)? else {
         return Ok(false);
     };
     let name = asked.files.capture;
@@ -450,7 +465,7 @@ fn left_by_pieces<D: Folder, P: Progress>(
     folder: &mut D,
     asked: Asked<'_>,
     whole: WholeScript<'_>,
-    cut: u64,
+    altered: Altered,
     table: &Backends,
     mut going: Going,
     distance: Distance<'_, P>,
@@ -465,7 +480,7 @@ fn left_by_pieces<D: Folder, P: Progress>(
     requires served { KeepsRows asked.options.journal }
     requires consistent { IsConsistent asked }
     ensures left { IfOk result (λ found. IfSome found (λ left. IsReplayLeft (D.holds folder.old) (D.is_begun folder.old) (D.is_begun folder.new)
-        asked.entry.files.now asked.entry.part whole.entry.script.now asked.entry.verified.now asked.entry.script.now
+        asked.entry.files.now asked.entry.reading asked.entry.part whole.entry.script.now asked.entry.verified.now asked.entry.script.now
         asked.entry.options asked.entry.recording asked.entry.ring asked.entry.updates.now left.report left.journals.bytes)) }
     ensures kept { AreKept (D.holds folder.old) (D.holds folder.new) }
     ensures steady { OnOk result (D.failure_count folder.new ≡ D.failure_count folder.old) }
@@ -476,10 +491,6 @@ fn left_by_pieces<D: Folder, P: Progress>(
     if !go_through(alloc, folder, asked, whole, table, &mut going, distance)? {
         return Ok(None);
     }
-    let altered = Altered {
-        cut,
-        ..Altered::default()
-    };
     let left = left_in_pieces(alloc, asked, altered, going)?;
     Ok(Some(left))
 }
@@ -503,15 +514,14 @@ fn replay_seen<D: Folder, P: Progress + Sync>(
     asked: Asked<'_>,
     whole: WholeScript<'_>,
     records: u64,
-    cut: u64,
+    altered: Altered,
     progress: &P,
 ) -> Result<Option<Report>, Refusal>
     requires failures { D.failure_count folder.old < 2 ^ 64 - 1 }
     requires exact { asked.exact ≡ true }
-    requires all { asked.reading ≡ unaltered }
     requires apart { AreApartInPieces asked.files.now }
     requires consistent { IsConsistent asked }
-    requires numbered { HasNumbers (D.holds folder.old) asked.files.now.capture.now asked.part whole.script.now whole.numbers.now }
+    requires numbered { HasNumbers (D.holds folder.old) asked.reading asked.files.now.capture.now asked.part whole.script.now whole.numbers.now }
     requires script { asked.script.now ≡ script_at asked.part whole.numbers.now whole.script.now }
     ensures done { IfOk result (λ found. IfSome found
         (IsAnsweredBy (D.holds folder.old) (D.holds folder.new) asked.entry whole.entry.script.now)) }
@@ -531,7 +541,9 @@ fn replay_seen<D: Folder, P: Progress + Sync>(
         progress,
         all: records,
     };
-    match left_by_pieces(alloc, folder, asked, whole, cut, &table, going, distance) {
+    match left_by_pieces(
+        alloc, folder, asked, whole, altered, &table, going, distance,
+    ) {
         Ok(Some(left)) => {
             write_pieces(alloc, folder, asked.files, &left.journals)?;
             Ok(Some(left.report))
@@ -557,7 +569,6 @@ pub(crate) fn replay_in_pieces<D: Folder, P: Progress + Sync>(
 ) -> Result<Option<Report>, Refusal>
     requires failures { D.failure_count folder.old < 2 ^ 64 - 1 }
     requires exact { asked.exact ≡ true }
-    requires all { asked.reading ≡ unaltered }
     requires apart { AreApartInPieces asked.files.now }
     requires consistent { IsConsistent asked }
     ensures done { IfOk result (λ found. IfSome found (IsAnswered (D.holds folder.old) (D.holds folder.new) asked.entry)) }
@@ -572,7 +583,7 @@ pub(crate) fn replay_in_pieces<D: Folder, P: Progress + Sync>(
     };
     let Seen {
         records,
-        cut,
+        altered,
         taking,
     } = seen;
     let numbered = taking.numbered(alloc, asked.script)?;
@@ -582,7 +593,7 @@ pub(crate) fn replay_in_pieces<D: Folder, P: Progress + Sync>(
                 script: asked.script,
                 numbers: &[],
             };
-            replay_seen(alloc, folder, asked, whole, records, cut, progress)
+            replay_seen(alloc, folder, asked, whole, records, altered, progress)
         }
         Some(of_part) => {
             let whole = WholeScript {
@@ -593,7 +604,15 @@ pub(crate) fn replay_in_pieces<D: Folder, P: Progress + Sync>(
                 script: &of_part.script,
                 ..asked
             };
-            replay_seen(alloc, folder, asked_of_part, whole, records, cut, progress)
+            replay_seen(
+                alloc,
+                folder,
+                asked_of_part,
+                whole,
+                records,
+                altered,
+                progress,
+            )
         }
     }
 }

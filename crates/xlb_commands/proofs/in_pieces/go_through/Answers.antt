@@ -38,7 +38,7 @@ pieces-preserved g c =
     let more = (rw c.in-Ok-More.field-0-is at c.in-Ok-More.ensures.more) refl in
     record {
       records = so_far.records ++ more.0;
-      read = more.1 c.args.folder.now c.args.asked.files.now.capture.now so_far.records so_far.read;
+      read = more.1 c.args.asked.reading c.args.folder.now c.args.asked.files.now.capture.now so_far.records so_far.read;
       passed = more.2 c.args.asked.part (command_frames c.args.whole.script.now) so_far.records so_far.passed;
       have_run = subst (λ (them : List Sent). HaveRun (program_of c.args.asked.verified.now c.args.asked.options.shards) c.args.asked.script.now
           (recorded c.args.asked.recording c.args.asked.options) c.args.asked.files.now c.args.going.now.replay c.take_piece.new.going.replay
@@ -82,8 +82,8 @@ returns-in-Ok-Last-clause-gone g c =
     record {
       numbered = record {
         captured = so_far.records ++ last.0;
-        capture = capture_is (g.D.Folder.holds c.args.folder.now) c.args.asked.files.now.capture.now (so_far.records ++ last.0) _
-            (last.1 c.args.folder.now c.args.asked.files.now.capture.now so_far.records so_far.read);
+        capture = capture_is (g.D.Folder.holds c.args.folder.now) c.args.asked.reading c.args.asked.files.now.capture.now (so_far.records ++ last.0) _
+            (last.1 c.args.asked.reading c.args.folder.now c.args.asked.files.now.capture.now so_far.records so_far.read);
         numbers_are = (same c.args.asked.part (command_frames c.args.whole.script.now) (so_far.records ++ last.0)
             (last.2 c.args.asked.part (command_frames c.args.whole.script.now) so_far.records so_far.passed)).0 is;
       };

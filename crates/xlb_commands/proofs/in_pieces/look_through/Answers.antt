@@ -13,10 +13,10 @@ pub returns-in-Ok-None-clause-capture : goal.returns-in-Ok-None-clause-capture
 returns-in-Ok-None-clause-capture g c =
     let so_far = c.records.invariant in
     let end = rw c.in-Ok-None.field-0-is at c.in-Ok-None.ensures.whole in
-    let whole = subst (λ (them : List Sent). IsReadWhole (g.D.Folder.holds c.args.folder.now c.args.asked.files.now.capture.now) them c.find.new.self.cut)
-    (append-nil so_far.records) (end c.args.folder.now c.args.asked.files.now.capture.now so_far.records so_far.read) in (
+    let whole = subst (λ (them : List Sent). IsReadWhole c.args.asked.reading (g.D.Folder.holds c.args.folder.now c.args.asked.files.now.capture.now) them c.find.new.self.cut)
+    (append-nil so_far.records) (end c.args.asked.reading c.args.folder.now c.args.asked.files.now.capture.now so_far.records so_far.read) in (
       so_far.records,
-      capture_is (g.D.Folder.holds c.args.folder.now) c.args.asked.files.now.capture.now so_far.records _ whole,
+      capture_is (g.D.Folder.holds c.args.folder.now) c.args.asked.reading c.args.asked.files.now.capture.now so_far.records _ whole,
       c.of.ensures.records ∙ (c.in-Ok-None.ensures.count ∙ so_far.read.counted),
       subst (HasFound c.args.asked.part (command_frames c.args.asked.script.now) so_far.records) (sym c.of.ensures.taking)
           (found_none c.args.asked.part (command_frames c.args.asked.script.now) so_far.records _ so_far.passed),
@@ -29,13 +29,13 @@ pub returns-in-Ok-clause-capture : goal.returns-in-Ok-clause-capture
 returns-in-Ok-clause-capture g c =
     let so_far = c.records.invariant in
     let rest = c.in-Ok.ensures.whole in
-    let whole = rest.1 c.args.folder.now c.args.asked.files.now.capture.now so_far.records so_far.read in
+    let whole = rest.1 c.args.asked.reading c.args.folder.now c.args.asked.files.now.capture.now so_far.records so_far.read in
     let both = length-append so_far.records rest.0 in
     let counted = so_far.read.counted in
     let more = rest.2 in
     let known : knows_numbers c.records.taking ≡ true = search rules in (
       so_far.records ++ rest.0,
-      capture_is (g.D.Folder.holds c.args.folder.now) c.args.asked.files.now.capture.now (so_far.records ++ rest.0) _ whole,
+      capture_is (g.D.Folder.holds c.args.folder.now) c.args.asked.reading c.args.asked.files.now.capture.now (so_far.records ++ rest.0) _ whole,
       c.of-in-Ok.ensures.records ∙ omega (arith, both, counted, more),
       subst (HasFound c.args.asked.part (command_frames c.args.asked.script.now) (so_far.records ++ rest.0))
           (sym c.of-in-Ok.ensures.taking)
@@ -70,13 +70,14 @@ records-preserved g c =
     let room = so_far.room in
     let less = found.fewer in
     let fewer = c.pass.ensures.fewer in
+    let raw = c.pass.ensures.raw in
     record {
       records = so_far.records ++ front.sent ∷ [];
       read = sent_on _ _ _ _ _ _ front.sent found.read front.begins (c.pass.ensures.behind front.sent front.begins)
-          c.args.folder.now c.args.asked.files.now.capture.now so_far.records so_far.read;
+          c.args.asked.reading c.args.folder.now c.args.asked.files.now.capture.now so_far.records so_far.read;
       passed = c.in_ok-_taken-in-Ok-Some.ensures.past front.sent (sym (c.frame.ensures front.sent front.begins)) c.args.asked.part
           (command_frames c.args.asked.script.now) so_far.records so_far.passed;
-      room = omega (arith, room, found_count, count, less, fewer);
+      room = omega (arith, room, found_count, count, less, fewer, raw);
       kept = kept_twice _ _ _ so_far.kept c.find.ensures.kept;
       steady = search rules;
     }

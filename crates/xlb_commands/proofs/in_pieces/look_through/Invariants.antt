@@ -1,8 +1,7 @@
-use Rattle.std.proofs.Common.{◌≡◌, ◌+◌, List, length}
-use Rattle.folders.specs.PieceReading.{IsReadTo}
+use Rattle.std.proofs.Common.{◌≡◌, List}
+use Rattle.folders.specs.PieceReading.{HasRoom, IsReadTo, most_to_come}
 use Rattle.wire.specs.declared.records.Sent.{Sent}
 use Rattle.xlb_commands.specs.Files.{AreKept}
-use Rattle.xlb_commands.specs.InPieces.{ReaderHasRoom}
 use Rattle.xlb_commands.specs.Parts.{command_frames}
 use Rattle.xlb_commands.specs.Taking.{HasPassed}
 use Rattle.xlb_commands.proofs.in_pieces.look_through.Given as goal
@@ -10,9 +9,9 @@ use Rattle.xlb_commands.proofs.in_pieces.look_through.Given as goal
 -- the records so far
 pub record Looked (g : goal.Over) (l : goal.Live-records g) : Type 0 where
   pub records : List Sent
-  pub read : IsReadTo (g.D.Folder.holds l.fn.folder l.fn.asked.files.now.capture.now) (g.D.Folder.is_left l.folder) records l.reader
+  pub read : IsReadTo l.fn.asked.reading (g.D.Folder.holds l.fn.folder l.fn.asked.files.now.capture.now) (g.D.Folder.is_left l.folder) records l.reader
   pub passed : HasPassed l.fn.asked.part (command_frames l.fn.asked.script.now) records l.taking
-  pub room : ReaderHasRoom (g.D.Folder.most_left l.folder) l.reader
+  pub room : HasRoom (g.D.Folder.most_left l.folder) l.reader
   pub kept : AreKept (g.D.Folder.holds l.fn.folder) (g.D.Folder.holds l.folder)
   pub steady : g.D.Folder.failure_count l.folder ≡ g.D.Folder.failure_count l.fn.folder
 
@@ -20,4 +19,4 @@ abbrev pub invariant-records : goal.invariant-records
 invariant-records g l = Looked g l
 
 abbrev pub decreases-records : goal.decreases-records
-decreases-records g l = length l.reader.unread + g.D.Folder.most_left l.folder
+decreases-records g l = most_to_come (g.D.Folder.most_left l.folder) l.reader

@@ -3,9 +3,7 @@ use Rattle.std.proofs.lemmas.Option.{IfSome_then}
 use Rattle.std.proofs.lemmas.Result.{err_from_is_err_and, IfErr-weaker, IfOk-weaker, on_ok_weaker}
 use Rattle.xlb_commands.specs.Parts.{command_frames}
 use Rattle.xlb_commands.specs.Taking.{AreNumbers, script_at}
-use Rattle.traffic.specs.declared.readings.Reading.{Reading}
 use Rattle.xlb_commands.specs.Refused.{no_part}
-use Rattle.xlb_commands.specs.Replays.{IsCaptureOf}
 use Rattle.xlb_commands.proofs.Earlier.{all_but_kept, capture_before, report_before, unreplayed_before}
 use Rattle.xlb_commands.proofs.Refusals.{failed_since, kept_back}
 use Rattle.xlb_commands.proofs.TakingLemmas.{numbers_behind_all, numbers_of_all, script_of_all, script_of_one}
@@ -61,9 +59,7 @@ returns-in_err-numbered-clause-refused g c =
     let seen = rw c.in-Some.is at c.in_ok-seen.ensures.capture in
     let one = c.in_err-numbered.ensures.refused asked.part (command_frames asked.script.now) seen.3.past seen.3.passed in
     let p = err_from_is_err_and c.from_residual-in_err-numbered.result c.from_residual-in_err-numbered.ensures.1 in
-    rw p.1 (no_part seen.0 one.0 c.look_through.ensures.kept
-    (subst (λ (reading : Reading). IsCaptureOf (g.D.Folder.holds c.args.folder.now) reading asked.files.now.capture.now seen.0) (sym c.requires.all) seen.1)
-    one.1 p.2)
+    rw p.1 (no_part seen.0 one.0 c.look_through.ensures.kept seen.1 one.1 p.2)
 
 pub returns-in-None-clause-done : goal.returns-in-None-clause-done
 returns-in-None-clause-done g c =

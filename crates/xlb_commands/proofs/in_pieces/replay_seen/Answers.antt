@@ -4,8 +4,6 @@ use Rattle.wire.specs.CaptureFormat.{capture_bytes, header_bytes, records_bytes}
 use Rattle.wire.specs.declared.records.Sent.{Sent}
 use Rattle.command_line.specs.Reading.{text_of}
 use Rattle.semantics.specs.ShardPlan.{recorded}
-use Rattle.traffic.specs.Readings.{unaltered}
-use Rattle.traffic.specs.declared.readings.Reading.{Reading}
 use Rattle.xlb_commands.specs.RecordReports.{IsReportFile, form_of, report_text, runs_shipped}
 use Rattle.xlb_commands.specs.InPieces.{AreApartInPieces, AreTold}
 use Rattle.traffic.specs.RecordLines.{report_head}
@@ -82,8 +80,7 @@ returns-in_err-going-clause-refused g c =
     let p = err_from_is_err_and c.from_residual.result c.from_residual.ensures.1 in
     rw (p.1, p.2)
     (unmade_by _ _ _ asked c.args.whole.script.now seen.captured _
-    (subst (λ (reading : Reading). IsCaptureOf (g.D.Folder.holds c.args.folder.now) reading asked.files.now.capture.now seen.captured)
-    (sym c.requires.all) seen.capture)
+    seen.capture
     (script_is asked.part seen.captured c.args.whole.numbers.now c.args.whole.script.now seen.numbers_are ∙ sym c.requires.script)
     (given_up why.0 (kept_still _)
     (subst (λ (exact : Bool). IsGivenUp exact asked.verified.now.maps asked.updates.now asked.script.now asked.options asked.recording why.0)
@@ -100,8 +97,7 @@ returns-in_err-write_pieces-in-Ok-Some-clause-refused g c =
     let p = err_from_is_err_and c.from_residual-in_err-write_pieces-in-Ok-Some.result c.from_residual-in_err-write_pieces-in-Ok-Some.ensures.1 in
     rw (p.1, p.2)
     (unmade_by _ _ _ asked c.args.whole.script.now left.captured _
-    (subst (λ (reading : Reading). IsCaptureOf (g.D.Folder.holds c.args.folder.now) reading asked.files.now.capture.now left.captured)
-    (sym c.requires.all) (capture_before _ _ before _ _ left.captured left.capture))
+    (capture_before _ _ before _ _ left.captured left.capture)
     left.script_is
     (not_written_down made_of.whole
     (subst (λ (exact : Bool). IsMade exact (program_of_replay (image_of asked.verified.now) asked.options) asked.updates.now asked.script.now
@@ -120,8 +116,7 @@ returns-in-Ok-Some-clause-done g c =
     let before = c.begin_files.ensures.kept in
     let begun = left.added c.requires.apart header_bytes (c.in_ok-begin_files.ensures.sent c.if-not-branch.false) in
     answer_by _ _ asked c.args.whole.script.now left.captured _
-    (subst (λ (reading : Reading). IsCaptureOf (g.D.Folder.holds c.args.folder.now) reading asked.files.now.capture.now left.captured)
-    (sym c.requires.all) (capture_before _ _ before _ _ left.captured left.capture)) left.script_is (
+    (capture_before _ _ before _ _ left.captured left.capture) left.script_is (
       made_of.whole.refused.items,
       record {
         options_are_served = served_options asked.verified.now.maps asked.script.now asked.options c.in_ok-going.ensures.good;
@@ -155,21 +150,19 @@ returns-in-Ok-Some-clause-done g c =
 
 -- the replay was broken off, or it was made and memory was refused for what it leaves
 denied : (before after held : FileBytes) (failed since : Type 0) (asked : Asked) (script : List Command) (captured : List Sent) (fault : Fault)
-    → asked.exact ≡ true → asked.reading ≡ unaltered → AreApartInPieces asked.files.now → AreKept before held → AreKept before after
-    → IsCaptureOf before unaltered asked.files.now.capture.now captured → script_in asked.part captured script ≡ asked.script.now
+    → asked.exact ≡ true → AreApartInPieces asked.files.now → AreKept before held → AreKept before after
+    → IsCaptureOf before asked.reading asked.files.now.capture.now captured → script_in asked.part captured script ≡ asked.script.now
     → (¬ HasBadOptions asked) → (failed → since)
     → (IsBrokenOff failed fault ⊎ (IsMadeInTurn held asked script × LacksRoom (text_of asked.files.now.journals) fault))
     → IsDeniedBy before after since asked script fault
-denied before after held failed since asked script captured fault exact all apart same kept capture commands good so (inl broken) =
-    broken_off captured exact all apart kept
-    (subst (λ (reading : Reading). IsCaptureOf before reading asked.files.now.capture.now captured) (sym all) capture)
+denied before after held failed since asked script captured fault exact apart same kept capture commands good so (inl broken) =
+    broken_off captured exact apart kept capture
     (subst (λ (them : List Command). ¬ AreBadOptions asked.verified.now.maps asked.options them) (sym commands) good)
     (broken_since failed since fault so broken)
-denied before after held failed since asked script captured fault exact all apart same kept capture commands good so (inr both) =
+denied before after held failed since asked script captured fault exact apart same kept capture commands good so (inr both) =
     let made = both.0 in
     unmade_by before after since asked script made.captured fault
-    (subst (λ (reading : Reading). IsCaptureOf before reading asked.files.now.capture.now made.captured) (sym all)
-    (capture_before before held same unaltered asked.files.now.capture.now made.captured made.capture))
+    (capture_before before held same asked.reading asked.files.now.capture.now made.captured made.capture)
     made.script_is
     (not_reported made.outcome kept
     (subst (λ (exact : Bool). IsMade exact (program_of_replay (image_of asked.verified.now) asked.options) asked.updates.now asked.script.now
@@ -181,7 +174,7 @@ returns-clause-refused g c =
     let asked = c.args.asked in
     let seen = c.requires.numbered in
     let before = c.begin_files.ensures.kept in
-    denied _ _ _ _ _ asked c.args.whole.script.now seen.captured _ c.requires.exact c.requires.all c.requires.apart before
+    denied _ _ _ _ _ asked c.args.whole.script.now seen.captured _ c.requires.exact c.requires.apart before
     (kept_twice _ _ _ (kept_twice _ _ _ before c.left_by_pieces.ensures.kept) c.give_up-in-Err.ensures.kept) seen.capture
     (script_is asked.part seen.captured c.args.whole.numbers.now c.args.whole.script.now seen.numbers_are ∙ sym c.requires.script)
     c.in_ok-going.ensures.good
@@ -194,9 +187,8 @@ returns-in_err-begin_files-clause-refused g c =
     let same = script_is asked.part seen.captured c.args.whole.numbers.now c.args.whole.script.now seen.numbers_are ∙ sym c.requires.script in
     let p = err_from_is_err_and c.from_residual-in_err-begin_files.result c.from_residual-in_err-begin_files.ensures.1 in
     rw (p.1, p.2)
-    (broken_off seen.captured c.requires.exact c.requires.all c.requires.apart c.begin_files.ensures.kept
-    (subst (λ (reading : Reading). IsCaptureOf (g.D.Folder.holds c.args.folder.now) reading asked.files.now.capture.now seen.captured)
-    (sym c.requires.all) seen.capture)
+    (broken_off seen.captured c.requires.exact c.requires.apart c.begin_files.ensures.kept
+    seen.capture
     (subst (λ (them : List Command). ¬ AreBadOptions asked.verified.now.maps asked.options them) (sym same) c.in_ok-going.ensures.good)
     (no_piece c.in_err-begin_files.ensures.refused))
 
@@ -207,8 +199,7 @@ returns-in_err-table-clause-refused g c =
     let same = script_is asked.part seen.captured c.args.whole.numbers.now c.args.whole.script.now seen.numbers_are ∙ sym c.requires.script in
     let p = err_from_is_err_and c.from_residual-in_err-table.result c.from_residual-in_err-table.ensures.1 in
     rw (p.1, p.2)
-    (broken_off seen.captured c.requires.exact c.requires.all c.requires.apart (kept_still _)
-    (subst (λ (reading : Reading). IsCaptureOf (g.D.Folder.holds c.args.folder.now) reading asked.files.now.capture.now seen.captured)
-    (sym c.requires.all) seen.capture)
+    (broken_off seen.captured c.requires.exact c.requires.apart (kept_still _)
+    seen.capture
     (subst (λ (them : List Command). ¬ AreBadOptions asked.verified.now.maps asked.options them) (sym same) c.in_ok-going.ensures.good)
     (no_piece (lacks_memory c.in_err-table.ensures.refused)))

@@ -1,8 +1,6 @@
-use Rattle.std.proofs.Common.{◌∙◌, sym, subst}
+use Rattle.std.proofs.Common.{◌∙◌}
 use Rattle.std.proofs.lemmas.Result.{err_from_is_err_and, IfErr-weaker, IfOk-weaker, on_ok_weaker}
-use Rattle.traffic.specs.declared.readings.Reading.{Reading}
 use Rattle.xlb_commands.specs.Refused.{no_capture_bytes}
-use Rattle.xlb_commands.specs.Replays.{IsCaptureOf}
 use Rattle.xlb_commands.proofs.Earlier.{capture_before}
 use Rattle.xlb_commands.proofs.Refusals.{capture_refusal_before, failed_since, kept_twice}
 use Rattle.xlb_commands.proofs.replays.capture_of.Goals as goal
@@ -11,12 +9,6 @@ pub returns-in_err-capture-clause-refused : goal.returns-in_err-capture-clause-r
 returns-in_err-capture-clause-refused g c =
     let p = err_from_is_err_and c.from_residual.result c.from_residual.ensures.1 in
     rw (p.1, p.2) (no_capture_bytes c.in_err-capture.ensures.refused)
-
-pub returns-in-Some-clause-capture : goal.returns-in-Some-clause-capture
-returns-in-Some-clause-capture g c =
-    let found = rw c.in-Some.is at c.in_ok-capture.ensures.capture in
-    subst (λ (reading : Reading). IsCaptureOf (g.D.Folder.holds c.args.folder.now) reading c.args.name.now c.in-Some.capture.records.items)
-    (sym (c.alters.ensures.unaltered c.if-alters.false)) found
 
 pub returns-in-None-clause-capture : goal.returns-in-None-clause-capture
 returns-in-None-clause-capture g c =

@@ -34,12 +34,13 @@ records-preserved g c =
     let room = so_far.room in
     let less = found.fewer in
     let fewer = c.pass.ensures.fewer in
+    let raw = c.pass.ensures.raw in
     record {
       records = so_far.records ++ front.sent ∷ [];
       read = more_on _ _ _ _ _ _ _ so_far.records (front.sent ∷ []) so_far.read
           (sent_on _ _ _ _ _ _ front.sent found.read front.begins (c.pass.ensures.behind front.sent front.begins));
       counted = omega (arith, both, counted, found_count, count);
-      room = omega (arith, room, found_count, count, less, fewer);
+      room = omega (arith, room, found_count, count, less, fewer, raw);
       kept = λ other held. (
         (λ had. (c.find.ensures.kept other held).0 ((so_far.kept other held).0 had)),
         (λ has. (so_far.kept other held).1 ((c.find.ensures.kept other held).1 has)),
