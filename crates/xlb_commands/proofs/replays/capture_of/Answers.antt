@@ -10,6 +10,9 @@ returns-in_err-capture-clause-refused g c =
     let p = err_from_is_err_and c.from_residual.result c.from_residual.ensures.1 in
     rw (p.1, p.2) (no_capture_bytes c.in_err-capture.ensures.refused)
 
+pub returns-in-Some-clause-capture : goal.returns-in-Some-clause-capture
+returns-in-Some-clause-capture g c = rw c.in-Some.is at c.in_ok-capture.ensures.capture
+
 pub returns-in-None-clause-capture : goal.returns-in-None-clause-capture
 returns-in-None-clause-capture g c =
     IfOk-weaker c.capture_of_bytes-in-None.result _ _

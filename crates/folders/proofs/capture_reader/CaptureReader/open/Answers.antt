@@ -1,4 +1,4 @@
-use Rattle.std.proofs.Common.{ℕ, ◌+◌, ◌^◌, ◌≤◌, List, [], inr, length, refl, sym, subst, rules}
+use Rattle.std.proofs.Common.{ℕ, ◌+◌, ◌^◌, ◌≤◌, ◌∙◌, List, [], ap, arith, inr, length, length-drop, refl, sym, subst, rules}
 use Rattle.folders.specs.Pieces.{IsOpened}
 use Rattle.wire.specs.CaptureFormat.{BeginsWithHeader, IsHeaderFault}
 use Rattle.capture_readings.specs.Readings.{alters}
@@ -31,7 +31,11 @@ returns-in-Ok-behind_header-clause-opened g c =
 pub returns-in-Ok-behind_header-clause-room : goal.returns-in-Ok-behind_header-clause-room
 returns-in-Ok-behind_header-clause-room g c =
     let most = g.D.Folder.most_left c.fill.new.folder in
-    let few : length c.skip.new.self + most ≤ 2 ^ 40 = search rules in
+    let none = ap length c.in-Ok.ensures in
+    let fewer = c.in-Ok-fill.ensures.fewer in
+    let past = ap length c.skip.ensures ∙ length-drop 24 c.fill.new.self in
+    let bounded = c.open.ensures.bounded in
+    let few : length c.skip.new.self + most ≤ 2 ^ 40 = omega (arith, none, fewer, past, bounded) in
     subst (λ (reader : ReaderView). HasRoom most reader) (sym c.in-Ok-behind_header.ensures)
     (behind_room (alters c.args.reading) c.args.reading c.skip.new.self most few)
 
