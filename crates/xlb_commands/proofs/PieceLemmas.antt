@@ -1,5 +1,5 @@
 -- What is read, run and written in pieces, one piece after another.
-use Rattle.std.proofs.Common.{arith, ◌≡◌, ◌∙◌, ◌+◌, ◌++◌, ◌∷◌, ◌↔◌, ℕ, false, List, [], append-nil, append_assoc, ap, ap₂, length, refl, subst, sym}
+use Rattle.std.proofs.Common.{arith, ◌∙◌, ◌+◌, ◌++◌, ◌∷◌, ◌↔◌, ℕ, List, [], append-nil, append_assoc, ap, ap₂, length, refl, subst, sym}
 use Rattle.std.proofs.lemmas.List.{length-append}
 use Rattle.std.specs.List.{AllByRecursion}
 use Rattle.folders.specs.PieceReading.{ReaderView, IsReadTo, IsReadWhole}

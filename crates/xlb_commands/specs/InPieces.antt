@@ -1,5 +1,5 @@
 -- An exact replay whose capture is read, and whose sent frames and report are written, in pieces.
-use Rattle.std.specs.Prelude.{◌≡◌, ◌≢◌, ◌↔◌, ◌+◌, ◌*◌, ◌^◌, ◌≤◌, ◌++◌, ℕ, true, false, List, [], Option, Some, length, string_bytes}
+use Rattle.std.specs.Prelude.{◌≡◌, ◌≢◌, ◌↔◌, ◌+◌, ◌++◌, ℕ, true, false, List, [], Option, Some, length, string_bytes}
 use Rattle.std.specs.List.{AllByRecursion}
 use Rattle.semantics.specs.Program.{Program}
 use Rattle.semantics.specs.ShardPlan.{recorded}

@@ -1,6 +1,5 @@
 -- A file's records so far, one step after another.
-use Rattle.std.proofs.Common.{Option, Some, None, Bool, true, false, ◌≡◌, ℕ, ◌+◌, ◌*◌, ◌^◌, ◌≤◌, ◌<◌, ◌⊎◌, inl, inr, nat_lt, if◌then◌else◌, List, [], ◌∷◌, ◌++◌, length, take, drop, refl, sym, ap, subst, ◌∙◌, append_assoc, append-nil, length-append, add_assoc, arith}
-use Rattle.std.specs.List.{concat}
+use Rattle.std.proofs.Common.{Option, Some, None, Bool, true, false, ◌≡◌, ℕ, ◌+◌, ◌^◌, ◌≤◌, ◌<◌, ◌⊎◌, inl, inr, nat_lt, if◌then◌else◌, List, [], ◌∷◌, ◌++◌, length, take, drop, refl, sym, ap, subst, ◌∙◌, append_assoc, append-nil, length-append, add_assoc, arith}
 use Rattle.std.proofs.lemmas.List.{drop-append-le, length-take-le, take-append-drop, take-append-le}
 use Rattle.std.proofs.lemmas.Bool.{true≢false}
 use Rattle.std.proofs.Math.Seq.{drop-append_seam}
@@ -15,7 +14,7 @@ use Rattle.wire.proofs.shared.CaptureLemmas.{AreRecords-more, refused_record}
 use Rattle.folders.specs.Filling.{IsFilled}
 use Rattle.folders.specs.AlteredReading.{AlteringView, AreReadOf, AreStillRead, IsOf, IsReadAlike, still_read}
 use Rattle.folders.specs.PieceReading.{ReaderView, behind_record, cut_at_front, cut_record_count, HasRecords, IsReadTo, IsReadWhole, IsFileRefused}
-use Rattle.folders.specs.PieceReading.{HasRoom, ReadsOn, ReadsToEnd, most_to_come, read_behind}
+use Rattle.folders.specs.PieceReading.{HasRoom, ReadsOn, ReadsToEnd, read_behind}
 use Rattle.folders.specs.PieceReading.{RefusesNext}
 use Rattle.folders.proofs.CaptureFronts.{le32_at-append, begins_header, begins_record, front_header, refuses_record, refuses_header}
 use Rattle.folders.proofs.AlteringLemmas.{something_read}
