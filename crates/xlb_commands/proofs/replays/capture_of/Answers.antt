@@ -15,20 +15,20 @@ returns-in-Some-clause-capture g c = rw c.in-Some.is at c.in_ok-capture.ensures.
 
 pub returns-in-None-clause-capture : goal.returns-in-None-clause-capture
 returns-in-None-clause-capture g c =
-    IfOk-weaker c.capture_of_bytes-in-None.result _ _
+    IfOk-weaker c.capture_of_bytes.result _ _
     (λ capture is. capture_before _ _ c.kept_capture.ensures.kept c.args.reading c.args.name.now capture.records.items is)
-    c.capture_of_bytes-in-None.ensures.capture
+    c.capture_of_bytes.ensures.capture
 
 pub returns-in-None-clause-kept : goal.returns-in-None-clause-kept
-returns-in-None-clause-kept g c = kept_twice _ _ _ c.kept_capture.ensures.kept c.capture_of_bytes-in-None.ensures.kept
+returns-in-None-clause-kept g c = kept_twice _ _ _ c.kept_capture.ensures.kept c.capture_of_bytes.ensures.kept
 
 pub returns-in-None-clause-steady : goal.returns-in-None-clause-steady
 returns-in-None-clause-steady g c =
-    on_ok_weaker c.capture_of_bytes-in-None.result (λ same. same ∙ c.in_ok-capture.ensures.steady) c.capture_of_bytes-in-None.ensures.steady
+    on_ok_weaker c.capture_of_bytes.result (λ same. same ∙ c.in_ok-capture.ensures.steady) c.capture_of_bytes.ensures.steady
 
 pub returns-in-None-clause-refused : goal.returns-in-None-clause-refused
 returns-in-None-clause-refused g c =
-    IfErr-weaker c.capture_of_bytes-in-None.result _ _
+    IfErr-weaker c.capture_of_bytes.result _ _
     (λ refusal is. capture_refusal_before _ _ _ _ c.args.reading c.args.name.now refusal.fault c.kept_capture.ensures.kept
     (failed_since _ _ _ c.in_ok-capture.ensures.steady) is)
-    c.capture_of_bytes-in-None.ensures.refused
+    c.capture_of_bytes.ensures.refused
