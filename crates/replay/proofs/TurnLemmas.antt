@@ -1,6 +1,6 @@
 -- What turns do, one after the other.
 use Rattle.std.proofs.Common.{◌≡◌, ⊎_elim, inl, inr, ℕ, zero, suc, ◌+◌, ◌-◌, ◌*◌, ◌%◌, ◌<◌, ◌≤◌, Bool, true, false, nat_lt, List, [], ◌∷◌, ◌++◌, length, map, Some, refl, sym, ap, ◌∙◌, subst, arith, add-one}
-use Rattle.std.specs.Prelude.{◌==◌, All, IsTrue, slice_get, slice_set, slice_index, slice_index_or, if◌then◌else◌, Result, Ok, Err, Option, None, OnErr}
+use Rattle.std.specs.Prelude.{◌==◌, All, IsTrue, slice_get, slice_set, slice_index, slice_index_or, if◌then◌else◌, Result, Ok, Err, IfOk, IfErr, Option, None, OnErr}
 use Rattle.std.specs.Coded.{le_prop}
 use Rattle.std.proofs.Math.Logic.{∥∥₁_elim}
 use Rattle.std.proofs.Math.Nat.{mul-le-mul_right}
@@ -24,6 +24,7 @@ use Rattle.semantics.proofs.shared.ConditionLemmas.{bytes_test}
 use Rattle.semantics.proofs.shared.ImageSizes.{image_sizes}
 use Rattle.semantics.proofs.shared.PlanLemmas.{few_parts}
 use Rattle.journals.specs.JournalsView.{AreImageMaps}
+use Rattle.machine.specs.declared.exit.Exit.{Exit}
 use Rattle.machine.specs.declared.exit.Stop.{Stop}
 use Rattle.machine.specs.declared.exit.Stop.TheVariants.{JournalFull}
 use Rattle.machine.specs.Running.{Ends, StopsSo}
@@ -34,9 +35,9 @@ use Rattle.shards.specs.Seats.{no_plan}
 use Rattle.shard_port.specs.Asking.{all_left}
 use Rattle.shard_port.specs.PortView.{PortView, IsGivenBy, IsRefusedBy, IsPortReady, AreShardsOf, ServesMaps}
 use Rattle.shard_port.specs.declared.plain.PlainPort.{PlainPort}
-use Rattle.shard_port.specs.PlainPorts.{PortGives, PortRefuses, maps_of, port_view}
+use Rattle.shard_port.specs.PlainPorts.{IsSamePort, PortGives, PortRefuses, maps_of, port_view}
 use Rattle.shard_port.specs.PortLaws.{both_true}
-use Rattle.shard_port.specs.Sessions.{CallsKeepServing}
+use Rattle.shard_port.specs.Sessions.{CallsKeepServing, StaysOnePort}
 use Rattle.shard_port.proofs.shared.Chains.{chain_of}
 use Rattle.shard_port.proofs.shared.MayAskLemmas.{at_key, same_test}
 use Rattle.control.specs.declared.command.Action.{Action}
@@ -61,6 +62,25 @@ set_same {A = A} (first ∷ rest) zero x known = let same : first ≡ x = cc in 
 set_same {A = A} (first ∷ rest) (suc number) x known = ap (λ (list : List A). first ∷ list) (set_same rest number x known)
 
 -- ---- a run
+
+stop_stays : StaysOnePort → (program : Program) (start : MachineState) (port later : PlainPort) (frame : FrameView) (stop : Stop) →
+    StopsSo PortGives PortRefuses program start port later frame stop → IsSamePort port later
+stop_stays stays program start port later frame (JournalFull shard) stops =
+    let first = stays port stops.middle stops.exchanges stops.chain in
+    let last = stops.refused.same_port in
+    record {
+      same_shards = last.same_shards ∙ first.same_shards;
+      same_maps = last.same_maps ∙ first.same_maps;
+      same_options = last.same_options ∙ first.same_options;
+      same_worker = last.same_worker ∙ first.same_worker;
+    }
+
+-- the port of a run is the same port after it, whether the run ended or stopped
+pub run_stays : StaysOnePort → (program : Program) (start : MachineState) (port later : PlainPort) (frame : FrameView) (result : Result Exit Stop) →
+    IfOk result (λ (exit : Exit). Ends PortGives program start port later exit.verdict exit.steps frame) →
+    IfErr result (λ (stop : Stop). StopsSo PortGives PortRefuses program start port later frame stop) → IsSamePort port later
+run_stays stays program start port later frame (Ok exit) ends stops = stays port later ends.exchanges ends.chain
+run_stays stays program start port later frame (Err stop) ends stops = stop_stays stays program start port later frame stop stops
 
 module _ (program : Program) (start : MachineState) (worker : ℕ) (before after : List JournaledShard) (port later : PlainPort)
     (same_shards : port.shards.now ≡ before) (same_worker : port.worker ≡ worker)

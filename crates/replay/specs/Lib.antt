@@ -2,12 +2,14 @@
 pub mod Crews
 pub mod Settings
 pub mod LastRound
+pub mod ThreadsEnded
 pub mod Turns
 pub mod InTurn
 pub mod TurnLaws
 pub mod TurnFaults
 pub mod TurnStates
 pub mod ExactReplays
+pub mod TurnsTaken
 pub mod TurnOrder
 pub mod LaterTurns
 pub mod TurnsAccounted

@@ -10,6 +10,7 @@ use Rattle.rx_queues.specs.declared.passes.Queues.{Queues}
 use Rattle.rx_queues.specs.Passes.{IsPutPassOf, AreTakePasses, TakeAtTheirPlaces, workers_of, record_count_of, command_count_of, jobs_put}
 use Rattle.actors.specs.declared.runner.RunEnd.{RunEnd}
 use Rattle.replay.specs.declared.crew.Handled.{Handled}
+use Rattle.replay.specs.declared.threads.Abandoned.{Abandoned}
 use Rattle.replay.specs.declared.threads.AllEnded.{AllEnded}
 use Rattle.replay.specs.declared.threads.Setting.{Setting}
 use Rattle.actors.specs.declared.fault.ReplayFault.{ReplayFault}
@@ -105,3 +106,8 @@ pub record IsShortOfMemory (frames : List (List ℕ)) (workers count : ℕ) (fau
 abbrev pub IsAbandoned : List (List ℕ) → ℕ → ℕ → ReplayFault → List (List Job) → Type 0
 IsAbandoned frames workers count fault puts =
     IsUnbegun workers fault puts ⊎ (IsUnstarted workers fault puts ⊎ IsShortOfMemory frames workers count fault puts)
+
+-- the same of the threads with this setting
+abbrev pub WereAbandoned : {W R : Type 0} → Setting W R → ℕ → Abandoned → Type 0
+WereAbandoned setting workers it =
+    IsAbandoned (frames_of setting.capture.now.records.items) workers (length setting.capture.now.records.items) it.fault (jobs_put it.put)

@@ -1,28 +1,22 @@
 //! What a replay begins with: the table and the numbers of its script, the passes, the controller and the reclaimer, and all of it
 //! together.
 
-ghost use Rattle.std.specs.Prelude.{◌≡◌, ◌<◌, ◌≤◌, ◌+◌, true, false, List, [], length, map, IfErr, IfOk, OnOk, IsErrOf, IfSome, IsNone};
+ghost use Rattle.std.specs.Prelude.{◌≡◌, ◌<◌, ◌≤◌, ◌+◌, true, false, [], length, map, IfErr, IfOk, OnOk, IsErrOf, IfSome, IsNone};
 ghost use Rattle.std.specs.Prelude.{slice_set, replicate};
 ghost use Rattle.machine.specs.Running.{program_of};
 ghost use Rattle.maglev.specs.RingSize.{IsRingSize};
 ghost use Rattle.control.specs.declared.command.Command.{Command as Line};
-ghost use Rattle.semantics.specs.declared.call.Caller.TheVariants.{Controller as TheController, Reclaimer};
+ghost use Rattle.semantics.specs.declared.call.Caller.TheVariants.{Controller as TheController};
 ghost use Rattle.shards.specs.LockRule.{caller_place};
 ghost use Rattle.shards.specs.Passes.{PassView};
 ghost use Rattle.semantics.specs.Each.{Each};
 ghost use Rattle.actors.specs.Actors.{AreDue, IsUnused, numbers_from};
 ghost use Rattle.actors.specs.Commands.{HasSet, ServesScript, StaysOf};
-ghost use Rattle.replay.specs.Crews.{AreHandled};
-ghost use Rattle.actors.specs.Parts.{HasNoTable, IsStarted, IsScriptRunBehind, HasBegunWith, numbers_of, round_count};
-ghost use Rattle.actors.specs.Rounds.{AreReclaimed};
-ghost use Rattle.replay.specs.LastRound.{IsRoundLast};
-ghost use Rattle.replay.specs.Settings.{AreFreshPasses};
-ghost use Rattle.shards.specs.Deeds.{AreFirst};
-ghost use Rattle.rx_queues.specs.Passes.{record_count_of, command_count_of};
-ghost use Rattle.actors.specs.RunsOverShards.{IsNewAt, IsRunBy};
+ghost use Rattle.actors.specs.Parts.{HasNoTable, IsStarted, HasBegunWith, numbers_of};
+ghost use Rattle.replay.specs.ThreadsEnded.{CanStartThreads, HaveEnded};
+ghost use Rattle.actors.specs.RunsOverShards.{IsNewAt};
 ghost use Rattle.actors.specs.UpdateFaults.{IsOfNoUpdate, IsWhyByPass};
 ghost use Rattle.replay.specs.TurnFaults.{IsWhyInTurn};
-ghost use Rattle.shards.specs.declared.deeds.Deed.{Deed};
 ghost use Rattle.actors.specs.declared.fault.ReplayFault.TheVariants.{BadOptions};
 
 use crate::closing::last_round;
@@ -231,23 +225,11 @@ pub(crate) fn run_threads<'x, B: Naming + Send + Sync, R: Threads + Wait + Sync,
     takes: Vec<TakePass>,
 ) -> Result<(First<B>, AllEnded<Working<B>, Commanded<B>, Pass<B>>), ReplayFault>
     requires maps { shards.now.maps ≡ verified.now.maps }
-    requires size { IsRingSize size }
-    requires script { ServesScript shards.now.maps size script.now }
-    requires starts { starts.now ≡ map (λ (line : Line). line.frame) script.now }
-    requires alone { dealer.old ≡ slice_set (replicate (shards.now.options.workers + 2) false) 0 true }
-    requires who { pass.who ≡ TheController }
-    requires set { HasSet shards.now.maps shards.now.options updates.now pass }
-    requires passes { AreFreshPasses queues.now shards.now.options.workers put takes.items }
-    requires jobs { (record_count_of queues.now ≡ length capture.now.records.items) × (command_count_of queues.now ≡ length starts.now) }
-    ensures count { IfOk result (λ it. length it.1.workers.items ≡ shards.now.options.workers) }
-    ensures handled { IfOk result (λ it. AreHandled IsNewAt (IsRunBy B.count B.plan
-        (program_of verified.now shards.now.options.shards)) capture.now.records.items shards.now.options.workers it.1.workers.items) }
-    ensures script { IfOk result (λ it. (begun : List Deed) × AreFirst begun it.0 × IsScriptRunBehind B.plan shards.now.maps
-        shards.now.options updates.now script.now size
-        it.1.controller.noted.items it.1.controller.pass begun) }
-    ensures rounds { IfOk result (λ it. AreReclaimed B.plan B.count (round_count (length capture.now.records.items)) it.1.reclaimer ×
-        (it.1.reclaimer.who ≡ Reclaimer)) }
-    ensures closed { IfOk result (λ it. IsRoundLast B.plan B.count it.0 it.1.workers.items it.1.controller.pass it.1.reclaimer) }
+    requires ready { CanStartThreads shards.now.maps shards.now.options updates.now script.now size starts.now dealer.old pass queues.now put
+        takes.items capture.now.records.items }
+    ensures ended { IfOk result (λ it. HaveEnded B.plan B.count (program_of verified.now shards.now.options.shards) shards.now.maps
+        shards.now.options updates.now script.now size capture.now.records.items it.0 it.1.workers.items it.1.controller.noted.items
+        it.1.controller.pass it.1.reclaimer) }
     ensures served { ¬ IsErrOf result BadOptions }
     ensures no_update { IfErr result IsOfNoUpdate }
 {

@@ -1,11 +1,10 @@
 //! A replay on one thread: commands, records and rounds, one after the other.
 
 ghost use Rattle.std.specs.Prelude.{◌≡◌, ◌<◌, ◌≤◌, ◌+◌, ◌%◌, ◌==◌, ◌^◌, ◌↔◌, [], ℕ, List, length, slice_get, Some};
-ghost use Rattle.std.specs.Prelude.{OnOk, IfOk, IfErr, IfSome, IsErrOf, IsFalse};
+ghost use Rattle.std.specs.Prelude.{OnOk, IfOk, IfErr, IsErrOf, IsFalse};
 ghost use Rattle.machine.specs.Running.{program_of};
 ghost use Rattle.maglev.specs.RingSize.{IsRingSize};
 ghost use Rattle.semantics.specs.History.{IsLegalJournal};
-ghost use Rattle.semantics.specs.declared.options.Options.{Options as Settings};
 ghost use Rattle.semantics.specs.Program.{Program};
 ghost use Rattle.semantics.specs.ShardPlan.{KeepsRows, are_served_options, recorded};
 ghost use Rattle.wire.specs.declared.records.Sent.{Sent as Record};
@@ -22,17 +21,18 @@ ghost use Rattle.actors.specs.Commands.{ServesScript};
 ghost use Rattle.actors.specs.RunsOverShards.{IsSentOf, IsTold, steps_in};
 ghost use Rattle.actors.specs.Shares.{worker_of_frame};
 ghost use Rattle.replay.specs.EventsInTurns.{IsListedInTurns};
-ghost use Rattle.replay.specs.ExactReplays.{IsInTurn, HasBegun, starts_in};
+ghost use Rattle.replay.specs.ExactReplays.{HasBegun, starts_in};
 ghost use Rattle.actors.specs.UpdateFaults.{OfUpdate};
 ghost use Rattle.replay.specs.TurnFaults.{IsWhyInTurn};
 ghost use Rattle.map_updates.specs.Misfits.{AreFitting};
 ghost use Rattle.guarantees.specs.Headline.{Headline};
-ghost use Rattle.replay.specs.InTurn.{TurnState as State, IsRunInTurn, IsHandledInTurn, IsAppliedInTurn, IsSameSetting};
+ghost use Rattle.replay.specs.InTurn.{TurnState as State, IsHandledInTurn, IsAppliedInTurn, IsSameSetting};
 ghost use Rattle.replay.specs.InTurn.{IsRecordTurn, IsCommandTurn, IsRoundTurn, AreTurns};
 ghost use Rattle.actors.specs.Parts.{AreBadOptions, refused_of};
-ghost use Rattle.replay.specs.Pieces.{HasPiece, ReplayGoesOn, IsUnderway, IsWholeOutcome};
+ghost use Rattle.replay.specs.Pieces.{HasPiece, IsWholeOutcome};
 ghost use Rattle.replay.specs.TurnStates.{state_in, with_earlier, with_none_kept, HasSameEnds};
 ghost use Rattle.replay.specs.Turns.{commands_between, rounds_at, due_before, turns_to, all_turns};
+ghost use Rattle.replay.specs.TurnsTaken.{CanTakeTurns, AreTaken};
 
 use crate::closing::refused;
 use crate::in_pieces::PieceReplay;
@@ -128,37 +128,9 @@ fn end_in(
     }
 }
 
-/// Runs the program on a record's frame, as a worker, in this buffer. None where memory was refused, or the record has no Ethernet header.
+/// What becomes of a record: none where it is too short, else how its run ended, which the worker of its flow makes in this buffer. Fails only
+/// for lack of memory.
 #[tactic(auto, using(crate::proofs::TurnLemmas::run_of_exit))]
-fn run_record(
-    alloc: Global,
-    verified: &Verified,
-    all: &mut TurnShards,
-    frame: &mut Frame,
-    spare: &mut Vec<Sent>,
-    worker: u8,
-    sent: &Sent,
-) -> Option<RunEnd>
-    requires maps { all.old.maps ≡ verified.now.maps }
-    requires worker { worker < 8 }
-    requires among { worker < all.old.options.workers }
-    ensures run { IfSome result (λ end. IsRunInTurn (program_of verified.now all.old.options.shards) sent.now worker all.old.shards end
-        all.new.shards) }
-    ensures maps { all.new.maps ≡ all.old.maps }
-    ensures options { all.new.options ≡ all.old.options }
-{
-    if frame.refill(&sent.bytes).is_err() {
-        return None;
-    }
-    let moment = moment_of(sent, worker);
-    match all.run(verified, &moment, frame) {
-        Ok(exit) => end_in(alloc, spare, sent, exit, frame).ok(),
-        Err(_) => Some(RunEnd::Stopped),
-    }
-}
-
-/// What becomes of a record: none where it is too short, else how its run ended, which the worker of its flow makes. Fails only for lack of
-/// memory.
 fn handle(
     alloc: Global,
     verified: &Verified,
@@ -180,9 +152,16 @@ fn handle(
         return Ok(None);
     }
     let _ = all.workers();
-    match run_record(alloc, verified, all, frame, spare, worker as u8, sent) {
-        Some(end) => Ok(Some(end)),
-        None => Err(AllocError),
+    if frame.refill(&sent.bytes).is_err() {
+        return Err(AllocError);
+    }
+    let moment = moment_of(sent, worker as u8);
+    match all.run(verified, &moment, frame) {
+        Ok(exit) => match end_in(alloc, spare, sent, exit, frame) {
+            Ok(end) => Ok(Some(end)),
+            Err(refused) => Err(refused),
+        },
+        Err(_) => Ok(Some(RunEnd::Stopped)),
     }
 }
 
@@ -337,43 +316,6 @@ impl Turns {
         Ok(())
     }
 
-    /// The turns from one record to the next: the commands that are due, the record, and a round, if it is its time. The record is at a
-    /// place of a piece, and has a number in the capture. Returns which command is next.
-    fn record_turns(
-        &mut self,
-        alloc: Global,
-        verified: &Verified,
-        piece: &Capture,
-        script: &[Command],
-        starts: &[u32],
-        next: usize,
-        place: usize,
-        number: usize,
-    ) -> Result<usize, AllocError>
-        requires place { place < length piece.now.records.items }
-        requires room { number + 1 < 2 ^ 64 }
-        requires starts { starts.now ≡ starts_in script.now }
-        requires next { (next ≡ due_before starts.now number) × (next ≤ length starts.now) }
-        requires maps { self.old.all.maps ≡ verified.now.maps }
-        requires serves { ServesScript self.old.all.maps self.old.controller.size script.now }
-        requires counted { frames_in self.old.counts ≡ number }
-        ensures next { IfOk result (λ end. (end ≡ due_before starts.now (number + 1)) × (end ≤ length starts.now)) }
-        ensures turns { OnOk result ((records sent : List Record) (ends : List End) (first : State) →
-            slice_get records number ≡ slice_get piece.now.records.items place →
-            AreTurns (program_of verified.now self.old.all.options.shards) script.now records self.old.all.options.workers
-            (turns_to starts.now number) first (with_earlier sent ends (state_in self.old)) →
-            AreTurns (program_of verified.now self.old.all.options.shards) script.now records self.old.all.options.workers
-            (turns_to starts.now (number + 1)) first (with_earlier sent ends (state_in self.new))) }
-        ensures same { OnOk result (IsSameSetting (state_in self.old) (state_in self.new)) }
-        ensures counted { OnOk result (frames_in self.new.counts ≡ number + 1) }
-    {
-        let end = due(starts, next, number);
-        self.commands(alloc, script, next, end)?;
-        self.record(alloc, verified, piece, place)?;
-        self.round_at(number + 1);
-        Ok(end)
-    }
-
     /// The turns behind the last record.
     pub(crate) fn last_turns(
         &mut self,
@@ -399,7 +341,8 @@ impl Turns {
         Ok(())
     }
 
-    /// The turns of the records of a piece; its first has this number in the capture. Returns which command is next.
+    /// The turns of the records of a piece; its first has this number in the capture. Before each record come the commands that are due, and
+    /// behind it a round, if it is its time. Returns which command is next.
     pub(crate) fn piece_turns<G: Gate>(
         &mut self,
         alloc: Global,
@@ -412,27 +355,20 @@ impl Turns {
         gate: &G,
     ) -> Result<usize, AllocError>
         requires room { taken + length piece.now.records.items < 2 ^ 63 }
-        requires starts { starts.now ≡ starts_in script.now }
-        requires next { (from ≡ due_before starts.now taken) × (from ≤ length starts.now) }
-        requires maps { self.old.all.maps ≡ verified.now.maps }
-        requires serves { ServesScript self.old.all.maps self.old.controller.size script.now }
-        requires counted { frames_in self.old.counts ≡ taken }
-        ensures next { IfOk result (λ next. (next ≡ due_before starts.now (taken + length piece.now.records.items)) ×
-            (next ≤ length starts.now)) }
-        ensures turns { OnOk result ((records sent : List Record) (ends : List End) (first : State) →
-            HasPiece records taken piece.now.records.items →
-            AreTurns (program_of verified.now self.old.all.options.shards) script.now records self.old.all.options.workers
-            (turns_to starts.now taken) first (with_earlier sent ends (state_in self.old)) →
-            AreTurns (program_of verified.now self.old.all.options.shards) script.now records self.old.all.options.workers
-            (turns_to starts.now (taken + length piece.now.records.items)) first (with_earlier sent ends (state_in self.new))) }
-        ensures same { OnOk result (IsSameSetting (state_in self.old) (state_in self.new)) }
-        ensures counted { OnOk result (frames_in self.new.counts ≡ taken + length piece.now.records.items) }
+        requires ready { CanTakeTurns verified.now.maps script.now starts.now from taken (state_in self.old) }
+        ensures { IfOk result (AreTaken (program_of verified.now self.old.all.options.shards) script.now starts.now
+            (λ records. HasPiece records taken piece.now.records.items) taken (taken + length piece.now.records.items)
+            (state_in self.old) (state_in self.new)) }
     {
         let mut next = from;
         'records: for place in 0..piece.records.len() {
             let number = taken + place;
-            next = self.record_turns(alloc, verified, piece, script, starts, next, place, number)?;
+            let end = due(starts, next, number);
+            self.commands(alloc, script, next, end)?;
+            self.record(alloc, verified, piece, place)?;
+            self.round_at(number + 1);
             show(gate, number + 1);
+            next = end;
         }
         Ok(next)
     }
@@ -531,29 +467,6 @@ pub(crate) fn begun(
     }
 }
 
-/// The replay of a capture that is one piece, from its first record on.
-fn whole<G: Gate>(
-    alloc: Global,
-    verified: &Verified,
-    capture: &Capture,
-    updates: &[MapUpdate],
-    script: &Script,
-    mut replay: PieceReplay,
-    gate: &G,
-) -> Result<Outcome, AllocError>
-    requires goes_on { ReplayGoesOn script.now replay }
-    requires maps { replay.turns.all.maps ≡ verified.now.maps }
-    requires none { replay.taken ≡ 0 }
-    ensures in_turn { IfOk result (λ outcome. (options : Settings) →
-        IsUnderway (program_of verified.now options.shards) script.now options updates.now [] [] [] replay →
-        IsInTurn (program_of verified.now options.shards) script.now options capture.now.records.items outcome) }
-    ensures updates { IfOk result (λ outcome. outcome.updates.items ≡ updates.now) }
-{
-    let done = replay.go_on(alloc, verified, script, capture, gate)?;
-    let rest = replay.finish(alloc, verified, updates, script)?;
-    Ok(with_records(rest, done))
-}
-
 /// The outcome with what became of the records, which were handed out before.
 fn with_records(rest: Outcome, done: PieceOutcome) -> Outcome
     ensures whole { IsWholeOutcome rest done.sent.items done.ends.items result }
@@ -615,8 +528,8 @@ pub fn replay_in_turn<G: Gate>(
     events_come_in_turns(verified);
     commands_fit(script);
     all_are_captured(capture);
-    match PieceReplay::open(alloc, verified, updates, script, options, recording) {
-        Ok(replay) => Ok(whole(alloc, verified, capture, updates, script, replay, gate)?),
-        Err(fault) => Err(fault),
-    }
+    let mut replay = PieceReplay::open(alloc, verified, updates, script, options, recording)?;
+    let done = replay.go_on(alloc, verified, script, capture, gate)?;
+    let rest = replay.finish(alloc, verified, updates, script)?;
+    Ok(with_records(rest, done))
 }

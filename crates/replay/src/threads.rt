@@ -5,9 +5,8 @@ ghost use Rattle.rx_queues.specs.declared.job.Job.TheVariants.{End};
 ghost use Rattle.rx_queues.specs.Passes.{IsPutPassOf, IsTakePassOf, TakeAtTheirPlaces, AreTakePasses};
 ghost use Rattle.rx_queues.specs.Passes.{place_taken_from, jobs_taken, workers_of, jobs_put};
 ghost use Rattle.actors.specs.Actors.{HasNoEnd, EndsOnce, AreAllEnded, AreBothEnded};
-ghost use Rattle.replay.specs.Settings.{IsReadyToRun, AreReadyToWork, HaveWorked, WereGivenUp, AreAllDone, IsAbandoned};
+ghost use Rattle.replay.specs.Settings.{IsReadyToRun, AreReadyToWork, HaveWorked, WereGivenUp, AreAllDone, WereAbandoned};
 ghost use Rattle.actors.specs.Puts.{put_at};
-ghost use Rattle.actors.specs.Shares.{frames_of};
 
 use crate::crew::{Handled, abandon, finish_all, start_all};
 use actors::actor::{Actor, ActorThread, settled_actor, start_actor};
@@ -276,8 +275,7 @@ fn run_in<
     requires actors { C.is_ready controller setting.queues.now (length states.items) × D.is_ready reclaimer setting.queues.now
         (length states.items + 1) }
     ensures done { IfOk result (AreAllDone W.is_new W.runs (C.gives controller) (D.gives reclaimer) setting.entry (length states.items)) }
-    ensures abandoned { IfErr result (λ it. IsAbandoned (frames_of setting.entry.capture.now.records.items) (length states.items)
-        (length setting.entry.capture.now.records.items) it.fault (jobs_put it.put)) }
+    ensures abandoned { IfErr result (WereAbandoned setting.entry (length states.items)) }
 {
     let Setting { rt, queues, .. } = setting;
     let workers = states.len();
@@ -342,8 +340,7 @@ pub fn run_all<
     requires actors { C.is_ready controller setting.queues.now (length states.items) × D.is_ready reclaimer setting.queues.now
         (length states.items + 1) }
     ensures done { IfOk result (AreAllDone W.is_new W.runs (C.gives controller) (D.gives reclaimer) setting.entry (length states.items)) }
-    ensures abandoned { IfErr result (λ it. IsAbandoned (frames_of setting.entry.capture.now.records.items) (length states.items)
-        (length setting.entry.capture.now.records.items) it.fault (jobs_put it.put)) }
+    ensures abandoned { IfErr result (WereAbandoned setting.entry (length states.items)) }
 {
     thread::scope(
         thread::scope_env(),
@@ -354,8 +351,7 @@ pub fn run_all<
                 (length states.items + 1) }
             ensures done { IfOk result (AreAllDone W.is_new W.runs (C.gives controller) (D.gives reclaimer) setting.entry
                 (length states.items)) }
-            ensures abandoned { IfErr result (λ it. IsAbandoned (frames_of setting.entry.capture.now.records.items) (length states.items)
-                (length setting.entry.capture.now.records.items) it.fault (jobs_put it.put)) }
+            ensures abandoned { IfErr result (WereAbandoned setting.entry (length states.items)) }
         { run_in(scope, setting, controller, reclaimer, put, takes, states) },
     )
 }

@@ -1,7 +1,7 @@
 //! The shards of an exact replay, which one thread calls: a run, an update of the controller, a round of the reclaimer, each after the
 //! other.
 
-ghost use Rattle.std.specs.Prelude.{◌≡◌, ◌<◌, ◌≤◌, ◌↔◌, ℕ, IsTrue, IfOk, OnOk, OnErr, IfErr, IsErrOf, IsFalse, length, slice_get};
+ghost use Rattle.std.specs.Prelude.{◌≡◌, ◌<◌, ◌≤◌, ◌↔◌, IsTrue, IfOk, OnOk, OnErr, IfErr, IsErrOf, IsFalse, length, slice_get};
 ghost use Rattle.map_rules.specs.declared.open_fault.OpenFault.TheVariants.{BadOptions};
 ghost use Rattle.semantics.specs.MachineState.{initial_state};
 ghost use Rattle.semantics.specs.ShardPlan.{AreOptions, KeepsRows, are_served_options, recorded};
@@ -10,7 +10,6 @@ ghost use Rattle.journals.specs.KeptEntries.{ArePlanned};
 ghost use Rattle.machine.specs.Running.{program_of};
 ghost use Rattle.shards.specs.NewShards.{shard_at};
 ghost use Rattle.shards.specs.Opening.{AreOpened};
-ghost use Rattle.shard_port.specs.PortView.{ServesMaps};
 ghost use Rattle.semantics.specs.Replay.{is_keyed};
 ghost use Rattle.replay.specs.InTurn.{EndsInTurn, StopsInTurn, IsAskedInTurn, IsPartOfRound, IsRoundTo};
 ghost use Rattle.replay.specs.InTurn.{IsUpdatedAt, IsFullAt, may_update_at};
@@ -18,45 +17,18 @@ ghost use Rattle.replay.specs.InTurn.{IsUpdatedAt, IsFullAt, may_update_at};
 use actors::reclaimer::is_keyed;
 use control::UpdatePort;
 use ebpf_decode::MapDef;
-use machine::{Exit, Moment, Stop};
+use machine::{Exit, Moment, Stop, run};
 use map_rules::conditions::shard_of_map;
-use runs::plain_run::run_at;
 use semantics::facts::bytes_have_8_bits;
 use semantics::{Caller, JournalFull, Key, Options, Recording, UpdateFlags, Value};
 use shard_core::Shard;
 use shard_port::PlainPort;
-use shard_port::laws::{calls_keep_serving, opened_serve};
+use shard_port::laws::{calls_keep_serving, opened_serve, stays_one_port};
 use shards::{OpenFault, PlainShards, copied, maps_of};
 use std::alloc::Global;
 use std::marker::Model;
 use verifier::Verified;
 use wire::Frame;
-
-/// Runs the program of an accepted image on a frame, as the moment's worker, over shards of its maps, which it leaves in the end.
-fn run_over(
-    verified: &Verified,
-    options: Options,
-    shards: &mut PlainShards,
-    moment: &Moment,
-    frame: &mut Frame,
-) -> Result<Exit, Stop>
-    requires options { AreOptions verified.now.maps options }
-    requires shards { ServesMaps verified.now.maps options shards.old }
-    requires worker { moment.now.worker < 8 }
-    requires among { moment.now.worker < options.workers }
-    requires headroom { frame.old.headroom ≡ 256 }
-    ensures exit { IfOk result (λ exit. EndsInTurn (program_of verified.now options.shards)
-        (initial_state frame.old moment.now.worker moment.now.now_ns) moment.now.worker
-        shards.old shards.new exit.verdict exit.steps frame.new) }
-    ensures stop { IfErr result (StopsInTurn (program_of verified.now options.shards)
-        (initial_state frame.old moment.now.worker moment.now.now_ns) moment.now.worker shards.old shards.new frame.new) }
-    ensures serve { ServesMaps verified.now.maps options shards.new }
-{
-    let mut port = PlainPort::over(verified.image(), options, shards, moment.worker);
-    let ended = run_at(verified, frame, moment, &mut port);
-    port.finish();
-    ended
-}
 
 /// Makes one update at the shard of a number, as the controller.
 fn update_at(
@@ -157,7 +129,7 @@ impl TurnShards {
         })
     }
 
-    /// Runs the program of an accepted image with these maps on a frame, as the moment's worker.
+    /// Runs the program of an accepted image with these maps on a frame, as the moment's worker, which leaves the shards in the end.
     pub(crate) fn run(
         &mut self,
         verified: &Verified,
@@ -176,7 +148,16 @@ impl TurnShards {
         ensures maps { self.new.maps ≡ self.old.maps }
         ensures options { self.new.options ≡ self.old.options }
     {
-        run_over(verified, self.options, &mut self.shards, moment, frame)
+        stays_one_port();
+        let mut port = PlainPort::over(
+            verified.image(),
+            self.options,
+            &mut self.shards,
+            moment.worker,
+        );
+        let ended = run(verified, frame, moment, &mut port);
+        port.finish();
+        ended
     }
 
     /// A round of the reclaimer.
