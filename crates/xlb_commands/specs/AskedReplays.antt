@@ -16,9 +16,9 @@ use Rattle.command_line.specs.Reading.{text_of}
 use Rattle.xlb_commands.specs.declared.fault.Fault.{Fault}
 use Rattle.xlb_commands.specs.declared.replays.Asked.{Asked}
 use Rattle.xlb_commands.specs.declared.report.Report.{Report}
-use Rattle.xlb_commands.specs.Files.{FileBytes, AreAllButFourKept, AreAllButKept}
+use Rattle.xlb_commands.specs.Files.{FileBytes, AreAllButKept}
 use Rattle.xlb_commands.specs.Parts.{records_in, script_in}
-use Rattle.xlb_commands.specs.Refused.{AreUnwritten, IsGivenUp, IsUnmade, IsUnreplayed}
+use Rattle.xlb_commands.specs.Refused.{IsGivenUp, IsUnmade, IsUnreplayed}
 use Rattle.xlb_commands.specs.Replays.{IsCaptureOf, IsMade, IsReplayReport, IsReportOf, KeepsHeadline, image_of}
 
 -- the parts of what is asked for belong together: the maps take the updates, journals that are written have rows, and where no image is named
@@ -65,18 +65,6 @@ IsDenied before after failed asked fault = IsDeniedBy before after failed asked 
 abbrev pub LeavesOthers : FileBytes → FileBytes → Asked → Type 0
 LeavesOthers before after asked =
     AreAllButKept before after asked.files.now.sent.now (text_of asked.files.now.journals) (text_of asked.files.now.report)
-
--- nor what the maps hold
-abbrev pub LeavesAllOthers : FileBytes → FileBytes → Asked → Type 0
-LeavesAllOthers before after asked =
-    AreAllButFourKept before after asked.files.now.sent.now (text_of asked.files.now.journals) (text_of asked.files.now.report)
-    (text_of asked.files.now.maps)
-
--- it was made and written down, but what the maps hold was not
-pub record LacksMaps (before after : FileBytes) (failed : Type 0) (asked : Asked) (fault : Fault) : Type 0 where
-  pub report : Report
-  pub made : IsAnswered before after asked report
-  pub unwritten : AreUnwritten (text_of asked.files.now.maps) failed fault
 
 -- it was made of these records, with this outcome, and keeps the headline
 pub record IsOutcome (asked : Asked) (records : List Sent) (outcome : Outcome) : Type 0 where

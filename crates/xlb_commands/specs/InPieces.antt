@@ -15,18 +15,22 @@ use Rattle.journals.specs.JournalText.{journals_text}
 use Rattle.fleet.specs.declared.part.Part.{Part}
 use Rattle.verifier.specs.Verified.{Verified}
 use Rattle.machine.specs.Running.{program_of}
-use Rattle.replay.specs.Pieces.{IsUnderway}
+use Rattle.replay.specs.Pieces.{IsUnderway, ReplayGoesOn}
 use Rattle.replay.specs.declared.in_pieces.PieceReplay.{PieceReplay}
 use Rattle.actors.specs.declared.outcome.Outcome.{Outcome}
 use Rattle.actors.specs.declared.outcome.ToldEnd.{ToldEnd}
 use Rattle.traffic.specs.Readings.{unaltered}
 use Rattle.command_line.specs.Reading.{text_of}
 use Rattle.command_line.specs.declared.commands.ReplayFiles.{ReplayFiles}
+use Rattle.traffic.specs.declared.backends.Backends.{Backends}
+use Rattle.xlb_commands.specs.declared.fault.Refusal.{Refusal}
+use Rattle.xlb_commands.specs.declared.replays.Asked.{Asked}
 use Rattle.xlb_commands.specs.declared.report.Report.{Report}
 use Rattle.xlb_commands.specs.EndMaps.{AreMapsLines, lines_bytes}
 use Rattle.xlb_commands.specs.Files.{FileBytes}
-use Rattle.xlb_commands.specs.RecordReports.{backends_in, form_of, lines_until, runs_shipped, sent_before}
+use Rattle.xlb_commands.specs.RecordReports.{HasNamed, backends_in, form_of, lines_until, runs_shipped, sent_before}
 use Rattle.xlb_commands.specs.Parts.{command_frames, records_in, script_in}
+use Rattle.xlb_commands.specs.Refused.{HasFailed, IsBrokenOff}
 use Rattle.xlb_commands.specs.Taking.{AreNumbers}
 use Rattle.xlb_commands.specs.Replays.{AreAccepted, FollowsRule, IsCaptureOf, IsMade, KeepsHeadline, LeavesNothingOut, SendsAlike}
 use Rattle.xlb_commands.specs.Replays.{counts_text, refusals_text}
@@ -132,3 +136,31 @@ pub record IsReplayLeft (before made made' : FileBytes) (files : ReplayFiles) (p
   pub added : AreApartInPieces files → AreAdded made made' files.sent.now (records_bytes sent)
   pub told : AreApartInPieces files → AreTold made made' files script 0 (records_in part captured) sent ends
   pub made_of : IsMadeOf files verified script options recording ring updates (records_in part captured) sent ends report journals
+
+-- ---- the same of what is asked for
+
+-- it may be made in pieces: it is exact, the capture is read as it is, and the sent frames and the report have two names
+abbrev pub MayBeInPieces : Asked → Type 0
+MayBeInPieces asked = (asked.exact ≡ true) × (asked.reading ≡ unaltered) × AreApartInPieces asked.files.now
+
+-- the replay can go on with its script over the maps of its program, and the table has the backends that the script names
+pub record CanGoOn (asked : Asked) (table : Backends) (replay : PieceReplay) : Type 0 where
+  pub named : HasNamed table (backends_in asked.script.now)
+  pub goes_on : ReplayGoesOn asked.script.now replay
+  pub maps : replay.turns.all.maps ≡ asked.verified.now.maps
+
+-- these records were run
+abbrev pub HaveRunOf : Asked → List Sent → PieceReplay → PieceReplay → FileBytes → FileBytes → Type 0
+HaveRunOf asked records before after made made' =
+    HaveRun (program_of asked.verified.now asked.options.shards) asked.script.now (recorded asked.recording asked.options) asked.files.now before after
+    made made' records
+
+-- all records that are asked for were run; the commands of the script for the whole capture have these numbers
+abbrev pub HasGone : FileBytes → Asked → List Command → List ℕ → PieceReplay → PieceReplay → FileBytes → FileBytes → Type 0
+HasGone files asked whole numbers before after made made' =
+    HasGoneThrough files asked.files.now.capture.now asked.part whole numbers (program_of asked.verified.now asked.options.shards) asked.script.now
+    (recorded asked.recording asked.options) asked.files.now before after made made'
+
+-- it was broken off; the device had so many failures before and after
+abbrev pub BreaksOff : ℕ → ℕ → Refusal → Type 0
+BreaksOff before after refusal = IsBrokenOff (HasFailed before after) refusal.fault

@@ -25,7 +25,7 @@ ghost use Rattle.actors.specs.declared.outcome.ToldEnd.{ToldEnd as End};
 ghost use Rattle.command_line.specs.Reading.{text_of};
 ghost use Rattle.xlb_commands.specs.Files.{AreKept};
 ghost use Rattle.xlb_commands.specs.AskedReplays.{IsConsistent, IsAnswered, IsAnsweredBy, IsDenied, IsDeniedBy, IsMadeInTurn, LeavesOthers};
-ghost use Rattle.xlb_commands.specs.InPieces.{AreApartInPieces, HasGoneThrough, HasNumbers, ReaderHasRoom, HaveRun, IsGoing};
+ghost use Rattle.xlb_commands.specs.InPieces.{BreaksOff, CanGoOn, HasGone, HasNumbers, HaveRunOf, MayBeInPieces, ReaderHasRoom, IsGoing};
 ghost use Rattle.xlb_commands.specs.InPieces.{IsReplayLeft, IsMadeOf};
 ghost use Rattle.xlb_commands.specs.RecordReports.{HasNamed, backends_in};
 ghost use Rattle.xlb_commands.specs.Parts.{command_frames, records_in, records_next};
@@ -238,20 +238,15 @@ fn run_piece<D: Folder>(
     piece: &Capture,
 ) -> Result<bool, Refusal>
     requires failures { D.failure_count folder.old < 2 ^ 64 - 1 }
-    requires named { HasNamed table.now (backends_in asked.script.now) }
-    requires goes_on { ReplayGoesOn asked.script.now going.old.replay }
-    requires maps { going.old.replay.turns.all.maps ≡ asked.verified.now.maps }
-    ensures run { IfOk result (λ went. went ≡ true → HaveRun (program_of asked.entry.verified.now asked.entry.options.shards)
-        asked.entry.script.now (recorded asked.entry.recording asked.entry.options) asked.entry.files.now going.old.replay going.new.replay
-        (D.is_begun folder.old) (D.is_begun folder.new) piece.now.records.items) }
-    ensures goes_on { IfOk result (λ went. went ≡ true → ReplayGoesOn asked.entry.script.now going.new.replay) }
-    ensures maps { IfOk result (λ went. went ≡ true → going.new.replay.turns.all.maps ≡ asked.entry.verified.now.maps) }
+    requires ready { CanGoOn asked table.now going.old.replay }
+    ensures run { IfOk result (λ went. went ≡ true → HaveRunOf asked.entry piece.now.records.items going.old.replay going.new.replay
+        (D.is_begun folder.old) (D.is_begun folder.new)) }
+    ensures ready { IfOk result (λ went. went ≡ true → CanGoOn asked.entry table.now going.new.replay) }
     ensures kept { AreKept (D.holds folder.old) (D.holds folder.new) }
     ensures left { (rest : List ℕ) → (D.is_left folder.old rest ↔ D.is_left folder.new rest) }
     ensures most { D.most_left folder.new ≡ D.most_left folder.old }
     ensures steady { OnOk result (D.failure_count folder.new ≡ D.failure_count folder.old) }
-    ensures refused { IfErr result
-        (λ refusal. IsBrokenOff (HasFailed (D.failure_count folder.old) (D.failure_count folder.new)) refusal.fault) }
+    ensures refused { IfErr result (BreaksOff (D.failure_count folder.old) (D.failure_count folder.new)) }
 {
     if !going.replay.has_room(piece) {
         return Ok(false);
@@ -285,32 +280,24 @@ fn take_piece<D: Folder>(
     going: &mut Going,
 ) -> Result<PieceStep, Refusal>
     requires failures { D.failure_count folder.old < 2 ^ 64 - 1 }
-    requires named { HasNamed table.now (backends_in asked.script.now) }
     requires room { ReaderHasRoom (D.most_left folder.old) reader.old }
     requires abreast { IsAbreast asked.part taking.old reader.old }
-    requires goes_on { ReplayGoesOn asked.script.now going.old.replay }
-    requires maps { going.old.replay.turns.all.maps ≡ asked.verified.now.maps }
+    requires ready { CanGoOn asked table.now going.old.replay }
     ensures more { IfOk result (λ step. step ≡ PieceStep.More → (records : List Record)
-        × ReadsOn D.holds (D.is_left folder.old) (D.is_left folder.new) reader.old reader.new records
-        × GoesPast taking.old taking.new records
-        × HaveRun (program_of asked.entry.verified.now asked.entry.options.shards) asked.entry.script.now
-        (recorded asked.entry.recording asked.entry.options) asked.entry.files.now going.old.replay going.new.replay
-        (D.is_begun folder.old) (D.is_begun folder.new) (records_next asked.entry.part reader.old.count records)) }
+        × ReadsOn D.holds (D.is_left folder.old) (D.is_left folder.new) reader.old reader.new records × GoesPast taking.old taking.new records
+        × HaveRunOf asked.entry (records_next asked.entry.part reader.old.count records) going.old.replay going.new.replay
+        (D.is_begun folder.old) (D.is_begun folder.new)) }
     ensures last { IfOk result (λ step. step ≡ PieceStep.Last → (records : List Record)
-        × ReadsToEnd D.holds (D.is_left folder.old) reader.old records reader.new.cut
-        × GoesPast taking.old taking.new records
-        × HaveRun (program_of asked.entry.verified.now asked.entry.options.shards) asked.entry.script.now
-        (recorded asked.entry.recording asked.entry.options) asked.entry.files.now going.old.replay going.new.replay
-        (D.is_begun folder.old) (D.is_begun folder.new) (records_next asked.entry.part reader.old.count records)) }
+        × ReadsToEnd D.holds (D.is_left folder.old) reader.old records reader.new.cut × GoesPast taking.old taking.new records
+        × HaveRunOf asked.entry (records_next asked.entry.part reader.old.count records) going.old.replay going.new.replay
+        (D.is_begun folder.old) (D.is_begun folder.new)) }
     ensures room { IfOk result (λ step. step ≢ PieceStep.Changed → ReaderHasRoom (D.most_left folder.new) reader.new) }
     ensures fewer { IfOk result (λ step. step ≡ PieceStep.More →
         length reader.new.unread + D.most_left folder.new < length reader.old.unread + D.most_left folder.old) }
-    ensures goes_on { IfOk result (λ step. step ≢ PieceStep.Changed → ReplayGoesOn asked.entry.script.now going.new.replay) }
-    ensures maps { IfOk result (λ step. step ≢ PieceStep.Changed → going.new.replay.turns.all.maps ≡ asked.entry.verified.now.maps) }
+    ensures ready { IfOk result (λ step. step ≢ PieceStep.Changed → CanGoOn asked.entry table.now going.new.replay) }
     ensures kept { AreKept (D.holds folder.old) (D.holds folder.new) }
     ensures steady { OnOk result (D.failure_count folder.new ≡ D.failure_count folder.old) }
-    ensures refused { IfErr result
-        (λ refusal. IsBrokenOff (HasFailed (D.failure_count folder.old) (D.failure_count folder.new)) refusal.fault) }
+    ensures refused { IfErr result (BreaksOff (D.failure_count folder.old) (D.failure_count folder.new)) }
 {
     let step = fill_piece(alloc, folder, asked.files.capture, reader, taking, buffer)?;
     if step == PieceStep::Changed {
@@ -334,19 +321,13 @@ fn go_through<D: Folder, P: Progress>(
     distance: Distance<'_, P>,
 ) -> Result<bool, Refusal>
     requires failures { D.failure_count folder.old < 2 ^ 64 - 1 }
-    requires named { HasNamed table.now (backends_in asked.script.now) }
-    requires goes_on { ReplayGoesOn asked.script.now going.old.replay }
-    requires maps { going.old.replay.turns.all.maps ≡ asked.verified.now.maps }
-    ensures gone { IfOk result (λ gone. gone ≡ true → HasGoneThrough (D.holds folder.old) asked.entry.files.now.capture.now
-        asked.entry.part whole.entry.script.now whole.entry.numbers.now
-        (program_of asked.entry.verified.now asked.entry.options.shards) asked.entry.script.now
-        (recorded asked.entry.recording asked.entry.options) asked.entry.files.now going.old.replay going.new.replay
-        (D.is_begun folder.old) (D.is_begun folder.new)) }
+    requires ready { CanGoOn asked table.now going.old.replay }
+    ensures gone { IfOk result (λ gone. gone ≡ true → HasGone (D.holds folder.old) asked.entry whole.entry.script.now whole.entry.numbers.now
+        going.old.replay going.new.replay (D.is_begun folder.old) (D.is_begun folder.new)) }
     ensures goes_on { IfOk result (λ gone. gone ≡ true → ReplayGoesOn asked.entry.script.now going.new.replay) }
     ensures kept { AreKept (D.holds folder.old) (D.holds folder.new) }
     ensures steady { OnOk result (D.failure_count folder.new ≡ D.failure_count folder.old) }
-    ensures refused { IfErr result
-        (λ refusal. IsBrokenOff (HasFailed (D.failure_count folder.old) (D.failure_count folder.new)) refusal.fault) }
+    ensures refused { IfErr result (BreaksOff (D.failure_count folder.old) (D.failure_count folder.new)) }
 {
     let Some(mut reader) = open_reader(alloc, folder, asked.files.capture)? else {
         return Ok(false);
@@ -456,10 +437,8 @@ fn left_by_pieces<D: Folder, P: Progress>(
     distance: Distance<'_, P>,
 ) -> Result<Option<LeftInPieces>, Refusal>
     requires failures { D.failure_count folder.old < 2 ^ 64 - 1 }
-    requires named { HasNamed table.now (backends_in asked.script.now) }
     requires script { asked.script.now ≡ script_at asked.part whole.numbers.now whole.script.now }
-    requires goes_on { ReplayGoesOn asked.script.now going.replay }
-    requires maps { going.replay.turns.all.maps ≡ asked.verified.now.maps }
+    requires ready { CanGoOn asked table.now going.replay }
     requires underway { IsUnderway (program_of asked.verified.now asked.options.shards) asked.script.now
         (recorded asked.recording asked.options) asked.updates.now [] [] [] going.replay }
     requires served { KeepsRows asked.options.journal }
@@ -507,9 +486,7 @@ fn replay_seen<D: Folder, P: Progress + Sync>(
     progress: &P,
 ) -> Result<Option<Report>, Refusal>
     requires failures { D.failure_count folder.old < 2 ^ 64 - 1 }
-    requires exact { asked.exact ≡ true }
-    requires all { asked.reading ≡ unaltered }
-    requires apart { AreApartInPieces asked.files.now }
+    requires in_pieces { MayBeInPieces asked }
     requires consistent { IsConsistent asked }
     requires numbered { HasNumbers (D.holds folder.old) asked.files.now.capture.now asked.part whole.script.now whole.numbers.now }
     requires script { asked.script.now ≡ script_at asked.part whole.numbers.now whole.script.now }
@@ -556,9 +533,7 @@ pub(crate) fn replay_in_pieces<D: Folder, P: Progress + Sync>(
     progress: &P,
 ) -> Result<Option<Report>, Refusal>
     requires failures { D.failure_count folder.old < 2 ^ 64 - 1 }
-    requires exact { asked.exact ≡ true }
-    requires all { asked.reading ≡ unaltered }
-    requires apart { AreApartInPieces asked.files.now }
+    requires in_pieces { MayBeInPieces asked }
     requires consistent { IsConsistent asked }
     ensures done { IfOk result (λ found. IfSome found (IsAnswered (D.holds folder.old) (D.holds folder.new) asked.entry)) }
     ensures none { IfOk result (λ found. IfNone found (AreKept (D.holds folder.old) (D.holds folder.new))) }

@@ -34,10 +34,10 @@ ghost use Rattle.journals.specs.FileJournals.{ReadBackWhereLegal};
 ghost use Rattle.journals.specs.LegalJournals.{AreLegal};
 ghost use Rattle.command_line.specs.Reading.{text_of};
 ghost use Rattle.xlb_commands.specs.AskedReplays.{IsConsistent, HasBadOptions, IsAnswered, IsDenied, IsOutcome, IsWhyNone, LeavesOthers};
-ghost use Rattle.xlb_commands.specs.AskedReplays.{IsAnsweredOf, IsDeniedOf, LacksMaps, LeavesAllOthers};
+ghost use Rattle.xlb_commands.specs.AskedReplays.{IsAnsweredOf, IsDeniedOf};
 ghost use Rattle.xlb_commands.specs.EndMaps.{AreMapsLines, lines_bytes};
 ghost use Rattle.xlb_commands.specs.Files.{AreKept, AreAllButFourKept, AreAllButKept};
-ghost use Rattle.xlb_commands.specs.InPieces.{AreApartInPieces};
+ghost use Rattle.xlb_commands.specs.InPieces.{MayBeInPieces};
 ghost use Rattle.xlb_commands.specs.Refused.{HasFailed, LacksRoom, AreUnfiled, IsReplayProgramRefusal, IsScriptFileRefusal};
 ghost use Rattle.xlb_commands.specs.Refused.{IsScriptRefusal};
 ghost use Rattle.xlb_commands.specs.Refused.{IsNoCapture, IsNoCaptureIn, IsCaptureRefusal, IsReplayRefused};
@@ -544,7 +544,7 @@ pub(crate) struct Asked<'a> {
 impl Asked<'_> {
     /// Whether the replay may be made in pieces: it is exact, the capture is read as it is, and the sent frames and the report have two names.
     fn is_in_pieces(self) -> bool
-        ensures { IsTrue result → (self.entry.exact ≡ true) × (self.entry.reading ≡ unaltered) × AreApartInPieces self.entry.files.now }
+        ensures { IsTrue result → MayBeInPieces self.entry }
     {
         self.exact && !self.reading.alters() && self.files.report != Some(self.files.sent)
     }
@@ -665,29 +665,6 @@ fn replay_once<R: Threads + Wait + Sync, D: Folder, P: Progress + Sync>(
     }
 }
 
-/// Makes the replay, and last of all writes what the maps hold then, where a file is named for it.
-fn replay_with_maps<R: Threads + Wait + Sync, D: Folder, P: Progress + Sync>(
-    rt: &R,
-    alloc: Global,
-    folder: &mut D,
-    asked: Asked<'_>,
-    progress: &P,
-) -> Result<Report, Refusal>
-    requires failures { D.failure_count folder.old < 2 ^ 64 - 1 }
-    requires consistent { IsConsistent asked }
-    ensures done { IfOk result (IsAnswered (D.holds folder.old) (D.holds folder.new) asked.entry) }
-    ensures maps { IfOk result (λ report. HasBytes (D.holds folder.new) (text_of asked.entry.files.now.maps) (lines_bytes report.maps)) }
-    ensures kept { LeavesAllOthers (D.holds folder.old) (D.holds folder.new) asked.entry }
-    ensures refused { IfErr result (λ refusal. IsDenied (D.holds folder.old) (D.holds folder.new)
-        (HasFailed (D.failure_count folder.old) (D.failure_count folder.new)) asked.entry refusal.fault
-        ⊎ LacksMaps (D.holds folder.old) (D.holds folder.new)
-        (HasFailed (D.failure_count folder.old) (D.failure_count folder.new)) asked.entry refusal.fault) }
-{
-    let report = replay_once(rt, alloc, folder, asked, progress)?;
-    write_text_to(alloc, folder, asked.files.maps, text_of_lines(&report.maps))?;
-    Ok(report)
-}
-
 /// Runs the frames of a capture, and writes those that are sent, and the journals, a line for each record and what the maps hold at the end
 /// where files are named for them. All input is read and checked before anything starts: the image, the script, the capture, then the
 /// options. Before the first frame the controller makes the updates; ones that the image's maps do not take are a mistake of the command
@@ -728,6 +705,7 @@ pub fn replay_files<R: Threads + Wait + Sync, D: Folder, P: Progress + Sync>(
         reading: capture_reading(settings.reading),
         part: settings.part,
     };
-    let report = replay_with_maps(rt, alloc, folder, asked, progress)?;
+    let report = replay_once(rt, alloc, folder, asked, progress)?;
+    write_text_to(alloc, folder, files.maps, text_of_lines(&report.maps))?;
     Ok(ReplayAnswer::Made(report.of_strict(settings.strict)))
 }

@@ -23,8 +23,8 @@ pieces-init g c = record {
       (g.D.Folder.is_begun c.args.folder.now) (g.D.Folder.is_begun c.open_reader.new.folder) them) (sym (none_taken c.args.asked.part))
       (none_run _ _ _ _ _ _ _ c.open_reader.ensures.made);
   room = rw c.in-Some.is at c.in_ok-reader.ensures.room;
-  goes_on = c.requires.goes_on;
-  maps = c.requires.maps;
+  goes_on = c.requires.ready.goes_on;
+  maps = c.requires.ready.maps;
   kept = c.open_reader.ensures.kept;
   steady = c.in_ok-reader.ensures.steady;
 }
@@ -46,11 +46,18 @@ pieces-preserved g c =
           (sym (taken_both c.args.asked.part so_far.records more.0 _ so_far.read.counted))
           (run_on _ _ _ _ _ _ _ _ _ _ (records_in c.args.asked.part so_far.records) _ so_far.have_run more.3);
       room = (rw c.in-Ok-More.field-0-is at c.in-Ok-More.ensures.room) more_comes;
-      goes_on = (rw c.in-Ok-More.field-0-is at c.in-Ok-More.ensures.goes_on) more_comes;
-      maps = (rw c.in-Ok-More.field-0-is at c.in-Ok-More.ensures.maps) more_comes;
+      goes_on = ((rw c.in-Ok-More.field-0-is at c.in-Ok-More.ensures.ready) more_comes).goes_on;
+      maps = ((rw c.in-Ok-More.field-0-is at c.in-Ok-More.ensures.ready) more_comes).maps;
       kept = kept_twice _ _ _ so_far.kept c.take_piece.ensures.kept;
       steady = c.in-Ok-More.ensures.steady ∙ so_far.steady;
     }
+
+pub take_piece-requires-clause-ready : goal.take_piece-requires-clause-ready
+take_piece-requires-clause-ready g c = record {
+  named = c.requires.ready.named;
+  goes_on = c.pieces.invariant.goes_on;
+  maps = c.pieces.invariant.maps;
+}
 
 pub take_piece-requires-clause-abreast : goal.take_piece-requires-clause-abreast
 take_piece-requires-clause-abreast g c =
@@ -100,7 +107,7 @@ last_comes e = cc
 
 pub returns-in-Ok-Last-clause-goes_on : goal.returns-in-Ok-Last-clause-goes_on
 returns-in-Ok-Last-clause-goes_on g c =
-    IfOk-weaker c.has_numbers.result _ _ (λ gone same is. (rw c.in-Ok-Last.field-0-is at c.in-Ok-Last.ensures.goes_on) last_comes)
+    IfOk-weaker c.has_numbers.result _ _ (λ gone same is. ((rw c.in-Ok-Last.field-0-is at c.in-Ok-Last.ensures.ready) last_comes).goes_on)
     c.has_numbers.ensures.same
 
 pub returns-in-Ok-Last-clause-refused : goal.returns-in-Ok-Last-clause-refused

@@ -62,7 +62,7 @@ returns-in_err-numbered-clause-refused g c =
     let one = c.in_err-numbered.ensures.refused asked.part (command_frames asked.script.now) seen.3.past seen.3.passed in
     let p = err_from_is_err_and c.from_residual-in_err-numbered.result c.from_residual-in_err-numbered.ensures.1 in
     rw p.1 (no_part seen.0 one.0 c.look_through.ensures.kept
-    (subst (λ (reading : Reading). IsCaptureOf (g.D.Folder.holds c.args.folder.now) reading asked.files.now.capture.now seen.0) (sym c.requires.all) seen.1)
+    (subst (λ (reading : Reading). IsCaptureOf (g.D.Folder.holds c.args.folder.now) reading asked.files.now.capture.now seen.0) (sym c.requires.in_pieces.1) seen.1)
     one.1 p.2)
 
 pub returns-in-None-clause-done : goal.returns-in-None-clause-done

@@ -83,11 +83,11 @@ returns-in_err-going-clause-refused g c =
     rw (p.1, p.2)
     (unmade_by _ _ _ asked c.args.whole.script.now seen.captured _
     (subst (λ (reading : Reading). IsCaptureOf (g.D.Folder.holds c.args.folder.now) reading asked.files.now.capture.now seen.captured)
-    (sym c.requires.all) seen.capture)
+    (sym c.requires.in_pieces.1) seen.capture)
     (script_is asked.part seen.captured c.args.whole.numbers.now c.args.whole.script.now seen.numbers_are ∙ sym c.requires.script)
     (given_up why.0 (kept_still _)
     (subst (λ (exact : Bool). IsGivenUp exact asked.verified.now.maps asked.updates.now asked.script.now asked.options asked.recording why.0)
-    (sym c.requires.exact) why.2)
+    (sym c.requires.in_pieces.0) why.2)
     why.1))
 
 pub returns-in_err-write_pieces-in-Ok-Some-clause-refused : goal.returns-in_err-write_pieces-in-Ok-Some-clause-refused
@@ -96,16 +96,16 @@ returns-in_err-write_pieces-in-Ok-Some-clause-refused g c =
     let left = rw c.in-Ok-Some.field-0-is at c.in-Ok-Some.ensures.left in
     let made_of = left.made_of in
     let before = c.begin_files.ensures.kept in
-    let begun = left.added c.requires.apart header_bytes (c.in_ok-begin_files.ensures.sent c.if-not-branch.false) in
+    let begun = left.added c.requires.in_pieces.2 header_bytes (c.in_ok-begin_files.ensures.sent c.if-not-branch.false) in
     let p = err_from_is_err_and c.from_residual-in_err-write_pieces-in-Ok-Some.result c.from_residual-in_err-write_pieces-in-Ok-Some.ensures.1 in
     rw (p.1, p.2)
     (unmade_by _ _ _ asked c.args.whole.script.now left.captured _
     (subst (λ (reading : Reading). IsCaptureOf (g.D.Folder.holds c.args.folder.now) reading asked.files.now.capture.now left.captured)
-    (sym c.requires.all) (capture_before _ _ before _ _ left.captured left.capture))
+    (sym c.requires.in_pieces.1) (capture_before _ _ before _ _ left.captured left.capture))
     left.script_is
     (not_written_down made_of.whole
     (subst (λ (exact : Bool). IsMade exact (program_of_replay (image_of asked.verified.now) asked.options) asked.updates.now asked.script.now
-    (recorded asked.recording asked.options) (records_in asked.part left.captured) made_of.whole) (sym c.requires.exact) made_of.made)
+    (recorded asked.recording asked.options) (records_in asked.part left.captured) made_of.whole) (sym c.requires.in_pieces.0) made_of.made)
     (unfiled_before _ _ _ _ _ _ _ _ _ (kept_twice _ _ _ before c.left_by_pieces.ensures.kept)
     (λ failed. failed_since _ _ _ c.in_ok-begin_files.ensures.steady (failed_since _ _ _ c.in-Ok-Some.ensures.steady failed))
     (c.in_err-write_pieces-in-Ok-Some.ensures.refused (capture_bytes made_of.whole.sent.items) made_of.whole.journals
@@ -118,10 +118,10 @@ returns-in-Ok-Some-clause-done g c =
     let left = rw c.in-Ok-Some.field-0-is at c.in-Ok-Some.ensures.left in
     let made_of = left.made_of in
     let before = c.begin_files.ensures.kept in
-    let begun = left.added c.requires.apart header_bytes (c.in_ok-begin_files.ensures.sent c.if-not-branch.false) in
+    let begun = left.added c.requires.in_pieces.2 header_bytes (c.in_ok-begin_files.ensures.sent c.if-not-branch.false) in
     answer_by _ _ asked c.args.whole.script.now left.captured _
     (subst (λ (reading : Reading). IsCaptureOf (g.D.Folder.holds c.args.folder.now) reading asked.files.now.capture.now left.captured)
-    (sym c.requires.all) (capture_before _ _ before _ _ left.captured left.capture)) left.script_is (
+    (sym c.requires.in_pieces.1) (capture_before _ _ before _ _ left.captured left.capture)) left.script_is (
       made_of.whole.refused.items,
       record {
         options_are_served = served_options asked.verified.now.maps asked.script.now asked.options c.in_ok-going.ensures.good;
@@ -144,7 +144,7 @@ returns-in-Ok-Some-clause-done g c =
         report = λ behind. report_of (g.D.Folder.is_begun c.begin_files.new.folder) (g.D.Folder.is_begun c.left_by_pieces.new.folder)
             (g.D.Folder.holds c.write_pieces.new.folder) asked.files.now (text_of asked.files.now.report) refl asked.script.now
             (records_in asked.part left.captured) left.sent left.ends made_of.whole made_of.sent_are made_of.ends_are
-            (c.in_ok-begin_files.ensures.report c.if-not-branch.false) (left.told c.requires.apart)
+            (c.in_ok-begin_files.ensures.report c.if-not-branch.false) (left.told c.requires.in_pieces.2)
             c.in_ok-write_pieces-in-Ok-Some.ensures.report;
         lines = made_of.text;
       },
@@ -181,7 +181,7 @@ returns-clause-refused g c =
     let asked = c.args.asked in
     let seen = c.requires.numbered in
     let before = c.begin_files.ensures.kept in
-    denied _ _ _ _ _ asked c.args.whole.script.now seen.captured _ c.requires.exact c.requires.all c.requires.apart before
+    denied _ _ _ _ _ asked c.args.whole.script.now seen.captured _ c.requires.in_pieces.0 c.requires.in_pieces.1 c.requires.in_pieces.2 before
     (kept_twice _ _ _ (kept_twice _ _ _ before c.left_by_pieces.ensures.kept) c.give_up-in-Err.ensures.kept) seen.capture
     (script_is asked.part seen.captured c.args.whole.numbers.now c.args.whole.script.now seen.numbers_are ∙ sym c.requires.script)
     c.in_ok-going.ensures.good
@@ -194,9 +194,9 @@ returns-in_err-begin_files-clause-refused g c =
     let same = script_is asked.part seen.captured c.args.whole.numbers.now c.args.whole.script.now seen.numbers_are ∙ sym c.requires.script in
     let p = err_from_is_err_and c.from_residual-in_err-begin_files.result c.from_residual-in_err-begin_files.ensures.1 in
     rw (p.1, p.2)
-    (broken_off seen.captured c.requires.exact c.requires.all c.requires.apart c.begin_files.ensures.kept
+    (broken_off seen.captured c.requires.in_pieces.0 c.requires.in_pieces.1 c.requires.in_pieces.2 c.begin_files.ensures.kept
     (subst (λ (reading : Reading). IsCaptureOf (g.D.Folder.holds c.args.folder.now) reading asked.files.now.capture.now seen.captured)
-    (sym c.requires.all) seen.capture)
+    (sym c.requires.in_pieces.1) seen.capture)
     (subst (λ (them : List Command). ¬ AreBadOptions asked.verified.now.maps asked.options them) (sym same) c.in_ok-going.ensures.good)
     (no_piece c.in_err-begin_files.ensures.refused))
 
@@ -207,8 +207,8 @@ returns-in_err-table-clause-refused g c =
     let same = script_is asked.part seen.captured c.args.whole.numbers.now c.args.whole.script.now seen.numbers_are ∙ sym c.requires.script in
     let p = err_from_is_err_and c.from_residual-in_err-table.result c.from_residual-in_err-table.ensures.1 in
     rw (p.1, p.2)
-    (broken_off seen.captured c.requires.exact c.requires.all c.requires.apart (kept_still _)
+    (broken_off seen.captured c.requires.in_pieces.0 c.requires.in_pieces.1 c.requires.in_pieces.2 (kept_still _)
     (subst (λ (reading : Reading). IsCaptureOf (g.D.Folder.holds c.args.folder.now) reading asked.files.now.capture.now seen.captured)
-    (sym c.requires.all) seen.capture)
+    (sym c.requires.in_pieces.1) seen.capture)
     (subst (λ (them : List Command). ¬ AreBadOptions asked.verified.now.maps asked.options them) (sym same) c.in_ok-going.ensures.good)
     (no_piece (lacks_memory c.in_err-table.ensures.refused)))

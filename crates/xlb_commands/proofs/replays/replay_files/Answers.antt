@@ -10,9 +10,7 @@ use Rattle.wire.specs.declared.records.Sent.{Sent}
 use Rattle.actors.specs.declared.outcome.Applied.{Applied}
 use Rattle.command_line.specs.declared.commands.ReplaySettings.{ReplaySettings}
 use Rattle.xlb_commands.specs.declared.fault.Fault.{Fault}
-use Rattle.xlb_commands.specs.declared.replays.Asked.{Asked}
 use Rattle.xlb_commands.specs.declared.report.Report.{Report}
-use Rattle.xlb_commands.specs.AskedReplays.{IsAnswered, IsDenied, LacksMaps}
 use Rattle.xlb_commands.specs.declared.replays.ReplayAnswer.TheVariants as replayed
 use Rattle.xlb_commands.specs.Results.{IsReplayAnswer}
 use Rattle.std.proofs.lemmas.Result.{err_from_is_err_and}
@@ -27,9 +25,9 @@ use Rattle.xlb_commands.specs.Files.{FileBytes}
 use Rattle.xlb_commands.specs.Replays.{AreServedSizes, IsProgramOf, IsReplayReport, IsReplayedWith, IsScriptOf, counts_text, image_of, capture_reading, recording_in}
 use Rattle.xlb_commands.specs.Replays.{HasBytes, recording_of}
 use Rattle.xlb_commands.specs.Replays.{refusals_text}
-use Rattle.xlb_commands.specs.Refused.{AreUnwritten, HasFailed, IsUnreplayed, no_maps_file, no_replay_program, no_replay_script, not_replayed}
+use Rattle.xlb_commands.specs.Refused.{HasFailed, IsUnreplayed, no_maps_file, no_replay_program, no_replay_script, not_replayed}
 use Rattle.xlb_commands.proofs.Earlier.{report_before, script_before, unreplayed_before}
-use Rattle.xlb_commands.proofs.EndMaps.{four_kept, maps_written}
+use Rattle.xlb_commands.proofs.EndMaps.{all_but_four, but_four, four_kept, maps_written, replay_behind}
 use Rattle.xlb_commands.proofs.Refusals.{kept_twice, failed_since, script_refusal_before, unfiled_since}
 use Rattle.xlb_commands.proofs.replays.replay_files.Goals as goal
 
@@ -44,8 +42,8 @@ rows_where_named true (Some name) file is = refl
 rows_where_named true None file is = absurd cc
 rows_where_named false name file is = refl
 
-pub replay_with_maps-requires-clause-consistent : goal.replay_with_maps-requires-clause-consistent
-replay_with_maps-requires-clause-consistent g c κs outlives = record {
+pub replay_once-requires-clause-consistent : goal.replay_once-requires-clause-consistent
+replay_once-requires-clause-consistent g c κs outlives = record {
   fit = search rules;
   rows = λ file is. c.recording_of.ensures
       ∙ rows_where_named c.args.settings.now.no_journals (text_of c.args.settings.now.files.journals) file is;
@@ -171,22 +169,31 @@ returns-clause-done g c =
     let report = c.in_ok-report.report in
     let fits : AreFitting c.in_ok-verified.verified.maps c.args.settings.now.updates.items = search rules in
     let made = report_before _ _ _ _ _ _ _ _ _ _ _ _ _ report
-    (kept_twice _ _ _ c.program_of.ensures.kept c.script_of.ensures.kept) c.in_ok-report.ensures.done in
-    answer_is (g.D.Folder.holds c.args.folder.now) (g.D.Folder.holds c.replay_with_maps.new.folder) settings verified script report
+    (kept_twice _ _ _ c.program_of.ensures.kept c.script_of.ensures.kept)
+    (replay_behind _ _ _ _ _ _ _ _ _ _ _ _ _ report c.write_text_to.ensures.others c.in_ok-report.ensures.done) in
+    answer_is (g.D.Folder.holds c.args.folder.now) (g.D.Folder.holds c.write_text_to.new.folder) settings verified script report
     c.of_strict.result c.in_ok-verified.ensures.program c.in_ok-verified.ensures.size c.maps_of.ensures.accepted fits
     (script_before _ _ c.program_of.ensures.kept _ _ c.in_ok-script.ensures.script)
-    (as_asked (g.D.Folder.holds c.args.folder.now) (g.D.Folder.holds c.replay_with_maps.new.folder) settings verified script _ _ _ report
+    (as_asked (g.D.Folder.holds c.args.folder.now) (g.D.Folder.holds c.write_text_to.new.folder) settings verified script _ _ _ report
     c.recording_of.ensures c.deref-updates.ensures.value c.capture_reading.ensures made)
-    c.in_ok-report.ensures.maps
+    (subst (λ (lines : List ℕ). HasBytes (g.D.Folder.holds c.write_text_to.new.folder) (text_of settings.files.maps) lines) c.text_of_lines.ensures
+    c.in_ok-write_text_to.ensures.written)
     (ap string_bytes c.of_strict.ensures.text) c.of_strict.ensures.done c.of_strict.ensures.part
 
 pub returns-clause-kept : goal.returns-clause-kept
 returns-clause-kept g c =
-    four_kept _ _ _ _ _ _ _ (kept_twice _ _ _ c.program_of.ensures.kept c.script_of.ensures.kept) c.replay_with_maps.ensures.kept
+    four_kept _ _ _ _ _ _ _ (kept_twice _ _ _ c.program_of.ensures.kept c.script_of.ensures.kept)
+    (all_but_four _ _ _ _ _ _ _ c.replay_once.ensures.kept c.write_text_to.ensures.others)
+
+pub returns-in_err-write_text_to-clause-kept : goal.returns-in_err-write_text_to-clause-kept
+returns-in_err-write_text_to-clause-kept g c =
+    four_kept _ _ _ _ _ _ _ (kept_twice _ _ _ c.program_of.ensures.kept c.script_of.ensures.kept)
+    (all_but_four _ _ _ _ _ _ _ c.replay_once.ensures.kept c.write_text_to.ensures.others)
 
 pub returns-in_err-report-clause-kept : goal.returns-in_err-report-clause-kept
 returns-in_err-report-clause-kept g c =
-    four_kept _ _ _ _ _ _ _ (kept_twice _ _ _ c.program_of.ensures.kept c.script_of.ensures.kept) c.replay_with_maps.ensures.kept
+    four_kept _ _ _ _ _ _ _ (kept_twice _ _ _ c.program_of.ensures.kept c.script_of.ensures.kept)
+    (but_four _ _ _ _ _ (text_of c.args.settings.now.files.maps) c.replay_once.ensures.kept)
 
 pub returns-in_err-verified-clause-refused : goal.returns-in_err-verified-clause-refused
 returns-in_err-verified-clause-refused g c =
@@ -202,36 +209,38 @@ returns-in_err-script-clause-refused g c =
     (record { is = c.in_ok-verified.ensures.program; safe = c.in_ok-verified.ensures.safe }) fits
     (script_refusal_before _ _ _ _ _ _ c.program_of.ensures.kept (failed_since _ _ _ c.in_ok-verified.ensures.steady) c.in_err-script.ensures.refused))
 
--- a replay that was not made or not written down, or one of which only what the maps hold was not
-refused_either : (held after : FileBytes) (failed : Type 0) (asked : Asked) (fault : Fault) (R : Type 0)
-    → IsDenied held after failed asked fault ⊎ LacksMaps held after failed asked fault → (IsDenied held after failed asked fault → R)
-    → ((report : Report) → IsAnswered held after asked report → AreUnwritten (text_of asked.files.now.maps) failed fault → R) → R
-refused_either held after failed asked fault R (inl is) denied lacks = denied is
-refused_either held after failed asked fault R (inr is) denied lacks = lacks is.report is.made is.unwritten
-
 pub returns-in_err-report-clause-refused : goal.returns-in_err-report-clause-refused
 returns-in_err-report-clause-refused g c =
-    let settings = c.args.settings.now in
-    let verified = c.in_ok-verified.verified in
     let fits : AreFitting c.in_ok-verified.verified.maps c.args.settings.now.updates.items = search rules in
     let p = err_from_is_err_and c.from_residual-in_err-report.result c.from_residual-in_err-report.ensures.1 in
     rw (p.1, p.2)
-    (refused_either _ _ _ _ _ _ c.in_err-report.ensures.refused
-    (λ denied. not_replayed (image_of c.in_ok-verified.verified) c.in_ok-script.script
+    (not_replayed (image_of c.in_ok-verified.verified) c.in_ok-script.script
     (record { is = c.in_ok-verified.ensures.program; safe = c.in_ok-verified.ensures.safe }) fits
     (script_before _ _ c.program_of.ensures.kept _ _ c.in_ok-script.ensures.script)
-    (unmade_as_asked (g.D.Folder.holds c.args.folder.now) (g.D.Folder.holds c.replay_with_maps.new.folder)
-    (HasFailed (g.D.Folder.failure_count c.args.folder.now) (g.D.Folder.failure_count c.replay_with_maps.new.folder)) c.args.settings.now
+    (unmade_as_asked (g.D.Folder.holds c.args.folder.now) (g.D.Folder.holds c.replay_once.new.folder)
+    (HasFailed (g.D.Folder.failure_count c.args.folder.now) (g.D.Folder.failure_count c.replay_once.new.folder)) c.args.settings.now
     (image_of c.in_ok-verified.verified) c.in_ok-script.script _ _ _ c.in_err-report.field-0.0.fault c.recording_of.ensures c.deref-updates.ensures.value
     c.capture_reading.ensures
     (unreplayed_before _ _ _ _ _ _ _ _ _ _ _ _ _ _ _ (kept_twice _ _ _ c.program_of.ensures.kept c.script_of.ensures.kept)
     (λ failed. failed_since _ _ _ c.in_ok-verified.ensures.steady (failed_since _ _ _ c.in_ok-script.ensures.steady failed))
-    denied)))
-    (λ report made unwritten. no_maps_file verified c.in_ok-script.script report
+    c.in_err-report.ensures.refused)))
+
+-- the replay was made and written down, but what the maps hold was not
+pub returns-in_err-write_text_to-clause-refused : goal.returns-in_err-write_text_to-clause-refused
+returns-in_err-write_text_to-clause-refused g c =
+    let settings = c.args.settings.now in
+    let verified = c.in_ok-verified.verified in
+    let report = c.in_ok-report.report in
+    let fits : AreFitting c.in_ok-verified.verified.maps c.args.settings.now.updates.items = search rules in
+    let p = err_from_is_err_and c.from_residual-in_err-write_text_to.result c.from_residual-in_err-write_text_to.ensures.1 in
+    rw (p.1, p.2)
+    (no_maps_file verified c.in_ok-script.script report
     (record { is = c.in_ok-verified.ensures.program; safe = c.in_ok-verified.ensures.safe }) fits
     (script_before _ _ c.program_of.ensures.kept _ _ c.in_ok-script.ensures.script)
-    (as_asked (g.D.Folder.holds c.args.folder.now) (g.D.Folder.holds c.replay_with_maps.new.folder) settings verified c.in_ok-script.script _ _ _
+    (as_asked (g.D.Folder.holds c.args.folder.now) (g.D.Folder.holds c.write_text_to.new.folder) settings verified c.in_ok-script.script _ _ _
     report c.recording_of.ensures c.deref-updates.ensures.value c.capture_reading.ensures
-    (report_before _ _ _ _ _ _ _ _ _ _ _ _ _ report (kept_twice _ _ _ c.program_of.ensures.kept c.script_of.ensures.kept) made))
+    (report_before _ _ _ _ _ _ _ _ _ _ _ _ _ report (kept_twice _ _ _ c.program_of.ensures.kept c.script_of.ensures.kept)
+    (replay_behind _ _ _ _ _ _ _ _ _ _ _ _ _ report c.write_text_to.ensures.others c.in_ok-report.ensures.done)))
     (unfiled_since _ _ _ _
-    (λ failed. failed_since _ _ _ c.in_ok-verified.ensures.steady (failed_since _ _ _ c.in_ok-script.ensures.steady failed)) unwritten)))
+    (λ failed. failed_since _ _ _ c.in_ok-verified.ensures.steady (failed_since _ _ _ c.in_ok-script.ensures.steady
+    (failed_since _ _ _ c.in_ok-report.ensures.steady failed))) c.in_err-write_text_to.ensures.refused))
