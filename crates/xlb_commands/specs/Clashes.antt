@@ -1,5 +1,5 @@
 -- Files that would be written over others by one command, or over what is there: mistakes of the command line.
-use Rattle.std.specs.Prelude.{◌≡◌, ◌≢◌, ◌⊎◌, ◌++◌, ℕ, Bool, false, true, List, Some, codes}
+use Rattle.std.specs.Prelude.{◌≡◌, ◌≢◌, ◌⊎◌, ◌++◌, ℕ, Bool, false, true, List, Option, Some, codes}
 use Rattle.command_line.specs.Reading.{text_of}
 use Rattle.command_line.specs.declared.commands.ReplayFiles.{ReplayFiles}
 use Rattle.command_line.specs.declared.commands.RunFiles.{RunFiles}
@@ -11,28 +11,47 @@ use Rattle.xlb_commands.specs.Printable.{in_one_line}
 abbrev pub IsReplayInput : ReplayFiles → List ℕ → Type 0
 IsReplayInput files name = (name ≡ files.capture.now) ⊎ ((text_of files.image ≡ Some name) ⊎ (text_of files.script ≡ Some name))
 
+-- a replay writes the file of this name before the report
+abbrev pub IsWrittenBefore : ReplayFiles → List ℕ → Type 0
+IsWrittenBefore files name = (name ≡ files.sent.now) ⊎ (text_of files.journals ≡ Some name)
+
 -- a replay reads the file of this name, or writes it before the report
 abbrev pub IsBeforeReport : ReplayFiles → List ℕ → Type 0
-IsBeforeReport files other = IsReplayInput files other ⊎ ((other ≡ files.sent.now) ⊎ (text_of files.journals ≡ Some other))
+IsBeforeReport files other = IsReplayInput files other ⊎ IsWrittenBefore files other
 
 -- a replay writes the file of the first name, and reads that of the second, or writes it before: it writes the sent frames, the journals,
 -- the report and what the maps hold, in this order
-abbrev pub IsOverInReplay : ReplayFiles → List ℕ → List ℕ → Type 0
-IsOverInReplay files written other = ((written ≡ files.sent.now) × IsReplayInput files other)
+abbrev pub IsOverEarlier : ReplayFiles → List ℕ → List ℕ → Type 0
+IsOverEarlier files written other = ((written ≡ files.sent.now) × IsReplayInput files other)
     ⊎ (((text_of files.journals ≡ Some written) × (IsReplayInput files other ⊎ (other ≡ files.sent.now)))
     ⊎ (((text_of files.report ≡ Some written) × IsBeforeReport files other)
     ⊎ ((text_of files.maps ≡ Some written) × (IsBeforeReport files other ⊎ (text_of files.report ≡ Some other)))))
+
+-- a replay writes the file of the first name, and that of the second after it
+abbrev pub IsOverLater : ReplayFiles → List ℕ → List ℕ → Type 0
+IsOverLater files written other = ((text_of files.journals ≡ Some other) × (written ≡ files.sent.now))
+    ⊎ (((text_of files.report ≡ Some other) × IsWrittenBefore files written)
+    ⊎ ((text_of files.maps ≡ Some other) × (IsWrittenBefore files written ⊎ (text_of files.report ≡ Some written))))
+
+-- a replay writes the file of the first name, and reads or writes that of the second. Of two that it writes both orders count: the name that
+-- either has until it is finished may be the other's
+abbrev pub IsOverInReplay : ReplayFiles → List ℕ → List ℕ → Type 0
+IsOverInReplay files written other = IsOverEarlier files written other ⊎ IsOverLater files written other
+
+-- the two names are these, in either order
+abbrev pub AreThese : Option (List ℕ) → Option (List ℕ) → List ℕ → List ℕ → Type 0
+AreThese one other first second = ((one ≡ Some first) × (other ≡ Some second)) ⊎ ((one ≡ Some second) × (other ≡ Some first))
 
 -- a run reads the file of this name
 abbrev pub IsRunInput : RunFiles → List ℕ → Type 0
 IsRunInput files name = (name ≡ files.image.now) ⊎ (name ≡ files.frame.now)
 
--- a run writes the file of the first name, and reads that of the second, or writes it before: it writes the journals and what the maps hold
+-- a run writes the file of the first name, and reads or writes that of the second: it writes the journals and what the maps hold
 abbrev pub IsOverInRun : RunFiles → List ℕ → List ℕ → Type 0
 IsOverInRun files written other = ((text_of files.journals ≡ Some written) × IsRunInput files other)
-    ⊎ ((text_of files.maps ≡ Some written) × (IsRunInput files other ⊎ (text_of files.journals ≡ Some other)))
+    ⊎ (((text_of files.maps ≡ Some written) × IsRunInput files other) ⊎ AreThese (text_of files.maps) (text_of files.journals) written other)
 
--- the command writes the file of the first name, and reads that of the second, or writes it before
+-- the command writes the file of the first name, and reads or writes that of the second
 abbrev pub IsOver : Settings → List ℕ → List ℕ → Type 0
 IsOver (Asm text out source) written other = (written ≡ out.now) × (other ≡ text.now)
 IsOver (Run files now worker updates) written other = IsOverInRun files written other

@@ -2,7 +2,8 @@
 
 ghost use Rattle.std.specs.Prelude.{◌≡◌, ◌≢◌, ◌⊎◌, ℕ, List, Some, None, IfOk, IfSome, string_bytes};
 ghost use Rattle.command_line.specs.Reading.{text_of};
-ghost use Rattle.xlb_commands.specs.Clashes.{AreApart, IsBeforeReport, IsOver, IsOverInReplay, IsOverInRun, IsReplayInput, IsRunInput, clash_text};
+ghost use Rattle.xlb_commands.specs.Clashes.{AreApart, AreThese, IsBeforeReport, IsOver, IsOverInReplay, IsOverInRun, IsReplayInput};
+ghost use Rattle.xlb_commands.specs.Clashes.{IsRunInput, IsWrittenBefore, clash_text};
 
 use crate::printable::in_one_line;
 use command_line::{ReplayFiles, RunFiles, Settings};
@@ -51,6 +52,24 @@ fn over<'a, D: Folder>(
     }
 }
 
+/// Whether one of two files that are written, if there are both, is the other. Each has a name of its own until it is finished, which may be
+/// the other's: so both orders are asked for.
+fn over_output<'a, D: Folder>(
+    folder: &D,
+    written: Option<&'a str>,
+    other: Option<&'a str>,
+) -> Option<Clash<'a>>
+    ensures found { IfSome result (λ clash. AreThese (text_of written.entry) (text_of other.entry) clash.written.now clash.other.now) }
+    ensures one { IfSome result (λ clash. D.are_one folder.now clash.written.now clash.other.now) }
+    ensures none { result ≡ None → (name second : List ℕ) → text_of written.entry ≡ Some name → text_of other.entry ≡ Some second →
+        name ≢ second }
+{
+    if let Some(clash) = over(folder, written, other) {
+        return Some(clash);
+    }
+    over(folder, other, written)
+}
+
 /// Whether a file that is written, if there is one, is one that a replay reads.
 fn over_inputs<'a, D: Folder>(
     folder: &D,
@@ -71,11 +90,9 @@ fn over_inputs<'a, D: Folder>(
     over(folder, written, files.script)
 }
 
-/// Whether the sent frames of a replay, or its journals, are written over what it reads, or these over those.
+/// Whether the sent frames of a replay, or its journals, are written over what it reads, or over each other.
 fn frames_or_journals_over<'a, D: Folder>(folder: &D, files: &ReplayFiles<'a>) -> Option<Clash<'a>>
-    ensures found { IfSome result (λ clash. ((clash.written.now ≡ files.now.sent.now) × IsReplayInput files.now clash.other.now)
-        ⊎ ((text_of files.now.journals ≡ Some clash.written.now)
-        × (IsReplayInput files.now clash.other.now ⊎ (clash.other.now ≡ files.now.sent.now)))) }
+    ensures found { IfSome result (λ clash. IsOverInReplay files.now clash.written.now clash.other.now) }
     ensures one { IfSome result (λ clash. D.are_one folder.now clash.written.now clash.other.now) }
     ensures sent { result ≡ None → (second : List ℕ) → IsReplayInput files.now second → files.now.sent.now ≢ second }
     ensures journals { result ≡ None → (name second : List ℕ) → text_of files.now.journals ≡ Some name
@@ -87,16 +104,18 @@ fn frames_or_journals_over<'a, D: Folder>(folder: &D, files: &ReplayFiles<'a>) -
     if let Some(clash) = over_inputs(folder, files.journals, files) {
         return Some(clash);
     }
-    over(folder, files.journals, Some(files.sent))
+    over_output(folder, files.journals, Some(files.sent))
 }
 
-/// Whether a file that is written after the sent frames and the journals of a replay, if there is one, is one of these, or one that it reads.
+/// Whether a file that is written after the sent frames and the journals of a replay, if there is one, and one of these are one, or it is
+/// one that the replay reads.
 fn over_before_report<'a, D: Folder>(
     folder: &D,
     written: Option<&'a str>,
     files: &ReplayFiles<'a>,
 ) -> Option<Clash<'a>>
-    ensures found { IfSome result (λ clash. (text_of written.entry ≡ Some clash.written.now) × IsBeforeReport files.now clash.other.now) }
+    ensures found { IfSome result (λ clash. ((text_of written.entry ≡ Some clash.written.now) × IsBeforeReport files.now clash.other.now)
+        ⊎ ((text_of written.entry ≡ Some clash.other.now) × IsWrittenBefore files.now clash.written.now)) }
     ensures one { IfSome result (λ clash. D.are_one folder.now clash.written.now clash.other.now) }
     ensures none { result ≡ None → (name second : List ℕ) → text_of written.entry ≡ Some name → IsBeforeReport files.now second →
         name ≢ second }
@@ -104,16 +123,15 @@ fn over_before_report<'a, D: Folder>(
     if let Some(clash) = over_inputs(folder, written, files) {
         return Some(clash);
     }
-    if let Some(clash) = over(folder, written, Some(files.sent)) {
+    if let Some(clash) = over_output(folder, written, Some(files.sent)) {
         return Some(clash);
     }
-    over(folder, written, files.journals)
+    over_output(folder, written, files.journals)
 }
 
-/// Whether what the maps hold after a replay is written over what it reads, or writes before.
+/// Whether what the maps hold after a replay is written over what it reads or writes, or that over this.
 fn maps_over<'a, D: Folder>(folder: &D, files: &ReplayFiles<'a>) -> Option<Clash<'a>>
-    ensures found { IfSome result (λ clash. (text_of files.now.maps ≡ Some clash.written.now)
-        × (IsBeforeReport files.now clash.other.now ⊎ (text_of files.now.report ≡ Some clash.other.now))) }
+    ensures found { IfSome result (λ clash. IsOverInReplay files.now clash.written.now clash.other.now) }
     ensures one { IfSome result (λ clash. D.are_one folder.now clash.written.now clash.other.now) }
     ensures none { result ≡ None → (name second : List ℕ) → text_of files.now.maps ≡ Some name
         → IsBeforeReport files.now second ⊎ (text_of files.now.report ≡ Some second) → name ≢ second }
@@ -121,14 +139,12 @@ fn maps_over<'a, D: Folder>(folder: &D, files: &ReplayFiles<'a>) -> Option<Clash
     if let Some(clash) = over_before_report(folder, files.maps, files) {
         return Some(clash);
     }
-    over(folder, files.maps, files.report)
+    over_output(folder, files.maps, files.report)
 }
 
-/// Whether the report of a replay, or what its maps hold, is written over what it reads, or writes before.
+/// Whether the report of a replay, or what its maps hold, is written over what it reads or writes, or that over these.
 fn report_or_maps_over<'a, D: Folder>(folder: &D, files: &ReplayFiles<'a>) -> Option<Clash<'a>>
-    ensures found { IfSome result (λ clash. ((text_of files.now.report ≡ Some clash.written.now) × IsBeforeReport files.now clash.other.now)
-        ⊎ ((text_of files.now.maps ≡ Some clash.written.now)
-        × (IsBeforeReport files.now clash.other.now ⊎ (text_of files.now.report ≡ Some clash.other.now)))) }
+    ensures found { IfSome result (λ clash. IsOverInReplay files.now clash.written.now clash.other.now) }
     ensures one { IfSome result (λ clash. D.are_one folder.now clash.written.now clash.other.now) }
     ensures report { result ≡ None → (name second : List ℕ) → text_of files.now.report ≡ Some name → IsBeforeReport files.now second →
         name ≢ second }
@@ -182,7 +198,7 @@ fn over_in_run<'a, D: Folder>(folder: &D, files: &RunFiles<'a>) -> Option<Clash<
     if let Some(clash) = over_run_inputs(folder, files.maps, files) {
         return Some(clash);
     }
-    over(folder, files.maps, files.journals)
+    over_output(folder, files.maps, files.journals)
 }
 
 /// The first file that a command would write over another one that it has.

@@ -17,5 +17,5 @@ pub returns-clause-journals : goal.returns-clause-journals
 returns-clause-journals g c = λ none name second named either same.
     journals_apart c.args.files.now name second
     (λ input. c.over_inputs-2.ensures.none (search rules) name second named input)
-    (λ is. c.over.ensures.none none name second named (ap (λ (it : List ℕ). Some it) is))
+    (λ is. c.over_output.ensures.none none name second named (ap (λ (it : List ℕ). Some it) is))
     either same

@@ -15,5 +15,5 @@ pub returns-clause-none : goal.returns-clause-none
 returns-clause-none g c = λ none name second named either same.
     last_apart c.args.files.now name second
     (λ is. c.over_before_report.ensures.none (search rules) name second named is)
-    (λ is. c.over.ensures.none none name second named is)
+    (λ is. c.over_output.ensures.none none name second named is)
     either same

@@ -16,6 +16,6 @@ pub returns-clause-none : goal.returns-clause-none
 returns-clause-none g c = λ none name second named either same.
     behind_apart c.args.files.now name second
     (λ input. c.over_inputs.ensures.none (search rules) name second named input)
-    (λ is. c.over.ensures.none (search rules) name second named (ap (λ (it : List ℕ). Some it) is))
-    (λ is. c.over-2.ensures.none none name second named is)
+    (λ is. c.over_output.ensures.none (search rules) name second named (ap (λ (it : List ℕ). Some it) is))
+    (λ is. c.over_output-2.ensures.none none name second named is)
     either same
