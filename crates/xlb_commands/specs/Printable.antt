@@ -1,5 +1,5 @@
 -- Texts that other people wrote, as a terminal shows them.
-use Rattle.std.specs.Prelude.{ℕ, zero, suc, ◌/◌, ◌%◌, Bool, not, ◌&&◌, ◌||◌, List, [], ◌+◌, ◌∷◌, ◌++◌, chars, codes, flat_map, nat_lt, nat_le, encode_utf8}
+use Rattle.std.specs.Prelude.{ℕ, zero, suc, ◌/◌, ◌%◌, ◌==◌, Bool, not, ◌&&◌, ◌||◌, List, [], ◌+◌, ◌∷◌, ◌++◌, chars, codes, flat_map, nat_lt, nat_le, encode_utf8}
 use Rattle.std.specs.Prelude.{if◌then◌else◌}
 
 -- a number's digit of base 16
@@ -15,7 +15,7 @@ is_control letter = nat_lt letter 0x20 || is_between 0x7f 0x9f letter
 
 -- the letter turns the direction of writing, or ends a line where no line feed does
 abbrev pub turns : ℕ → Bool
-turns letter = is_between 0x200e 0x200f letter || (is_between 0x2028 0x202e letter || is_between 0x2066 0x2069 letter)
+turns letter = (letter == 0x61c) || (is_between 0x200e 0x200f letter || (is_between 0x2028 0x202e letter || is_between 0x2066 0x2069 letter))
 
 -- a terminal shows the letter, and does nothing else
 abbrev pub is_shown : ℕ → Bool

@@ -239,7 +239,10 @@ pub(crate) fn of_reject(
     reject: Reject,
 ) -> Result<Option<String>, AllocError> {
     match (reject.slot(), str::from_utf8(source)) {
-        (Some(slot), Ok(text)) if !text.is_empty() => Ok(Some(slot_note(alloc, text, slot)?)),
+        (Some(slot), Ok(text)) if !text.is_empty() => {
+            let place = slot_note(alloc, text, slot)?;
+            Ok(Some(in_lines(alloc, place.as_str())?))
+        }
         _ => Ok(None),
     }
 }

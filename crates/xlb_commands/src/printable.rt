@@ -22,7 +22,8 @@ fn is_shown(letter: char) -> bool
 {
     let number = u32::from(letter);
     let is_control = number < 0x20 || number >= 0x7f && number <= 0x9f;
-    let turns = number >= 0x200e && number <= 0x200f
+    let turns = number == 0x61c
+        || number >= 0x200e && number <= 0x200f
         || number >= 0x2028 && number <= 0x202e
         || number >= 0x2066 && number <= 0x2069;
     !is_control && !turns
@@ -65,15 +66,39 @@ pub(crate) fn in_one_line(alloc: Global, text: &str) -> Result<String, AllocErro
     Ok(out)
 }
 
-/// Lines, with an escape in place of each other letter that a terminal would not show. It can fail only for lack of memory.
+/// How many letters are shown of the beginning of a long line, which has what somebody wrote.
+const FRONT: usize = 200;
+
+/// How many letters are shown of its end, which says what is wrong there.
+const BACK: usize = 300;
+
+/// Whether the letter at this place of a line of so many letters is shown.
+fn is_kept(place: usize, count: usize) -> bool {
+    count <= FRONT + BACK || place < FRONT || place >= count.saturating_sub(BACK)
+}
+
+/// Appends a line, or the beginning and the end of a long one.
+fn put_line(out: &mut String, line: &str) -> Result<(), AllocError> {
+    let count = line.chars().count();
+    for (place, letter) in line.chars().enumerate() {
+        if is_kept(place, count) {
+            put_shown(out, letter)?;
+        } else if place == FRONT {
+            out.push_str("...")?;
+        }
+    }
+    Ok(())
+}
+
+/// Lines, with an escape in place of each other letter that a terminal would not show; of a line of more than 500 letters the first 200 and
+/// the last 300. It can fail only for lack of memory.
 pub(crate) fn in_lines(alloc: Global, text: &str) -> Result<String, AllocError> {
     let mut out = String::new(alloc);
-    for letter in text.chars() {
-        if letter == '\n' {
-            out.push(letter)?;
-        } else {
-            put_shown(&mut out, letter)?;
+    for (place, line) in text.split('\n').enumerate() {
+        if place > 0 {
+            out.push('\n')?;
         }
+        put_line(&mut out, line)?;
     }
     Ok(out)
 }
