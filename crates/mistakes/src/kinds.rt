@@ -76,8 +76,9 @@ fn is_hex_byte(byte: u8) -> bool {
     byte.is_ascii_hexdigit() || byte.is_ascii_whitespace() || byte == b':'
 }
 
+/// Hexadecimal digits, one at least, and nothing else.
 fn is_hex_digits(bytes: &[u8]) -> bool {
-    bytes.iter().all(|byte| is_hex_byte(*byte))
+    bytes.iter().any(|byte| byte.is_ascii_hexdigit()) && bytes.iter().all(|byte| is_hex_byte(*byte))
 }
 
 /// The type field of an Ethernet frame says IPv4, IPv6 or ARP, and the byte behind it fits.

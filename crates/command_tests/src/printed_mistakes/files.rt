@@ -116,10 +116,12 @@ const FRAMES: [Row; 5] = [
 
 /// Files of 14 bytes and more that are run as frames.
 #[rattlefmt::skip]
-const RUN_FRAMES: [Row; 6] = [
+const RUN_FRAMES: [Row; 7] = [
     ("digits", b"020000000001020000000002080045\n",
         "  FRAME: the file has hexadecimal digits in place of bytes\n  its 31 letters were run as the bytes of the frame\n  \
          xxd -r -p FRAME NEW makes bytes of hexadecimal digits\n"),
+    ("line feeds alone", b"\n\n\n\n\n\n\n\n\n\n\n\n\n\n\n\n",
+        "  FRAME: the file is a text\n  its 16 letters were run as the bytes of the frame\n"),
     ("a text", b"just a few words\n",
         "  FRAME: the file is a text\n  its 17 letters were run as the bytes of the frame\n"),
     ("a script", b"0 down 3\n0 down 4\n",
