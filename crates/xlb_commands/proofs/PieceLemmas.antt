@@ -14,7 +14,7 @@ use Rattle.wire.specs.declared.records.Sent.{Sent}
 use Rattle.xlb_commands.specs.Files.{FileBytes, AreKept}
 use Rattle.command_line.specs.declared.commands.ReplayFiles.{ReplayFiles}
 use Rattle.xlb_commands.specs.InPieces.{AreAdded, AreOfRecords, AreRun, AreTold, AreToldBehind, HaveRun}
-use Rattle.xlb_commands.specs.RecordReports.{backends_in, form_of, runs_shipped, sent_before}
+use Rattle.xlb_commands.specs.RecordReports.{form_of, runs_shipped, sent_before}
 use Rattle.xlb_commands.proofs.RecordBytes.{added_both, records_bytes-append}
 use Rattle.xlb_commands.proofs.ReportPieces.{lines_of_both, sent_behind}
 use Rattle.traffic.specs.Readings.{unaltered}
@@ -54,7 +54,7 @@ module _ (program : Program) (script : List Command) (options : Options) (files 
       → AreTold a c files script first (xs ++ ys) (sent ++ later_sent) (ends ++ later_ends)
   told_both a b c first xs ys sent later_sent ends later_ends fit one other = λ name is.
       subst (λ (lines : List ℕ). AreAdded a c name lines)
-      (sym (lines_of_both (form_of name) (runs_shipped files) (backends_in script) first xs ys ends later_ends sent later_sent fit.0 fit.1))
+      (sym (lines_of_both (form_of name) (runs_shipped files) script first xs ys ends later_ends sent later_sent fit.0 fit.1))
       (added_both a b c name _ _ (one name is) (other name is))
 
   behind_both : (before between : PieceReplay) (a b c : FileBytes) (xs ys sent later_sent : List Sent) (ends later_ends : List ToldEnd)

@@ -25,7 +25,7 @@ use Rattle.command_line.specs.declared.commands.ReplayFiles.{ReplayFiles}
 use Rattle.xlb_commands.specs.declared.report.Report.{Report}
 use Rattle.xlb_commands.specs.EndMaps.{AreMapsLines, lines_bytes}
 use Rattle.xlb_commands.specs.Files.{FileBytes}
-use Rattle.xlb_commands.specs.RecordReports.{backends_in, form_of, lines_until, runs_shipped, sent_before}
+use Rattle.xlb_commands.specs.RecordReports.{form_of, lines_until, runs_shipped, sent_before}
 use Rattle.xlb_commands.specs.Parts.{command_frames, records_in, script_in}
 use Rattle.xlb_commands.specs.Taking.{AreNumbers}
 use Rattle.xlb_commands.specs.Replays.{AreAccepted, FollowsRule, IsCaptureOf, IsMade, KeepsHeadline, LeavesNothingOut, SendsAlike}
@@ -53,7 +53,7 @@ AreApartInPieces files = text_of files.report ≢ Some files.sent.now
 -- the report has the lines of these records more, which come behind the first ones, if it is asked for
 abbrev pub AreTold : FileBytes → FileBytes → ReplayFiles → List Command → ℕ → List Sent → List Sent → List ToldEnd → Type 0
 AreTold before after files script first records sent ends = (name : List ℕ) → text_of files.report ≡ Some name →
-    AreAdded before after name (lines_until (form_of name) (runs_shipped files) (backends_in script) first records ends sent (length records))
+    AreAdded before after name (lines_until (form_of name) (runs_shipped files) script first records ends sent (length records))
 
 -- each record has an end, and each that was sent a frame
 abbrev pub AreOfRecords : List Sent → List Sent → List ToldEnd → Type 0

@@ -60,6 +60,10 @@ const MOVED: &str =
 const TWO_NUMBERS: &str =
     "0 gateway 10.0.0.9 02:00:00:00:00:0a 02:00:00:00:00:0b\n0 vip 203.0.113.1 80 udp\n0 up 0 192.0.2.1\n0 down 0\n0 up 1 192.0.2.1\n";
 
+/// A backend that returns under another number.
+const RETURNED: &str =
+    "0 gateway 10.0.0.9 02:00:00:00:00:0a 02:00:00:00:00:0b\n0 vip 203.0.113.1 80 udp\n0 up 7 192.0.2.1\n3 down 7\n3 up 5 192.0.2.1\n";
+
 /// What a row shows; what a replay is given: the image's text (none: the shipped program), the script, the digits of the capture, and the
 /// words after its files; the name of the report, and its lines, each with `#` in place of the steps: how many the shipped program takes is
 /// no concern of these rows.
@@ -74,7 +78,7 @@ type Row = (
 );
 
 #[rattlefmt::skip]
-static ROWS: [Row; 17] = [
+static ROWS: [Row; 18] = [
     ("13 bytes are short", SENDS, "", ZEROS_13, "--image image", "report.csv", &["1,1.000002,,SHORT,,#,,,,,,,\n"]),
     ("the same for another program of steering", SENDS, "", ZEROS_13, "--program image", "report", &["1,1.000002,,SHORT,,#,,,,,,,\n"]),
     ("the same in JSON", SENDS, "", ZEROS_13, "--image image", "report.JSON",
@@ -99,7 +103,12 @@ static ROWS: [Row; 17] = [
            \"case\":\"sent\",\"backend\":0,\"address\":\"192.0.2.1\",\"source\":\"198.51.100.7\",\"source_port\":40000,\
            \"destination\":\"203.0.113.1\",\"destination_port\":80,\"protocol\":\"udp\"}\n"]),
     ("an address of two numbers", "", TWO_NUMBERS, DATAGRAM, "--script script", "report",
-        &["1,1.000002,0,TX,#,sent,,192.0.2.1,198.51.100.7,40000,203.0.113.1,80,udp\n"]),
+        &["1,1.000002,0,TX,#,sent,1,192.0.2.1,198.51.100.7,40000,203.0.113.1,80,udp\n"]),
+    ("a backend that returns under another number", "", RETURNED, FOUR, "--script script --exact", "report",
+        &["1,1.000002,,SHORT,#,short,,,,,,,\n",
+          "2,1.000002,0,TX,#,sent,7,192.0.2.1,198.51.100.7,40000,203.0.113.1,80,udp\n",
+          "3,1.000002,0,PASS,#,other-type,,,,,,,\n",
+          "4,1.000002,0,TX,#,sent,5,192.0.2.1,198.51.100.7,40000,203.0.113.1,80,udp\n"]),
     ("no record", "", "", "d4c3b2a1020004000000000000000000ffff000001000000", "--script script", "report", &[]),
     ("a flow that goes to another backend", "", MOVED, FOUR, "--script script --exact", "report",
         &["1,1.000002,,SHORT,#,short,,,,,,,\n",
