@@ -133,7 +133,7 @@ pub const MAPS_OUT: &str = "maps";
 const ABOUT: &str =
     "Replays captures through eBPF programs; checks, runs, audits, prints and assembles them";
 
-const VERSION: &str = "0.1.0";
+const VERSION: &str = "0.2.0";
 
 const AFTER: &str = "\
 A file that cannot be read, or that is refused, is reported on the standard
@@ -269,7 +269,11 @@ fn with_maps<'a>(alloc: Global, command: Command<'a>) -> Result<Command<'a>, All
     ensures app { IfOk result (λ added. app_of added ≡ line.with_maps (app_of command.entry)) }
     ensures local { IfOk result (λ added. (out-Command added).has_globals ≡ false) }
 {
-    let maps = option(alloc, MAPS_OUT, "The file to write the maps' entries to");
+    let maps = option(
+        alloc,
+        MAPS_OUT,
+        "The file to write the maps' entries to; if its name ends in .json or .jsonl, as JSON lines",
+    );
     command.arg(maps)
 }
 

@@ -130,11 +130,13 @@ its packet when it was captured is passed, as malformed (tcpdump -s 0 keeps
 frames whole).
 With --report one line for each record of the capture is written to the file:
   number,moment,worker,verdict,steps,case,backend,address,
-  source,source_port,destination,destination_port,protocol
+  source,source_port,destination,destination_port,protocol,choice
 as CSV, or as a JSON object if the file's name ends in .json or .jsonl, in upper
-or lower case. The case is that of the steering rule, and empty with --image and
---program; backend and address are where the frame was sent; the last five are
-its flow.
+or lower case. The case is that of the steering rule; backend and address are
+where the frame was sent; the next five are its flow; the choice is how its
+backend was found: noted, or by the lookup table, as the flow has no note
+(no-note), the noted backend is not up (note-down) or the service keeps no notes
+(untracked). Case and choice are empty with --image and --program.
 With --maps what the maps hold at the end is written to the file: for each key a
 line with the map's place in the image, from 0, the key and its value, in
 hexadecimal, or as a JSON object if the file's name ends in .json or .jsonl; of
@@ -176,25 +178,27 @@ pub fn after_compare<'a>() -> &'a str {
 FIRST and SECOND were written by replay --report, of one capture. Prints how many
 records they have, how many of these differ in verdict, case (where both have
 one), backend or address, from what to what and how often, and the first ten of
-them. The status is 0 where none differs, 1 where one does, and 2 where the files
-cannot be compared: one is no CSV, or they are not of the same records."
+them. Worker, steps and choice may differ. The status is 0 where none differs, 1
+where one does, and 2 where the files cannot be compared: one is no CSV, or they
+are not of the same records."
 }
 
 pub fn after_flows<'a>() -> &'a str {
     "\
-REPORT was written by replay --exact --report, of the shipped program and of a
-whole capture, not of --part, and SCRIPT is the script of that replay. Prints a
-line for each flow: when it was seen, how many frames it had, how many of them
-were sent, how many dropped, how many of these for want of a backend that was up,
-and its backends in order, each with the reason of the change: down (the backend
+REPORT was written by replay --report, of the shipped program and of a whole
+capture, not of --part, and SCRIPT is the script of that replay. Prints a line
+for each flow: when it was seen, how many frames it had, how many of them were
+sent, how many dropped, how many of these for want of a backend that was up, and
+its backends in order, each with the reason of the change: down (the backend
 before was not up), untracked (the service keeps no notes, or kept none at the
-frame before), readdressed (the backend before has another address), evicted (it
-was still up, and the flow's note was gone), unknown (the number of the backend
-before is not known). On the standard error it says how many flows moved, how
-many lost frames (one was dropped behind a sent one), how many frames were moved
-for each reason, and which ten flows moved most often. The status is 2 where
-REPORT is no report of CSV, or the record of one of its rows does not follow that
-of the row before."
+frame before), readdressed (its note was followed, and its backend has another
+address), evicted (its note was gone, and its backend still up), unknown (the
+report does not say how the backend was chosen). On threads down may stand for
+evicted or untracked, or these for it, around a command. On the standard error it
+says how many flows moved, how many lost frames (one was dropped behind a sent
+one), how many frames were moved for each reason, and which ten flows moved most
+often. The status is 2 where REPORT is no report of CSV, or the record of one of
+its rows does not follow that of the row before."
 }
 
 pub fn after_page<'a>() -> &'a str {

@@ -1,8 +1,10 @@
 //! Captures in memory that are read record by record. Their bytes are spelt by hand.
 
-ghost use Rattle.std.specs.Prelude.{◌≡◌, ◌≤◌, ◌+◌, ◌-◌, ◌*◌, ◌^◌, length};
+ghost use Rattle.std.specs.Prelude.{◌≡◌, ◌-◌, length};
+ghost use Rattle.folders.specs.PieceReading.{HasRoom};
 
 use crate::asserting::holds_of;
+use capture_readings::Reading as How;
 use folders::{CaptureReader, Folder, MemoryFolder, RecordBuffer};
 use std::alloc::Global;
 use std::process::Abort;
@@ -11,6 +13,62 @@ use wire::{CaptureFault, Sent};
 /// The header of version 2.4 for Ethernet, low byte first.
 static HEADER: [u8; 24] = [
     0xd4, 0xc3, 0xb2, 0xa1, 2, 0, 4, 0, 0, 0, 0, 0, 0, 0, 0, 0, 0xff, 0xff, 0, 0, 1, 0, 0, 0,
+];
+
+/// A file is read as it is.
+const AS_IT_IS: How = How {
+    skip_long: false,
+    pad_cut: false,
+    allow_cut: false,
+};
+
+/// All that may be altered in it is.
+const EVERYTHING: How = How {
+    skip_long: true,
+    pad_cut: true,
+    allow_cut: true,
+};
+
+/// Long records are skipped, and no more.
+const WITHOUT_LONG: How = How {
+    skip_long: true,
+    ..AS_IT_IS
+};
+
+/// Cut records get zeros, and no more.
+const PADDED: How = How {
+    pad_cut: true,
+    ..AS_IT_IS
+};
+
+/// What a row shows, how a file is altered, what comes behind its header, how many records are read then, and of each of these the bytes of its
+/// frame and 255; how many records were skipped, how many got zeros, how many bytes were left out at the end; and what comes last.
+type AlteredRow = (
+    &'static str,
+    How,
+    &'static [u8],
+    u8,
+    &'static [u8],
+    (u64, u64, usize),
+    Result<bool, CaptureFault>,
+);
+
+#[rattlefmt::skip]
+static ALTERED: [AlteredRow; 11] = [
+    ("one byte of three",          EVERYTHING,   b"\x01\0\0\0\x02\0\0\0\x01\0\0\0\x03\0\0\0a", 1, b"a\0\0\xff", (0, 1, 0), Ok(true)),
+    ("the same, unasked",          WITHOUT_LONG, b"\x01\0\0\0\x02\0\0\0\x01\0\0\0\x03\0\0\0a", 1, b"a\xff", (0, 0, 0), Ok(true)),
+    ("more than the frame had",    EVERYTHING,   b"\x01\0\0\0\x02\0\0\0\x02\0\0\0\x01\0\0\0ab", 1, b"ab\xff", (0, 0, 0), Ok(true)),
+    ("zeros, and a whole record",  PADDED,       b"\x01\0\0\0\x02\0\0\0\0\0\0\0\x02\0\0\0\x01\0\0\0\x02\0\0\0\x01\0\0\0\x01\0\0\0b", 2,
+        b"\0\0\xffb\xff", (0, 1, 0), Ok(true)),
+    ("one byte of 9000",           EVERYTHING,   b"\x01\0\0\0\x02\0\0\0\x01\0\0\0\x28\x23\0\0a\x01\0\0\0\x02\0\0\0\x01\0\0\0\x01\0\0\0b",
+        1, b"b\xff", (1, 0, 0), Ok(true)),
+    ("the same, not skipped",      PADDED,       b"\x01\0\0\0\x02\0\0\0\x01\0\0\0\x28\x23\0\0a", 0, b"", (0, 0, 0), Err(CaptureFault::FrameTooLong { record: 1 })),
+    ("a head of 15 bytes",         EVERYTHING,   b"\x01\0\0\0\x02\0\0\0\x01\0\0\0\x01\0\0\0a\x01\0\0\0\x02\0\0\0\x01\0\0\0\x01\0\0",
+        1, b"a\xff", (0, 0, 15), Ok(true)),
+    ("a frame that lacks a byte",  EVERYTHING,   b"\x01\0\0\0\x02\0\0\0\x02\0\0\0\x02\0\0\0a", 0, b"", (0, 0, 17), Ok(true)),
+    ("an end that is not allowed", PADDED,       b"\x01\0\0\0\x02\0\0\0\x02\0\0\0\x02\0\0\0a", 0, b"", (0, 0, 0), Err(CaptureFault::CutFrame { record: 0 })),
+    ("a long frame that is cut",   EVERYTHING,   b"\x01\0\0\0\x02\0\0\0\x01\x08\0\0\x01\x08\0\0a", 0, b"", (0, 0, 17), Ok(true)),
+    ("no record",                  EVERYTHING,   b"", 0, b"", (0, 0, 0), Ok(true)),
 ];
 
 /// How many records a long capture has. They fill more than one window.
@@ -88,13 +146,18 @@ struct Reading {
     reader: CaptureReader,
     folder: MemoryFolder,
     ghost failures: { folder.failures ≡ 0 },
-    ghost room: { 16 * reader.count + length reader.unread + (length folder.opened.items - folder.given) ≤ 2 ^ 40 },
+    ghost room: { HasRoom (length folder.opened.items - folder.given) reader },
 }
 
 /// A reader behind the header of a file that has these bytes.
 fn reading_of<R: Abort>(rt: &R, alloc: Global, bytes: &[u8]) -> Reading {
+    altered_of(rt, alloc, bytes, AS_IT_IS)
+}
+
+/// The same, where the file is altered.
+fn altered_of<R: Abort>(rt: &R, alloc: Global, bytes: &[u8], how: How) -> Reading {
     let mut folder = folder_of(rt, alloc, bytes);
-    let reader = CaptureReader::open(alloc, &mut folder, "capture")
+    let reader = CaptureReader::open(alloc, &mut folder, "capture", how)
         .expect(rt, "a header")
         .expect(rt, "a file in pieces");
     Reading { reader, folder }
@@ -176,7 +239,7 @@ fn files_are_read_to_their_end(rt: HostRuntime) {
 /// Opens a file that is refused.
 fn compare_header<R: Abort>(rt: &R, alloc: Global, row: &HeaderRow) {
     let mut folder = folder_of(rt, alloc, row.1);
-    let found = match CaptureReader::open(alloc, &mut folder, "capture") {
+    let found = match CaptureReader::open(alloc, &mut folder, "capture", AS_IT_IS) {
         Ok(_) => None,
         Err(fault) => Some(fault),
     };
@@ -193,7 +256,7 @@ fn headers_are_refused(rt: HostRuntime) {
 #[test]
 fn a_file_that_is_not_there_is_a_failure(rt: HostRuntime) {
     let mut folder = MemoryFolder::new(rt.alloc());
-    let found = match CaptureReader::open(rt.alloc(), &mut folder, "capture") {
+    let found = match CaptureReader::open(rt.alloc(), &mut folder, "capture", AS_IT_IS) {
         Ok(_) => None,
         Err(fault) => Some(fault),
     };
@@ -317,4 +380,49 @@ fn cut_records_are_counted(rt: HostRuntime) {
     );
     let reading = passed_of(&rt, reading);
     holds_of(&rt, "and a whole one", "cut", reading.reader.cut() == 1);
+}
+
+/// Holds the frames of a buffer against those of a row.
+fn compare_frames<R: Abort>(rt: &R, alloc: Global, row: &AlteredRow, buffer: &RecordBuffer) {
+    let mut found = Vec::new(alloc);
+    for sent in &buffer.capture().records {
+        found.extend_from_slice(&sent.bytes).expect(rt, "memory");
+        found.push(0xff).expect(rt, "memory");
+    }
+    holds_of(rt, row.0, "frames", found.as_slice() == row.4);
+}
+
+/// Reads on in an altered file, behind all records that a row has of it.
+fn compare_altered_end<R: Abort>(rt: &R, row: &AlteredRow, reading: Reading) {
+    let Reading {
+        mut reader,
+        mut folder,
+    } = reading;
+    let found = match reader.find(&mut folder) {
+        Ok(head) => Ok(head.is_none()),
+        Err(fault) => Err(fault),
+    };
+    holds_of(rt, row.0, "what comes last", found == row.6);
+    let done = reader.alterations();
+    holds_of(rt, row.0, "skipped", done.skipped == row.5.0);
+    holds_of(rt, row.0, "padded", done.padded == row.5.1);
+    holds_of(rt, row.0, "left over", done.left_over == row.5.2);
+}
+
+/// Reads an altered file to its end.
+fn compare_altered<R: Abort>(rt: &R, alloc: Global, row: &AlteredRow) {
+    let mut reading = altered_of(rt, alloc, &file_of(rt, alloc, row.2), row.1);
+    let mut buffer = RecordBuffer::new(alloc);
+    for _ in 0..row.3 {
+        reading = next_of(rt, alloc, reading, &mut buffer);
+    }
+    compare_frames(rt, alloc, row, &buffer);
+    compare_altered_end(rt, row, reading);
+}
+
+#[test]
+fn files_are_altered_record_by_record(rt: HostRuntime) {
+    for row in &ALTERED {
+        compare_altered(&rt, rt.alloc(), row);
+    }
 }

@@ -8,8 +8,8 @@ use control::parse_script;
 use std::alloc::Global;
 use std::process::Abort;
 use traffic::{
-    Backends, FrameKind, LineVerdict, RecordLine, ReportForm, by_program, case_word, least_moves,
-    moved_places, moved_slots, services, share_of, shares_of, summary, tables_of,
+    Backends, FrameKind, LineVerdict, RecordLine, ReportForm, by_program, case_word, choice_word,
+    least_moves, moved_places, moved_slots, services, share_of, shares_of, summary, tables_of,
 };
 use wire::Sent;
 
@@ -156,7 +156,7 @@ fn nothing_has_no_summary(rt: HostRuntime) {
     same_text(&rt, "no frames", text.as_str(), "");
 }
 
-/// The fourth record: at 5.000012 s, by worker 2, sent in 131 steps to the backend of number 7 at 192.0.2.1.
+/// The fourth record: at 5.000012 s, by worker 2, sent in 131 steps to the backend of number 7 at 192.0.2.1, which was noted.
 const SENT_LINE: RecordLine = RecordLine {
     number: 4,
     micros: 5_000_012,
@@ -166,6 +166,7 @@ const SENT_LINE: RecordLine = RecordLine {
     case_of: "sent",
     backend: Some(7),
     address: Some(0xc000_0201),
+    choice: "noted",
 };
 
 /// The first record; nothing more is known of it than that it is short.
@@ -178,6 +179,7 @@ const SHORT_LINE: RecordLine = RecordLine {
     case_of: "",
     backend: None,
     address: None,
+    choice: "",
 };
 
 /// A datagram of UDP from 198.51.100.7, port 40000, to 203.0.113.1, port 80.
@@ -195,13 +197,13 @@ static LINES: [Line; 4] = [
         ReportForm::Csv,
         SENT_LINE,
         REPORTED,
-        "4,5.000012,2,TX,131,sent,7,192.0.2.1,198.51.100.7,40000,203.0.113.1,80,udp\n",
+        "4,5.000012,2,TX,131,sent,7,192.0.2.1,198.51.100.7,40000,203.0.113.1,80,udp,noted\n",
     ),
     (
         ReportForm::Csv,
         SHORT_LINE,
         &[],
-        "1,0.999999,,SHORT,,,,,,,,,\n",
+        "1,0.999999,,SHORT,,,,,,,,,,\n",
     ),
     (
         ReportForm::Json,
@@ -209,14 +211,15 @@ static LINES: [Line; 4] = [
         REPORTED,
         "{\"number\":4,\"moment\":\"5.000012\",\"worker\":2,\"verdict\":\"TX\",\"steps\":131,\"case\":\"sent\",\"backend\":7,\
         \"address\":\"192.0.2.1\",\"source\":\"198.51.100.7\",\"source_port\":40000,\"destination\":\"203.0.113.1\",\
-        \"destination_port\":80,\"protocol\":\"udp\"}\n",
+        \"destination_port\":80,\"protocol\":\"udp\",\"choice\":\"noted\"}\n",
     ),
     (
         ReportForm::Json,
         SHORT_LINE,
         &[],
         "{\"number\":1,\"moment\":\"0.999999\",\"worker\":null,\"verdict\":\"SHORT\",\"steps\":null,\"case\":null,\"backend\":null,\
-        \"address\":null,\"source\":null,\"source_port\":null,\"destination\":null,\"destination_port\":null,\"protocol\":null}\n",
+        \"address\":null,\"source\":null,\"source_port\":null,\"destination\":null,\"destination_port\":null,\"protocol\":null,\
+        \"choice\":null}\n",
     ),
 ];
 
@@ -262,6 +265,46 @@ fn compare_case(rt: &impl Abort, case: &Case) {
 fn cases_follow_from_kind_and_verdict(rt: HostRuntime) {
     for case in &CASES {
         compare_case(&rt, case);
+    }
+}
+
+/// A verdict, a number of steps, and how the shipped program chose the backend.
+type Chosen = (LineVerdict, Option<u64>, &'static str);
+
+#[rattlefmt::skip]
+const CHOICES: [Chosen; 21] = [
+    (LineVerdict::Tx,      Some(132), ""),
+    (LineVerdict::Tx,      Some(133), "noted"),
+    (LineVerdict::Tx,      Some(134), "noted"),
+    (LineVerdict::Tx,      Some(135), ""),
+    (LineVerdict::Tx,      Some(181), ""),
+    (LineVerdict::Tx,      Some(182), "untracked"),
+    (LineVerdict::Tx,      Some(183), "untracked"),
+    (LineVerdict::Tx,      Some(184), ""),
+    (LineVerdict::Tx,      Some(193), ""),
+    (LineVerdict::Tx,      Some(194), "no-note"),
+    (LineVerdict::Tx,      Some(195), "no-note"),
+    (LineVerdict::Tx,      Some(196), ""),
+    (LineVerdict::Tx,      Some(201), "note-down"),
+    (LineVerdict::Tx,      Some(202), "note-down"),
+    (LineVerdict::Tx,      Some(203), ""),
+    (LineVerdict::Tx,      Some(205), "note-down"),
+    (LineVerdict::Tx,      Some(206), "note-down"),
+    (LineVerdict::Tx,      Some(207), ""),
+    (LineVerdict::Tx,      None,      ""),
+    (LineVerdict::Drop,    Some(133), ""),
+    (LineVerdict::Stopped, None,      ""),
+];
+
+/// Compares how a backend was chosen.
+fn compare_choice(rt: &impl Abort, row: &Chosen) {
+    same_text(rt, "a choice", choice_word(row.0, row.1), row.2);
+}
+
+#[test]
+fn choices_follow_from_the_steps(rt: HostRuntime) {
+    for row in &CHOICES {
+        compare_choice(&rt, row);
     }
 }
 

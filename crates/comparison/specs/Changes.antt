@@ -2,15 +2,16 @@
 use Rattle.std.specs.Prelude.{◌≡◌, ℕ, zero, suc, ◌<◌, ◌≤◌, ◌++◌, ◌∷◌, ◌&&◌, ◌||◌, ◌==◌, ◌⊎◌, not, Bool, true, false, List, [], codes, if◌then◌else◌}
 use Rattle.std.specs.Prelude.{length}
 use Rattle.std.specs.Str.{bytes_eq}
-use Rattle.comparison.specs.Columns.{number_column, moment_column, verdict_column, case_column, backend_column, address_column, source_column}
-use Rattle.comparison.specs.Rows.{field, fields_from, row_at}
+use Rattle.comparison.specs.Columns.{number_column, moment_column, verdict_column, case_column, backend_column, address_column}
+use Rattle.comparison.specs.Columns.{source_column, protocol_column}
+use Rattle.comparison.specs.Rows.{field, fields_between, row_at}
 
 -- the rows are of one record: they have its number, its moment and its flow
 abbrev pub is_same_record : List ℕ → List ℕ → Bool
 is_same_record first second =
     bytes_eq (field number_column first) (field number_column second)
     && (bytes_eq (field moment_column first) (field moment_column second)
-    && bytes_eq (fields_from source_column first) (fields_from source_column second))
+    && bytes_eq (fields_between source_column protocol_column first) (fields_between source_column protocol_column second))
 
 -- the first N rows are of the same records
 abbrev pub AreSameRecords : List (List ℕ) → List (List ℕ) → ℕ → Type 0
@@ -27,7 +28,8 @@ pub record IsSharedCount (first second : List (List ℕ)) (count : ℕ) : Type 0
 abbrev pub is_same_case : List ℕ → List ℕ → Bool
 is_same_case first second = length first == 0 || (length second == 0 || bytes_eq first second)
 
--- the records are treated differently: with another verdict, by another case, or sent to another backend or address
+-- the records are treated differently: with another verdict, by another case, or sent to another backend or address; the number of steps
+-- and how the backend was chosen may differ
 abbrev pub is_changed : List ℕ → List ℕ → Bool
 is_changed first second =
     not (bytes_eq (field verdict_column first) (field verdict_column second) && is_same_case (field case_column first) (field case_column second)

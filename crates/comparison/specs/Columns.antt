@@ -1,4 +1,4 @@
--- What the thirteen columns of a report may say: numbers, moments, words and addresses, each of a bounded length. So a field that is printed has
+-- What the fourteen columns of a report may say: numbers, moments, words and addresses, each of a bounded length. So a field that is printed has
 -- no letter that does more to a terminal than to be shown, and is short.
 use Rattle.std.specs.Prelude.{ℕ, ◌==◌, ◌&&◌, ◌||◌, not, nat_le, Bool, List, codes, count_by, if◌then◌else◌, length}
 use Rattle.std.specs.Char.{is_ascii_digit, is_ascii_lowercase, is_ascii_uppercase}
@@ -45,9 +45,12 @@ destination_port_column = 11
 abbrev pub protocol_column : ℕ
 protocol_column = 12
 
+abbrev pub choice_column : ℕ
+choice_column = 13
+
 -- so many there are
 abbrev pub column_count : ℕ
-column_count = 13
+column_count = 14
 
 -- ---- what a field may be
 
@@ -100,7 +103,7 @@ abbrev pub is_field : ℕ → List ℕ → Bool
 is_field column text =
     if column == number_column then is_number text else (if column == moment_column then is_moment text else
     (if column == verdict_column then is_verdict text else
-    (if column == case_column || column == protocol_column then is_known_word text else
+    (if column == case_column || (column == protocol_column || column == choice_column) then is_known_word text else
     (if column == address_column || (column == source_column || column == destination_column) then is_known_address text
     else is_known_number text))))
 
@@ -113,4 +116,4 @@ column_name column =
     (if column == backend_column then codes "backend" else (if column == address_column then codes "address" else
     (if column == source_column then codes "source" else (if column == source_port_column then codes "source_port" else
     (if column == destination_column then codes "destination" else (if column == destination_port_column then codes "destination_port" else
-    codes "protocol")))))))))))
+    (if column == protocol_column then codes "protocol" else codes "choice"))))))))))))

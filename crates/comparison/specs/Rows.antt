@@ -12,7 +12,8 @@ use Rattle.comparison.specs.declared.fault.NoRows.TheVariants.{JsonLines, Memory
 
 -- what comes before the first line of a record
 abbrev pub head_line : List ℕ
-head_line = codes "number,moment,worker,verdict,steps,case,backend,address,source,source_port,destination,destination_port,protocol\n"
+head_line =
+    codes "number,moment,worker,verdict,steps,case,backend,address,source,source_port,destination,destination_port,protocol,choice\n"
 
 -- the parts of a text between marks
 abbrev pub parts_between : ℕ → List ℕ → List (List ℕ)

@@ -5,7 +5,7 @@ ghost use Rattle.comparison.specs.Changes.{IsSharedCount, change_at, change_text
 ghost use Rattle.comparison.specs.Changes.{is_same_record, spaced, treatment};
 
 use crate::columns;
-use crate::rows::{field, fields_from, first_field, later_fields, row_at};
+use crate::rows::{field, fields_between, fields_from, first_field, later_fields, row_at};
 use std::alloc::{AllocError, Global};
 
 /// Whether two rows are of one record.
@@ -14,7 +14,8 @@ fn is_same_record(first: &str, second: &str) -> bool
 {
     field(first, columns::NUMBER) == field(second, columns::NUMBER)
         && (field(first, columns::MOMENT) == field(second, columns::MOMENT)
-            && fields_from(first, columns::SOURCE) == fields_from(second, columns::SOURCE))
+            && fields_between(first, columns::SOURCE, columns::PROTOCOL)
+                == fields_between(second, columns::SOURCE, columns::PROTOCOL))
 }
 
 /// How many rows from the first on are of the same records.
@@ -38,7 +39,8 @@ fn is_same_case(first: &str, second: &str) -> bool
     first.is_empty() || second.is_empty() || first == second
 }
 
-/// Whether a record is treated differently: with another verdict, by another case, or sent to another backend or address.
+/// Whether a record is treated differently: with another verdict, by another case, or sent to another backend or address. In how many steps
+/// that was, and how its backend was chosen, may differ.
 fn is_changed(first: &str, second: &str) -> bool
     ensures { result ≡ is_changed first.now second.now }
 {

@@ -31,8 +31,10 @@ pub const DESTINATION_PORT: usize = 11;
 
 pub const PROTOCOL: usize = 12;
 
+pub const CHOICE: usize = 13;
+
 /// So many columns a report has.
-pub const COLUMNS: usize = 13;
+pub const COLUMNS: usize = 14;
 
 /// Whether a text has so many bytes at most, and one at least.
 fn is_short(most: usize, text: &str) -> bool
@@ -162,7 +164,7 @@ pub(crate) fn is_field(column: usize, text: &str) -> bool
         NUMBER => is_number(text),
         MOMENT => is_moment(text),
         VERDICT => is_verdict(text),
-        CASE | PROTOCOL => is_known_word(text),
+        CASE | PROTOCOL | CHOICE => is_known_word(text),
         ADDRESS | SOURCE | DESTINATION => is_known_address(text),
         _ => is_known_number(text),
     }
@@ -185,6 +187,7 @@ pub(crate) fn column_name(column: usize) -> &'static str
         SOURCE_PORT => "source_port",
         DESTINATION => "destination",
         DESTINATION_PORT => "destination_port",
-        _ => "protocol",
+        PROTOCOL => "protocol",
+        _ => "choice",
     }
 }

@@ -12,7 +12,7 @@ use text_lines::text_or_line;
 
 /// What comes before the first line of a record, a line of the columns' names.
 const HEAD: &str =
-    "number,moment,worker,verdict,steps,case,backend,address,source,source_port,destination,destination_port,protocol\n";
+    "number,moment,worker,verdict,steps,case,backend,address,source,source_port,destination,destination_port,protocol,choice\n";
 
 /// The first line of a report, with its line feed.
 pub fn head_line() -> &'static str

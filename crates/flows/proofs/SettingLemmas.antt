@@ -6,7 +6,7 @@ use Rattle.std.proofs.lemmas.List.Sums.{fold-append}
 use Rattle.std.specs.List.{prefix_len, slice_get}
 use Rattle.control.specs.declared.command.Command.{Command}
 use Rattle.flows.specs.declared.settings.Settings.{Settings}
-use Rattle.flows.specs.Settings.{before, is_due, is_untracked, is_up, untracked_by, up_by}
+use Rattle.flows.specs.Settings.{before, is_due, is_up, up_by}
 use Rattle.flows.specs.Walking.{IsWalked, is_one_due}
 use Rattle.flows.proofs.PrefixLemmas.{passes, prefix_end, prefix_more, prefix_wider}
 
@@ -16,12 +16,6 @@ pub up_more : (backend_number : List ℕ) (commands : List Command) (i : ℕ) (d
 up_more backend_number commands i d inside =
     ap (is_up backend_number) (take_more commands i d inside)
     ∙ fold-append (λ was (command : Command). up_by backend_number was command.action) false (take i commands) (get_or commands i d ∷ [])
-
-pub untracked_more : (name : List ℕ) (commands : List Command) (i : ℕ) (d : Command) → i < length commands
-    → is_untracked name (take (i + 1) commands) ≡ untracked_by name (is_untracked name (take i commands)) (get_or commands i d).action
-untracked_more name commands i d inside =
-    ap (is_untracked name) (take_more commands i d inside)
-    ∙ fold-append (λ was (command : Command). untracked_by name was command.action) false (take i commands) (get_or commands i d ∷ [])
 
 -- a flag that is set, read at any name
 pub read_flag : (test is_so : Bool) (old : Option Bool) → unwrap_or (cond test (Some is_so) old) false ≡ cond test is_so (unwrap_or old false)

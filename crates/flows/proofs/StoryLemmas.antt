@@ -15,9 +15,9 @@ use Rattle.control.specs.declared.command.Command.{Command}
 use Rattle.flows.specs.declared.reason.Reason.{Reason}
 use Rattle.flows.specs.declared.flow.Flow.{Flow}
 use Rattle.flows.specs.FlowRecords.{HasRoomForFrame, story_of}
-use Rattle.flows.specs.Settings.{before, is_untracked}
+use Rattle.flows.specs.Settings.{before}
 use Rattle.flows.specs.Stories.{Story, after, after_sent, after_unsent, story_begun, flow_of_row, row_has_flow, is_sent_row, move_by, one_if_some}
-use Rattle.flows.specs.Stories.{has_no_backend, is_dropped_row, one_if, service_of_row}
+use Rattle.flows.specs.Stories.{has_no_backend, is_dropped_row, one_if}
 use Rattle.flows.specs.Telling.{Moved, address_in, backend_in, address_of_story, is_story_of, move_in, move_of, moved_at, moves_at_row, moves_until}
 use Rattle.flows.specs.Telling.{stories_with, stories_until, stories_after}
 
@@ -208,9 +208,9 @@ pub record IsSmall (most : ℕ) (story : Story) : Type 0 where
   pub no_backend : story.no_backend ≤ most
   pub changes : story.changes ≤ most
 
-small_sent : (most : ℕ) (story : Story) (row : List ℕ) (untracked : Bool) (move : Option Reason) → IsSmall most story
-    → IsSmall (most + 1) (after_sent story row untracked move)
-small_sent most story row untracked move small =
+small_sent : (most : ℕ) (story : Story) (row : List ℕ) (move : Option Reason) → IsSmall most story
+    → IsSmall (most + 1) (after_sent story row move)
+small_sent most story row move small =
     let one = one_at_most move in
     record {
       frames = omega (arith, small.frames);
@@ -239,8 +239,8 @@ small_if most false one other first second = second
 small_after : (most : ℕ) (story : Story) (row : List ℕ) (commands : List Command) → IsSmall most story
     → IsSmall (most + 1) (after story row commands)
 small_after most story row commands small =
-    small_if (most + 1) (is_sent_row row) (after_sent story row (is_untracked (service_of_row row) commands) (move_by story row commands))
-    (after_unsent story row) (small_sent most story row (is_untracked (service_of_row row) commands) (move_by story row commands) small)
+    small_if (most + 1) (is_sent_row row) (after_sent story row (move_by story row commands))
+    (after_unsent story row) (small_sent most story row (move_by story row commands) small)
     (small_unsent most story row small)
 
 small_later : (most : ℕ) (stories : List Story) → AllByRecursion (IsSmall most) stories → AllByRecursion (IsSmall (most + 1)) stories

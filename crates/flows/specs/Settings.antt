@@ -1,12 +1,10 @@
--- What a script has set when a record comes: which backends are up, and which services are without tracking.
-use Rattle.std.specs.Prelude.{ℕ, ◌++◌, nat_lt, not, Bool, true, false, List, codes, decimal, if◌then◌else◌, fold}
+-- What a script has set when a record comes: which backends are up.
+use Rattle.std.specs.Prelude.{ℕ, nat_lt, not, Bool, true, false, List, decimal, if◌then◌else◌, fold}
 use Rattle.std.specs.List.{take_while}
 use Rattle.std.specs.Str.{bytes_eq}
-use Rattle.conntrack.specs.declared.keys.Service.{Service}
 use Rattle.control.specs.declared.command.Action.{Action}
 use Rattle.control.specs.declared.command.Action.TheVariants.{Vip, Up, Down, Gateway}
 use Rattle.control.specs.declared.command.Command.{Command}
-use Rattle.control.specs.ScriptText.{address_text, transport_text}
 
 -- the command comes before the record at this place, counted from 0: at most as many records as that come before it
 abbrev pub is_due : ℕ → Command → Bool
@@ -28,21 +26,3 @@ up_by backend_number was (Gateway source source_mac destination_mac) = was
 -- whether the backend of this number is up after these commands
 abbrev pub is_up : List ℕ → List Command → Bool
 is_up backend_number commands = fold (λ was command. up_by backend_number was command.action) false commands
-
--- ---- services
-
--- a service as a report spells the end of a flow: its address, port and protocol with commas between them
-abbrev pub service_text : Service → List ℕ
-service_text service =
-    address_text service.address.0 ++ (codes "," ++ (decimal service.port ++ (codes "," ++ transport_text service.transport)))
-
--- whether this service is without tracking after a command, if it was or was not before
-abbrev pub untracked_by : List ℕ → Bool → Action → Bool
-untracked_by name was (Vip service is_notrack) = if bytes_eq (service_text service) name then is_notrack else was
-untracked_by name was (Up backend address) = was
-untracked_by name was (Down backend) = was
-untracked_by name was (Gateway source source_mac destination_mac) = was
-
--- whether this service is without tracking after these commands
-abbrev pub is_untracked : List ℕ → List Command → Bool
-is_untracked name commands = fold (λ was command. untracked_by name was command.action) false commands

@@ -2,12 +2,12 @@
 use Rattle.std.specs.Prelude.{ℕ, ◌+◌, ◌==◌, ◌++◌, ◌&&◌, ◌||◌, not, Bool, false, List, [], ◌∷◌, Option, Some, None, codes, length, if◌then◌else◌}
 use Rattle.std.specs.Str.{bytes_eq}
 use Rattle.comparison.specs.Columns.{moment_column, verdict_column, case_column, backend_column, address_column}
-use Rattle.comparison.specs.Columns.{source_column, destination_column, protocol_column}
+use Rattle.comparison.specs.Columns.{source_column, protocol_column, choice_column}
 use Rattle.comparison.specs.Rows.{field, fields_between}
 use Rattle.control.specs.declared.command.Command.{Command}
 use Rattle.flows.specs.declared.reason.Reason.{Reason}
 use Rattle.flows.specs.declared.reason.Reason.TheVariants.{Readdressed, Down, Untracked, Evicted, Unknown}
-use Rattle.flows.specs.Settings.{is_untracked, is_up}
+use Rattle.flows.specs.Settings.{is_up}
 
 -- ---- what a row says
 
@@ -17,10 +17,6 @@ flow_of_row row = fields_between source_column protocol_column row
 
 abbrev pub row_has_flow : List ℕ → Bool
 row_has_flow row = not (length (field source_column row) == 0)
-
--- the service of the flow: destination, destination port and protocol
-abbrev pub service_of_row : List ℕ → List ℕ
-service_of_row row = fields_between destination_column protocol_column row
 
 abbrev pub moment_of_row : List ℕ → List ℕ
 moment_of_row row = field moment_column row
@@ -46,6 +42,24 @@ backend_of_row row = field backend_column row
 abbrev pub address_of : List ℕ → List ℕ
 address_of row = field address_column row
 
+-- how the run chose the backend: this word says it
+abbrev pub is_chosen : List ℕ → List ℕ → Bool
+is_chosen word row = bytes_eq (field choice_column row) word
+
+-- by the flow's note; by the table, though the flow has a note, since its backend is not up; by the table, since the service is without
+-- tracking; by the table, since the flow has no note
+abbrev pub is_noted_row : List ℕ → Bool
+is_noted_row row = is_chosen (codes "noted") row
+
+abbrev pub has_note_down : List ℕ → Bool
+has_note_down row = is_chosen (codes "note-down") row
+
+abbrev pub is_untracked_row : List ℕ → Bool
+is_untracked_row row = is_chosen (codes "untracked") row
+
+abbrev pub has_no_note : List ℕ → Bool
+has_no_note row = is_chosen (codes "no-note") row
+
 -- a word, or another one where it is empty
 abbrev pub or_else : List ℕ → List ℕ → List ℕ
 or_else [] other = other
@@ -59,8 +73,8 @@ backend_name row = or_else (backend_of_row row) (or_else (address_of row) (codes
 
 -- A flow, the moments of its first and last frame, how many frames it has, how many of them were sent, how many dropped, and how many of
 -- these for want of a backend that is up; whether one was dropped behind a sent one; how many sent ones went to another address than the
--- sent one before; of the last sent frame its backend, its address, and whether the flow's service was without tracking then; and the
--- backends in words.
+-- sent one before; of the last sent frame its backend, its address, and whether the flow's service was without tracking then, as its row
+-- says; and the backends in words.
 pub record Story : Type 0 where
   pub flow : List ℕ
   pub first : List ℕ
@@ -100,16 +114,29 @@ story_begun row = record {
 abbrev pub is_moved_row : Story → List ℕ → Bool
 is_moved_row story row = is_sent_row row && (not (story.sent == 0) && not (bytes_eq story.address (address_of row)))
 
--- Why the next frame is sent to another address. The number of the backend before is not known; it is this frame's too, so its address
--- was changed; it is not up; the service is without tracking, or was at the sent frame before, which left no note; or else the flow's note
--- is gone though the backend is up.
+-- the number of the backend of the sent frame before is known, and that backend is not up after these commands
+abbrev pub was_down : Story → List Command → Bool
+was_down story commands = not (length story.backend == 0) && not (is_up story.backend commands)
+
+-- where the run found a note, and its backend up: the note is of an older frame than the one before, which left none; or it is the note of
+-- the backend before, whose address was changed
+abbrev pub reason_of_noted : Story → Reason
+reason_of_noted story = if story.untracked then Untracked else Readdressed
+
+-- where no note says it: the backend before is not up by the script, or this
+abbrev pub down_or : Reason → Story → List Command → Reason
+down_or other story commands = if was_down story commands then Down else other
+
+-- Why the next frame is sent to another address, by what its run did: it found the flow's note, whose backend is not up; it followed the
+-- note; it looked for none, or the sent frame before left none, as the service was without tracking; or it found none, so the note is gone.
+-- Unknown where the report does not say what the run did.
 abbrev pub reason_of_move : Story → List ℕ → List Command → Reason
 reason_of_move story row commands =
-    if length story.backend == 0 then Unknown
-    else if bytes_eq story.backend (backend_of_row row) then Readdressed
-    else if not (is_up story.backend commands) then Down
-    else if story.untracked || is_untracked (service_of_row row) commands then Untracked
-    else Evicted
+    if has_note_down row then Down
+    else if is_noted_row row then reason_of_noted story
+    else if is_untracked_row row || story.untracked then down_or Untracked story commands
+    else if has_no_note row then down_or Evicted story commands
+    else Unknown
 
 -- why a frame is moved, if it is
 abbrev pub move_by : Story → List ℕ → List Command → Option Reason
@@ -158,8 +185,8 @@ after_unsent story row = record {
 }
 
 -- after a sent frame, which is moved for this reason, or not
-abbrev pub after_sent : Story → List ℕ → Bool → Option Reason → Story
-after_sent story row untracked move = record {
+abbrev pub after_sent : Story → List ℕ → Option Reason → Story
+after_sent story row move = record {
   flow = story.flow;
   first = story.first;
   last = moment_of_row row;
@@ -171,12 +198,11 @@ after_sent story row untracked move = record {
   changes = story.changes + one_if_some move;
   backend = backend_of_row row;
   address = address_of row;
-  untracked = untracked;
+  untracked = is_untracked_row row;
   path = story.path ++ step_text story row move;
 }
 
 -- after a frame, where these commands came before it
 abbrev pub after : Story → List ℕ → List Command → Story
 after story row commands =
-    if is_sent_row row then after_sent story row (is_untracked (service_of_row row) commands) (move_by story row commands)
-    else after_unsent story row
+    if is_sent_row row then after_sent story row (move_by story row commands) else after_unsent story row

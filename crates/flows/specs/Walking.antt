@@ -7,7 +7,7 @@ use Rattle.control.specs.declared.command.Action.{Action}
 use Rattle.control.specs.declared.command.Command.{Command}
 use Rattle.flows.specs.declared.settings.Flags.{Flags}
 use Rattle.flows.specs.declared.settings.Settings.{Settings}
-use Rattle.flows.specs.Settings.{is_due, is_untracked, is_up, untracked_by, up_by}
+use Rattle.flows.specs.Settings.{is_due, is_up, up_by}
 
 -- what is noted of a name
 abbrev pub flag : Flags → List ℕ → Bool
@@ -29,14 +29,12 @@ is_one_due place (Some command) = is_due place command
 -- an action was carried out
 pub record IsSetBy (old new : Settings) (action : Action) : Type 0 where
   pub up : (backend_number : List ℕ) → flag new.up backend_number ≡ up_by backend_number (flag old.up backend_number) action
-  pub untracked : (name : List ℕ) → flag new.untracked name ≡ untracked_by name (flag old.untracked name) action
   pub done : new.done ≡ old.done
   pub commands : new.commands.now ≡ old.commands.now
 
 -- the flags are those that the commands set
 pub record KnowsSettings (settings : Settings) : Type 0 where
   pub up : (backend_number : List ℕ) → flag settings.up backend_number ≡ is_up backend_number (applied settings)
-  pub untracked : (name : List ℕ) → flag settings.untracked name ≡ is_untracked name (applied settings)
 
 -- the flags are those of the commands that were carried out, and none of these comes after the record at this place
 pub record IsWalked (settings : Settings) (place : ℕ) : Type 0 where

@@ -5,7 +5,8 @@ ghost use Rattle.std.specs.Option.{MatchOption};
 ghost use Rattle.flows.specs.FlowRecords.{HasRoomForFrame, story_of};
 ghost use Rattle.flows.specs.Stories.{after, after_sent, after_unsent, backend_name, story_begun, change_with_reason, flow_of_row, row_has_flow, is_moved_row};
 ghost use Rattle.flows.specs.Stories.{has_no_backend, is_dropped_row, is_sent_row, one_if};
-ghost use Rattle.flows.specs.Stories.{moment_of_row, move_by, one_if_some, or_else, reason_of_move, service_of_row, step_text, backend_of_row, address_of};
+ghost use Rattle.flows.specs.Stories.{moment_of_row, move_by, one_if_some, or_else, reason_of_move, step_text, backend_of_row, address_of};
+ghost use Rattle.flows.specs.Stories.{down_or, is_chosen, is_untracked_row, reason_of_noted, was_down};
 ghost use Rattle.flows.specs.Walking.{KnowsSettings, applied};
 
 use crate::reason::Reason;
@@ -18,13 +19,6 @@ pub(crate) fn flow_of(row: &str) -> &str
     ensures { result.now ≡ flow_of_row row.now }
 {
     fields_between(row, columns::SOURCE, columns::PROTOCOL)
-}
-
-/// The service of a row's flow.
-fn service_of(row: &str) -> &str
-    ensures { result.now ≡ service_of_row row.now }
-{
-    fields_between(row, columns::DESTINATION, columns::PROTOCOL)
 }
 
 /// Whether a row's frame has a flow.
@@ -53,6 +47,20 @@ fn has_no_backend(row: &str) -> bool
     ensures { result ≡ has_no_backend row.now }
 {
     is_dropped(row) && field(row, columns::CASE) == "no-backend"
+}
+
+/// Whether this word says how the run chose the backend.
+fn is_chosen(row: &str, word: &str) -> bool
+    ensures { result ≡ is_chosen word.now row.now }
+{
+    field(row, columns::CHOICE) == word
+}
+
+/// Whether the table chose it, since the service is without tracking.
+fn is_untracked(row: &str) -> bool
+    ensures { result ≡ is_untracked_row row.now }
+{
+    is_chosen(row, "untracked")
 }
 
 /// 1 where this is so.
@@ -109,7 +117,7 @@ pub(crate) struct Flow<'a> {
     /// The number of the backend and the address of the last sent frame.
     pub(crate) backend: &'a str,
     pub(crate) address: &'a str,
-    /// Whether the flow's service was without tracking at that frame.
+    /// Whether the flow's service was without tracking at that frame, as its row says.
     pub(crate) untracked: bool,
     /// The backends, with the reason of each change.
     pub(crate) path: String,
@@ -145,21 +153,52 @@ impl<'a> Flow<'a> {
         is_sent(row) && self.sent != 0 && self.address != field(row, columns::ADDRESS)
     }
 
+    /// Whether the backend of the sent frame before is known, and not up.
+    fn was_down(&self, settings: &Settings) -> bool
+        requires { KnowsSettings settings.now }
+        ensures { result ≡ was_down (story_of self.now) (applied settings.now) }
+    {
+        !self.backend.is_empty() && !settings.is_up(self.backend)
+    }
+
+    /// Down, where the backend before is, or this reason.
+    fn down_or(&self, other: Reason, settings: &Settings) -> Reason
+        requires { KnowsSettings settings.now }
+        ensures { result ≡ down_or other (story_of self.now) (applied settings.now) }
+    {
+        if self.was_down(settings) {
+            Reason::Down
+        } else {
+            other
+        }
+    }
+
+    /// Why the next frame is sent to another address, where its run followed the flow's note.
+    fn reason_of_noted(&self) -> Reason
+        ensures { result ≡ reason_of_noted (story_of self.now) }
+    {
+        if self.untracked {
+            Reason::Untracked
+        } else {
+            Reason::Readdressed
+        }
+    }
+
     /// Why the next frame is sent to another address.
     fn reason_of(&self, row: &str, settings: &Settings) -> Reason
         requires { KnowsSettings settings.now }
         ensures { result ≡ reason_of_move (story_of self.now) row.now (applied settings.now) }
     {
-        if self.backend.is_empty() {
-            Reason::Unknown
-        } else if self.backend == field(row, columns::BACKEND) {
-            Reason::Readdressed
-        } else if !settings.is_up(self.backend) {
+        if is_chosen(row, "note-down") {
             Reason::Down
-        } else if self.untracked || settings.is_untracked(service_of(row)) {
-            Reason::Untracked
+        } else if is_chosen(row, "noted") {
+            self.reason_of_noted()
+        } else if is_untracked(row) || self.untracked {
+            self.down_or(Reason::Untracked, settings)
+        } else if is_chosen(row, "no-note") {
+            self.down_or(Reason::Evicted, settings)
         } else {
-            Reason::Evicted
+            Reason::Unknown
         }
     }
 
@@ -209,11 +248,10 @@ impl<'a> Flow<'a> {
         &mut self,
         alloc: Global,
         row: &'a str,
-        untracked: bool,
         moved: Option<Reason>,
     ) -> Result<(), AllocError>
         requires { HasRoomForFrame (story_of self.old) }
-        ensures { OnOk result (story_of self.new ≡ after_sent (story_of self.old) row.now untracked moved) }
+        ensures { OnOk result (story_of self.new ≡ after_sent (story_of self.old) row.now moved) }
     {
         let step = self.step_text(alloc, row, moved)?;
         self.path.push_str(step.as_str())?;
@@ -223,7 +261,7 @@ impl<'a> Flow<'a> {
         self.changes += one_if_some(moved);
         self.backend = field(row, columns::BACKEND);
         self.address = field(row, columns::ADDRESS);
-        self.untracked = untracked;
+        self.untracked = is_untracked(row);
         Ok(())
     }
 
@@ -241,8 +279,7 @@ impl<'a> Flow<'a> {
     {
         let moved = self.move_by(row, settings);
         if is_sent(row) {
-            let untracked = settings.is_untracked(service_of(row));
-            self.note_sent(alloc, row, untracked, moved)?;
+            self.note_sent(alloc, row, moved)?;
         } else {
             self.note_unsent(row);
         }

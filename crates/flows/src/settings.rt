@@ -2,11 +2,10 @@
 
 ghost use Rattle.std.specs.Prelude.{◌≡◌, ◌<◌, ◌+◌, List, ℕ, IfOk, OnOk, decimal, false, length, slice_get, string_bytes};
 ghost use Rattle.control.specs.ScriptText.{address_text};
-ghost use Rattle.flows.specs.Settings.{before, is_untracked, is_up, service_text};
+ghost use Rattle.flows.specs.Settings.{before, is_up};
 ghost use Rattle.flows.specs.Walking.{IsSetBy, IsWalked, KnowsSettings, SetsFlag, applied, flag, is_one_due};
 
-use conntrack::Service;
-use control::{Action, Command, transport_text};
+use control::{Action, Command};
 use std::alloc::{AllocError, Global};
 use std::collections::BTreeMap;
 use wire::Ipv4Address;
@@ -59,16 +58,6 @@ pub fn address_text(alloc: Global, address: Ipv4Address) -> Result<String, Alloc
     format!(in alloc; "{a}.{b}.{c}.{d}")
 }
 
-/// A service as a report spells the end of a flow.
-fn service_text(alloc: Global, service: &Service) -> Result<String, AllocError>
-    ensures { IfOk result (λ text. string_bytes text ≡ service_text service.now) }
-{
-    let address = address_text(alloc, service.address)?;
-    let (address, port) = (address.as_str(), service.port);
-    let transport = transport_text(service.transport);
-    format!(in alloc; "{address},{port},{transport}")
-}
-
 /// What the commands of a script have set, as far as they were carried out.
 #[derive(Drop)]
 pub(crate) struct Settings<'a> {
@@ -77,8 +66,6 @@ pub(crate) struct Settings<'a> {
     done: usize,
     /// The numbers of the backends that are up.
     up: Flags,
-    /// The services that are without tracking.
-    untracked: Flags,
 }
 
 impl<'a> Settings<'a> {
@@ -92,7 +79,6 @@ impl<'a> Settings<'a> {
             commands,
             done: 0,
             up: Flags::none(alloc),
-            untracked: Flags::none(alloc),
         }
     }
 
@@ -104,14 +90,6 @@ impl<'a> Settings<'a> {
         self.up.has(number)
     }
 
-    /// Whether this service is without tracking.
-    pub(crate) fn is_untracked(&self, service: &str) -> bool
-        requires { KnowsSettings self.now }
-        ensures { result ≡ is_untracked service.now (applied self.now) }
-    {
-        self.untracked.has(service)
-    }
-
     /// Sets what an action sets.
     fn set(&mut self, alloc: Global, action: &Action) -> Result<(), AllocError>
         ensures { OnOk result (IsSetBy self.old self.new action.now) }
@@ -119,14 +97,7 @@ impl<'a> Settings<'a> {
         match action {
             Action::Up { backend, .. } => self.up.put(decimal(alloc, *backend)?, true),
             Action::Down { backend } => self.up.put(decimal(alloc, *backend)?, false),
-            Action::Vip {
-                service,
-                is_notrack,
-            } => {
-                self.untracked
-                    .put(service_text(alloc, service)?, *is_notrack)
-            }
-            Action::Gateway { .. } => Ok(()),
+            Action::Vip { .. } | Action::Gateway { .. } => Ok(()),
         }
     }
 

@@ -85,8 +85,8 @@ fn stopped_count(rows: &[&str]) -> usize
 /// reason. The report is one of CSV, whose rows are those of records 1, 2, 3 and so on without a gap; a part that is cut off
 /// behind does not show.
 ///
-/// The reasons are those of an exact replay by the shipped program whose commands were all carried out; on threads a command and a frame may
-/// overlap.
+/// The reasons are those of a replay by the shipped program: each run's row says how it chose its backend. Where it found no note, whether the
+/// backend before was up is read from the script; on threads a command and a frame may overlap.
 ///
 /// Refused where the file is no such report, with the line that shows it first, and where memory is refused.
 pub fn flows_in(alloc: Global, report: &[u8], script: &Script) -> Result<Flows, NoFlows>

@@ -8,7 +8,7 @@ use wire::Ipv4Address;
 
 /// What comes before the first row of a report.
 const REPORT_HEAD: &str =
-    "number,moment,worker,verdict,steps,case,backend,address,source,source_port,destination,destination_port,protocol\n";
+    "number,moment,worker,verdict,steps,case,backend,address,source,source_port,destination,destination_port,protocol,choice\n";
 
 /// What comes before the first line of a table.
 const TABLE_HEAD: &str =
@@ -24,48 +24,52 @@ type Row = (
 );
 
 #[rattlefmt::skip]
-static ROWS: [Row; 16] = [
+static ROWS: [Row; 21] = [
     ("no record", "", "", "",
         "0 flows with a sent frame, 0 of them moved, 0 of these TCP\n\
          0 flows had no backend for a frame, 0 lost a frame behind a sent one\n\
          0 frames moved: 0 down, 0 evicted, 0 untracked, 0 readdressed, 0 unknown\n"),
     ("flows without a sent frame, and a frame without a flow", "0 up 1 192.0.2.2\n",
-        "1,1.000000,,SHORT,,short,,,,,,,\n2,1.000001,0,PASS,9,arp,,,,,,,\n3,1.000002,0,DROP,90,no-backend,,,10.0.0.1,1000,203.0.113.1,80,tcp\n",
+        "1,1.000000,,SHORT,,short,,,,,,,,\n2,1.000001,0,PASS,9,arp,,,,,,,,\n3,1.000002,0,DROP,90,no-backend,,,10.0.0.1,1000,203.0.113.1,80,tcp,\n",
         "10.0.0.1,1000,203.0.113.1,80,tcp,1.000002,1.000002,1,0,1,1,0,\n",
         "0 flows with a sent frame, 0 of them moved, 0 of these TCP\n\
          1 flows had no backend for a frame, 0 lost a frame behind a sent one\n\
          0 frames moved: 0 down, 0 evicted, 0 untracked, 0 readdressed, 0 unknown\n"),
     ("a flow that stays", "0 vip 203.0.113.1 80 tcp\n0 up 1 192.0.2.2\n",
-        "1,1.000000,0,DROP,90,no-backend,,,10.0.0.1,1000,203.0.113.1,80,tcp\n\
-         2,2.000000,0,TX,99,sent,1,192.0.2.2,10.0.0.1,1000,203.0.113.1,80,tcp\n\
-         3,3.500000,0,TX,99,sent,1,192.0.2.2,10.0.0.1,1000,203.0.113.1,80,tcp\n",
+        "1,1.000000,0,DROP,90,no-backend,,,10.0.0.1,1000,203.0.113.1,80,tcp,\n\
+         2,2.000000,0,TX,99,sent,1,192.0.2.2,10.0.0.1,1000,203.0.113.1,80,tcp,no-note\n\
+         3,3.500000,0,TX,99,sent,1,192.0.2.2,10.0.0.1,1000,203.0.113.1,80,tcp,noted\n",
         "10.0.0.1,1000,203.0.113.1,80,tcp,1.000000,3.500000,3,2,1,1,0,1\n",
         "1 flows with a sent frame, 0 of them moved, 0 of these TCP\n\
          1 flows had no backend for a frame, 0 lost a frame behind a sent one\n\
          0 frames moved: 0 down, 0 evicted, 0 untracked, 0 readdressed, 0 unknown\n"),
     ("a command of number 1 comes before record 2", "0 vip 203.0.113.1 80 tcp\n0 up 0 192.0.2.1\n0 up 1 192.0.2.2\n1 down 1\n",
-        "1,1.000000,0,TX,99,sent,1,192.0.2.2,10.0.0.1,1000,203.0.113.1,80,tcp\n2,2.000000,0,TX,99,sent,0,192.0.2.1,10.0.0.1,1000,203.0.113.1,80,tcp\n",
+        "1,1.000000,0,TX,99,sent,1,192.0.2.2,10.0.0.1,1000,203.0.113.1,80,tcp,no-note\n\
+         2,2.000000,0,TX,99,sent,0,192.0.2.1,10.0.0.1,1000,203.0.113.1,80,tcp,note-down\n",
         "10.0.0.1,1000,203.0.113.1,80,tcp,1.000000,2.000000,2,2,0,0,1,1 >down 0\n",
         "1 flows with a sent frame, 1 of them moved, 1 of these TCP\n\
          0 flows had no backend for a frame, 0 lost a frame behind a sent one\n\
          1 frames moved: 1 down, 0 evicted, 0 untracked, 0 readdressed, 0 unknown\n\
          1 changes of tcp 10.0.0.1:1000 to 203.0.113.1:80: 1 >down 0\n"),
     ("one of number 2 does not, so the note was gone", "0 vip 203.0.113.1 80 tcp\n0 up 0 192.0.2.1\n0 up 1 192.0.2.2\n2 down 1\n",
-        "1,1.000000,0,TX,99,sent,1,192.0.2.2,10.0.0.1,1000,203.0.113.1,80,tcp\n2,2.000000,0,TX,99,sent,0,192.0.2.1,10.0.0.1,1000,203.0.113.1,80,tcp\n",
+        "1,1.000000,0,TX,99,sent,1,192.0.2.2,10.0.0.1,1000,203.0.113.1,80,tcp,no-note\n\
+         2,2.000000,0,TX,99,sent,0,192.0.2.1,10.0.0.1,1000,203.0.113.1,80,tcp,no-note\n",
         "10.0.0.1,1000,203.0.113.1,80,tcp,1.000000,2.000000,2,2,0,0,1,1 >evicted 0\n",
         "1 flows with a sent frame, 1 of them moved, 1 of these TCP\n\
          0 flows had no backend for a frame, 0 lost a frame behind a sent one\n\
          1 frames moved: 0 down, 1 evicted, 0 untracked, 0 readdressed, 0 unknown\n\
          1 changes of tcp 10.0.0.1:1000 to 203.0.113.1:80: 1 >evicted 0\n"),
     ("a backend that is up again was not the reason", "0 vip 203.0.113.1 80 tcp\n0 up 0 192.0.2.1\n0 up 1 192.0.2.2\n1 down 1\n1 up 1 192.0.2.2\n",
-        "1,1.000000,0,TX,99,sent,1,192.0.2.2,10.0.0.1,1000,203.0.113.1,80,tcp\n2,2.000000,0,TX,99,sent,0,192.0.2.1,10.0.0.1,1000,203.0.113.1,80,tcp\n",
+        "1,1.000000,0,TX,99,sent,1,192.0.2.2,10.0.0.1,1000,203.0.113.1,80,tcp,no-note\n\
+         2,2.000000,0,TX,99,sent,0,192.0.2.1,10.0.0.1,1000,203.0.113.1,80,tcp,no-note\n",
         "10.0.0.1,1000,203.0.113.1,80,tcp,1.000000,2.000000,2,2,0,0,1,1 >evicted 0\n",
         "1 flows with a sent frame, 1 of them moved, 1 of these TCP\n\
          0 flows had no backend for a frame, 0 lost a frame behind a sent one\n\
          1 frames moved: 0 down, 1 evicted, 0 untracked, 0 readdressed, 0 unknown\n\
          1 changes of tcp 10.0.0.1:1000 to 203.0.113.1:80: 1 >evicted 0\n"),
     ("a service without tracking", "0 vip 203.0.113.2 53 udp notrack\n0 up 1 192.0.2.2\n1 up 2 192.0.2.3\n",
-        "1,1.000000,0,TX,99,sent,1,192.0.2.2,10.0.0.1,1000,203.0.113.2,53,udp\n2,2.000000,0,TX,99,sent,2,192.0.2.3,10.0.0.1,1000,203.0.113.2,53,udp\n",
+        "1,1.000000,0,TX,99,sent,1,192.0.2.2,10.0.0.1,1000,203.0.113.2,53,udp,untracked\n\
+         2,2.000000,0,TX,99,sent,2,192.0.2.3,10.0.0.1,1000,203.0.113.2,53,udp,untracked\n",
         "10.0.0.1,1000,203.0.113.2,53,udp,1.000000,2.000000,2,2,0,0,1,1 >untracked 2\n",
         "1 flows with a sent frame, 1 of them moved, 0 of these TCP\n\
          0 flows had no backend for a frame, 0 lost a frame behind a sent one\n\
@@ -75,56 +79,59 @@ static ROWS: [Row; 16] = [
          0 up 1 192.0.2.2\n\
          1 up 2 192.0.2.3\n\
          1 vip 203.0.113.2 53 udp\n",
-        "1,1.000000,0,TX,99,sent,1,192.0.2.2,10.0.0.1,1000,203.0.113.2,53,udp\n\
-         2,2.000000,0,TX,99,sent,2,192.0.2.3,10.0.0.1,1000,203.0.113.2,53,udp\n\
-         3,3.000000,0,TX,99,sent,1,192.0.2.2,10.0.0.1,1000,203.0.113.2,53,udp\n",
+        "1,1.000000,0,TX,99,sent,1,192.0.2.2,10.0.0.1,1000,203.0.113.2,53,udp,untracked\n\
+         2,2.000000,0,TX,99,sent,2,192.0.2.3,10.0.0.1,1000,203.0.113.2,53,udp,no-note\n\
+         3,3.000000,0,TX,99,sent,1,192.0.2.2,10.0.0.1,1000,203.0.113.2,53,udp,no-note\n",
         "10.0.0.1,1000,203.0.113.2,53,udp,1.000000,3.000000,3,3,0,0,2,1 >untracked 2 >evicted 1\n",
         "1 flows with a sent frame, 1 of them moved, 0 of these TCP\n\
          0 flows had no backend for a frame, 0 lost a frame behind a sent one\n\
          2 frames moved: 0 down, 1 evicted, 1 untracked, 0 readdressed, 0 unknown\n\
          2 changes of udp 10.0.0.1:1000 to 203.0.113.2:53: 1 >untracked 2 >evicted 1\n"),
-    ("the same port of another protocol is another service", "0 vip 203.0.113.2 53 tcp notrack\n0 vip 203.0.113.2 53 udp\n0 up 1 192.0.2.2\n0 up 2 192.0.2.3\n",
-        "1,1.000000,0,TX,99,sent,1,192.0.2.2,10.0.0.1,1000,203.0.113.2,53,udp\n2,2.000000,0,TX,99,sent,2,192.0.2.3,10.0.0.1,1000,203.0.113.2,53,udp\n",
+    ("which services are without tracking, runs say and not the script", "0 vip 203.0.113.2 53 tcp notrack\n0 vip 203.0.113.2 53 udp\n0 up 1 192.0.2.2\n\
+         0 up 2 192.0.2.3\n",
+        "1,1.000000,0,TX,99,sent,1,192.0.2.2,10.0.0.1,1000,203.0.113.2,53,udp,no-note\n\
+         2,2.000000,0,TX,99,sent,2,192.0.2.3,10.0.0.1,1000,203.0.113.2,53,udp,no-note\n",
         "10.0.0.1,1000,203.0.113.2,53,udp,1.000000,2.000000,2,2,0,0,1,1 >evicted 2\n",
         "1 flows with a sent frame, 1 of them moved, 0 of these TCP\n\
          0 flows had no backend for a frame, 0 lost a frame behind a sent one\n\
          1 frames moved: 0 down, 1 evicted, 0 untracked, 0 readdressed, 0 unknown\n\
          1 changes of udp 10.0.0.1:1000 to 203.0.113.2:53: 1 >evicted 2\n"),
     ("a backend with another address", "0 vip 203.0.113.1 80 tcp\n0 up 1 192.0.2.2\n1 down 1\n1 up 1 192.0.2.9\n",
-        "1,1.000000,0,TX,99,sent,1,192.0.2.2,10.0.0.1,1000,203.0.113.1,80,tcp\n2,2.000000,0,TX,99,sent,1,192.0.2.9,10.0.0.1,1000,203.0.113.1,80,tcp\n",
+        "1,1.000000,0,TX,99,sent,1,192.0.2.2,10.0.0.1,1000,203.0.113.1,80,tcp,no-note\n\
+         2,2.000000,0,TX,99,sent,1,192.0.2.9,10.0.0.1,1000,203.0.113.1,80,tcp,noted\n",
         "10.0.0.1,1000,203.0.113.1,80,tcp,1.000000,2.000000,2,2,0,0,1,1 >readdressed 1\n",
         "1 flows with a sent frame, 1 of them moved, 1 of these TCP\n\
          0 flows had no backend for a frame, 0 lost a frame behind a sent one\n\
          1 frames moved: 0 down, 0 evicted, 0 untracked, 1 readdressed, 0 unknown\n\
          1 changes of tcp 10.0.0.1:1000 to 203.0.113.1:80: 1 >readdressed 1\n"),
     ("a backend whose number is not known", "0 vip 203.0.113.1 80 tcp\n0 up 1 192.0.2.2\n",
-        "1,1.000000,0,TX,99,,,192.0.2.7,10.0.0.1,1000,203.0.113.1,80,tcp\n2,2.000000,0,TX,99,,1,192.0.2.2,10.0.0.1,1000,203.0.113.1,80,tcp\n",
+        "1,1.000000,0,TX,99,,,192.0.2.7,10.0.0.1,1000,203.0.113.1,80,tcp,\n2,2.000000,0,TX,99,,1,192.0.2.2,10.0.0.1,1000,203.0.113.1,80,tcp,\n",
         "10.0.0.1,1000,203.0.113.1,80,tcp,1.000000,2.000000,2,2,0,0,1,192.0.2.7 >unknown 1\n",
         "1 flows with a sent frame, 1 of them moved, 1 of these TCP\n\
          0 flows had no backend for a frame, 0 lost a frame behind a sent one\n\
          1 frames moved: 0 down, 0 evicted, 0 untracked, 0 readdressed, 1 unknown\n\
          1 changes of tcp 10.0.0.1:1000 to 203.0.113.1:80: 192.0.2.7 >unknown 1\n"),
     ("frames in no tunnel", "",
-        "1,1.000000,0,TX,2,,,,10.0.0.1,1000,203.0.113.1,80,tcp\n2,2.000000,0,TX,2,,,,10.0.0.1,1000,203.0.113.1,80,tcp\n",
+        "1,1.000000,0,TX,2,,,,10.0.0.1,1000,203.0.113.1,80,tcp,\n2,2.000000,0,TX,2,,,,10.0.0.1,1000,203.0.113.1,80,tcp,\n",
         "10.0.0.1,1000,203.0.113.1,80,tcp,1.000000,2.000000,2,2,0,0,0,-\n",
         "1 flows with a sent frame, 0 of them moved, 0 of these TCP\n\
          0 flows had no backend for a frame, 0 lost a frame behind a sent one\n\
          0 frames moved: 0 down, 0 evicted, 0 untracked, 0 readdressed, 0 unknown\n"),
     ("what comes between two sent frames is no change", "0 vip 203.0.113.1 80 tcp\n0 up 1 192.0.2.2\n1 down 1\n2 up 1 192.0.2.2\n",
-        "1,1.000000,0,TX,99,sent,1,192.0.2.2,10.0.0.1,1000,203.0.113.1,80,tcp\n\
-         2,2.000000,0,DROP,90,no-backend,,,10.0.0.1,1000,203.0.113.1,80,tcp\n\
-         3,3.000000,0,TX,99,sent,1,192.0.2.2,10.0.0.1,1000,203.0.113.1,80,tcp\n",
+        "1,1.000000,0,TX,99,sent,1,192.0.2.2,10.0.0.1,1000,203.0.113.1,80,tcp,no-note\n\
+         2,2.000000,0,DROP,90,no-backend,,,10.0.0.1,1000,203.0.113.1,80,tcp,\n\
+         3,3.000000,0,TX,99,sent,1,192.0.2.2,10.0.0.1,1000,203.0.113.1,80,tcp,noted\n",
         "10.0.0.1,1000,203.0.113.1,80,tcp,1.000000,3.000000,3,2,1,1,0,1\n",
         "1 flows with a sent frame, 0 of them moved, 0 of these TCP\n\
          1 flows had no backend for a frame, 1 lost a frame behind a sent one\n\
          0 frames moved: 0 down, 0 evicted, 0 untracked, 0 readdressed, 0 unknown\n"),
     ("an outage, with a stopped run", "0 vip 203.0.113.1 80 tcp\n0 up 1 192.0.2.2\n2 down 1\n",
-        "1,1.000000,0,TX,99,sent,1,192.0.2.2,10.0.0.1,1000,203.0.113.1,80,tcp\n\
-         2,2.000000,0,DROP,90,expired,,,10.0.0.1,1001,203.0.113.1,80,tcp\n\
-         3,3.000000,0,DROP,90,no-backend,,,10.0.0.1,1000,203.0.113.1,80,tcp\n\
-         4,4.000000,0,DROP,90,no-backend,,,10.0.0.1,1001,203.0.113.1,80,tcp\n\
-         5,5.000000,0,STOPPED,,,,,10.0.0.1,1000,203.0.113.1,80,tcp\n\
-         6,6.000000,0,DROP,90,,,,10.0.0.1,1000,203.0.113.1,80,tcp\n",
+        "1,1.000000,0,TX,99,sent,1,192.0.2.2,10.0.0.1,1000,203.0.113.1,80,tcp,no-note\n\
+         2,2.000000,0,DROP,90,expired,,,10.0.0.1,1001,203.0.113.1,80,tcp,\n\
+         3,3.000000,0,DROP,90,no-backend,,,10.0.0.1,1000,203.0.113.1,80,tcp,\n\
+         4,4.000000,0,DROP,90,no-backend,,,10.0.0.1,1001,203.0.113.1,80,tcp,\n\
+         5,5.000000,0,STOPPED,,,,,10.0.0.1,1000,203.0.113.1,80,tcp,\n\
+         6,6.000000,0,DROP,90,,,,10.0.0.1,1000,203.0.113.1,80,tcp,\n",
         "10.0.0.1,1000,203.0.113.1,80,tcp,1.000000,6.000000,4,1,2,1,0,1\n\
          10.0.0.1,1001,203.0.113.1,80,tcp,2.000000,4.000000,2,0,2,1,0,\n",
         "1 flows with a sent frame, 0 of them moved, 0 of these TCP\n\
@@ -132,11 +139,11 @@ static ROWS: [Row; 16] = [
          0 frames moved: 0 down, 0 evicted, 0 untracked, 0 readdressed, 0 unknown\n\
          1 frames were stopped by full journals: what is said of flows is incomplete\n"),
     ("two flows that moved, one of them of TCP", "0 vip 203.0.113.1 80 tcp\n0 vip 203.0.113.1 53 udp\n0 up 1 192.0.2.2\n0 up 2 192.0.2.3\n2 down 1\n",
-        "1,1.000000,0,TX,99,sent,1,192.0.2.2,10.0.0.1,1000,203.0.113.1,80,tcp\n\
-         2,2.000000,0,TX,99,sent,1,192.0.2.2,10.0.0.1,1000,203.0.113.1,53,udp\n\
-         3,3.000000,0,TX,99,sent,2,192.0.2.3,10.0.0.1,1000,203.0.113.1,80,tcp\n\
-         4,4.000000,0,TX,99,sent,2,192.0.2.3,10.0.0.1,1000,203.0.113.1,53,udp\n\
-         5,5.000000,0,TX,99,sent,2,192.0.2.3,10.0.0.2,1000,203.0.113.1,80,tcp\n",
+        "1,1.000000,0,TX,99,sent,1,192.0.2.2,10.0.0.1,1000,203.0.113.1,80,tcp,no-note\n\
+         2,2.000000,0,TX,99,sent,1,192.0.2.2,10.0.0.1,1000,203.0.113.1,53,udp,no-note\n\
+         3,3.000000,0,TX,99,sent,2,192.0.2.3,10.0.0.1,1000,203.0.113.1,80,tcp,note-down\n\
+         4,4.000000,0,TX,99,sent,2,192.0.2.3,10.0.0.1,1000,203.0.113.1,53,udp,note-down\n\
+         5,5.000000,0,TX,99,sent,2,192.0.2.3,10.0.0.2,1000,203.0.113.1,80,tcp,no-note\n",
         "10.0.0.1,1000,203.0.113.1,80,tcp,1.000000,3.000000,2,2,0,0,1,1 >down 2\n\
          10.0.0.1,1000,203.0.113.1,53,udp,2.000000,4.000000,2,2,0,0,1,1 >down 2\n\
          10.0.0.2,1000,203.0.113.1,80,tcp,5.000000,5.000000,1,1,0,0,0,2\n",
@@ -151,12 +158,12 @@ static ROWS: [Row; 16] = [
          3 down 1\n\
          5 up 1 192.0.2.2\n\
          5 down 0\n",
-        "1,1.000000,0,TX,99,sent,1,192.0.2.2,10.0.0.1,1000,203.0.113.1,80,tcp\n\
-         2,2.000000,0,TX,99,sent,1,192.0.2.2,10.0.0.1,1001,203.0.113.1,80,tcp\n\
-         3,3.000000,0,TX,99,sent,0,192.0.2.1,10.0.0.2,1000,203.0.113.1,80,tcp\n\
-         4,4.000000,0,TX,99,sent,0,192.0.2.1,10.0.0.1,1001,203.0.113.1,80,tcp\n\
-         5,5.000000,0,TX,99,sent,0,192.0.2.1,10.0.0.1,1000,203.0.113.1,80,tcp\n\
-         6,6.000000,0,TX,99,sent,1,192.0.2.2,10.0.0.1,1001,203.0.113.1,80,tcp\n",
+        "1,1.000000,0,TX,99,sent,1,192.0.2.2,10.0.0.1,1000,203.0.113.1,80,tcp,no-note\n\
+         2,2.000000,0,TX,99,sent,1,192.0.2.2,10.0.0.1,1001,203.0.113.1,80,tcp,no-note\n\
+         3,3.000000,0,TX,99,sent,0,192.0.2.1,10.0.0.2,1000,203.0.113.1,80,tcp,no-note\n\
+         4,4.000000,0,TX,99,sent,0,192.0.2.1,10.0.0.1,1001,203.0.113.1,80,tcp,note-down\n\
+         5,5.000000,0,TX,99,sent,0,192.0.2.1,10.0.0.1,1000,203.0.113.1,80,tcp,note-down\n\
+         6,6.000000,0,TX,99,sent,1,192.0.2.2,10.0.0.1,1001,203.0.113.1,80,tcp,note-down\n",
         "10.0.0.1,1000,203.0.113.1,80,tcp,1.000000,5.000000,2,2,0,0,1,1 >down 0\n\
          10.0.0.1,1001,203.0.113.1,80,tcp,2.000000,6.000000,3,3,0,0,2,1 >down 0 >down 1\n\
          10.0.0.2,1000,203.0.113.1,80,tcp,3.000000,3.000000,1,1,0,0,0,0\n",
@@ -165,6 +172,49 @@ static ROWS: [Row; 16] = [
          3 frames moved: 3 down, 0 evicted, 0 untracked, 0 readdressed, 0 unknown\n\
          2 changes of tcp 10.0.0.1:1001 to 203.0.113.1:80: 1 >down 0 >down 1\n\
          1 changes of tcp 10.0.0.1:1000 to 203.0.113.1:80: 1 >down 0\n"),
+    ("a note whose backend a run found down, though the script's numbers say that it is up", "0 vip 203.0.113.1 80 tcp\n0 up 0 192.0.2.1\n0 up 1 192.0.2.2\n",
+        "1,1.000000,0,TX,99,sent,1,192.0.2.2,10.0.0.1,1000,203.0.113.1,80,tcp,no-note\n\
+         2,2.000000,0,TX,99,sent,0,192.0.2.1,10.0.0.1,1000,203.0.113.1,80,tcp,note-down\n",
+        "10.0.0.1,1000,203.0.113.1,80,tcp,1.000000,2.000000,2,2,0,0,1,1 >down 0\n",
+        "1 flows with a sent frame, 1 of them moved, 1 of these TCP\n\
+         0 flows had no backend for a frame, 0 lost a frame behind a sent one\n\
+         1 frames moved: 1 down, 0 evicted, 0 untracked, 0 readdressed, 0 unknown\n\
+         1 changes of tcp 10.0.0.1:1000 to 203.0.113.1:80: 1 >down 0\n"),
+    ("a note that is older than the frame before, which left none", "0 vip 203.0.113.1 80 tcp\n0 up 1 192.0.2.2\n1 vip 203.0.113.1 80 tcp notrack\n\
+         1 up 2 192.0.2.3\n2 vip 203.0.113.1 80 tcp\n",
+        "1,1.000000,0,TX,99,sent,1,192.0.2.2,10.0.0.1,1000,203.0.113.1,80,tcp,no-note\n\
+         2,2.000000,0,TX,99,sent,2,192.0.2.3,10.0.0.1,1000,203.0.113.1,80,tcp,untracked\n\
+         3,3.000000,0,TX,99,sent,1,192.0.2.2,10.0.0.1,1000,203.0.113.1,80,tcp,noted\n",
+        "10.0.0.1,1000,203.0.113.1,80,tcp,1.000000,3.000000,3,3,0,0,2,1 >untracked 2 >untracked 1\n",
+        "1 flows with a sent frame, 1 of them moved, 1 of these TCP\n\
+         0 flows had no backend for a frame, 0 lost a frame behind a sent one\n\
+         2 frames moved: 0 down, 0 evicted, 2 untracked, 0 readdressed, 0 unknown\n\
+         2 changes of tcp 10.0.0.1:1000 to 203.0.113.1:80: 1 >untracked 2 >untracked 1\n"),
+    ("a service without tracking whose backend goes down, and is up again", "0 vip 203.0.113.2 53 udp notrack\n0 up 1 192.0.2.2\n0 up 2 192.0.2.3\n\
+         1 down 1\n2 up 1 192.0.2.2\n",
+        "1,1.000000,0,TX,99,sent,1,192.0.2.2,10.0.0.1,1000,203.0.113.2,53,udp,untracked\n\
+         2,2.000000,0,TX,99,sent,2,192.0.2.3,10.0.0.1,1000,203.0.113.2,53,udp,untracked\n\
+         3,3.000000,0,TX,99,sent,1,192.0.2.2,10.0.0.1,1000,203.0.113.2,53,udp,untracked\n",
+        "10.0.0.1,1000,203.0.113.2,53,udp,1.000000,3.000000,3,3,0,0,2,1 >down 2 >untracked 1\n",
+        "1 flows with a sent frame, 1 of them moved, 0 of these TCP\n\
+         0 flows had no backend for a frame, 0 lost a frame behind a sent one\n\
+         2 frames moved: 1 down, 0 evicted, 1 untracked, 0 readdressed, 0 unknown\n\
+         2 changes of udp 10.0.0.1:1000 to 203.0.113.2:53: 1 >down 2 >untracked 1\n"),
+    ("a note that is gone, of a backend that is down", "0 vip 203.0.113.1 80 tcp\n0 up 0 192.0.2.1\n0 up 1 192.0.2.2\n1 down 1\n",
+        "1,1.000000,0,TX,99,sent,1,192.0.2.2,10.0.0.1,1000,203.0.113.1,80,tcp,no-note\n\
+         2,2.000000,0,TX,99,sent,0,192.0.2.1,10.0.0.1,1000,203.0.113.1,80,tcp,no-note\n",
+        "10.0.0.1,1000,203.0.113.1,80,tcp,1.000000,2.000000,2,2,0,0,1,1 >down 0\n",
+        "1 flows with a sent frame, 1 of them moved, 1 of these TCP\n\
+         0 flows had no backend for a frame, 0 lost a frame behind a sent one\n\
+         1 frames moved: 1 down, 0 evicted, 0 untracked, 0 readdressed, 0 unknown\n\
+         1 changes of tcp 10.0.0.1:1000 to 203.0.113.1:80: 1 >down 0\n"),
+    ("a run of which nothing is said", "0 vip 203.0.113.1 80 tcp\n0 up 0 192.0.2.1\n0 up 1 192.0.2.2\n1 down 1\n",
+        "1,1.000000,0,TX,99,,1,192.0.2.2,10.0.0.1,1000,203.0.113.1,80,tcp,\n2,2.000000,0,TX,99,,0,192.0.2.1,10.0.0.1,1000,203.0.113.1,80,tcp,\n",
+        "10.0.0.1,1000,203.0.113.1,80,tcp,1.000000,2.000000,2,2,0,0,1,1 >unknown 0\n",
+        "1 flows with a sent frame, 1 of them moved, 1 of these TCP\n\
+         0 flows had no backend for a frame, 0 lost a frame behind a sent one\n\
+         1 frames moved: 0 down, 0 evicted, 0 untracked, 0 readdressed, 1 unknown\n\
+         1 changes of tcp 10.0.0.1:1000 to 203.0.113.1:80: 1 >unknown 0\n"),
 ];
 
 /// What a row shows, bytes that are no report, and the refusal.
@@ -175,17 +225,17 @@ static REFUSED: [Refusal; 8] = [
     ("JSON lines", b"{\"number\":1}\n", NoFlows::JsonLines),
     ("no bytes", b"", NoFlows::NoReport { line: 1 }),
     ("bytes that are no text", b"number\n\xff\n", NoFlows::NoReport { line: 2 }),
-    ("a row with eleven commas", b"number,moment,worker,verdict,steps,case,backend,address,source,source_port,destination,destination_port,protocol\n\
-         1,1.000000,,SHORT,,short,,,,,,\n", NoFlows::NoReport { line: 2 }),
-    ("a row that is not ended", b"number,moment,worker,verdict,steps,case,backend,address,source,source_port,destination,destination_port,protocol\n\
-         1,1.000000,,SHORT,,short,,,,,,,", NoFlows::NoReport { line: 2 }),
-    ("the second record first", b"number,moment,worker,verdict,steps,case,backend,address,source,source_port,destination,destination_port,protocol\n\
-         2,1.000000,,SHORT,,short,,,,,,,\n", NoFlows::LeftOut { line: 2 }),
-    ("no second record", b"number,moment,worker,verdict,steps,case,backend,address,source,source_port,destination,destination_port,protocol\n\
-         1,1.000000,,SHORT,,short,,,,,,,\n\
-         3,1.000000,,SHORT,,short,,,,,,,\n", NoFlows::LeftOut { line: 3 }),
-    ("a number with a zero in front", b"number,moment,worker,verdict,steps,case,backend,address,source,source_port,destination,destination_port,protocol\n\
-         01,1.000000,,SHORT,,short,,,,,,,\n", NoFlows::LeftOut { line: 2 }),
+    ("a row with twelve commas", b"number,moment,worker,verdict,steps,case,backend,address,source,source_port,destination,destination_port,protocol,choice\n\
+         1,1.000000,,SHORT,,short,,,,,,,\n", NoFlows::NoReport { line: 2 }),
+    ("a row that is not ended", b"number,moment,worker,verdict,steps,case,backend,address,source,source_port,destination,destination_port,protocol,choice\n\
+         1,1.000000,,SHORT,,short,,,,,,,,", NoFlows::NoReport { line: 2 }),
+    ("the second record first", b"number,moment,worker,verdict,steps,case,backend,address,source,source_port,destination,destination_port,protocol,choice\n\
+         2,1.000000,,SHORT,,short,,,,,,,,\n", NoFlows::LeftOut { line: 2 }),
+    ("no second record", b"number,moment,worker,verdict,steps,case,backend,address,source,source_port,destination,destination_port,protocol,choice\n\
+         1,1.000000,,SHORT,,short,,,,,,,,\n\
+         3,1.000000,,SHORT,,short,,,,,,,,\n", NoFlows::LeftOut { line: 3 }),
+    ("a number with a zero in front", b"number,moment,worker,verdict,steps,case,backend,address,source,source_port,destination,destination_port,protocol,choice\n\
+         01,1.000000,,SHORT,,short,,,,,,,,\n", NoFlows::LeftOut { line: 2 }),
 ];
 
 /// Holds the texts of a row against what is wanted.
@@ -251,7 +301,7 @@ fn refusals_have_lines(rt: HostRuntime) {
     compare_line(&rt, alloc, NoFlows::Memory, "fault 8 Memory\n");
 }
 
-/// Adds a row for each of the first flows, whose frames go to this backend; so many rows come before.
+/// Adds a row for each of the first flows, whose frames go to this backend, which was chosen so; so many rows come before.
 fn push_rows(
     rt: &impl Abort,
     alloc: Global,
@@ -259,11 +309,12 @@ fn push_rows(
     before: u16,
     flows: u16,
     backend: u8,
+    choice: &str,
 ) {
     for port in 0..flows {
         let record = before as u32 + port as u32 + 1;
         let row = format!(in alloc;
-            "{record},1.000000,0,TX,99,sent,{backend},192.0.2.{backend},10.0.0.1,{port},203.0.113.1,80,tcp\n"
+            "{record},1.000000,0,TX,99,sent,{backend},192.0.2.{backend},10.0.0.1,{port},203.0.113.1,80,tcp,{choice}\n"
         ).expect(rt, "a row");
         report.push_str(row.as_str()).expect(rt, "a report");
     }
@@ -301,10 +352,10 @@ const TWELVE: &str = "\
 fn ten_flows_are_named(rt: HostRuntime) {
     let alloc = rt.alloc();
     let mut report = new_report(&rt, alloc);
-    push_rows(&rt, alloc, &mut report, 0, 12, 1);
-    push_rows(&rt, alloc, &mut report, 12, 12, 2);
+    push_rows(&rt, alloc, &mut report, 0, 12, 1, "no-note");
+    push_rows(&rt, alloc, &mut report, 12, 12, 2, "note-down");
     report
-        .push_str("25,1.000000,0,TX,99,sent,3,192.0.2.3,10.0.0.1,11,203.0.113.1,80,tcp\n")
+        .push_str("25,1.000000,0,TX,99,sent,3,192.0.2.3,10.0.0.1,11,203.0.113.1,80,tcp,note-down\n")
         .expect(&rt, "a report");
     let commands =
         "0 vip 203.0.113.1 80 tcp\n0 up 1 192.0.2.1\n0 up 2 192.0.2.2\n0 up 3 192.0.2.3\n12 down 1\n24 down 2\n";
@@ -315,8 +366,8 @@ fn ten_flows_are_named(rt: HostRuntime) {
 fn many_flows_are_told(rt: HostRuntime) {
     let alloc = rt.alloc();
     let mut report = new_report(&rt, alloc);
-    push_rows(&rt, alloc, &mut report, 0, 1000, 1);
-    push_rows(&rt, alloc, &mut report, 1000, 1000, 2);
+    push_rows(&rt, alloc, &mut report, 0, 1000, 1, "no-note");
+    push_rows(&rt, alloc, &mut report, 1000, 1000, 2, "note-down");
     let commands = "0 vip 203.0.113.1 80 tcp\n0 up 1 192.0.2.1\n0 up 2 192.0.2.2\n1000 down 1\n";
     let wanted =
         "1000 flows with a sent frame, 1000 of them moved, 1000 of these TCP\n0 flows had no backend for a frame, 0 lost a frame behind a sent one\n\
@@ -326,10 +377,10 @@ fn many_flows_are_told(rt: HostRuntime) {
 
 /// Frames of two flows. Backend 1 goes down before the third, and the flow of the second was not sent before the fourth.
 const FOUR_ROWS: [&str; 4] = [
-    "1,1.000000,0,TX,99,sent,1,192.0.2.2,10.0.0.1,1000,203.0.113.1,80,tcp",
-    "2,2.000000,0,DROP,90,no-backend,,,10.0.0.1,1001,203.0.113.1,80,tcp",
-    "3,3.000000,0,TX,99,sent,0,192.0.2.1,10.0.0.1,1000,203.0.113.1,80,tcp",
-    "4,4.000000,0,TX,99,sent,0,192.0.2.1,10.0.0.1,1001,203.0.113.1,80,tcp",
+    "1,1.000000,0,TX,99,sent,1,192.0.2.2,10.0.0.1,1000,203.0.113.1,80,tcp,no-note",
+    "2,2.000000,0,DROP,90,no-backend,,,10.0.0.1,1001,203.0.113.1,80,tcp,",
+    "3,3.000000,0,TX,99,sent,0,192.0.2.1,10.0.0.1,1000,203.0.113.1,80,tcp,note-down",
+    "4,4.000000,0,TX,99,sent,0,192.0.2.1,10.0.0.1,1001,203.0.113.1,80,tcp,no-note",
 ];
 
 /// Whether a move is of this row, from this backend and address, for this reason.

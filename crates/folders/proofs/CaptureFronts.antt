@@ -38,6 +38,16 @@ begins_header xs ys begins =
       link = le32_at-append 20 xs ys (omega (arith, long)) ∙ begins.link;
     }
 
+-- a header that is there whole
+pub front_header : (xs ys : List ℕ) → 24 ≤ length xs → BeginsWithHeader (xs ++ ys) → BeginsWithHeader xs
+front_header xs ys long begins = record {
+  long = long;
+  magic = sym (le32_at-append 0 xs ys (omega (arith, long))) ∙ begins.magic;
+  major = sym (le16_at-append 4 xs ys (omega (arith, long))) ∙ begins.major;
+  minor = sym (le16_at-append 6 xs ys (omega (arith, long))) ∙ begins.minor;
+  link = sym (le32_at-append 20 xs ys (omega (arith, long))) ∙ begins.link;
+}
+
 -- a record at the front
 pub begins_record : (xs ys : List ℕ) (sent : Sent) → BeginsWithRecord xs sent → BeginsWithRecord (xs ++ ys) sent
 begins_record xs ys sent begins =

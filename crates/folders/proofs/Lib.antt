@@ -3,4 +3,5 @@ pub mod FrontLemmas
 pub mod WindowLemmas
 pub mod CaptureFronts
 pub mod RecordFronts
+pub mod AlteringLemmas
 pub mod shared

@@ -3,4 +3,5 @@ pub mod Fronts
 pub mod Pieces
 pub mod FaultNumber
 pub mod Filling
+pub mod AlteredReading
 pub mod PieceReading

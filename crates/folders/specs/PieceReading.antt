@@ -1,16 +1,33 @@
 -- A capture file that is read in pieces: what was read of it, and what is left.
-use Rattle.std.specs.Prelude.{◌≡◌, ℕ, ◌+◌, nat_lt, if◌then◌else◌, List, [], ◌∷◌, ◌++◌, length, drop}
+use Rattle.std.specs.Prelude.{◌≡◌, ℕ, ◌+◌, ◌*◌, ◌^◌, ◌≤◌, nat_lt, if◌then◌else◌, List, [], ◌∷◌, ◌++◌, Bool, true, false, Option, Some, None, length, drop}
 use Rattle.wire.specs.declared.records.Sent.{Sent}
 use Rattle.wire.specs.declared.capture_fault.CaptureFault.{CaptureFault}
 use Rattle.wire.specs.CaptureFormat.{le32_at, BeginsWithHeader, BeginsWithRecord, AreRecords, IsCaptureFile, RefusesCapture}
+use Rattle.capture_readings.specs.declared.readings.Reading.{Reading}
+use Rattle.capture_readings.specs.Readings.{unaltered}
+use Rattle.folders.specs.AlteredReading.{AlteringView, AreReadOf, IsOf, raw_of, still_read}
 use Rattle.folders.specs.declared.record_head.RecordHead.{RecordHead}
 
--- what a contract sees of a reader: the bytes that its folder returned and that are still unread, how many records it read, and how many
--- of these were cut
+-- what a contract sees of a reader: the bytes that are unread, how many records it read, and how many of these were cut; and where the file is
+-- altered how: then the unread bytes are what is read of it, and else those that its folder returned
 pub record ReaderView : Type 0 where
   pub unread : List ℕ
   pub count : ℕ
   pub cut : ℕ
+  pub source : Option AlteringView
+
+-- behind the header, where these bytes follow it: they are read as they are, or those are that are read of them
+abbrev pub read_behind : Bool → Reading → List ℕ → ReaderView
+read_behind false reading bytes = record { unread = bytes; count = 0; cut = 0; source = None }
+read_behind true reading bytes = record { unread = []; count = 0; cut = 0; source = Some (record { reading = reading; raw = bytes }) }
+
+-- how many bytes are still to be read at most, where so many are left of the file: a record has 16 or more, and gets 2048 at most
+abbrev pub most_to_come : ℕ → ReaderView → ℕ
+most_to_come most reader = length reader.unread + 129 * (length (raw_of reader.source) + most)
+
+-- so few records are counted, and to come, that no count is too large
+abbrev pub HasRoom : ℕ → ReaderView → Type 0
+HasRoom most reader = 16 * reader.count + most_to_come most reader ≤ 2 ^ 48
 
 -- 1 for a record at the front of the bytes that keeps fewer bytes than its frame had, else 0
 abbrev pub cut_at_front : List ℕ → Sent → ℕ
@@ -22,6 +39,7 @@ behind_record reader sent = record {
   unread = drop (16 + length sent.bytes.items) reader.unread;
   count = reader.count + 1;
   cut = reader.cut + cut_at_front reader.unread sent;
+  source = reader.source;
 }
 
 -- a whole record is at the front of the bytes, and its head says this
@@ -46,17 +64,20 @@ pub record HasRecords (has : List ℕ → Type 0) (records : List Sent) (cut : �
   pub are : AreRecords (drop 24 all) records behind
   pub cut_is : cut ≡ cut_record_count (drop 24 all) records
 
--- the file has these records so far: something is left of it, and whatever that is, it comes behind them and the unread bytes
-pub record IsReadTo (has : List ℕ → Type 0) (is_left : List ℕ → Type 0) (records : List Sent) (reader : ReaderView) : Type 0 where
+-- under this reading the file has these records so far: something is still to be read, and whatever that is, it comes behind them and the unread
+-- bytes
+pub record IsReadTo (reading : Reading) (has : List ℕ → Type 0) (is_left : List ℕ → Type 0) (records : List Sent) (reader : ReaderView) : Type 0 where
+  pub reading_is : IsOf reading reader.source
   pub counted : reader.count ≡ length records
   pub rest : List ℕ
-  pub left : is_left rest
-  pub file : (behind : List ℕ) → is_left behind → HasRecords has records reader.cut (reader.unread ++ behind)
+  pub left : still_read reader.source is_left rest
+  pub file : (behind : List ℕ) → still_read reader.source is_left behind
+      → HasRecords (AreReadOf reading has) records reader.cut (reader.unread ++ behind)
 
--- the file is a capture of these records, with this number of cut ones among them
-pub record IsReadWhole (has : List ℕ → Type 0) (records : List Sent) (cut : ℕ) : Type 0 where
+-- under this reading the file is a capture of these records, with this number of cut ones among them
+pub record IsReadWhole (reading : Reading) (has : List ℕ → Type 0) (records : List Sent) (cut : ℕ) : Type 0 where
   pub all : List ℕ
-  pub held : has all
+  pub held : AreReadOf reading has all
   pub capture : IsCaptureFile all records
   pub cut_is : cut ≡ cut_record_count (drop 24 all) records
 
@@ -70,17 +91,17 @@ pub record IsFileRefused (has : List ℕ → Type 0) (fault : CaptureFault) : Ty
 abbrev pub ReadsOn : {F : Type 0} → (F → List ℕ → List ℕ → Type 0) → (List ℕ → Type 0) → (List ℕ → Type 0) → ReaderView → ReaderView
     → List Sent → Type 0
 ReadsOn holds was_left is_left was now sents =
-    (opened : _) (name : List ℕ) (records : List Sent) → IsReadTo (holds opened name) was_left records was →
-    IsReadTo (holds opened name) is_left (records ++ sents) now
+    (reading : Reading) (opened : _) (name : List ℕ) (records : List Sent) → IsReadTo reading (holds opened name) was_left records was →
+    IsReadTo reading (holds opened name) is_left (records ++ sents) now
 
 -- behind whatever records a file has in this state come these, and then it ends; this number of all of them were cut
 abbrev pub ReadsToEnd : {F : Type 0} → (F → List ℕ → List ℕ → Type 0) → (List ℕ → Type 0) → ReaderView → List Sent → ℕ → Type 0
 ReadsToEnd holds was_left was sents cut =
-    (opened : _) (name : List ℕ) (records : List Sent) → IsReadTo (holds opened name) was_left records was →
-    IsReadWhole (holds opened name) (records ++ sents) cut
+    (reading : Reading) (opened : _) (name : List ℕ) (records : List Sent) → IsReadTo reading (holds opened name) was_left records was →
+    IsReadWhole reading (holds opened name) (records ++ sents) cut
 
--- whatever file has some records in this state is refused with this fault
+-- whatever file has some records in this state, and is read as it is, is refused with this fault
 abbrev pub RefusesNext : {F : Type 0} → (F → List ℕ → List ℕ → Type 0) → (List ℕ → Type 0) → ReaderView → CaptureFault → Type 0
 RefusesNext holds was_left was fault =
-    (opened : _) (name : List ℕ) (records : List Sent) → IsReadTo (holds opened name) was_left records was →
+    (opened : _) (name : List ℕ) (records : List Sent) → IsReadTo unaltered (holds opened name) was_left records was →
     IsFileRefused (holds opened name) fault

@@ -1,27 +1,35 @@
 //! Records of a capture file, one after another.
 
 ghost use Rattle.std.specs.Prelude.{◌≡◌, ◌+◌, ◌-◌, ◌*◌, ◌^◌, ◌<◌, ◌≤◌, ◌↔◌, ◌⊎◌, ◌++◌};
-ghost use Rattle.std.specs.Prelude.{ℕ, [], ◌∷◌, List, length};
+ghost use Rattle.std.specs.Prelude.{ℕ, [], ◌∷◌, List, None, length};
 ghost use Rattle.std.specs.Prelude.{IfErr, IfNone, IfOk, IfSome, IsErrOf, OnErr, OnOk};
 ghost use Rattle.wire.specs.declared.records.Sent.{Sent as Record};
 ghost use Rattle.wire.specs.CaptureFormat.{BeginsWithRecord};
-ghost use Rattle.folders.specs.PieceReading.{IsAtFront, IsFileRefused, IsReadTo, ReadsOn, ReadsToEnd, RefusesNext, behind_record};
+ghost use Rattle.capture_readings.specs.Readings.{alters};
+ghost use Rattle.folders.specs.AlteredReading.{IsReadAlike, raw_of, still_read};
+ghost use Rattle.folders.specs.Filling.{IsFilled};
+ghost use Rattle.folders.specs.PieceReading.{HasRoom, IsAtFront, IsFileRefused, IsReadTo, ReadsOn, ReadsToEnd, RefusesNext};
+ghost use Rattle.folders.specs.PieceReading.{behind_record, most_to_come, read_behind};
 
+use crate::altering::{Alterations, Altering};
 use crate::folder::{Folder, FolderFault};
 use crate::record_buffer::RecordBuffer;
 use crate::record_head::RecordHead;
 use crate::window::Window;
+use capture_readings::Reading;
 use std::alloc::{AllocError, Global};
 use std::marker::Model;
 use wire::{CAPTURE_HEADER_LEN, CaptureFault, RECORD_HEAD_LEN, check_capture_header};
 
-/// Reads a capture file (pcap 2.4, little-endian, microseconds, Ethernet) record by record. It has a buffer of 256 KiB and what it counts;
-/// the file is the one that its folder reads in pieces.
+/// Reads a capture file (pcap 2.4, little-endian, microseconds, Ethernet) record by record. It has a buffer of 256 KiB, a second one where
+/// the file is altered, and what it counts; the file is the one that its folder reads in pieces.
 #[derive(Drop)]
 pub struct CaptureReader {
     window: Window,
     count: u64,
     cut: u64,
+    /// What alters the file; none where its bytes are read as they are.
+    altering: Option<Altering>,
 }
 
 impl Model for CaptureReader {
@@ -30,7 +38,12 @@ impl Model for CaptureReader {
 
     ghost Value = { ReaderView };
 
-    ghost view = { λ reader. record { unread = reader.window; count = reader.count; cut = reader.cut } };
+    ghost view = { λ reader. record {
+      unread = reader.window;
+      count = reader.count;
+      cut = reader.cut;
+      source = reader.altering;
+    } };
 
     ghost invariant = { λ reader. reader.cut ≤ reader.count };
 }
@@ -44,11 +57,12 @@ impl CaptureReader {
         alloc: Global,
         folder: &mut D,
         name: &str,
+        reading: Reading,
     ) -> Result<Option<CaptureReader>, CaptureFault>
         requires { D.failure_count folder.old < 2 ^ 64 - 1 }
-        ensures opened { IfOk result (λ found. IfSome found (IsReadTo (D.holds folder.old name.now) (D.is_left folder.new) [])) }
+        ensures opened { IfOk result (λ found. IfSome found (IsReadTo reading (D.holds folder.old name.now) (D.is_left folder.new) [])) }
         ensures start { IfOk result (λ found. IfSome found (λ reader. reader.count ≡ 0)) }
-        ensures room { IfOk result (λ found. IfSome found (λ reader. length reader.unread + D.most_left folder.new ≤ 2 ^ 40)) }
+        ensures room { IfOk result (λ found. IfSome found (HasRoom (D.most_left folder.new))) }
         ensures fault { IfErr result (λ fault.
             fault ≡ CaptureFault.Device ⊎ fault ≡ CaptureFault.Memory ⊎ IsFileRefused (D.holds folder.old name.now) fault) }
         ensures kept { (other held : List ℕ) → (D.holds folder.old other held ↔ D.holds folder.new other held) }
@@ -74,11 +88,94 @@ impl CaptureReader {
             Err(fault) => return Err(fault),
         }
         window.skip(CAPTURE_HEADER_LEN);
-        Ok(Some(CaptureReader {
+        match CaptureReader::behind_header(alloc, window, reading) {
+            Ok(reader) => Ok(Some(reader)),
+            Err(_) => Err(CaptureFault::Memory),
+        }
+    }
+
+    /// A reader of a file whose header was read, where the window has the bytes behind it.
+    fn behind_header(
+        alloc: Global,
+        window: Window,
+        reading: Reading,
+    ) -> Result<CaptureReader, AllocError>
+        ensures { IfOk result (λ reader. reader ≡ read_behind (alters reading) reading window) }
+    {
+        let is_altered = reading.alters();
+        if is_altered {
+            return Ok(CaptureReader {
+                window: Window::new(alloc)?,
+                count: 0,
+                cut: 0,
+                altering: Some(Altering::new(alloc, reading, window)),
+            });
+        }
+        Ok(CaptureReader {
             window,
             count: 0,
             cut: 0,
-        }))
+            altering: None,
+        })
+    }
+
+    /// What its reading altered in the records that were read.
+    pub fn alterations(&self) -> Alterations {
+        match &self.altering {
+            Some(altering) => altering.done(),
+            None => Alterations::default(),
+        }
+    }
+
+    /// Reads on, until a whole record must be unread or the file has ended; in a file that is altered, where nothing is unread.
+    #[inline(never)]
+    fn read_more<D: Folder>(&mut self, folder: &mut D) -> Result<(), CaptureFault>
+        requires { D.failure_count folder.old < 2 ^ 64 - 1 }
+        ensures filled { OnOk result (IsFilled (still_read self.old.source (D.is_left folder.old))
+            (still_read self.new.source (D.is_left folder.new)) self.old.unread self.new.unread) }
+        ensures alike { OnOk result (IsReadAlike self.old.source self.new.source) }
+        ensures enough { OnOk result ((0 < length self.new.unread) ⊎ still_read self.new.source (D.is_left folder.new) []) }
+        ensures whole { OnOk result (self.new.source ≡ None → (2064 ≤ length self.new.unread) ⊎ D.is_left folder.new []) }
+        ensures count { self.new.count ≡ self.old.count }
+        ensures cut { self.new.cut ≡ self.old.cut }
+        ensures fewer { OnOk result (most_to_come (D.most_left folder.new) self.new ≤ most_to_come (D.most_left folder.old) self.old) }
+        ensures plain { IfErr result (λ fault. self.old.source ≡ None → fault ≡ CaptureFault.Device) }
+        ensures kept { (other held : List ℕ) → (D.holds folder.old other held ↔ D.holds folder.new other held) }
+        ensures begun_kept { (other held : List ℕ) → (D.is_begun folder.old other held ↔ D.is_begun folder.new other held) }
+        ensures device { IsErrOf result CaptureFault.Device ↔ (D.failure_count folder.new ≡ D.failure_count folder.old + 1) }
+        ensures steady { IsErrOf result CaptureFault.Device ⊎ (D.failure_count folder.new ≡ D.failure_count folder.old) }
+    {
+        match &mut self.altering {
+            Some(altering) => altering.fill(folder, &mut self.window),
+            None => match self.window.read_more(folder) {
+                Ok(()) => Ok(()),
+                Err(_) => Err(CaptureFault::Device),
+            },
+        }
+    }
+
+    /// The same, if it is not known that a whole record is unread.
+    #[inline(always)]
+    fn fill<D: Folder>(&mut self, folder: &mut D) -> Result<(), CaptureFault>
+        requires { D.failure_count folder.old < 2 ^ 64 - 1 }
+        ensures filled { OnOk result (IsFilled (still_read self.old.source (D.is_left folder.old))
+            (still_read self.new.source (D.is_left folder.new)) self.old.unread self.new.unread) }
+        ensures alike { OnOk result (IsReadAlike self.old.source self.new.source) }
+        ensures enough { OnOk result ((0 < length self.new.unread) ⊎ still_read self.new.source (D.is_left folder.new) []) }
+        ensures whole { OnOk result (self.new.source ≡ None → (2064 ≤ length self.new.unread) ⊎ D.is_left folder.new []) }
+        ensures count { self.new.count ≡ self.old.count }
+        ensures cut { self.new.cut ≡ self.old.cut }
+        ensures fewer { OnOk result (most_to_come (D.most_left folder.new) self.new ≤ most_to_come (D.most_left folder.old) self.old) }
+        ensures plain { IfErr result (λ fault. self.old.source ≡ None → fault ≡ CaptureFault.Device) }
+        ensures kept { (other held : List ℕ) → (D.holds folder.old other held ↔ D.holds folder.new other held) }
+        ensures begun_kept { (other held : List ℕ) → (D.is_begun folder.old other held ↔ D.is_begun folder.new other held) }
+        ensures device { IsErrOf result CaptureFault.Device ↔ (D.failure_count folder.new ≡ D.failure_count folder.old + 1) }
+        ensures steady { IsErrOf result CaptureFault.Device ⊎ (D.failure_count folder.new ≡ D.failure_count folder.old) }
+    {
+        if self.window.is_enough() {
+            return Ok(());
+        }
+        self.read_more(folder)
     }
 
     /// How many records it read.
@@ -104,21 +201,21 @@ impl CaptureReader {
     #[inline(always)]
     pub fn find<D: Folder>(&mut self, folder: &mut D) -> Result<Option<RecordHead>, CaptureFault>
         requires failures { D.failure_count folder.old < 2 ^ 64 - 1 }
-        requires room { 16 * self.old.count + length self.old.unread + D.most_left folder.old ≤ 2 ^ 40 }
+        requires room { HasRoom (D.most_left folder.old) self.old }
         ensures read { OnOk result (ReadsOn D.holds (D.is_left folder.old) (D.is_left folder.new) self.old self.new []) }
         ensures front { IfOk result (λ found. IfSome found (IsAtFront self.new.unread)) }
         ensures whole { IfOk result (λ found. IfNone found (ReadsToEnd D.holds (D.is_left folder.old) self.old [] self.new.cut)) }
         ensures count { OnOk result (self.new.count ≡ self.old.count) }
-        ensures fewer { OnOk result (length self.new.unread + D.most_left folder.new ≤ length self.old.unread + D.most_left folder.old) }
+        ensures fewer { OnOk result (most_to_come (D.most_left folder.new) self.new ≤ most_to_come (D.most_left folder.old) self.old) }
         ensures fault { IfErr result (λ fault. fault ≡ CaptureFault.Device ⊎ RefusesNext D.holds (D.is_left folder.old) self.old fault) }
         ensures kept { (other held : List ℕ) → (D.holds folder.old other held ↔ D.holds folder.new other held) }
         ensures begun_kept { (other held : List ℕ) → (D.is_begun folder.old other held ↔ D.is_begun folder.new other held) }
         ensures device { IsErrOf result CaptureFault.Device ↔ (D.failure_count folder.new ≡ D.failure_count folder.old + 1) }
         ensures steady { IsErrOf result CaptureFault.Device ⊎ (D.failure_count folder.new ≡ D.failure_count folder.old) }
     {
-        match self.window.fill(folder) {
+        match self.fill(folder) {
             Ok(()) => {}
-            Err(_) => return Err(CaptureFault::Device),
+            Err(fault) => return Err(fault),
         }
         if self.window.unread().is_empty() {
             return Ok(None);
@@ -146,34 +243,12 @@ impl CaptureReader {
         ensures behind { (sent : Record) → BeginsWithRecord self.old.unread sent → self.new ≡ behind_record self.old sent }
         ensures count { self.new.count ≡ self.old.count + 1 }
         ensures fewer { length self.new.unread + 16 ≤ length self.old.unread }
+        ensures raw { length (raw_of self.new.source) ≡ length (raw_of self.old.source) }
     {
         self.window.skip(RECORD_HEAD_LEN + head.kept);
         self.count += 1;
         if head.is_cut {
             self.cut += 1;
-        }
-    }
-
-    /// Goes past all records that are left.
-    ///
-    /// Refused as `find` refuses the first of them that is no record, or that cannot be read.
-    pub fn pass_rest<D: Folder>(&mut self, folder: &mut D) -> Result<(), CaptureFault>
-        requires failures { D.failure_count folder.old < 2 ^ 64 - 1 }
-        requires room { 16 * self.old.count + length self.old.unread + D.most_left folder.old ≤ 2 ^ 40 }
-        ensures whole { OnOk result ((records : List Record) × ReadsToEnd D.holds (D.is_left folder.old) self.old records self.new.cut
-            × (self.new.count ≡ self.old.count + length records)) }
-        ensures fault { IfErr result (λ fault. fault ≡ CaptureFault.Device ⊎ RefusesNext D.holds (D.is_left folder.old) self.old fault) }
-        ensures kept { (other held : List ℕ) → (D.holds folder.old other held ↔ D.holds folder.new other held) }
-        ensures begun_kept { (other held : List ℕ) → (D.is_begun folder.old other held ↔ D.is_begun folder.new other held) }
-        ensures device { IsErrOf result CaptureFault.Device ↔ (D.failure_count folder.new ≡ D.failure_count folder.old + 1) }
-        ensures steady { IsErrOf result CaptureFault.Device ⊎ (D.failure_count folder.new ≡ D.failure_count folder.old) }
-    {
-        'records: loop {
-            match self.find(folder) {
-                Ok(Some(head)) => self.pass(head),
-                Ok(None) => return Ok(()),
-                Err(fault) => return Err(fault),
-            }
         }
     }
 
@@ -190,6 +265,7 @@ impl CaptureReader {
             × (buffer.new ≡ buffer.old ++ sent ∷ [])) }
         ensures count { OnOk result (self.new.count ≡ self.old.count + 1) }
         ensures fewer { OnOk result (length self.new.unread + 16 ≤ length self.old.unread) }
+        ensures raw { OnOk result (length (raw_of self.new.source) ≡ length (raw_of self.old.source)) }
         ensures refused { OnErr result ((self.new ≡ self.old) × (buffer.new ≡ buffer.old)) }
     {
         buffer.push(alloc, head.seconds, head.micros, self.frame(head))?;

@@ -14,7 +14,7 @@ use crate::links::{end_of, is_link, is_one_file, is_one_node, parts_of};
 use std::alloc::{Alloc, Global};
 use std::fs::{File, OpenOptions, Permissions};
 use std::io::{ErrorKind, Write};
-use std::os::unix::fs::PermissionsExt;
+use std::os::unix::fs::{OpenOptionsExt, PermissionsExt};
 use std::rt::{Env, Files};
 use std::{fs, io};
 
@@ -30,6 +30,9 @@ const UNFINISHED: &str = ".unfinished";
 /// The bits of a file's mode that say who may read, write and execute it.
 const MODE_BITS: u32 = 0o777;
 
+/// The same of an unfinished file that replaces one: those whom that one keeps out see none of it before it is finished, either.
+const OWNERS_BITS: u32 = 0o600;
+
 /// Why a file is not made on.
 const NOT_BEGUN: &str = "it is not begun";
 
@@ -41,6 +44,8 @@ const READ_ONLY: &str = "it may not be written";
 const IN_USE: &str = "another command is making it: its .unfinished is in use";
 
 const NO_FILE: &str = "its .unfinished is no ordinary file";
+
+const NOT_REMOVED: &str = "its .unfinished, which was left, may not be written or removed";
 
 const REPLACED: &str = "its .unfinished was removed or replaced meanwhile";
 
@@ -187,9 +192,31 @@ fn has_name<R: Files>(rt: &R, file: &File, name: &str) -> bool {
     }
 }
 
+/// A new unfinished file for this name.
+fn new_file<R: Files<File = File>>(rt: &R, unfinished: &str, name: &str) -> io::Result<File> {
+    let mut options = OpenOptions::new();
+    options.read(true).write(true).create_new(true);
+    if fs::symlink_metadata(rt, name).is_ok() {
+        options.mode(OWNERS_BITS);
+    }
+    options.open(rt, unfinished)
+}
+
+/// Why an unfinished file that was left is not removed.
+fn not_removed(error: io::Error) -> Failure {
+    if error.kind() == ErrorKind::PermissionDenied {
+        return refused(ErrorKind::PermissionDenied, NOT_REMOVED);
+    }
+    not_made(error)
+}
+
 /// A new file in place of one that a command left unfinished: that one is removed, and what else it may be the name of keeps its bytes.
 /// Refused where another command has it open: that it is locked, or was renamed or removed before it could be locked here, shows that.
-fn taken_over<R: Files<File = File>>(rt: &R, unfinished: &str) -> Result<File, Failure> {
+fn taken_over<R: Files<File = File>>(
+    rt: &R,
+    unfinished: &str,
+    name: &str,
+) -> Result<File, Failure> {
     match fs::symlink_metadata(rt, unfinished) {
         Ok(found) if !found.is_file() => return Err(refused(ErrorKind::AlreadyExists, NO_FILE)),
         Ok(_) => {}
@@ -197,16 +224,16 @@ fn taken_over<R: Files<File = File>>(rt: &R, unfinished: &str) -> Result<File, F
     }
     let file = match OpenOptions::new().write(true).open(rt, unfinished) {
         Ok(file) => file,
-        Err(error) => return Err(not_made(error)),
+        Err(error) => return Err(not_removed(error)),
     };
     if file.try_lock().is_err() || !has_name(rt, &file, unfinished) {
         return Err(refused(ErrorKind::ResourceBusy, IN_USE));
     }
     match fs::remove_file(rt, unfinished) {
         Ok(()) => {}
-        Err(error) => return Err(not_made(error)),
+        Err(error) => return Err(not_removed(error)),
     }
-    match File::create_new(rt, unfinished) {
+    match new_file(rt, unfinished, name) {
         Ok(file) => locked(file),
         Err(error) if error.kind() == ErrorKind::AlreadyExists => {
             Err(refused(ErrorKind::ResourceBusy, IN_USE))
@@ -231,9 +258,9 @@ fn beside<'a, R: Files<File = File>>(
 ) -> Result<(File, &'a str), Failure> {
     may_be_replaced(rt, name)?;
     let unfinished = unfinished_name(room, name)?;
-    let file = match File::create_new(rt, unfinished) {
+    let file = match new_file(rt, unfinished, name) {
         Ok(file) => locked(file)?,
-        Err(error) if error.kind() == ErrorKind::AlreadyExists => taken_over(rt, unfinished)?,
+        Err(error) if error.kind() == ErrorKind::AlreadyExists => taken_over(rt, unfinished, name)?,
         Err(error) => return Err(not_made(error)),
     };
     Ok((file, unfinished))

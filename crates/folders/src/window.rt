@@ -1,6 +1,6 @@
 //! The bytes of a file that were read and are not used yet.
 
-ghost use Rattle.std.specs.Prelude.{◌≡◌, ◌+◌, ◌-◌, ◌^◌, ◌<◌, ◌≤◌, ◌↔◌, ◌⊎◌, ℕ, [], List, length, take, drop};
+ghost use Rattle.std.specs.Prelude.{◌≡◌, ◌+◌, ◌-◌, ◌^◌, ◌<◌, ◌≤◌, ◌↔◌, ◌⊎◌, nat_le, true, ℕ, [], List, length, take, drop};
 ghost use Rattle.std.specs.Prelude.{IfErr, IfOk, OnErr, OnOk};
 ghost use Rattle.wire.specs.CaptureFormat.{le32_at, RefusesRecord};
 ghost use Rattle.folders.specs.Filling.{IsFilled};
@@ -17,7 +17,7 @@ use wire::{CaptureFault, MAX_FRAME, RECORD_HEAD_LEN};
 const ROOM: usize = 1 << 18;
 
 /// The most bytes of a record: those of its head, and those that it keeps.
-const MOST_OF_RECORD: usize = RECORD_HEAD_LEN + MAX_FRAME;
+pub(crate) const MOST_OF_RECORD: usize = RECORD_HEAD_LEN + MAX_FRAME;
 
 /// The next bytes of a file that is read in pieces, in a buffer of one size.
 #[derive(Drop)]
@@ -41,14 +41,19 @@ impl Model for Window {
         (window.at ≤ window.end) × (window.end ≤ length window.bytes.items) × (2064 ≤ length window.bytes.items) };
 }
 
-/// Reads on into the buffer, which has `end` bytes, until a whole record must be there or the file has ended, and says how many bytes are
-/// there then.
-fn read_on<D: Folder>(folder: &mut D, bytes: &mut [u8], end: usize) -> Result<usize, FolderFault>
+/// Reads on into the buffer, which has `end` bytes, until at least `least` are there or the file has ended, and says how many bytes are there
+/// then.
+fn read_on<D: Folder>(
+    folder: &mut D,
+    bytes: &mut [u8],
+    end: usize,
+    least: usize,
+) -> Result<usize, FolderFault>
     requires failures { D.failure_count folder.old < 2 ^ 64 - 1 }
-    requires room { (end ≤ length bytes.old) × (2064 ≤ length bytes.old) }
+    requires room { (end ≤ length bytes.old) × (least ≤ length bytes.old) }
     ensures filled { IfOk result (λ all. IsFilled (D.is_left folder.old) (D.is_left folder.new) (take end bytes.old) (take all bytes.new)) }
     ensures within { IfOk result (λ all. (end ≤ all) × (all ≤ length bytes.new)) }
-    ensures enough { IfOk result (λ all. (2064 ≤ all) ⊎ D.is_left folder.new []) }
+    ensures enough { IfOk result (λ all. (least ≤ all) ⊎ D.is_left folder.new []) }
     ensures fewer { IfOk result (λ all. all + D.most_left folder.new ≤ end + D.most_left folder.old) }
     ensures kept { (name held : List ℕ) → (D.holds folder.old name held ↔ D.holds folder.new name held) }
     ensures begun_kept { (name held : List ℕ) → (D.is_begun folder.old name held ↔ D.is_begun folder.new name held) }
@@ -56,7 +61,7 @@ fn read_on<D: Folder>(folder: &mut D, bytes: &mut [u8], end: usize) -> Result<us
     ensures counted { OnErr result (D.failure_count folder.new ≡ D.failure_count folder.old + 1) }
 {
     let mut all = end;
-    'filling: while all < MOST_OF_RECORD {
+    'filling: while all < least {
         match folder.next(&mut bytes[all..]) {
             Ok(0) => return Ok(all),
             Ok(count) => all += count,
@@ -64,6 +69,15 @@ fn read_on<D: Folder>(folder: &mut D, bytes: &mut [u8], end: usize) -> Result<us
         }
     }
     Ok(all)
+}
+
+/// Copies bytes over the first ones of a buffer.
+fn put_front(buffer: &mut [u8], bytes: &[u8])
+    requires { length bytes.now ≤ length buffer.old }
+    ensures front { take (length bytes.now) buffer.new ≡ bytes.now }
+    ensures same { length buffer.new ≡ length buffer.old }
+{
+    buffer[..bytes.len()].copy_from_slice(bytes);
 }
 
 /// The 32-bit number at an index, low byte first.
@@ -140,7 +154,7 @@ impl Window {
 
     /// Moves the unread bytes to the front of the buffer, and reads on behind them, until a whole record must be unread or the file has ended.
     #[inline(never)]
-    fn read_more<D: Folder>(&mut self, folder: &mut D) -> Result<(), FolderFault>
+    pub(crate) fn read_more<D: Folder>(&mut self, folder: &mut D) -> Result<(), FolderFault>
         requires { D.failure_count folder.old < 2 ^ 64 - 1 }
         ensures filled { OnOk result (IsFilled (D.is_left folder.old) (D.is_left folder.new) self.old self.new) }
         ensures enough { OnOk result ((2064 ≤ length self.new) ⊎ D.is_left folder.new []) }
@@ -154,8 +168,47 @@ impl Window {
         self.bytes.copy_within(self.at..self.end, 0);
         self.at = 0;
         self.end = unread;
-        self.end = read_on(folder, &mut self.bytes, unread)?;
+        self.end = read_on(folder, &mut self.bytes, unread, MOST_OF_RECORD)?;
         Ok(())
+    }
+
+    /// Moves the unread bytes to the front of the buffer, and reads on behind them, until it is full or the file has ended; says whether it is
+    /// known that it has.
+    pub(crate) fn fill_up<D: Folder>(&mut self, folder: &mut D) -> Result<bool, FolderFault>
+        requires { D.failure_count folder.old < 2 ^ 64 - 1 }
+        ensures filled { OnOk result (IsFilled (D.is_left folder.old) (D.is_left folder.new) self.old self.new) }
+        ensures ended { IfOk result (λ ended. ended ≡ true → D.is_left folder.new []) }
+        ensures fewer { OnOk result (length self.new + D.most_left folder.new ≤ length self.old + D.most_left folder.old) }
+        ensures kept { (name held : List ℕ) → (D.holds folder.old name held ↔ D.holds folder.new name held) }
+        ensures begun_kept { (name held : List ℕ) → (D.is_begun folder.old name held ↔ D.is_begun folder.new name held) }
+        ensures steady { OnOk result (D.failure_count folder.new ≡ D.failure_count folder.old) }
+        ensures counted { OnErr result (D.failure_count folder.new ≡ D.failure_count folder.old + 1) }
+    {
+        let unread = self.end - self.at;
+        self.bytes.copy_within(self.at..self.at + unread, 0);
+        self.at = 0;
+        self.end = unread;
+        let room = self.bytes.len();
+        self.end = read_on(folder, &mut self.bytes, unread, room)?;
+        Ok(self.end < room)
+    }
+
+    /// Takes these bytes in place of all that are unread.
+    pub(crate) fn put(&mut self, bytes: &[u8])
+        requires { length bytes.now ≤ 2064 }
+        ensures { self.new ≡ bytes.now }
+    {
+        put_front(&mut self.bytes, bytes);
+        self.at = 0;
+        self.end = bytes.len();
+    }
+
+    /// Whether a whole record must be unread.
+    #[inline(always)]
+    pub(crate) fn is_enough(&self) -> bool
+        ensures { result ≡ nat_le 2064 (length self.now) }
+    {
+        self.end - self.at >= MOST_OF_RECORD
     }
 
     /// Reads on, until a whole record must be unread or the file has ended. After a fault it is not known what is unread.
@@ -170,7 +223,7 @@ impl Window {
         ensures steady { OnOk result (D.failure_count folder.new ≡ D.failure_count folder.old) }
         ensures counted { OnErr result (D.failure_count folder.new ≡ D.failure_count folder.old + 1) }
     {
-        if self.end - self.at >= MOST_OF_RECORD {
+        if self.is_enough() {
             return Ok(());
         }
         self.read_more(folder)

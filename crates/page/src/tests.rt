@@ -8,7 +8,7 @@ use std::process::Abort;
 
 /// What comes before the first row of a report.
 const REPORT_HEAD: &str =
-    "number,moment,worker,verdict,steps,case,backend,address,source,source_port,destination,destination_port,protocol\n";
+    "number,moment,worker,verdict,steps,case,backend,address,source,source_port,destination,destination_port,protocol,choice\n";
 
 /// What a row shows, a script, the rows of a report, and parts of its page, one behind the other.
 type Row = (
@@ -20,41 +20,46 @@ type Row = (
 
 /// A frame that was sent, one that was dropped two slots of a third of the time later, and one that was passed; three commands.
 const THREE_RECORDS: &str =
-    "1,1.000000,0,TX,99,sent,1,192.0.2.2,10.0.0.1,1000,203.0.113.1,80,tcp\n2,1.000060,0,DROP,90,no-backend,,,10.0.0.2,1001,203.0.113.1,80,tcp\n\
-     3,1.000120,0,PASS,9,arp,,,,,,,\n";
+    "1,1.000000,0,TX,99,sent,1,192.0.2.2,10.0.0.1,1000,203.0.113.1,80,tcp,no-note\n2,1.000060,0,DROP,90,no-backend,,,10.0.0.2,1001,203.0.113.1,80,tcp,\n\
+     3,1.000120,0,PASS,9,arp,,,,,,,,\n";
 
 const THREE_COMMANDS: &str = "0 vip 203.0.113.1 80 tcp\n0 up 1 192.0.2.2\n2 down 1\n";
 
 /// Frames of one flow over three backends, one of which has another address once and one no number, and then of a service that is not tracked.
 const EACH_REASON: &str =
-    "1,1.000000,0,TX,99,sent,1,192.0.2.2,10.0.0.1,1000,203.0.113.1,80,tcp\n2,2.000000,0,TX,99,sent,0,192.0.2.1,10.0.0.1,1000,203.0.113.1,80,tcp\n\
-     3,3.000000,0,TX,99,sent,2,192.0.2.3,10.0.0.1,1000,203.0.113.1,80,tcp\n4,4.000000,0,TX,99,sent,2,192.0.2.9,10.0.0.1,1000,203.0.113.1,80,tcp\n\
-     5,5.000000,0,TX,99,sent,,192.0.2.7,10.0.0.1,1000,203.0.113.1,80,tcp\n6,6.000000,0,TX,99,sent,0,192.0.2.1,10.0.0.1,1000,203.0.113.1,80,tcp\n\
-     7,7.000000,0,TX,99,sent,0,192.0.2.1,10.0.0.1,1000,203.0.113.2,53,udp\n8,8.000000,0,TX,99,sent,2,192.0.2.3,10.0.0.1,1000,203.0.113.2,53,udp\n";
+    "1,1.000000,0,TX,99,sent,1,192.0.2.2,10.0.0.1,1000,203.0.113.1,80,tcp,no-note\n\
+     2,2.000000,0,TX,99,sent,0,192.0.2.1,10.0.0.1,1000,203.0.113.1,80,tcp,note-down\n\
+     3,3.000000,0,TX,99,sent,2,192.0.2.3,10.0.0.1,1000,203.0.113.1,80,tcp,no-note\n4,4.000000,0,TX,99,sent,2,192.0.2.9,10.0.0.1,1000,203.0.113.1,80,tcp,noted\n\
+     5,5.000000,0,TX,99,sent,,192.0.2.7,10.0.0.1,1000,203.0.113.1,80,tcp,no-note\n6,6.000000,0,TX,99,sent,0,192.0.2.1,10.0.0.1,1000,203.0.113.1,80,tcp,\n\
+     7,7.000000,0,TX,99,sent,0,192.0.2.1,10.0.0.1,1000,203.0.113.2,53,udp,untracked\n\
+     8,8.000000,0,TX,99,sent,2,192.0.2.3,10.0.0.1,1000,203.0.113.2,53,udp,untracked\n";
 
 const EACH_REASON_COMMANDS: &str =
     "0 vip 203.0.113.1 80 tcp\n0 vip 203.0.113.2 53 udp notrack\n0 up 0 192.0.2.1\n0 up 1 192.0.2.2\n0 up 2 192.0.2.3\n1 down 1\n";
 
 /// A flow that is sent to another backend and back, with a frame between that was dropped, and a frame of another flow.
 const TWO_MOVES: &str =
-    "1,1.000000,0,TX,99,sent,1,192.0.2.2,10.0.0.1,1000,203.0.113.1,80,tcp\n2,2.000000,0,TX,99,sent,1,192.0.2.2,10.0.0.1,1001,203.0.113.1,80,tcp\n\
-     3,3.000000,0,DROP,90,no-backend,,,10.0.0.1,1000,203.0.113.1,80,tcp\n4,4.000000,0,TX,99,sent,2,192.0.2.3,10.0.0.1,1000,203.0.113.1,80,tcp\n\
-     5,5.000000,0,TX,99,sent,1,192.0.2.2,10.0.0.1,1000,203.0.113.1,80,tcp\n";
+    "1,1.000000,0,TX,99,sent,1,192.0.2.2,10.0.0.1,1000,203.0.113.1,80,tcp,no-note\n\
+     2,2.000000,0,TX,99,sent,1,192.0.2.2,10.0.0.1,1001,203.0.113.1,80,tcp,no-note\n\
+     3,3.000000,0,DROP,90,no-backend,,,10.0.0.1,1000,203.0.113.1,80,tcp,\n4,4.000000,0,TX,99,sent,2,192.0.2.3,10.0.0.1,1000,203.0.113.1,80,tcp,note-down\n\
+     5,5.000000,0,TX,99,sent,1,192.0.2.2,10.0.0.1,1000,203.0.113.1,80,tcp,note-down\n";
 
 /// Frames on the leap days of 2000 and 2024, in the year 2100, which has none, and in the last microsecond of the year 9999.
 const DATES: &str =
-    "1,951782400.000000,0,PASS,9,arp,,,,,,,\n2,1709210096.654321,0,PASS,9,arp,,,,,,,\n\
-     3,4107542400.000000,0,PASS,9,arp,,,,,,,\n4,253402300799.999999,0,PASS,9,arp,,,,,,,\n";
+    "1,951782400.000000,0,PASS,9,arp,,,,,,,,\n2,1709210096.654321,0,PASS,9,arp,,,,,,,,\n\
+     3,4107542400.000000,0,PASS,9,arp,,,,,,,,\n4,253402300799.999999,0,PASS,9,arp,,,,,,,,\n";
 
 /// Frames whose moments do not rise; the backend of the first has a number that no table has.
 const NOT_RISING: &str =
-    "1,9.000000,0,TX,99,sent,4294967295,192.0.2.2,10.0.0.1,1000,203.0.113.1,80,tcp\n\
-     2,7.000000,0,TX,99,sent,0,192.0.2.3,10.0.0.2,1000,203.0.113.1,80,tcp\n3,8.000000,0,TX,99,sent,0,192.0.2.3,10.0.0.2,1000,203.0.113.1,80,tcp\n";
+    "1,9.000000,0,TX,99,sent,4294967295,192.0.2.2,10.0.0.1,1000,203.0.113.1,80,tcp,no-note\n\
+     2,7.000000,0,TX,99,sent,0,192.0.2.3,10.0.0.2,1000,203.0.113.1,80,tcp,no-note\n\
+     3,8.000000,0,TX,99,sent,0,192.0.2.3,10.0.0.2,1000,203.0.113.1,80,tcp,noted\n";
 
 /// A frame to backend 5, and two to backend 7.
 const UNEVEN: &str =
-    "1,1.000000,0,TX,99,sent,5,192.0.2.6,10.0.0.1,1000,203.0.113.1,80,tcp\n2,2.000000,0,TX,99,sent,7,192.0.2.8,10.0.0.2,1000,203.0.113.1,80,tcp\n\
-     3,3.000000,0,TX,99,sent,7,192.0.2.8,10.0.0.3,1000,203.0.113.1,80,tcp\n";
+    "1,1.000000,0,TX,99,sent,5,192.0.2.6,10.0.0.1,1000,203.0.113.1,80,tcp,no-note\n\
+     2,2.000000,0,TX,99,sent,7,192.0.2.8,10.0.0.2,1000,203.0.113.1,80,tcp,no-note\n\
+     3,3.000000,0,TX,99,sent,7,192.0.2.8,10.0.0.3,1000,203.0.113.1,80,tcp,no-note\n";
 
 #[rattlefmt::skip]
 static ROWS: [Row; 15] = [
@@ -144,7 +149,7 @@ static ROWS: [Row; 15] = [
     ]),
     ("commands of each kind; one behind the last record is at the last moment",
         "1 gateway 192.0.2.1 02:00:00:00:00:01 02:00:00:00:00:02\n1 vip 203.0.113.2 53 udp notrack\n9 down 7\n",
-        "1,1.000000,0,PASS,9,arp,,,,,,,\n2,3.000000,0,PASS,9,arp,,,,,,,\n", &[
+        "1,1.000000,0,PASS,9,arp,,,,,,,,\n2,3.000000,0,PASS,9,arp,,,,,,,,\n", &[
         "<h2>Commands</h2>\n<div class",
         "<tr><td>1</td><td>2</td><td>3.000000 s, 1970-01-01T00:00:03.000000Z</td><td>gateway 192.0.2.1</td></tr>\n\
          <tr><td>2</td><td>2</td><td>3.000000 s, 1970-01-01T00:00:03.000000Z</td><td>vip 203.0.113.2 53 udp notrack</td></tr>\n\
@@ -157,8 +162,8 @@ static ROWS: [Row; 15] = [
         "<td>down</td></tr>\n</table></div>\n</body>\n",
     ]),
     ("a verdict of another word, and the verdicts that are rare", "",
-        "1,1.000000,0,ABORTED,9,aborted,,,,,,,\n2,2.000000,0,STOPPED,,,,,,,,,\n3,3.000000,,SHORT,,short,,,,,,,\n\
-         4,4.000000,,LATE,,late,,,,,,,\n5,5.000000,,SHORT,,short,,,,,,,\n", &[
+        "1,1.000000,0,ABORTED,9,aborted,,,,,,,,\n2,2.000000,0,STOPPED,,,,,,,,,,\n3,3.000000,,SHORT,,short,,,,,,,,\n\
+         4,4.000000,,LATE,,late,,,,,,,,\n5,5.000000,,SHORT,,short,,,,,,,,\n", &[
         "<tr><th>sent</th><td>0</td></tr>\n<tr><th>passed</th><td>0</td></tr>\n<tr><th>dropped</th><td>0</td></tr>\n\
          <tr><th>aborted</th><td>1</td></tr>\n<tr><th>stopped</th><td>1</td></tr>\n<tr><th>short</th><td>2</td></tr>\n\
          <tr><th>other</th><td>1</td></tr>\n<tr><th>moves of flows</th>",
@@ -169,10 +174,10 @@ static ROWS: [Row; 15] = [
     ("dates: a leap day, and a year of a century that has none", "1 down 1\n2 down 2\n", DATES, &[
         "<td>1709210096.654321 s, 2024-02-29T12:34:56.654321Z</td><td>down 1</td>", "<td>4107542400.000000 s, 2100-03-01T00:00:00.000000Z</td><td>down 2</td>",
     ]),
-    ("a case whose word has a digit", "", "1,1.000000,0,PASS,9,ipv6,,,,,,,\n", &[
+    ("a case whose word has a digit", "", "1,1.000000,0,PASS,9,ipv6,,,,,,,,\n", &[
         "<h2>Frames by case</h2>\n<table class=\"figures\">\n<tr><th>ipv6</th><td>1</td></tr>\n</table>\n",
     ]),
-    ("a moment that has no such form", "", "1,253402300800.000000,0,PASS,9,arp,,,,,,,\n", &[
+    ("a moment that has no such form", "", "1,253402300800.000000,0,PASS,9,arp,,,,,,,,\n", &[
         "<td>253402300800.000000 s, later</td></tr>\n</table>\n",
     ]),
     ("a backend whose number no table has is one of the others", "", NOT_RISING, &[
@@ -252,26 +257,26 @@ type Refusal = (&'static str, &'static [u8], NoFlows);
 const REFUSED: [Refusal; 8] = [
     ("JSON lines", b"{\"number\":1}\n", NoFlows::JsonLines),
     ("an empty file", b"", NoFlows::NoReport { line: 1 }),
-    ("a report without its head", b"1,1.000000,0,PASS,9,arp,,,,,,,\n", NoFlows::NoReport { line: 1 }),
-    ("a second row of twelve fields",
-        b"number,moment,worker,verdict,steps,case,backend,address,source,source_port,destination,destination_port,protocol\n\
-             1,1.000000,0,PASS,9,arp,,,,,,,\n2,2.000000,0,PASS,9,arp,,,,,,\n3\n",
+    ("a report without its head", b"1,1.000000,0,PASS,9,arp,,,,,,,,\n", NoFlows::NoReport { line: 1 }),
+    ("a second row of thirteen fields",
+        b"number,moment,worker,verdict,steps,case,backend,address,source,source_port,destination,destination_port,protocol,choice\n\
+             1,1.000000,0,PASS,9,arp,,,,,,,,\n2,2.000000,0,PASS,9,arp,,,,,,,\n3\n",
         NoFlows::NoReport { line: 3 }),
     ("a last row without its line feed",
-        b"number,moment,worker,verdict,steps,case,backend,address,source,source_port,destination,destination_port,protocol\n\
-             1,1.000000,0,PASS,9,arp,,,,,,,\n2,2.000000,0,PASS,9,arp,,,,,,,",
+        b"number,moment,worker,verdict,steps,case,backend,address,source,source_port,destination,destination_port,protocol,choice\n\
+             1,1.000000,0,PASS,9,arp,,,,,,,,\n2,2.000000,0,PASS,9,arp,,,,,,,,",
         NoFlows::NoReport { line: 3 }),
     ("marks of HTML",
-        b"number,moment,worker,verdict,steps,case,backend,address,source,source_port,destination,destination_port,protocol\n\
-             1,1.000000,0,PASS,9,arp,,,,,,,\n<b>,2.000000,0,PASS,9,arp,,,,,,,\n",
+        b"number,moment,worker,verdict,steps,case,backend,address,source,source_port,destination,destination_port,protocol,choice\n\
+             1,1.000000,0,PASS,9,arp,,,,,,,,\n<b>,2.000000,0,PASS,9,arp,,,,,,,,\n",
         NoFlows::WrongField { line: 3, column: 0 }),
     ("a moment that a terminal would act on",
-        b"number,moment,worker,verdict,steps,case,backend,address,source,source_port,destination,destination_port,protocol\n\
-             1,1.0\x1b[2J,0,PASS,9,arp,,,,,,,\n",
+        b"number,moment,worker,verdict,steps,case,backend,address,source,source_port,destination,destination_port,protocol,choice\n\
+             1,1.0\x1b[2J,0,PASS,9,arp,,,,,,,,\n",
         NoFlows::WrongField { line: 2, column: 1 }),
     ("bytes that are no text",
-        b"number,moment,worker,verdict,steps,case,backend,address,source,source_port,destination,destination_port,protocol\n\
-             1,1.000000,0,PASS,9,arp,,,,,,,\n\xff\n",
+        b"number,moment,worker,verdict,steps,case,backend,address,source,source_port,destination,destination_port,protocol,choice\n\
+             1,1.000000,0,PASS,9,arp,,,,,,,,\n\xff\n",
         NoFlows::NoReport { line: 3 }),
 ];
 
@@ -280,11 +285,11 @@ type Gap = (&'static str, &'static str, NoFlows);
 
 #[rattlefmt::skip]
 static GAPS: [Gap; 4] = [
-    ("the second record first", "2,1.000000,0,PASS,9,arp,,,,,,,\n", NoFlows::LeftOut { line: 2 }),
-    ("no second record", "1,1.000000,0,PASS,9,arp,,,,,,,\n3,1.000000,0,PASS,9,arp,,,,,,,\n", NoFlows::LeftOut { line: 3 }),
-    ("records out of order", "1,1.000000,0,PASS,9,arp,,,,,,,\n3,1.000000,0,PASS,9,arp,,,,,,,\n2,1.000000,0,PASS,9,arp,,,,,,,\n",
+    ("the second record first", "2,1.000000,0,PASS,9,arp,,,,,,,,\n", NoFlows::LeftOut { line: 2 }),
+    ("no second record", "1,1.000000,0,PASS,9,arp,,,,,,,,\n3,1.000000,0,PASS,9,arp,,,,,,,,\n", NoFlows::LeftOut { line: 3 }),
+    ("records out of order", "1,1.000000,0,PASS,9,arp,,,,,,,,\n3,1.000000,0,PASS,9,arp,,,,,,,,\n2,1.000000,0,PASS,9,arp,,,,,,,,\n",
         NoFlows::LeftOut { line: 3 }),
-    ("a field that no column has", "1,1.0,0,PASS,9,arp,,,,,,,\n", NoFlows::WrongField { line: 2, column: 1 }),
+    ("a field that no column has", "1,1.0,0,PASS,9,arp,,,,,,,,\n", NoFlows::WrongField { line: 2, column: 1 }),
 ];
 
 /// The page of these rows and these commands.
@@ -400,7 +405,7 @@ fn rows_in_turn(alloc: Global, count: u64) -> Result<String, AllocError> {
         let number = place + 1;
         let backend = place % 40;
         let row = format!(in alloc;
-            "{number},{number}.000000,0,TX,99,sent,{backend},192.0.2.{backend},10.0.0.1,1000,203.0.113.1,80,tcp\n"
+            "{number},{number}.000000,0,TX,99,sent,{backend},192.0.2.{backend},10.0.0.1,1000,203.0.113.1,80,tcp,note-down\n"
         )?;
         rows.push_str(row.as_str())?;
     }

@@ -352,7 +352,7 @@ const REFUSED: [(&str, u8, &str); 76] = [
     ("xlb --help",                              0,
         "Replays captures through eBPF programs; checks, runs, audits, prints and assembles them"),
     ("xlb run --help",                          0, "Runs an image on one frame"),
-    ("xlb --version",                           0, "xlb 0.1.0\n"),
+    ("xlb --version",                           0, "xlb 0.2.0\n"),
 ];
 
 /// What is printed of a loss that is none, before its word.

@@ -2,7 +2,6 @@
 pub mod MoveLemmas
 pub mod TallyLemmas
 pub mod TableLemmas
-pub mod ReadingLemmas
 pub mod ShareLemmas
 pub mod LastShareLemmas
 pub mod AppliedLemmas

@@ -2,7 +2,6 @@
 pub mod Kinds
 pub mod Counting
 pub mod Moving
-pub mod Readings
 pub mod SummaryText
 pub mod RecordLines
 pub mod NotSent

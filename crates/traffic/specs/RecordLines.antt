@@ -1,6 +1,7 @@
 -- The line of a record in a report, as CSV or as JSON (RFC 4180, RFC 8259): number, moment, worker, verdict, steps, case, backend, address,
--- and the flow of its frame: source, source port, destination, destination port, protocol. What is not known is empty, or null.
-use Rattle.std.specs.Prelude.{ℕ, ◌/◌, ◌%◌, ◌==◌, ◌++◌, List, [], ◌∷◌, codes, decimal, Option, Some, None, if◌then◌else◌, slice_index}
+-- the flow of its frame: source, source port, destination, destination port, protocol; and how its backend was chosen. What is not known is
+-- empty, or null.
+use Rattle.std.specs.Prelude.{ℕ, ◌/◌, ◌%◌, ◌==◌, ◌||◌, ◌++◌, List, [], ◌∷◌, codes, decimal, Option, Some, None, if◌then◌else◌, slice_index}
 use Rattle.wire.specs.BigEndian.{be_word_at}
 use Rattle.comparison.specs.Rows.{head_line}
 use Rattle.traffic.specs.Counting.{address_at}
@@ -87,6 +88,30 @@ case_word kind verdicts.Short = codes "short"
 case_word kind verdicts.Stopped = []
 case_word kind verdicts.Aborted = []
 
+-- ---- how the backend of a sent frame was chosen
+
+-- The shipped program sends a frame of TCP in so many steps, and one of UDP in one more: the backend that is noted for its flow is up; the
+-- service is without tracking; the flow has no note; the record of the noted backend was never set, or says that it is not up. In all cases
+-- but the first the lookup table chose.
+abbrev pub choice_of_steps : ℕ → List ℕ
+choice_of_steps steps =
+    if steps == 133 || steps == 134 then codes "noted" else (if steps == 182 || steps == 183 then codes "untracked" else
+    (if steps == 194 || steps == 195 then codes "no-note" else
+    (if steps == 201 || (steps == 202 || (steps == 205 || steps == 206)) then codes "note-down" else [])))
+
+abbrev pub choice_of_known : Option ℕ → List ℕ
+choice_of_known None = []
+choice_of_known (Some steps) = choice_of_steps steps
+
+-- how the shipped program chose the backend of a frame with this verdict, by the steps of its run; empty for one that was not sent
+abbrev pub choice_word : LineVerdict → Option ℕ → List ℕ
+choice_word verdicts.Tx steps = choice_of_known steps
+choice_word verdicts.Short steps = []
+choice_word verdicts.Stopped steps = []
+choice_word verdicts.Aborted steps = []
+choice_word verdicts.Drop steps = []
+choice_word verdicts.Pass steps = []
+
 -- ---- lines
 
 -- which record it is, when it came, who ran it, and what came of it
@@ -135,12 +160,12 @@ protocol_word protocol = if protocol == 6 then codes "tcp" else codes "udp"
 abbrev pub csv_flow : List ℕ → List ℕ → List ℕ → List ℕ → List ℕ → List ℕ
 csv_flow source source_port destination destination_port protocol =
     codes "," ++ (source ++ (codes "," ++ (source_port ++ (codes "," ++ (destination ++ (codes "," ++ (destination_port ++ (codes ","
-    ++ (protocol ++ codes "\n")))))))))
+    ++ protocol))))))))
 
 abbrev pub json_flow : List ℕ → List ℕ → List ℕ → List ℕ → List ℕ → List ℕ
 json_flow source source_port destination destination_port protocol =
     codes ",\"source\":" ++ (source ++ (codes ",\"source_port\":" ++ (source_port ++ (codes ",\"destination\":" ++ (destination
-    ++ (codes ",\"destination_port\":" ++ (destination_port ++ (codes ",\"protocol\":" ++ (protocol ++ codes "}\n")))))))))
+    ++ (codes ",\"destination_port\":" ++ (destination_port ++ (codes ",\"protocol\":" ++ protocol))))))))
 
 abbrev pub flow_of_pieces : ReportForm → List ℕ → List ℕ → List ℕ → List ℕ → List ℕ → List ℕ
 flow_of_pieces Csv source source_port destination destination_port protocol =
@@ -158,22 +183,39 @@ known_flow form frame =
 abbrev pub no_flow : ReportForm → List ℕ
 no_flow form = flow_of_pieces form (missing form) (missing form) (missing form) (missing form) (missing form)
 
--- the flow of a frame, and the line's end
+-- the flow of a frame
 abbrev pub flow_text : ReportForm → List ℕ → List ℕ
 flow_text form frame = if is_of_flow_kind (frame_kind_of frame) then known_flow form frame else no_flow form
+
+-- ---- the line's end
+
+abbrev pub csv_end : List ℕ → List ℕ
+csv_end choice = codes "," ++ (choice ++ codes "\n")
+
+abbrev pub json_end : List ℕ → List ℕ
+json_end choice = codes ",\"choice\":" ++ (choice ++ codes "}\n")
+
+abbrev pub end_of_piece : ReportForm → List ℕ → List ℕ
+end_of_piece Csv choice = csv_end choice
+end_of_piece Json choice = json_end choice
+
+-- how the backend was chosen
+abbrev pub end_text : ReportForm → List ℕ → List ℕ
+end_text form choice = end_of_piece form (report_word form choice)
 
 -- ---- the whole line
 
 -- the line of a record: its number, its moment in microseconds, its worker, its verdict; its steps, its case, its backend and the address
--- to which it was sent; and the flow of its frame
-abbrev pub line_of_pieces : ReportForm → ℕ → ℕ → Option ℕ → LineVerdict → Option ℕ → List ℕ → Option ℕ → Option ℕ → List ℕ → List ℕ
-line_of_pieces form number micros worker verdict steps case backend address frame =
-    (front_text form number micros worker verdict ++ run_text form steps case backend address) ++ flow_text form frame
+-- to which it was sent; the flow of its frame; and how its backend was chosen
+abbrev pub line_of_pieces : ReportForm → ℕ → ℕ → Option ℕ → LineVerdict → Option ℕ → List ℕ → Option ℕ → Option ℕ → List ℕ → List ℕ → List ℕ
+line_of_pieces form number micros worker verdict steps case backend address choice frame =
+    ((front_text form number micros worker verdict ++ run_text form steps case backend address) ++ flow_text form frame)
+    ++ end_text form choice
 
 -- that of a record with this frame
 abbrev pub record_line : ReportForm → RecordLine → List ℕ → List ℕ
 record_line form line frame =
-    line_of_pieces form line.number line.micros line.worker line.verdict line.steps line.case_of.now line.backend line.address frame
+    line_of_pieces form line.number line.micros line.worker line.verdict line.steps line.case_of.now line.backend line.address line.choice.now frame
 
 -- what comes before the first line: the head that readers of reports look for
 abbrev pub report_head : ReportForm → List ℕ

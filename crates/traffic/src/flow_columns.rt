@@ -1,4 +1,4 @@
-//! The flow of a record's frame, in the last columns of a report.
+//! The flow of a record's frame, in columns of a report.
 
 ghost use Rattle.std.specs.Prelude.{◌≡◌, IfOk, string_bytes};
 ghost use Rattle.wire.specs.FlowForm.{HasFlow};
@@ -17,7 +17,7 @@ fn protocol_word(protocol: u8) -> &'static str
     if protocol == 6 { "tcp" } else { "udp" }
 }
 
-/// The end of a line of CSV.
+/// A flow in a line of CSV.
 fn csv_flow(
     alloc: Global,
     source: &str,
@@ -29,10 +29,10 @@ fn csv_flow(
     ensures { IfOk result
         (λ text. string_bytes text ≡ csv_flow source.now source_port.now destination.now destination_port.now protocol.now) }
 {
-    format!(in alloc; ",{source},{source_port},{destination},{destination_port},{protocol}\n")
+    format!(in alloc; ",{source},{source_port},{destination},{destination_port},{protocol}")
 }
 
-/// The end of a line of JSON.
+/// A flow in a line of JSON.
 fn json_flow(
     alloc: Global,
     source: &str,
@@ -45,11 +45,11 @@ fn json_flow(
         (λ text. string_bytes text ≡ json_flow source.now source_port.now destination.now destination_port.now protocol.now) }
 {
     format!(in alloc;
-        ",\"source\":{source},\"source_port\":{source_port},\"destination\":{destination},\"destination_port\":{destination_port},\"protocol\":{protocol}}}\n"
+        ",\"source\":{source},\"source_port\":{source_port},\"destination\":{destination},\"destination_port\":{destination_port},\"protocol\":{protocol}"
     )
 }
 
-/// The end of a line with these pieces.
+/// A flow with these pieces.
 fn flow_of_pieces(
     alloc: Global,
     form: ReportForm,
@@ -111,8 +111,7 @@ fn no_flow(alloc: Global, form: ReportForm) -> Result<String, AllocError>
     flow_of_pieces(alloc, form, none, none, none, none, none)
 }
 
-/// The flow of a frame and the line's end: source, source port, destination, destination port, protocol. What is not known is empty, or
-/// null.
+/// The flow of a frame: source, source port, destination, destination port, protocol. What is not known is empty, or null.
 pub(crate) fn flow_text(alloc: Global, form: ReportForm, frame: &[u8]) -> Result<String, AllocError>
     ensures { IfOk result (λ text. string_bytes text ≡ flow_text form frame.now) }
 {

@@ -2,7 +2,7 @@
 
 ghost use Rattle.std.specs.Prelude.{◌≡◌, IfOk, decimal, string_bytes};
 ghost use Rattle.traffic.specs.RecordLines.{case_word, csv_front, csv_run, front_text, json_front, json_run, report_head, run_text};
-ghost use Rattle.traffic.specs.RecordLines.{kind_word, missing, moment_text};
+ghost use Rattle.traffic.specs.RecordLines.{choice_of_steps, choice_word, csv_end, end_text, json_end, kind_word, missing, moment_text};
 ghost use Rattle.traffic.specs.RecordLines.{number_text, quoted, record_line, six_digits, target_text, verdict_word, report_word};
 
 use crate::flow_columns::flow_text;
@@ -48,6 +48,8 @@ pub struct RecordLine {
     /// The backend's number, and the address to which the frame is sent.
     pub backend: Option<u64>,
     pub address: Option<u32>,
+    /// How the backend was chosen.
+    pub choice: &'static str,
 }
 
 /// The last six digits of a number.
@@ -184,6 +186,34 @@ pub fn case_word(kind: FrameKind, verdict: LineVerdict) -> &'static str
     }
 }
 
+/// How the shipped program chose the backend of a frame that it sent in so many steps, if it sends one in so many.
+fn choice_of_steps(steps: u64) -> &'static str
+    ensures { result.now ≡ choice_of_steps steps }
+{
+    match steps {
+        133 | 134 => "noted",
+        182 | 183 => "untracked",
+        194 | 195 => "no-note",
+        201 | 202 | 205 | 206 => "note-down",
+        _ => "",
+    }
+}
+
+/// How the shipped program chose the backend of a frame with this verdict, by the steps of its run: it was noted for the flow, and is up; or
+/// the lookup table chose it, as the service is without tracking, the flow has no note, or the noted backend is not up. Empty for a frame
+/// that was not sent, and for a number of steps in which that program sends none.
+pub fn choice_word(verdict: LineVerdict, steps: Option<u64>) -> &'static str
+    ensures { result.now ≡ choice_word verdict steps }
+{
+    match verdict {
+        LineVerdict::Tx => match steps {
+            Some(steps) => choice_of_steps(steps),
+            None => "",
+        },
+        _ => "",
+    }
+}
+
 /// The front of a line of CSV.
 fn csv_front(
     alloc: Global,
@@ -238,6 +268,20 @@ fn json_run(
     format!(in alloc;
         ",\"steps\":{steps},\"case\":{case},\"backend\":{backend},\"address\":{address}"
     )
+}
+
+/// The end of a line of CSV.
+fn csv_end(alloc: Global, choice: &str) -> Result<String, AllocError>
+    ensures { IfOk result (λ text. string_bytes text ≡ csv_end choice.now) }
+{
+    format!(in alloc; ",{choice}\n")
+}
+
+/// The end of a line of JSON.
+fn json_end(alloc: Global, choice: &str) -> Result<String, AllocError>
+    ensures { IfOk result (λ text. string_bytes text ≡ json_end choice.now) }
+{
+    format!(in alloc; ",\"choice\":{choice}}}\n")
 }
 
 impl ReportForm {
@@ -305,6 +349,17 @@ impl ReportForm {
         }
     }
 
+    /// How its backend was chosen, and the line's end.
+    fn end(self, alloc: Global, choice: &str) -> Result<String, AllocError>
+        ensures { IfOk result (λ text. string_bytes text ≡ end_text self choice.now) }
+    {
+        let choice = word_text(alloc, self, choice)?;
+        match self {
+            ReportForm::Csv => csv_end(alloc, choice.as_str()),
+            ReportForm::Json => json_end(alloc, choice.as_str()),
+        }
+    }
+
     /// The line of a record with this frame.
     pub fn line(self, alloc: Global, line: &RecordLine, frame: &[u8]) -> Result<String, AllocError>
         ensures { IfOk result (λ text. string_bytes text ≡ record_line self line.now frame.now) }
@@ -314,6 +369,8 @@ impl ReportForm {
         text.push_str(of_run.as_str())?;
         let flow = flow_text(alloc, self, frame)?;
         text.push_str(flow.as_str())?;
+        let end = self.end(alloc, line.choice)?;
+        text.push_str(end.as_str())?;
         Ok(text)
     }
 }

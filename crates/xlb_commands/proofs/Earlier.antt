@@ -11,16 +11,15 @@ use Rattle.journals.specs.JournalsView.{JournalsView}
 use Rattle.journals.specs.JournalText.{journals_text}
 use Rattle.command_line.specs.declared.commands.ReplayFiles.{ReplayFiles}
 use Rattle.command_line.specs.Reading.{text_of}
-use Rattle.traffic.specs.declared.readings.Reading.{Reading}
+use Rattle.capture_readings.specs.declared.readings.Reading.{Reading}
 use Rattle.fleet.specs.declared.part.Part.{Part}
 use Rattle.xlb_commands.specs.declared.fault.Fault.{Fault}
 use Rattle.xlb_commands.specs.declared.report.Report.{Report}
 use Rattle.xlb_commands.specs.Files.{FileBytes, AreKept, AreOthersKept, AreAllButKept}
 use Rattle.xlb_commands.specs.Replays.{AreWritten, IsCaptureOf, IsReplayReport, IsScriptOf}
 use Rattle.xlb_commands.specs.Refused.{AreUnfiled, no_sent_file, no_journals_file, no_report_file}
-use Rattle.xlb_commands.specs.Refused.{IsBrokenOff, no_piece, no_replay_memory}
 use Rattle.xlb_commands.specs.Refused.{IsUnmade, given_up, not_reported, not_written_down}
-use Rattle.xlb_commands.specs.Refused.{IsUnreplayed, no_replay_capture, no_part, broken_off, unmade}
+use Rattle.xlb_commands.specs.Refused.{IsUnreplayed, no_replay_capture, no_part, unmade}
 use Rattle.xlb_commands.proofs.Refusals.{kept_twice, unserved_since, unfiled_since, capture_refusal_before}
 
 -- after calls that changed nothing
@@ -75,10 +74,6 @@ unfiled_still a b c failed since names sent journals fault kept so (no_report_fi
     no_report_file (λ apart third. (kept _ _).0 (stands apart third)) (λ apart. written_still b c (text_of names.journals) journals kept (written apart))
     (unfiled_since (text_of names.report) failed since fault so unwritten)
 
-pub broken_since : (failed since : Type 0) (fault : Fault) → (failed → since) → IsBrokenOff failed fault → IsBrokenOff since fault
-broken_since failed since fault so (no_piece unserved) = no_piece (unserved_since failed since fault so unserved)
-broken_since failed since fault so (no_replay_memory is) = no_replay_memory is
-
 pub report_before : (a b c : FileBytes) (files : ReplayFiles) (verified : Verified) (script : List Command) (options : Options) (recording : Recording)
     (ring : ℕ) (exact : Bool) (reading : Reading) (part : Option Part) (updates : List MapUpdate) (report : Report) → AreKept a b
     → IsReplayReport b c files verified script options recording ring exact reading part updates report
@@ -110,10 +105,6 @@ unreplayed_before a b c failed since names program script options recording exac
 unreplayed_before a b c failed since names program script options recording exact reading part updates fault kept so
     (no_part captured taken still capture some is) =
     no_part captured taken (kept_twice a b c kept still) (capture_before a b kept reading names.capture.now captured capture) some is
-unreplayed_before a b c failed since names program script options recording exact reading part updates fault kept so
-    (broken_off captured is_exact all no_report still capture fit broken) =
-    broken_off captured is_exact all no_report (kept_twice a b c kept still)
-    (capture_before a b kept reading names.capture.now captured capture) fit (broken_since failed since fault so broken)
 unreplayed_before a b c failed since names program script options recording exact reading part updates fault kept so
     (unmade captured capture is) =
     unmade captured (capture_before a b kept reading names.capture.now captured capture)

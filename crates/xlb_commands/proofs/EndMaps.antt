@@ -20,7 +20,7 @@ use Rattle.journals.specs.LegalJournals.{AreLegal}
 use Rattle.actors.specs.declared.outcome.Applied.{Applied}
 use Rattle.actors.specs.declared.outcome.Outcome.{Outcome}
 use Rattle.runs.specs.SingleRuns.{HasRunAlone}
-use Rattle.traffic.specs.declared.readings.Reading.{Reading}
+use Rattle.capture_readings.specs.declared.readings.Reading.{Reading}
 use Rattle.verifier.specs.Verified.{Verified}
 use Rattle.command_line.specs.Reading.{text_of}
 use Rattle.command_line.specs.declared.commands.ReplayFiles.{ReplayFiles}

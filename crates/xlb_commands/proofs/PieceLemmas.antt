@@ -1,5 +1,5 @@
 -- What is read, run and written in pieces, one piece after another.
-use Rattle.std.proofs.Common.{arith, ◌≡◌, ◌∙◌, ◌+◌, ◌++◌, ◌∷◌, ◌↔◌, ℕ, false, List, [], append-nil, append_assoc, ap, ap₂, length, refl, subst, sym}
+use Rattle.std.proofs.Common.{arith, ◌∙◌, ◌+◌, ◌++◌, ◌∷◌, ◌↔◌, ℕ, List, [], append-nil, append_assoc, ap, ap₂, length, refl, subst, sym}
 use Rattle.std.proofs.lemmas.List.{length-append}
 use Rattle.std.specs.List.{AllByRecursion}
 use Rattle.folders.specs.PieceReading.{ReaderView, IsReadTo, IsReadWhole}
@@ -14,10 +14,11 @@ use Rattle.wire.specs.declared.records.Sent.{Sent}
 use Rattle.xlb_commands.specs.Files.{FileBytes, AreKept}
 use Rattle.command_line.specs.declared.commands.ReplayFiles.{ReplayFiles}
 use Rattle.xlb_commands.specs.InPieces.{AreAdded, AreOfRecords, AreRun, AreTold, AreToldBehind, HaveRun}
-use Rattle.xlb_commands.specs.RecordReports.{backends_in, form_of, runs_shipped, sent_before}
+use Rattle.xlb_commands.specs.RecordReports.{form_of, runs_shipped, sent_before}
 use Rattle.xlb_commands.proofs.RecordBytes.{added_both, records_bytes-append}
 use Rattle.xlb_commands.proofs.ReportPieces.{lines_of_both, sent_behind}
-use Rattle.traffic.specs.Readings.{unaltered}
+use Rattle.capture_readings.specs.declared.readings.Reading.{Reading}
+use Rattle.folders.proofs.shared.ReadingLemmas.{still_same}
 use Rattle.xlb_commands.specs.Replays.{IsCaptureOf}
 
 captured_both : (xs ys : List Sent) → AllByRecursion IsCaptured xs → AllByRecursion IsCaptured ys → AllByRecursion IsCaptured (xs ++ ys)
@@ -54,7 +55,7 @@ module _ (program : Program) (script : List Command) (options : Options) (files 
       → AreTold a c files script first (xs ++ ys) (sent ++ later_sent) (ends ++ later_ends)
   told_both a b c first xs ys sent later_sent ends later_ends fit one other = λ name is.
       subst (λ (lines : List ℕ). AreAdded a c name lines)
-      (sym (lines_of_both (form_of name) (runs_shipped files) (backends_in script) first xs ys ends later_ends sent later_sent fit.0 fit.1))
+      (sym (lines_of_both (form_of name) (runs_shipped files) script first xs ys ends later_ends sent later_sent fit.0 fit.1))
       (added_both a b c name _ _ (one name is) (other name is))
 
   behind_both : (before between : PieceReplay) (a b c : FileBytes) (xs ys sent later_sent : List Sent) (ends later_ends : List ToldEnd)
@@ -121,20 +122,21 @@ module _ (program : Program) (script : List Command) (options : Options) (files 
   }
 
 -- what is left of the file is the same
-pub read_still : (has left left' : List ℕ → Type 0) (records : List Sent) (reader : ReaderView) → ((bytes : List ℕ) → (left bytes ↔ left' bytes))
-    → IsReadTo has left records reader → IsReadTo has left' records reader
-read_still has left left' records reader same is = record {
+pub read_still : (reading : Reading) (has left left' : List ℕ → Type 0) (records : List Sent) (reader : ReaderView)
+    → ((bytes : List ℕ) → (left bytes ↔ left' bytes)) → IsReadTo reading has left records reader → IsReadTo reading has left' records reader
+read_still reading has left left' records reader same is = record {
+  reading_is = is.reading_is;
   counted = is.counted;
   rest = is.rest;
-  left = (same is.rest).0 is.left;
-  file = λ behind there. is.file behind ((same behind).1 there);
+  left = still_same reader.source left left' (λ bytes. (same bytes).0) is.rest is.left;
+  file = λ behind there. is.file behind (still_same reader.source left' left (λ bytes. (same bytes).1) behind there);
 }
 
 -- the whole file is a capture
-pub capture_is : (files : FileBytes) (name : List ℕ) (records : List Sent) (cut : ℕ) → IsReadWhole (files name) records cut
-    → IsCaptureOf files unaltered name records
-capture_is files name records cut whole = record {
-  bytes = whole.all;
-  read = whole.held;
-  spelled = record { left = whole.all; left_are = refl; spelled = whole.capture };
+pub capture_is : (files : FileBytes) (reading : Reading) (name : List ℕ) (records : List Sent) (cut : ℕ) → IsReadWhole reading (files name) records cut
+    → IsCaptureOf files reading name records
+capture_is files reading name records cut whole = record {
+  bytes = whole.held.all;
+  read = whole.held.held;
+  spelled = record { left = whole.all; left_are = whole.held.bytes_are; spelled = whole.capture };
 }

@@ -5,11 +5,12 @@ use Rattle.std.proofs.Common.{⊎_elim, ◌*◌}
 use Rattle.std.specs.Prelude.{if◌then◌else◌, slice_get}
 use Rattle.std.proofs.lemmas.Bool.{cases_eq}
 use Rattle.wire.specs.declared.records.Sent.{Sent}
+use Rattle.control.specs.declared.command.Command.{Command}
 use Rattle.traffic.specs.Counting.{one_if}
 use Rattle.traffic.specs.declared.record_line.ReportForm.{ReportForm}
 use Rattle.actors.specs.declared.outcome.ToldEnd.{ToldEnd}
 use Rattle.traffic.specs.RecordLines.{line_of_pieces}
-use Rattle.xlb_commands.specs.RecordReports.{backend_at, case_in, end_of, is_sent, line_of_record, line_text, lines_until, sent_address, sent_before}
+use Rattle.xlb_commands.specs.RecordReports.{backend_at, case_in, choice_in, end_of, is_sent, line_of_record, line_text, lines_until, sent_address, sent_before}
 use Rattle.xlb_commands.specs.RecordReports.{steps_of_end, target_in, verdict_in, worker_in}
 
 pub from_none : (n : ℕ) → 0 + n ≡ n
@@ -81,14 +82,15 @@ same_target end one other same = by_test (is_sent end) same
     by_test true same = ap target_in (same refl)
     by_test false same = refl
 
-module _ (form : ReportForm) (is_shipped : Bool) (backends : List (ℕ × ℕ)) where
+module _ (form : ReportForm) (is_shipped : Bool) (script : List Command) where
   line_with : ℕ → Sent → ToldEnd → Option ℕ → List ℕ
   line_with number captured end address =
       line_of_pieces form (number + 1) (captured.seconds * 1000000 + captured.micros) (worker_in end) (verdict_in end) (steps_of_end end)
-      (case_in is_shipped captured.bytes.items end) (backend_at backends address) address captured.bytes.items
+      (case_in is_shipped captured.bytes.items end) (backend_at script number address) address (choice_in is_shipped end)
+      captured.bytes.items
 
   same_line : (number : ℕ) (captured : Sent) (end : ToldEnd) (one other : Option Sent) → (is_sent end ≡ true → one ≡ other)
-      → line_text form is_shipped backends number captured end one ≡ line_text form is_shipped backends number captured end other
+      → line_text form is_shipped script number captured end one ≡ line_text form is_shipped script number captured end other
   unfolding line_with
   same_line number captured end one other same =
       ap (λ (address : Option ℕ). line_with number captured end address) (same_target end one other same)
@@ -97,13 +99,13 @@ module _ (form : ReportForm) (is_shipped : Bool) (backends : List (ℕ × ℕ)) 
   module _ (first : ℕ) (xs ys : List Sent) (es fs : List ToldEnd) (ss ts : List Sent) (ends_are : length es ≡ length xs)
       (sent_are : length ss ≡ sent_before es (length es)) where
     line_before : (number : ℕ) → number < length xs → (found : Option Sent)
-        → line_of_record form is_shipped backends first (es ++ fs) (ss ++ ts) number found
-        ≡ line_of_record form is_shipped backends first es ss number found
+        → line_of_record form is_shipped script first (es ++ fs) (ss ++ ts) number found
+        ≡ line_of_record form is_shipped script first es ss number found
     line_before number below None = refl
     line_before number below (Some captured) =
-        ap (λ (end : ToldEnd). line_text form is_shipped backends (first + number) captured end
+        ap (λ (end : ToldEnd). line_text form is_shipped script (first + number) captured end
         (slice_get (ss ++ ts) (sent_before (es ++ fs) number))) (end_before es fs number (omega (arith, below, ends_are)))
-        ∙ (ap (λ (place : ℕ). line_text form is_shipped backends (first + number) captured (end_of es number) (slice_get (ss ++ ts) place))
+        ∙ (ap (λ (place : ℕ). line_text form is_shipped script (first + number) captured (end_of es number) (slice_get (ss ++ ts) place))
         (sent_up_to es fs number (omega (arith, below, ends_are)))
         ∙ same_line (first + number) captured (end_of es number) _ _ (λ sent. get_before ss ts (sent_before es number) (within sent)))
       where
@@ -113,26 +115,26 @@ module _ (form : ReportForm) (is_shipped : Bool) (backends : List (ℕ × ℕ)) 
             omega (arith, one, sent_are, sent_within es number (length es) (omega (arith, below, ends_are)))
 
     lines_before : (count : ℕ) → count ≤ length xs
-        → lines_until form is_shipped backends first (xs ++ ys) (es ++ fs) (ss ++ ts) count
-        ≡ lines_until form is_shipped backends first xs es ss count
+        → lines_until form is_shipped script first (xs ++ ys) (es ++ fs) (ss ++ ts) count
+        ≡ lines_until form is_shipped script first xs es ss count
     lines_before zero within = refl
     lines_before (suc count) within =
         ap₂ (◌++◌) (lines_before count (omega (arith, within)))
-        (ap (λ (found : Option Sent). line_of_record form is_shipped backends first (es ++ fs) (ss ++ ts) count found)
+        (ap (λ (found : Option Sent). line_of_record form is_shipped script first (es ++ fs) (ss ++ ts) count found)
         (get_before xs ys count (omega (arith, within)))
         ∙ line_before count (omega (arith, within)) (slice_get xs count))
 
     line_behind : (number : ℕ) (found : Option Sent)
-        → line_of_record form is_shipped backends first (es ++ fs) (ss ++ ts) (length xs + number) found
-        ≡ line_of_record form is_shipped backends (first + length xs) fs ts number found
+        → line_of_record form is_shipped script first (es ++ fs) (ss ++ ts) (length xs + number) found
+        ≡ line_of_record form is_shipped script (first + length xs) fs ts number found
     line_behind number None = refl
     line_behind number (Some captured) =
-        ap (λ (end : ToldEnd). line_text form is_shipped backends (first + (length xs + number)) captured end
+        ap (λ (end : ToldEnd). line_text form is_shipped script (first + (length xs + number)) captured end
         (slice_get (ss ++ ts) (sent_before (es ++ fs) (length xs + number))))
         (ap (λ (n : ℕ). end_of (es ++ fs) (n + number)) (sym ends_are) ∙ end_behind es fs number)
-        ∙ (ap (λ (found : Option Sent). line_text form is_shipped backends (first + (length xs + number)) captured (end_of fs number) found)
+        ∙ (ap (λ (found : Option Sent). line_text form is_shipped script (first + (length xs + number)) captured (end_of fs number) found)
         (ap (λ (place : ℕ). slice_get (ss ++ ts) place) place_is ∙ get_behind ss ts (sent_before fs number))
-        ∙ ap (λ (n : ℕ). line_text form is_shipped backends n captured (end_of fs number) (slice_get ts (sent_before fs number))) number_is)
+        ∙ ap (λ (n : ℕ). line_text form is_shipped script n captured (end_of fs number) (slice_get ts (sent_before fs number))) number_is)
       where
         place_is : sent_before (es ++ fs) (length xs + number) ≡ length ss + sent_before fs number
         place_is = ap (λ (n : ℕ). sent_before (es ++ fs) (n + number)) (sym ends_are)
@@ -142,29 +144,29 @@ module _ (form : ReportForm) (is_shipped : Bool) (backends : List (ℕ × ℕ)) 
         number_is = omega arith
 
     lines_behind : (count : ℕ)
-        → lines_until form is_shipped backends first (xs ++ ys) (es ++ fs) (ss ++ ts) (length xs + count)
-        ≡ lines_until form is_shipped backends first (xs ++ ys) (es ++ fs) (ss ++ ts) (length xs)
-        ++ lines_until form is_shipped backends (first + length xs) ys fs ts count
+        → lines_until form is_shipped script first (xs ++ ys) (es ++ fs) (ss ++ ts) (length xs + count)
+        ≡ lines_until form is_shipped script first (xs ++ ys) (es ++ fs) (ss ++ ts) (length xs)
+        ++ lines_until form is_shipped script (first + length xs) ys fs ts count
     lines_behind zero =
-        ap (λ (n : ℕ). lines_until form is_shipped backends first (xs ++ ys) (es ++ fs) (ss ++ ts) n) none_more
-        ∙ sym (append-nil (lines_until form is_shipped backends first (xs ++ ys) (es ++ fs) (ss ++ ts) (length xs)))
+        ap (λ (n : ℕ). lines_until form is_shipped script first (xs ++ ys) (es ++ fs) (ss ++ ts) n) none_more
+        ∙ sym (append-nil (lines_until form is_shipped script first (xs ++ ys) (es ++ fs) (ss ++ ts) (length xs)))
       where
         none_more : length xs + 0 ≡ length xs
         none_more = omega arith
     lines_behind (suc count) =
-        ap (λ (n : ℕ). lines_until form is_shipped backends first (xs ++ ys) (es ++ fs) (ss ++ ts) n) (suc_right (length xs) count)
+        ap (λ (n : ℕ). lines_until form is_shipped script first (xs ++ ys) (es ++ fs) (ss ++ ts) n) (suc_right (length xs) count)
         ∙ (ap₂ (◌++◌) (lines_behind count)
-        (ap (λ (found : Option Sent). line_of_record form is_shipped backends first (es ++ fs) (ss ++ ts) (length xs + count) found)
+        (ap (λ (found : Option Sent). line_of_record form is_shipped script first (es ++ fs) (ss ++ ts) (length xs + count) found)
         (get_behind xs ys count) ∙ line_behind count (slice_get ys count))
-        ∙ append_assoc (lines_until form is_shipped backends first (xs ++ ys) (es ++ fs) (ss ++ ts) (length xs))
-        (lines_until form is_shipped backends (first + length xs) ys fs ts count) _)
+        ∙ append_assoc (lines_until form is_shipped script first (xs ++ ys) (es ++ fs) (ss ++ ts) (length xs))
+        (lines_until form is_shipped script (first + length xs) ys fs ts count) _)
 
     -- the lines of both are those of the first ones and those of the later ones
-    pub lines_of_both : lines_until form is_shipped backends first (xs ++ ys) (es ++ fs) (ss ++ ts) (length (xs ++ ys))
-        ≡ lines_until form is_shipped backends first xs es ss (length xs)
-        ++ lines_until form is_shipped backends (first + length xs) ys fs ts (length ys)
+    pub lines_of_both : lines_until form is_shipped script first (xs ++ ys) (es ++ fs) (ss ++ ts) (length (xs ++ ys))
+        ≡ lines_until form is_shipped script first xs es ss (length xs)
+        ++ lines_until form is_shipped script (first + length xs) ys fs ts (length ys)
     lines_of_both =
-        ap (λ (n : ℕ). lines_until form is_shipped backends first (xs ++ ys) (es ++ fs) (ss ++ ts) n) (length-append xs ys)
+        ap (λ (n : ℕ). lines_until form is_shipped script first (xs ++ ys) (es ++ fs) (ss ++ ts) n) (length-append xs ys)
         ∙ (lines_behind (length ys)
-        ∙ ap (λ (text : List ℕ). text ++ lines_until form is_shipped backends (first + length xs) ys fs ts (length ys))
+        ∙ ap (λ (text : List ℕ). text ++ lines_until form is_shipped script (first + length xs) ys fs ts (length ys))
         (lines_before (length xs) (omega arith)))

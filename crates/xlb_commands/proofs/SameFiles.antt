@@ -17,7 +17,7 @@ use Rattle.actors.specs.declared.outcome.Outcome.{Outcome}
 use Rattle.actors.specs.declared.outcome.ToldEnd.{ToldEnd}
 use Rattle.replay.specs.SameReplays.{AreSameFrames, ExactReplaysAgree, ReturnTheSame}
 use Rattle.replay.specs.OtherJournals.{JournalsChangeNothing, SendTheSame}
-use Rattle.xlb_commands.specs.RecordReports.{sent_address, backend_at, backends_in, case_in, end_of, is_sent, line_of_record, line_text, lines_until, report_text, sent_before}
+use Rattle.xlb_commands.specs.RecordReports.{sent_address, backend_at, case_in, choice_in, end_of, is_sent, line_of_record, line_text, lines_until, report_text, sent_before}
 use Rattle.xlb_commands.specs.RecordReports.{steps_of_end, target_in, verdict_in, worker_in}
 use Rattle.xlb_commands.specs.Replays.{counts_text, frame_records, refusals_text}
 use Rattle.xlb_commands.specs.SameFiles.{ExactReplaysWriteTheSame, JournalsChangeNoBytes, SendTheSameBytes, WriteTheSame}
@@ -54,37 +54,37 @@ same_address : (end : ToldEnd) (one other : Option Sent) → AreAlike one other 
 same_address end one other alike = ap (λ (target : Option ℕ). if is_sent end then target else None) (same_target one other alike)
 
 -- the line of a record that was captured so, and that was sent to this address, if it was
-line_to : ReportForm → Bool → List (ℕ × ℕ) → ℕ → Captured → ToldEnd → Option ℕ → List ℕ
-line_to form is_shipped backends number captured end address =
+line_to : ReportForm → Bool → List Command → ℕ → Captured → ToldEnd → Option ℕ → List ℕ
+line_to form is_shipped script number captured end address =
     line_of_pieces form (number + 1) (captured.seconds * 1000000 + captured.micros) (worker_in end) (verdict_in end) (steps_of_end end)
-    (case_in is_shipped captured.bytes end) (backend_at backends address) address captured.bytes
+    (case_in is_shipped captured.bytes end) (backend_at script number address) address (choice_in is_shipped end) captured.bytes
 
-same_text : (form : ReportForm) (is_shipped : Bool) (backends : List (ℕ × ℕ)) (number : ℕ) (captured other : Sent) (end : ToldEnd)
+same_text : (form : ReportForm) (is_shipped : Bool) (script : List Command) (number : ℕ) (captured other : Sent) (end : ToldEnd)
     (sent others : Option Sent) → captured_of captured ≡ captured_of other → AreAlike sent others
-    → line_text form is_shipped backends number captured end sent ≡ line_text form is_shipped backends number other end others
+    → line_text form is_shipped script number captured end sent ≡ line_text form is_shipped script number other end others
 unfolding line_to
-same_text form is_shipped backends number captured other end sent others same alike =
-    ap (λ (frame : Captured). line_to form is_shipped backends number frame end (sent_address end sent)) same
-    ∙ ap (λ (address : Option ℕ). line_to form is_shipped backends number (captured_of other) end address) (same_address end sent others alike)
+same_text form is_shipped script number captured other end sent others same alike =
+    ap (λ (frame : Captured). line_to form is_shipped script number frame end (sent_address end sent)) same
+    ∙ ap (λ (address : Option ℕ). line_to form is_shipped script number (captured_of other) end address) (same_address end sent others alike)
 
-same_line : (form : ReportForm) (is_shipped : Bool) (backends : List (ℕ × ℕ)) (ends : List ToldEnd) (sent others : List Sent) (number : ℕ)
+same_line : (form : ReportForm) (is_shipped : Bool) (script : List Command) (ends : List ToldEnd) (sent others : List Sent) (number : ℕ)
     (captured other : Option Sent) → AreAlike captured other → AreSameFrames sent others
-    → line_of_record form is_shipped backends 0 ends sent number captured ≡ line_of_record form is_shipped backends 0 ends others number other
-same_line form is_shipped backends ends sent others number None None alike same = refl
-same_line form is_shipped backends ends sent others number None (Some other) alike same = absurd alike
-same_line form is_shipped backends ends sent others number (Some captured) None alike same = absurd alike
-same_line form is_shipped backends ends sent others number (Some captured) (Some other) alike same =
-    same_text form is_shipped backends (0 + number) captured other (end_of ends number) _ _ alike (alike_at sent others same (sent_before ends number))
+    → line_of_record form is_shipped script 0 ends sent number captured ≡ line_of_record form is_shipped script 0 ends others number other
+same_line form is_shipped script ends sent others number None None alike same = refl
+same_line form is_shipped script ends sent others number None (Some other) alike same = absurd alike
+same_line form is_shipped script ends sent others number (Some captured) None alike same = absurd alike
+same_line form is_shipped script ends sent others number (Some captured) (Some other) alike same =
+    same_text form is_shipped script (0 + number) captured other (end_of ends number) _ _ alike (alike_at sent others same (sent_before ends number))
 
-same_lines : (form : ReportForm) (is_shipped : Bool) (backends : List (ℕ × ℕ)) (records its : List Sent) (ends : List ToldEnd)
+same_lines : (form : ReportForm) (is_shipped : Bool) (script : List Command) (records its : List Sent) (ends : List ToldEnd)
     (sent others : List Sent) → AreSameFrames records its → AreSameFrames sent others → (number : ℕ)
-    → lines_until form is_shipped backends 0 records ends sent number ≡ lines_until form is_shipped backends 0 its ends others number
-same_lines form is_shipped backends records its ends sent others captured same zero = refl
-same_lines form is_shipped backends records its ends sent others captured same (suc number) =
-    ap (λ (text : List ℕ). text ++ line_of_record form is_shipped backends 0 ends sent number (slice_get records number))
-    (same_lines form is_shipped backends records its ends sent others captured same number)
-    ∙ ap (λ (text : List ℕ). lines_until form is_shipped backends 0 its ends others number ++ text)
-    (same_line form is_shipped backends ends sent others number _ _ (alike_at records its captured number) same)
+    → lines_until form is_shipped script 0 records ends sent number ≡ lines_until form is_shipped script 0 its ends others number
+same_lines form is_shipped script records its ends sent others captured same zero = refl
+same_lines form is_shipped script records its ends sent others captured same (suc number) =
+    ap (λ (text : List ℕ). text ++ line_of_record form is_shipped script 0 ends sent number (slice_get records number))
+    (same_lines form is_shipped script records its ends sent others captured same number)
+    ∙ ap (λ (text : List ℕ). lines_until form is_shipped script 0 its ends others number ++ text)
+    (same_line form is_shipped script ends sent others number _ _ (alike_at records its captured number) same)
 
 same_count : (one other : List Sent) → AreSameFrames one other → length one ≡ length other
 same_count one other same = sym (length-map one captured_of) ∙ (ap (λ (frames : List Captured). length frames) same ∙ length-map other captured_of)
@@ -94,8 +94,8 @@ same_report : (form : ReportForm) (is_shipped : Bool) (script : List Command) (r
     → report_text form is_shipped script records ends sent ≡ report_text form is_shipped script its ends others
 same_report form is_shipped script records its ends sent others captured same =
     ap (λ (text : List ℕ). report_head form ++ text)
-    (same_lines form is_shipped (backends_in script) records its ends sent others captured same (length records)
-    ∙ ap (λ (count : ℕ). lines_until form is_shipped (backends_in script) 0 its ends others count) (same_count records its captured))
+    (same_lines form is_shipped script records its ends sent others captured same (length records)
+    ∙ ap (λ (count : ℕ). lines_until form is_shipped script 0 its ends others count) (same_count records its captured))
 
 sent_alike : (script : List Command) (records others : List Sent) (one other : Outcome) → AreSameFrames records others
     → SendTheSame one other → SendTheSameBytes script records others one other

@@ -20,8 +20,8 @@ use Rattle.journals.specs.JournalText.{journals_text}
 use Rattle.map_updates.specs.declared.update.MapUpdate.{MapUpdate}
 use Rattle.semantics.specs.ShardPlan.{recorded}
 use Rattle.semantics.specs.declared.options.Options.{Options}
-use Rattle.traffic.specs.declared.readings.Reading.{Reading}
-use Rattle.traffic.specs.Readings.{HasNoRecord, IsRecord, alters, kept_len, read_records, read_rest}
+use Rattle.capture_readings.specs.declared.readings.Reading.{Reading}
+use Rattle.capture_readings.specs.Readings.{AreAltered, AreLeft, HasNoRecord, IsRecord, alters, kept_len, read_records, read_rest}
 use Rattle.semantics.specs.Replay.{Captured}
 use Rattle.actors.specs.Shares.{captured_of, all_captured}
 use Rattle.actors.specs.declared.outcome.Applied.{Applied}
@@ -31,7 +31,7 @@ use Rattle.command_line.specs.Reading.{text_of}
 use Rattle.xlb_commands.specs.Files.{FileBytes, IsImageFile}
 use Rattle.xlb_commands.specs.Parts.{command_frames, numbers_of_part, records_in, script_in}
 use Rattle.xlb_commands.specs.RecordReports.{IsReportFile, form_of, report_text, runs_shipped}
-use Rattle.xlb_commands.specs.Replays.{AreAltered, AreLeft, AreWritten, IsCaptureIn, IsCaptureOf, IsMade, IsProgramOf}
+use Rattle.xlb_commands.specs.Replays.{AreWritten, IsCaptureIn, IsCaptureOf, IsMade, IsProgramOf}
 use Rattle.xlb_commands.specs.Replays.{IsScriptOf, capture_reading, counts_text, image_of, program_of_replay, recording_in, refusals_text}
 use Rattle.xlb_commands.specs.SameFiles.{ExactReplaysWriteTheSame, WriteTheSame}
 use Rattle.xlb_commands.specs.SameFolders.{AreSameFiles, HaveTheSame, SameFilesLeaveTheSame}
@@ -135,13 +135,13 @@ same_parts (r ∷ rs) (q ∷ qs) rest its_rest each its ends stops same =
 
 same_altered : (reading : Reading) (bytes left its_left : List ℕ) → AreAltered reading bytes left → AreAltered reading bytes its_left → left ≡ its_left
 same_altered reading bytes left its_left are its =
-    let parts = same_parts are.is.records its.is.records are.is.rest its.is.rest are.is.each its.is.each are.is.ends its.is.ends
-    (front_alike (take 24 bytes) (take 24 bytes) (concat are.is.records ++ are.is.rest) (concat its.is.records ++ its.is.rest) refl
-    (sym are.is.parts ∙ its.is.parts)).1 in
-    sym are.left_are ∙ are.is.left
-    ∙ ap (λ (records : List (List ℕ)). take 24 bytes ++ (read_records reading records ++ read_rest reading are.is.rest)) parts.0
-    ∙ ap (λ (rest : List ℕ). take 24 bytes ++ (read_records reading its.is.records ++ read_rest reading rest)) parts.1
-    ∙ sym its.is.left ∙ its.left_are
+    let parts = same_parts are.records its.records are.rest its.rest are.each its.each are.ends its.ends
+    (front_alike (take 24 bytes) (take 24 bytes) (concat are.records ++ are.rest) (concat its.records ++ its.rest) refl
+    (sym are.parts ∙ its.parts)).1 in
+    are.left_are
+    ∙ ap (λ (records : List (List ℕ)). take 24 bytes ++ (read_records reading records ++ read_rest reading are.rest)) parts.0
+    ∙ ap (λ (rest : List ℕ). take 24 bytes ++ (read_records reading its.records ++ read_rest reading rest)) parts.1
+    ∙ sym its.left_are
 
 same_left : (altered : Bool) (reading : Reading) (bytes left its_left : List ℕ) → AreLeft altered reading bytes left
     → AreLeft altered reading bytes its_left → left ≡ its_left

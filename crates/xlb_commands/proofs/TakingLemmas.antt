@@ -14,7 +14,7 @@ use Rattle.fleet.proofs.shared.PartLemmas.{number_before, of_pieces, part_of_pie
 use Rattle.xlb_commands.specs.Parts.{command_frames, records_in, records_next, script_in}
 use Rattle.xlb_commands.specs.declared.taking.Taking.{Taking}
 use Rattle.xlb_commands.specs.declared.taking.Taking.TheVariants.{All, Of}
-use Rattle.xlb_commands.specs.Taking.{AreNumbers, AreRecordsTaken, GoesPast, HasFound, HasPassed, IsPartway, knows_numbers, script_at}
+use Rattle.xlb_commands.specs.Taking.{AreNumbers, AreRecordsTaken, GoesPast, HasPassed, IsPartway, script_at}
 
 pub none_taken : (part : Option Part) → records_in part [] ≡ []
 none_taken None = refl
@@ -118,66 +118,3 @@ script_of_all part numbers script none = subst (λ (it : Option Part). script �
 pub script_of_one : (part : Option Part) (numbers : List ℕ) (script : List Command) → ((one : Part) × (part ≡ Some one))
     → at_frames numbers script ≡ script_at part numbers script
 script_of_one part numbers script some = subst (λ (it : Option Part). at_frames numbers script ≡ script_at it numbers script) (sym some.1) refl
-
--- ---- numbers that no further record changes
-
--- the numbers of commands that come no later than these records do not depend on what follows
-same_beyond : (one : Part) (past beyond : List Sent) (done : List ℕ) → AllByRecursion (λ frame. frame ≤ length past) done
-    → map (number_in_part one.of one.lost one.number past) done ≡ map (number_in_part one.of one.lost one.number (past ++ beyond)) done
-same_beyond one past beyond [] early = refl
-same_beyond one past beyond (frame ∷ done) early =
-    ap (λ n. n ∷ map (number_in_part one.of one.lost one.number past) done) (sym (number_before one.of one.lost one.number past beyond frame early.0))
-    ∙ ap (λ ns. number_in_part one.of one.lost one.number (past ++ beyond) frame ∷ ns) (same_beyond one past beyond done early.1)
-
-none_left : (xs : List ℕ) → length xs ≡ 0 → xs ≡ []
-none_left [] none = refl
-none_left (x ∷ xs) none = absurd (omega (arith, none))
-
--- once all commands have their numbers, these are the same behind more records
-numbers_stay : (frames : List ℕ) (past beyond : List Sent) (n : Numbering) → AreNumbered frames past n → length n.numbers.items ≡ length frames
-    → map (number_in_part n.part.of n.part.lost n.part.number past) frames
-    ≡ map (number_in_part n.part.of n.part.lost n.part.number (past ++ beyond)) frames
-numbers_stay frames past beyond n are all =
-    let many = ap length are.numbers ∙ length-map are.done (number_in_part n.part.of n.part.lost n.part.number past) in
-    let whole = ap length are.frames_are ∙ length-append are.done are.left in
-    let done : frames ≡ are.done
-    = are.frames_are ∙ ap (λ (xs : List ℕ). are.done ++ xs) (none_left are.left (omega (arith, many, whole, all))) ∙ append-nil are.done in
-    subst (λ (xs : List ℕ). map (number_in_part n.part.of n.part.lost n.part.number past) xs
-    ≡ map (number_in_part n.part.of n.part.lost n.part.number (past ++ beyond)) xs) (sym done)
-    (same_beyond n.part past beyond are.done are.early)
-
-stay_of_part : (part : Option Part) (frames own numbers : List ℕ) (past beyond : List Sent) (n : Numbering) → IsPartway part frames past own n
-    → (length n.numbers.items == length own) ≡ true → AreNumbers part frames past numbers → AreNumbers part frames (past ++ beyond) numbers
-stay_of_part part frames own numbers past beyond n way all are =
-    let one = on_the_way part frames own past n way in
-    let stay = numbers_stay own past beyond n one (eqb-true _ _ all) in
-    subst (λ (it : Option Part). AreNumbers it frames (past ++ beyond) numbers) (sym way.part_is)
-    (subst (λ (it : Option Part). AreNumbers it frames past numbers) way.part_is are
-    ∙ subst (λ (them : List ℕ). map (number_in_part n.part.of n.part.lost n.part.number past) them
-    ≡ map (number_in_part n.part.of n.part.lost n.part.number (past ++ beyond)) them) way.frames_are stay)
-
-known_stay : (part : Option Part) (frames numbers : List ℕ) (past beyond : List Sent) (taking : Taking) → HasPassed part frames past taking
-    → knows_numbers taking ≡ true → AreNumbers part frames past numbers → AreNumbers part frames (past ++ beyond) numbers
-known_stay part frames numbers past beyond All passed known are = numbers_of_all part frames numbers (past ++ beyond) passed
-known_stay part frames numbers past beyond (Of own n) passed known are = stay_of_part part frames own.items numbers past beyond n passed known are
-
--- what is found behind the first records are the numbers behind all of them
-pub numbers_behind_all : (part : Option Part) (frames numbers : List ℕ) (records : List Sent) (taking : Taking)
-    → (found : HasFound part frames records taking) → AreNumbers part frames found.past numbers → AreNumbers part frames records numbers
-numbers_behind_all part frames numbers records taking found are =
-    let Are : List Sent → Type 0 = λ (them : List Sent). AreNumbers part frames them numbers in
-    subst Are (sym found.records_are) (elim found.found [
-      | inl none ↦ subst Are (sym (append-nil found.past) ∙ ap (λ (xs : List Sent). found.past ++ xs) (sym none)) are
-      | inr known ↦ known_stay part frames numbers found.past found.beyond taking found.passed known are
-    ])
-
--- where all records were passed, none comes behind
-pub found_none : (part : Option Part) (frames : List ℕ) (records : List Sent) (taking : Taking) → HasPassed part frames records taking
-    → HasFound part frames records taking
-found_none part frames records taking passed = record {
-  past = records;
-  beyond = [];
-  records_are = sym (append-nil records);
-  passed = passed;
-  found = inl refl;
-}

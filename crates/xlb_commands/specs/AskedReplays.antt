@@ -11,7 +11,6 @@ use Rattle.machine.specs.Running.{program_of}
 use Rattle.actors.specs.Parts.{AreBadOptions}
 use Rattle.actors.specs.declared.fault.ReplayFault.{ReplayFault}
 use Rattle.actors.specs.declared.outcome.Outcome.{Outcome}
-use Rattle.traffic.specs.Readings.{unaltered}
 use Rattle.command_line.specs.Reading.{text_of}
 use Rattle.xlb_commands.specs.declared.fault.Fault.{Fault}
 use Rattle.xlb_commands.specs.declared.replays.Asked.{Asked}
@@ -96,7 +95,7 @@ HasBadOptions asked = AreBadOptions asked.verified.now.maps asked.options asked.
 -- it was made in turn of the part that is asked for of the file's capture, or of all of it; this script is that for the whole capture
 pub record IsMadeInTurn (before : FileBytes) (asked : Asked) (script : List Command) : Type 0 where
   pub captured : List Sent
-  pub capture : IsCaptureOf before unaltered asked.files.now.capture.now captured
+  pub capture : IsCaptureOf before asked.reading asked.files.now.capture.now captured
   pub script_is : script_in asked.part captured script ≡ asked.script.now
   pub outcome : Outcome
   pub made : IsMade true (program_of asked.verified.now asked.options.shards) asked.updates.now asked.script.now

@@ -1,5 +1,5 @@
 -- An exact replay whose capture is read, and whose sent frames and report are written, in pieces.
-use Rattle.std.specs.Prelude.{◌≡◌, ◌≢◌, ◌↔◌, ◌+◌, ◌*◌, ◌^◌, ◌≤◌, ◌++◌, ℕ, true, false, List, [], Option, Some, length, string_bytes}
+use Rattle.std.specs.Prelude.{◌≡◌, ◌≢◌, ◌↔◌, ◌+◌, ◌++◌, ℕ, true, false, List, [], Option, Some, length, string_bytes}
 use Rattle.std.specs.List.{AllByRecursion}
 use Rattle.semantics.specs.Program.{Program}
 use Rattle.semantics.specs.ShardPlan.{recorded}
@@ -8,32 +8,29 @@ use Rattle.semantics.specs.declared.options.Recording.{Recording}
 use Rattle.map_updates.specs.declared.update.MapUpdate.{MapUpdate}
 use Rattle.wire.specs.CaptureFormat.{records_bytes}
 use Rattle.wire.specs.declared.records.Sent.{Sent}
-use Rattle.folders.specs.PieceReading.{ReaderView}
 use Rattle.control.specs.declared.command.Command.{Command}
 use Rattle.actors.specs.Captured.{IsCaptured}
 use Rattle.journals.specs.JournalText.{journals_text}
 use Rattle.fleet.specs.declared.part.Part.{Part}
 use Rattle.verifier.specs.Verified.{Verified}
 use Rattle.machine.specs.Running.{program_of}
-use Rattle.replay.specs.Pieces.{IsUnderway}
+use Rattle.replay.specs.Pieces.{IsUnderway, ReplayGoesOn}
 use Rattle.replay.specs.declared.in_pieces.PieceReplay.{PieceReplay}
 use Rattle.actors.specs.declared.outcome.Outcome.{Outcome}
 use Rattle.actors.specs.declared.outcome.ToldEnd.{ToldEnd}
-use Rattle.traffic.specs.Readings.{unaltered}
+use Rattle.capture_readings.specs.declared.readings.Reading.{Reading}
 use Rattle.command_line.specs.Reading.{text_of}
 use Rattle.command_line.specs.declared.commands.ReplayFiles.{ReplayFiles}
+use Rattle.traffic.specs.declared.backends.Backends.{Backends}
+use Rattle.xlb_commands.specs.declared.replays.Asked.{Asked}
 use Rattle.xlb_commands.specs.declared.report.Report.{Report}
 use Rattle.xlb_commands.specs.EndMaps.{AreMapsLines, lines_bytes}
 use Rattle.xlb_commands.specs.Files.{FileBytes}
-use Rattle.xlb_commands.specs.RecordReports.{backends_in, form_of, lines_until, runs_shipped, sent_before}
+use Rattle.xlb_commands.specs.RecordReports.{HasNamed, backends_in, form_of, lines_until, runs_shipped, sent_before}
 use Rattle.xlb_commands.specs.Parts.{command_frames, records_in, script_in}
 use Rattle.xlb_commands.specs.Taking.{AreNumbers}
 use Rattle.xlb_commands.specs.Replays.{AreAccepted, FollowsRule, IsCaptureOf, IsMade, KeepsHeadline, LeavesNothingOut, SendsAlike}
 use Rattle.xlb_commands.specs.Replays.{counts_text, refusals_text}
-
--- no reader counts too far: each record takes 16 bytes at least
-abbrev pub ReaderHasRoom : ℕ → ReaderView → Type 0
-ReaderHasRoom most reader = 16 * reader.count + length reader.unread + most ≤ 2 ^ 40
 
 -- the replay took the turns of these records: these frames were sent, and each record ended so
 abbrev pub AreRun : Program → List Command → Options → PieceReplay → PieceReplay → List Sent → List Sent → List ToldEnd → Type 0
@@ -53,7 +50,7 @@ AreApartInPieces files = text_of files.report ≢ Some files.sent.now
 -- the report has the lines of these records more, which come behind the first ones, if it is asked for
 abbrev pub AreTold : FileBytes → FileBytes → ReplayFiles → List Command → ℕ → List Sent → List Sent → List ToldEnd → Type 0
 AreTold before after files script first records sent ends = (name : List ℕ) → text_of files.report ≡ Some name →
-    AreAdded before after name (lines_until (form_of name) (runs_shipped files) (backends_in script) first records ends sent (length records))
+    AreAdded before after name (lines_until (form_of name) (runs_shipped files) script first records ends sent (length records))
 
 -- each record has an end, and each that was sent a frame
 abbrev pub AreOfRecords : List Sent → List Sent → List ToldEnd → Type 0
@@ -106,29 +103,53 @@ pub record IsMadeOf (files : ReplayFiles) (verified : Verified) (script : List C
   pub all : report.leaves_out ≡ false → LeavesNothingOut script records whole
   pub maps_are : AreMapsLines (text_of files.maps) whole.journals (lines_bytes report.maps)
 
--- the file is a capture, in the part of which the commands of this script have these numbers
-pub record HasNumbers (files : FileBytes) (name : List ℕ) (part : Option Part) (whole : List Command) (numbers : List ℕ) : Type 0 where
+-- the file is under this reading a capture, in the part of which the commands of this script have these numbers
+pub record HasNumbers (files : FileBytes) (reading : Reading) (name : List ℕ) (part : Option Part) (whole : List Command) (numbers : List ℕ) : Type 0 where
   pub captured : List Sent
-  pub capture : IsCaptureOf files unaltered name captured
+  pub capture : IsCaptureOf files reading name captured
   pub numbers_are : AreNumbers part (command_frames whole) captured numbers
 
 -- besides, all records of the part were run, or where none is asked for all of the capture
-pub record HasGoneThrough (files : FileBytes) (name : List ℕ) (part : Option Part) (whole : List Command) (numbers : List ℕ)
+pub record HasGoneThrough (files : FileBytes) (reading : Reading) (name : List ℕ) (part : Option Part) (whole : List Command) (numbers : List ℕ)
     (program : Program) (script : List Command) (options : Options) (names : ReplayFiles) (before after : PieceReplay)
     (made made' : FileBytes) : Type 0 where
-  pub numbered : HasNumbers files name part whole numbers
+  pub numbered : HasNumbers files reading name part whole numbers
   pub have_run : HaveRun program script options names before after made made' (records_in part numbered.captured)
 
--- the file is a capture, in the part of which the commands of the script for the whole capture are those of this script; besides, the replay
--- of the part came to its end, and the report and the bytes of the journals are its
-pub record IsReplayLeft (before made made' : FileBytes) (files : ReplayFiles) (part : Option Part) (whole : List Command) (verified : Verified)
-    (script : List Command) (options : Options) (recording : Recording) (ring : ℕ) (updates : List MapUpdate) (report : Report)
+-- the file is under this reading a capture, in the part of which the commands of the script for the whole capture are those of this script;
+-- besides, the replay of the part came to its end, and the report and the bytes of the journals are its
+pub record IsReplayLeft (before made made' : FileBytes) (files : ReplayFiles) (reading : Reading) (part : Option Part) (whole : List Command)
+    (verified : Verified) (script : List Command) (options : Options) (recording : Recording) (ring : ℕ) (updates : List MapUpdate) (report : Report)
     (journals : List ℕ) : Type 0 where
   pub captured : List Sent
   pub sent : List Sent
   pub ends : List ToldEnd
-  pub capture : IsCaptureOf before unaltered files.capture.now captured
+  pub capture : IsCaptureOf before reading files.capture.now captured
   pub script_is : script_in part captured whole ≡ script
   pub added : AreApartInPieces files → AreAdded made made' files.sent.now (records_bytes sent)
   pub told : AreApartInPieces files → AreTold made made' files script 0 (records_in part captured) sent ends
   pub made_of : IsMadeOf files verified script options recording ring updates (records_in part captured) sent ends report journals
+
+-- ---- the same of what is asked for
+
+-- it may be made in pieces: it is exact, and the sent frames and the report have two names
+abbrev pub MayBeInPieces : Asked → Type 0
+MayBeInPieces asked = (asked.exact ≡ true) × AreApartInPieces asked.files.now
+
+-- the replay can go on with its script over the maps of its program, and the table has the backends that the script names
+pub record CanGoOn (asked : Asked) (table : Backends) (replay : PieceReplay) : Type 0 where
+  pub named : HasNamed table (backends_in asked.script.now)
+  pub goes_on : ReplayGoesOn asked.script.now replay
+  pub maps : replay.turns.all.maps ≡ asked.verified.now.maps
+
+-- these records were run
+abbrev pub HaveRunOf : Asked → List Sent → PieceReplay → PieceReplay → FileBytes → FileBytes → Type 0
+HaveRunOf asked records before after made made' =
+    HaveRun (program_of asked.verified.now asked.options.shards) asked.script.now (recorded asked.recording asked.options) asked.files.now before after
+    made made' records
+
+-- all records that are asked for were run; the commands of the script for the whole capture have these numbers
+abbrev pub HasGone : FileBytes → Asked → List Command → List ℕ → PieceReplay → PieceReplay → FileBytes → FileBytes → Type 0
+HasGone files asked whole numbers before after made made' =
+    HasGoneThrough files asked.reading asked.files.now.capture.now asked.part whole numbers (program_of asked.verified.now asked.options.shards)
+    asked.script.now (recorded asked.recording asked.options) asked.files.now before after made made'

@@ -2,6 +2,7 @@
 pub mod Printable
 pub mod Files
 pub mod Clashes
+pub mod BackendsUp
 pub mod RecordReports
 pub mod Parts
 pub mod EndMaps

@@ -16,12 +16,13 @@ use Rattle.actors.specs.declared.outcome.ToldEnd.TheVariants.{Short, Stopped, Ex
 use Rattle.traffic.specs.Counting.{address_at, one_if, target_of}
 use Rattle.traffic.specs.Holders.{holder_among, holder_in, only_number}
 use Rattle.traffic.specs.Kinds.{frame_kind_of}
-use Rattle.traffic.specs.RecordLines.{case_word, line_of_pieces, report_head}
+use Rattle.traffic.specs.RecordLines.{case_word, choice_word, line_of_pieces, report_head}
 use Rattle.traffic.specs.declared.backends.Backends.{Backends}
 use Rattle.traffic.specs.declared.record_line.LineVerdict.{LineVerdict}
 use Rattle.traffic.specs.declared.record_line.LineVerdict.TheVariants as words
 use Rattle.traffic.specs.declared.record_line.ReportForm.{ReportForm}
 use Rattle.traffic.specs.declared.record_line.ReportForm.TheVariants.{Csv, Json}
+use Rattle.xlb_commands.specs.BackendsUp.{number_at, up_before}
 use Rattle.xlb_commands.specs.Files.{FileBytes}
 use Rattle.text_lines.specs.Lines.{finishes}
 
@@ -77,6 +78,11 @@ abbrev pub case_in : Bool → List ℕ → ToldEnd → List ℕ
 case_in true frame end = case_word (frame_kind_of frame) (verdict_in end)
 case_in false frame end = []
 
+-- how its backend was chosen, as the steps of its run say, if the program is the shipped one
+abbrev pub choice_in : Bool → ToldEnd → List ℕ
+choice_in true end = choice_word (verdict_in end) (steps_of_end end)
+choice_in false end = []
+
 -- ---- where it was sent
 
 -- the address to which the tunnel of a sent frame leads
@@ -104,19 +110,29 @@ backends_in script = fold named_in [] script
 abbrev pub HasNamed : Backends → List (ℕ × ℕ) → Type 0
 HasNamed table backends = (address : ℕ) → holder_in table address ≡ holder_among address backends
 
--- the backend with this address: the only number with which the script names it
-abbrev pub backend_at : List (ℕ × ℕ) → Option ℕ → Option ℕ
-backend_at backends None = None
-backend_at backends (Some address) = only_number (holder_among address backends)
+-- the only number with which a script names an address
+abbrev pub only_number_of : List Command → ℕ → Option ℕ
+only_number_of script address = only_number (holder_among address (backends_in script))
+
+abbrev pub first_of : Option ℕ → Option ℕ → Option ℕ
+first_of (Some number) other = Some number
+first_of None other = other
+
+-- the backend with this address, for the record of this number: the only number with which the script names it; where there are several,
+-- the one that is up there when the record's turn comes
+abbrev pub backend_at : List Command → ℕ → Option ℕ → Option ℕ
+backend_at script number None = None
+backend_at script number (Some address) = first_of (only_number_of script address) (number_at (up_before number [] script) address)
 
 -- ---- the lines
 
 -- the line of a record, counted from 0: its number, counted from 1, its moment in microseconds, its worker, its verdict, its steps, the
--- case, the backend and the address, and the flow of its frame
-abbrev pub line_text : ReportForm → Bool → List (ℕ × ℕ) → ℕ → Sent → ToldEnd → Option Sent → List ℕ
-line_text form is_shipped backends number captured end sent =
+-- case, the backend and the address, the flow of its frame, and how its backend was chosen
+abbrev pub line_text : ReportForm → Bool → List Command → ℕ → Sent → ToldEnd → Option Sent → List ℕ
+line_text form is_shipped script number captured end sent =
     line_of_pieces form (number + 1) (captured.seconds * 1000000 + captured.micros) (worker_in end) (verdict_in end) (steps_of_end end)
-    (case_in is_shipped captured.bytes.items end) (backend_at backends (sent_address end sent)) (sent_address end sent) captured.bytes.items
+    (case_in is_shipped captured.bytes.items end) (backend_at script number (sent_address end sent)) (sent_address end sent)
+    (choice_in is_shipped end) captured.bytes.items
 
 -- what became of the record of this number
 abbrev pub end_of : List ToldEnd → ℕ → ToldEnd
@@ -128,22 +144,22 @@ sent_before ends zero = 0
 sent_before ends (suc number) = sent_before ends number + one_if (is_sent (end_of ends number))
 
 -- the line of the record of this number behind the first ones, if there is one
-abbrev pub line_of_record : ReportForm → Bool → List (ℕ × ℕ) → ℕ → List ToldEnd → List Sent → ℕ → Option Sent → List ℕ
-line_of_record form is_shipped backends first ends sent number None = []
-line_of_record form is_shipped backends first ends sent number (Some captured) =
-    line_text form is_shipped backends (first + number) captured (end_of ends number) (slice_get sent (sent_before ends number))
+abbrev pub line_of_record : ReportForm → Bool → List Command → ℕ → List ToldEnd → List Sent → ℕ → Option Sent → List ℕ
+line_of_record form is_shipped script first ends sent number None = []
+line_of_record form is_shipped script first ends sent number (Some captured) =
+    line_text form is_shipped script (first + number) captured (end_of ends number) (slice_get sent (sent_before ends number))
 
 -- the lines of N records behind the first ones
-abbrev pub lines_until : ReportForm → Bool → List (ℕ × ℕ) → ℕ → List Sent → List ToldEnd → List Sent → ℕ → List ℕ
-lines_until form is_shipped backends first records ends sent zero = []
-lines_until form is_shipped backends first records ends sent (suc number) =
-    lines_until form is_shipped backends first records ends sent number
-    ++ line_of_record form is_shipped backends first ends sent number (slice_get records number)
+abbrev pub lines_until : ReportForm → Bool → List Command → ℕ → List Sent → List ToldEnd → List Sent → ℕ → List ℕ
+lines_until form is_shipped script first records ends sent zero = []
+lines_until form is_shipped script first records ends sent (suc number) =
+    lines_until form is_shipped script first records ends sent number
+    ++ line_of_record form is_shipped script first ends sent number (slice_get records number)
 
 -- the head, and the lines of all records
 abbrev pub report_text : ReportForm → Bool → List Command → List Sent → List ToldEnd → List Sent → List ℕ
 report_text form is_shipped script records ends sent =
-    report_head form ++ lines_until form is_shipped (backends_in script) 0 records ends sent (length records)
+    report_head form ++ lines_until form is_shipped script 0 records ends sent (length records)
 
 -- where a file is named for it, it has the report
 abbrev pub IsReportFile : FileBytes → Option (List ℕ) → Bool → List Command → List Sent → Outcome → Type 0

@@ -68,8 +68,8 @@ use Rattle.command_line.specs.declared.commands.Settings.{Settings}
 use Rattle.command_line.specs.declared.commands.Settings.TheVariants.{Check, Run, Disasm, Audit, Explain, Asm, Shipped, Replay, Table}
 use Rattle.command_line.specs.declared.commands.Settings.TheVariants.{Script, Compare, Flows, Page}
 use Rattle.timed_scripts.specs.MeantScript.{ExplainsTimedScript as MeansNone}
-use Rattle.traffic.specs.Readings.{alters, unaltered}
-use Rattle.traffic.specs.declared.readings.Reading.{Reading}
+use Rattle.capture_readings.specs.Readings.{AreCaptureBytes, alters}
+use Rattle.capture_readings.specs.declared.readings.Reading.{Reading}
 use Rattle.fleet.specs.declared.part.Part.{Part}
 use Rattle.xlb_commands.specs.declared.fault.Fault.{Fault}
 use Rattle.xlb_commands.specs.declared.report.Report.{Report}
@@ -78,7 +78,7 @@ use Rattle.xlb_commands.specs.Files.{FileBytes, AreKept, AreOthersKept, IsImageF
 use Rattle.xlb_commands.specs.Parts.{records_in, script_in}
 use Rattle.xlb_commands.specs.Clashes.{IsOver, clash_text, IsWrittenAnew, present_text}
 use Rattle.xlb_commands.specs.FaultLines.{fault_line, mistake_text}
-use Rattle.xlb_commands.specs.Replays.{AreWritten, IsProgramOf, IsScriptFile, IsScriptOf, IsCaptureOf, AreCaptureBytes, program_of_replay}
+use Rattle.xlb_commands.specs.Replays.{AreWritten, IsProgramOf, IsScriptFile, IsScriptOf, IsCaptureOf, program_of_replay}
 use Rattle.xlb_commands.specs.Replays.{AreServedSizes}
 use Rattle.xlb_commands.specs.Replays.{capture_reading, image_of, recording_in, IsMade, IsReplayReport}
 use Rattle.xlb_commands.specs.Results.{IsDone, IsDoneInPart, IsReported, IsMistake, Stream, run_options, program_of_run, start_of_run}
@@ -418,12 +418,6 @@ pub data AreUnfiled (before after : FileBytes) (failed : Type 0) (names : Replay
       → (text_of names.report ≢ text_of names.journals → AreWritten after (text_of names.journals) journals)
       → AreUnwritten (text_of names.report) failed fault → AreUnfiled before after failed names sent journals fault
 
--- what is read and asked for is right, and the replay was broken off while its capture was read, or its sent frames and its report were
--- written, in pieces: the device failed, or memory was refused for a piece, for its sent frames or its lines, or for the replay
-pub data IsBrokenOff (failed : Type 0) (fault : Fault) : Type 0 where
-  no_piece : IsUnserved failed fault → IsBrokenOff failed fault
-  no_replay_memory : fault ≡ faults.Replay replays.Memory → IsBrokenOff failed fault
-
 -- Of a program that may run and whose maps take the updates, a script and the records of a capture: a replay that was given up; one that was
 -- made, and memory was refused for its journals, its report or what is printed; until then no file changed; or its files were not written.
 pub data IsUnmade (before after : FileBytes) (failed : Type 0) (names : ReplayFiles) (program : Contents) (script : List Command)
@@ -439,9 +433,9 @@ pub data IsUnmade (before after : FileBytes) (failed : Type 0) (names : ReplayFi
       → AreUnfiled before after failed names (capture_bytes outcome.sent.items) outcome.journals fault
       → IsUnmade before after failed names program script options recording exact updates records fault
 
--- Of a program that may run and whose maps take the updates, and a script: no capture; one of which a part is replayed, and memory was
--- refused for the script's commands in it; an exact replay that was broken off; until then no file changed; or no replay of the part was made
--- and written down.
+-- Of a program that may run and whose maps take the updates, and a script: no capture, or none that was read to its end (in pieces, also for
+-- what was made of it beside the files); one of which a part is replayed, and memory was refused for the script's commands in it; until then
+-- no file changed; or no replay of the part was made and written down.
 pub data IsUnreplayed (files after : FileBytes) (failed : Type 0) (names : ReplayFiles) (program : Contents) (script : List Command)
     (options : Options) (recording : Recording) (exact : Bool) (reading : Reading) (part : Option Part) (updates : List MapUpdate)
     (fault : Fault) : Type 0 where
@@ -449,10 +443,6 @@ pub data IsUnreplayed (files after : FileBytes) (failed : Type 0) (names : Repla
       → IsUnreplayed files after failed names program script options recording exact reading part updates fault
   no_part : (captured : List Sent) (taken : Part) → AreKept files after → IsCaptureOf files reading names.capture.now captured
       → part ≡ Some taken → fault ≡ faults.Memory
-      → IsUnreplayed files after failed names program script options recording exact reading part updates fault
-  broken_off : (captured : List Sent) → exact ≡ true → reading ≡ unaltered → text_of names.report ≢ Some names.sent.now
-      → AreKept files after → IsCaptureOf files reading names.capture.now captured
-      → (¬ AreBadOptions program.maps options (script_in part captured script)) → IsBrokenOff failed fault
       → IsUnreplayed files after failed names program script options recording exact reading part updates fault
   unmade : (captured : List Sent) → IsCaptureOf files reading names.capture.now captured
       → IsUnmade files after failed names program (script_in part captured script) options recording exact updates (records_in part captured)

@@ -47,9 +47,8 @@ use Rattle.steered_replays.specs.SteeredRuns.{IsSteeredReplay}
 use Rattle.steered_replays.specs.StickyReplays.{FlowsStay}
 use Rattle.steered_replays.specs.TablesAtEnd.{AreServices, AreTablesAtEnd, MetNoFullJournal, carried_out, maps_at_end}
 use Rattle.steered_replays.specs.Totals.{AreTotals}
-use Rattle.traffic.specs.Readings.{IsAltered, alters}
-use Rattle.traffic.specs.declared.readings.AlteredCapture.{AlteredCapture}
-use Rattle.traffic.specs.declared.readings.Reading.{Reading}
+use Rattle.capture_readings.specs.Readings.{AreCaptureBytes}
+use Rattle.capture_readings.specs.declared.readings.Reading.{Reading}
 use Rattle.fleet.specs.declared.part.Part.{Part}
 use Rattle.command_line.specs.declared.commands.ReplayFiles.{ReplayFiles}
 use Rattle.command_line.specs.declared.commands.ReplaySettings.{ReplaySettings}
@@ -82,21 +81,6 @@ pub record IsScriptFile (files : FileBytes) (name : List ℕ) (script : List Com
 abbrev pub IsScriptOf : FileBytes → Option (List ℕ) → List Command → Type 0
 IsScriptOf files (Some name) script = IsScriptFile files name script
 IsScriptOf files None script = IsScriptText [] script
-
--- what is left of the file's bytes where the reading alters them
-pub record AreAltered (reading : Reading) (bytes left : List ℕ) : Type 0 where
-  pub altered : AlteredCapture
-  pub is : IsAltered reading bytes altered
-  pub left_are : altered.bytes.items ≡ left
-
--- by whether it does: else all of them
-abbrev pub AreLeft : Bool → Reading → List ℕ → List ℕ → Type 0
-AreLeft false reading bytes left = bytes ≡ left
-AreLeft true reading bytes left = AreAltered reading bytes left
-
--- the capture that is read of these bytes under this reading
-abbrev pub AreCaptureBytes : Reading → List ℕ → List ℕ → Type 0
-AreCaptureBytes reading bytes left = AreLeft (alters reading) reading bytes left
 
 -- the bytes are under this reading a capture of these records
 pub record IsCaptureIn (reading : Reading) (bytes : List ℕ) (records : List Sent) : Type 0 where

@@ -29,15 +29,6 @@ abbrev pub knows_numbers : Taking → Bool
 knows_numbers All = true
 knows_numbers (Of own numbering) = length numbering.numbers.items == length own.items
 
--- it is behind the first of these records, and the numbers of the commands are those behind all of them: none comes behind it, or all
--- commands have their numbers
-pub record HasFound (part : Option Part) (frames : List ℕ) (records : List Sent) (taking : Taking) : Type 0 where
-  pub past : List Sent
-  pub beyond : List Sent
-  pub records_are : records ≡ past ++ beyond
-  pub passed : HasPassed part frames past taking
-  pub found : (beyond ≡ []) ⊎ (knows_numbers taking ≡ true)
-
 -- from the one to the other these records were passed
 abbrev pub GoesPast : Taking → Taking → List Sent → Type 0
 GoesPast before after records =

@@ -1,6 +1,6 @@
 -- The script that a timed script means for a capture.
 use Rattle.std.specs.Prelude.{ℕ, List}
-use Rattle.traffic.specs.declared.readings.Reading.{Reading}
+use Rattle.capture_readings.specs.declared.readings.Reading.{Reading}
 use Rattle.wire.specs.declared.records.Sent.{Sent}
 use Rattle.timed_scripts.specs.MeantScript.{IsMeantScript}
 use Rattle.xlb_commands.specs.Files.{FileBytes}

@@ -1,9 +1,9 @@
 //! An exact replay whose capture is read, and whose sent frames and report are written, in pieces: its memory does not grow with the capture,
 //! unless the journals keep their rows.
 //!
-//! The capture is read twice: once to see that it is one, before anything is run, and once while its frames are run. Where it cannot be
-//! read in pieces, or one of the two files cannot be made in pieces, or the capture is none or was changed in between, nothing was written,
-//! and the replay is made with the whole capture in memory, which also says what is wrong with it.
+//! The capture is read while its frames are run; before that it is read up to the script's last command in a part, whose numbers are found
+//! so. Where it cannot be read in pieces, or one of the two files cannot be made in pieces, or the capture turns out to be none, or memory is
+//! refused to a piece, nothing was written, and the replay is made with the whole capture in memory, which also says what is wrong with it.
 
 ghost use Rattle.std.specs.Prelude.{◌≡◌, ◌≢◌, ◌↔◌, ◌⊎◌, ◌+◌, ◌-◌, ◌<◌, ◌^◌};
 ghost use Rattle.std.specs.Prelude.{ℕ, [], true, false};
@@ -14,7 +14,7 @@ ghost use Rattle.semantics.specs.ShardPlan.{KeepsRows, recorded};
 ghost use Rattle.semantics.specs.declared.options.Options.{Options as ShardOptions};
 ghost use Rattle.machine.specs.Running.{program_of};
 ghost use Rattle.wire.specs.declared.records.Sent.{Sent as Record};
-ghost use Rattle.folders.specs.PieceReading.{IsReadTo, ReadsOn, ReadsToEnd};
+ghost use Rattle.folders.specs.PieceReading.{HasRoom, IsReadTo, ReadsOn, ReadsToEnd, most_to_come};
 ghost use Rattle.actors.specs.Captured.{IsCaptured};
 ghost use Rattle.map_updates.specs.Misfits.{AreFitting};
 ghost use Rattle.actors.specs.Parts.{AreBadOptions};
@@ -25,13 +25,12 @@ ghost use Rattle.actors.specs.declared.outcome.ToldEnd.{ToldEnd as End};
 ghost use Rattle.command_line.specs.Reading.{text_of};
 ghost use Rattle.xlb_commands.specs.Files.{AreKept};
 ghost use Rattle.xlb_commands.specs.AskedReplays.{IsConsistent, IsAnswered, IsAnsweredBy, IsDenied, IsDeniedBy, IsMadeInTurn, LeavesOthers};
-ghost use Rattle.xlb_commands.specs.InPieces.{AreApartInPieces, HasGoneThrough, HasNumbers, ReaderHasRoom, HaveRun, IsGoing};
+ghost use Rattle.xlb_commands.specs.InPieces.{CanGoOn, HasGone, HasNumbers, HaveRunOf, IsGoing, MayBeInPieces};
 ghost use Rattle.xlb_commands.specs.InPieces.{IsReplayLeft, IsMadeOf};
 ghost use Rattle.xlb_commands.specs.RecordReports.{HasNamed, backends_in};
 ghost use Rattle.xlb_commands.specs.Parts.{command_frames, records_in, records_next};
-ghost use Rattle.xlb_commands.specs.Taking.{GoesPast, HasFound, IsAbreast, script_at};
-ghost use Rattle.xlb_commands.specs.Refused.{HasFailed, IsBrokenOff, IsGivenUp, IsUnserved, LacksRoom};
-ghost use Rattle.traffic.specs.Readings.{unaltered};
+ghost use Rattle.xlb_commands.specs.Taking.{GoesPast, HasPassed, IsAbreast, script_at};
+ghost use Rattle.xlb_commands.specs.Refused.{HasFailed, IsGivenUp, IsUnserved, LacksRoom};
 ghost use Rattle.xlb_commands.specs.Replays.{IsCaptureOf, IsMade};
 
 use crate::end_maps::maps_lines;
@@ -48,6 +47,7 @@ use crate::report::{Report, replayed};
 use crate::summing::Summing;
 use crate::taking::{Taking, before_all, go_past, has_numbers};
 use actors::{PieceOutcome, all_are_captured};
+use capture_readings::Reading;
 use command_line::ReplayFiles;
 use control::Script;
 use folders::{CaptureReader, Folder, FolderFault, RecordBuffer};
@@ -56,16 +56,6 @@ use shard_port::NoGate;
 use std::alloc::Global;
 use traffic::Backends;
 use wire::{Capture, MemorySink};
-
-/// A capture that was read once.
-#[derive(Drop)]
-struct Seen {
-    /// How many records it has.
-    records: u64,
-    /// How many of them have fewer bytes than the frames that were captured.
-    cut: u64,
-    taking: Taking,
-}
 
 /// The script of the whole capture, and the numbers that its commands have in the part that is replayed; none where all of it is.
 #[derive(Clone, Copy)]
@@ -91,18 +81,17 @@ struct LeftInPieces {
     report: Report,
 }
 
-impl Seen {
-    /// What was seen of a capture that was read to its end.
-    fn of(reader: &CaptureReader, taking: Taking) -> Seen
-        ensures records { result.records ≡ reader.now.count }
-        ensures cut { result.cut ≡ reader.now.cut }
-        ensures taking { result.taking ≡ taking }
-    {
-        Seen {
-            records: reader.count(),
-            cut: reader.cut(),
-            taking,
-        }
+/// Which of the records that were read are not as their frames were.
+pub(crate) fn altered_by(reader: &CaptureReader) -> Altered
+    ensures { result.cut ≡ reader.now.cut }
+{
+    let done = reader.alterations();
+    Altered {
+        cut: reader.cut(),
+        long: done.skipped,
+        padded: done.padded,
+        left_over: done.left_over,
+        whole: reader.count().saturating_add(done.skipped),
     }
 }
 
@@ -111,17 +100,18 @@ pub(crate) fn open_reader<D: Folder>(
     alloc: Global,
     folder: &mut D,
     name: &str,
+    reading: Reading,
 ) -> Result<Option<CaptureReader>, Refusal>
     requires { D.failure_count folder.old < 2 ^ 64 - 1 }
-    ensures opened { IfOk result (λ found. IfSome found (IsReadTo (D.holds folder.old name.now) (D.is_left folder.new) [])) }
-    ensures room { IfOk result (λ found. IfSome found (ReaderHasRoom (D.most_left folder.new))) }
+    ensures opened { IfOk result (λ found. IfSome found (IsReadTo reading (D.holds folder.old name.now) (D.is_left folder.new) [])) }
+    ensures room { IfOk result (λ found. IfSome found (HasRoom (D.most_left folder.new))) }
     ensures kept { AreKept (D.holds folder.old) (D.holds folder.new) }
     ensures made { AreKept (D.is_begun folder.old) (D.is_begun folder.new) }
     ensures steady { OnOk result (D.failure_count folder.new ≡ D.failure_count folder.old) }
     ensures refused { IfErr result
         (λ refusal. IsUnserved (HasFailed (D.failure_count folder.old) (D.failure_count folder.new)) refusal.fault) }
 {
-    match CaptureReader::open(alloc, folder, name) {
+    match CaptureReader::open(alloc, folder, name, reading) {
         Ok(found) => Ok(found),
         Err(fault) => match unserved_capture(alloc, folder, name, fault) {
             Some(refusal) => Err(refusal),
@@ -130,48 +120,72 @@ pub(crate) fn open_reader<D: Folder>(
     }
 }
 
-/// Reads a capture from its beginning to its end; behind the last command it looks into no record. None where it is not read in pieces, or is
-/// no capture.
-fn look_through<D: Folder>(
+/// Reads a capture until the script's commands have their numbers in the part, or to its end. None where it is not read in pieces, or is no
+/// capture so far.
+fn pass_records<D: Folder>(
     alloc: Global,
     folder: &mut D,
     asked: Asked<'_>,
-) -> Result<Option<Seen>, Refusal>
+    script: &Script,
+    to_the_end: bool,
+) -> Result<Option<Taking>, Refusal>
     requires { D.failure_count folder.old < 2 ^ 64 - 1 }
-    ensures capture { IfOk result (λ found. IfSome found (λ seen. (records : List Record)
-        × IsCaptureOf (D.holds folder.old) unaltered asked.entry.files.now.capture.now records
-        × (seen.records ≡ length records)
-        × HasFound asked.entry.part (command_frames asked.entry.script.now) records seen.taking)) }
+    ensures passed { IfOk result (λ found. IfSome found (λ taking. (records : List Record)
+        × HasPassed asked.entry.part (command_frames script.now) records taking
+        × (to_the_end ≡ true → IsCaptureOf (D.holds folder.old) asked.entry.reading asked.entry.files.now.capture.now records))) }
     ensures kept { AreKept (D.holds folder.old) (D.holds folder.new) }
+    ensures made { AreKept (D.is_begun folder.old) (D.is_begun folder.new) }
     ensures steady { OnOk result (D.failure_count folder.new ≡ D.failure_count folder.old) }
     ensures refused { IfErr result
         (λ refusal. IsUnserved (HasFailed (D.failure_count folder.old) (D.failure_count folder.new)) refusal.fault) }
 {
     let name = asked.files.capture;
-    let Some(mut reader) = open_reader(alloc, folder, name)? else {
+    let Some(mut reader) = open_reader(alloc, folder, name, asked.reading)? else {
         return Ok(None);
     };
-    let mut taking = before_all(alloc, folder, name, asked.part, asked.script)?;
-    'records: while !taking.knows_numbers() {
+    let mut taking = before_all(alloc, folder, name, asked.part, script)?;
+    'records: while to_the_end || !taking.knows_numbers() {
         match reader.find(folder) {
             Ok(Some(head)) => {
                 let _taken = go_past(alloc, folder, name, &mut taking, reader.frame(head))?;
                 reader.pass(head);
             }
-            Ok(None) => return Ok(Some(Seen::of(&reader, taking))),
+            Ok(None) => return Ok(Some(taking)),
             Err(fault) => return match unserved_capture(alloc, folder, name, fault) {
                 Some(refusal) => Err(refusal),
                 None => Ok(None),
             },
         }
     }
-    match reader.pass_rest(folder) {
-        Ok(()) => Ok(Some(Seen::of(&reader, taking))),
-        Err(fault) => match unserved_capture(alloc, folder, name, fault) {
-            Some(refusal) => Err(refusal),
-            None => Ok(None),
-        },
+    Ok(Some(taking))
+}
+
+/// Why there is no replay of a capture that was not read to its end: this refusal, if it is a capture, in which the commands have these
+/// numbers; none otherwise.
+fn refused_where_numbered<D: Folder>(
+    alloc: Global,
+    folder: &mut D,
+    asked: Asked<'_>,
+    whole: WholeScript<'_>,
+    refusal: Refusal,
+) -> Result<Option<Report>, Refusal>
+    requires { D.failure_count folder.old < 2 ^ 64 - 1 }
+    ensures none { IfOk result (λ found. found ≡ None) }
+    ensures kept { AreKept (D.holds folder.old) (D.holds folder.new) }
+    ensures steady { OnOk result (D.failure_count folder.new ≡ D.failure_count folder.old) }
+    ensures refused { IfErr result (λ why.
+        IsUnserved (HasFailed (D.failure_count folder.old) (D.failure_count folder.new)) why.fault
+        ⊎ (why.fault ≡ refusal.fault)
+        × HasNumbers (D.holds folder.old) asked.entry.reading asked.entry.files.now.capture.now asked.entry.part whole.entry.script.now
+        whole.entry.numbers.now) }
+{
+    let Some(taking) = pass_records(alloc, folder, asked, whole.script, true)? else {
+        return Ok(None);
+    };
+    if has_numbers(alloc, folder, asked.files.capture, taking, whole.numbers)? {
+        return Err(refusal);
     }
+    Ok(None)
 }
 
 impl Going {
@@ -228,7 +242,7 @@ fn opened(alloc: Global, asked: Asked<'_>) -> Result<Going, Refusal>
     }
 }
 
-/// Runs the records of a piece, and adds what is sent to the file that is being made. No: there are too many records.
+/// Runs the records of a piece, and adds what is sent to the file that is being made. No: there are too many records, or memory is refused.
 fn run_piece<D: Folder>(
     alloc: Global,
     folder: &mut D,
@@ -238,20 +252,16 @@ fn run_piece<D: Folder>(
     piece: &Capture,
 ) -> Result<bool, Refusal>
     requires failures { D.failure_count folder.old < 2 ^ 64 - 1 }
-    requires named { HasNamed table.now (backends_in asked.script.now) }
-    requires goes_on { ReplayGoesOn asked.script.now going.old.replay }
-    requires maps { going.old.replay.turns.all.maps ≡ asked.verified.now.maps }
-    ensures run { IfOk result (λ went. went ≡ true → HaveRun (program_of asked.entry.verified.now asked.entry.options.shards)
-        asked.entry.script.now (recorded asked.entry.recording asked.entry.options) asked.entry.files.now going.old.replay going.new.replay
-        (D.is_begun folder.old) (D.is_begun folder.new) piece.now.records.items) }
-    ensures goes_on { IfOk result (λ went. went ≡ true → ReplayGoesOn asked.entry.script.now going.new.replay) }
-    ensures maps { IfOk result (λ went. went ≡ true → going.new.replay.turns.all.maps ≡ asked.entry.verified.now.maps) }
+    requires ready { CanGoOn asked table.now going.old.replay }
+    ensures run { IfOk result (λ went. went ≡ true → HaveRunOf asked.entry piece.now.records.items going.old.replay going.new.replay
+        (D.is_begun folder.old) (D.is_begun folder.new)) }
+    ensures ready { IfOk result (λ went. went ≡ true → CanGoOn asked.entry table.now going.new.replay) }
     ensures kept { AreKept (D.holds folder.old) (D.holds folder.new) }
     ensures left { (rest : List ℕ) → (D.is_left folder.old rest ↔ D.is_left folder.new rest) }
     ensures most { D.most_left folder.new ≡ D.most_left folder.old }
     ensures steady { OnOk result (D.failure_count folder.new ≡ D.failure_count folder.old) }
     ensures refused { IfErr result
-        (λ refusal. IsBrokenOff (HasFailed (D.failure_count folder.old) (D.failure_count folder.new)) refusal.fault) }
+        (λ refusal. IsUnserved (HasFailed (D.failure_count folder.old) (D.failure_count folder.new)) refusal.fault) }
 {
     if !going.replay.has_room(piece) {
         return Ok(false);
@@ -269,7 +279,7 @@ fn run_piece<D: Folder>(
             going.replay.give_back(done);
             Ok(true)
         }
-        Err(_) => Err(given_up(alloc, asked.options, asked.verified, ReplayFault::Memory)),
+        Err(_) => Ok(false),
     }
 }
 
@@ -285,32 +295,27 @@ fn take_piece<D: Folder>(
     going: &mut Going,
 ) -> Result<PieceStep, Refusal>
     requires failures { D.failure_count folder.old < 2 ^ 64 - 1 }
-    requires named { HasNamed table.now (backends_in asked.script.now) }
-    requires room { ReaderHasRoom (D.most_left folder.old) reader.old }
+    requires room { HasRoom (D.most_left folder.old) reader.old }
     requires abreast { IsAbreast asked.part taking.old reader.old }
-    requires goes_on { ReplayGoesOn asked.script.now going.old.replay }
-    requires maps { going.old.replay.turns.all.maps ≡ asked.verified.now.maps }
+    requires ready { CanGoOn asked table.now going.old.replay }
     ensures more { IfOk result (λ step. step ≡ PieceStep.More → (records : List Record)
         × ReadsOn D.holds (D.is_left folder.old) (D.is_left folder.new) reader.old reader.new records
         × GoesPast taking.old taking.new records
-        × HaveRun (program_of asked.entry.verified.now asked.entry.options.shards) asked.entry.script.now
-        (recorded asked.entry.recording asked.entry.options) asked.entry.files.now going.old.replay going.new.replay
-        (D.is_begun folder.old) (D.is_begun folder.new) (records_next asked.entry.part reader.old.count records)) }
+        × HaveRunOf asked.entry (records_next asked.entry.part reader.old.count records) going.old.replay going.new.replay
+        (D.is_begun folder.old) (D.is_begun folder.new)) }
     ensures last { IfOk result (λ step. step ≡ PieceStep.Last → (records : List Record)
         × ReadsToEnd D.holds (D.is_left folder.old) reader.old records reader.new.cut
         × GoesPast taking.old taking.new records
-        × HaveRun (program_of asked.entry.verified.now asked.entry.options.shards) asked.entry.script.now
-        (recorded asked.entry.recording asked.entry.options) asked.entry.files.now going.old.replay going.new.replay
-        (D.is_begun folder.old) (D.is_begun folder.new) (records_next asked.entry.part reader.old.count records)) }
-    ensures room { IfOk result (λ step. step ≢ PieceStep.Changed → ReaderHasRoom (D.most_left folder.new) reader.new) }
+        × HaveRunOf asked.entry (records_next asked.entry.part reader.old.count records) going.old.replay going.new.replay
+        (D.is_begun folder.old) (D.is_begun folder.new)) }
+    ensures room { IfOk result (λ step. step ≢ PieceStep.Changed → HasRoom (D.most_left folder.new) reader.new) }
     ensures fewer { IfOk result (λ step. step ≡ PieceStep.More →
-        length reader.new.unread + D.most_left folder.new < length reader.old.unread + D.most_left folder.old) }
-    ensures goes_on { IfOk result (λ step. step ≢ PieceStep.Changed → ReplayGoesOn asked.entry.script.now going.new.replay) }
-    ensures maps { IfOk result (λ step. step ≢ PieceStep.Changed → going.new.replay.turns.all.maps ≡ asked.entry.verified.now.maps) }
+        most_to_come (D.most_left folder.new) reader.new < most_to_come (D.most_left folder.old) reader.old) }
+    ensures ready { IfOk result (λ step. step ≢ PieceStep.Changed → CanGoOn asked.entry table.now going.new.replay) }
     ensures kept { AreKept (D.holds folder.old) (D.holds folder.new) }
     ensures steady { OnOk result (D.failure_count folder.new ≡ D.failure_count folder.old) }
     ensures refused { IfErr result
-        (λ refusal. IsBrokenOff (HasFailed (D.failure_count folder.old) (D.failure_count folder.new)) refusal.fault) }
+        (λ refusal. IsUnserved (HasFailed (D.failure_count folder.old) (D.failure_count folder.new)) refusal.fault) }
 {
     let step = fill_piece(alloc, folder, asked.files.capture, reader, taking, buffer)?;
     if step == PieceStep::Changed {
@@ -322,8 +327,8 @@ fn take_piece<D: Folder>(
     Ok(step)
 }
 
-/// Reads the capture once more, and runs those of its records that are taken. No: it is no capture any more, or one in which the commands have
-/// other numbers in the part.
+/// Reads the capture, and runs those of its records that are taken; says which of them are not as their frames were. None where it is no
+/// capture, or one in which the commands have other numbers in the part, and where memory is refused to a piece.
 fn go_through<D: Folder, P: Progress>(
     alloc: Global,
     folder: &mut D,
@@ -332,24 +337,19 @@ fn go_through<D: Folder, P: Progress>(
     table: &Backends,
     going: &mut Going,
     distance: Distance<'_, P>,
-) -> Result<bool, Refusal>
+) -> Result<Option<Altered>, Refusal>
     requires failures { D.failure_count folder.old < 2 ^ 64 - 1 }
-    requires named { HasNamed table.now (backends_in asked.script.now) }
-    requires goes_on { ReplayGoesOn asked.script.now going.old.replay }
-    requires maps { going.old.replay.turns.all.maps ≡ asked.verified.now.maps }
-    ensures gone { IfOk result (λ gone. gone ≡ true → HasGoneThrough (D.holds folder.old) asked.entry.files.now.capture.now
-        asked.entry.part whole.entry.script.now whole.entry.numbers.now
-        (program_of asked.entry.verified.now asked.entry.options.shards) asked.entry.script.now
-        (recorded asked.entry.recording asked.entry.options) asked.entry.files.now going.old.replay going.new.replay
-        (D.is_begun folder.old) (D.is_begun folder.new)) }
-    ensures goes_on { IfOk result (λ gone. gone ≡ true → ReplayGoesOn asked.entry.script.now going.new.replay) }
+    requires ready { CanGoOn asked table.now going.old.replay }
+    ensures gone { IfOk result (λ gone. IfSome gone (λ altered. HasGone (D.holds folder.old) asked.entry whole.entry.script.now whole.entry.numbers.now
+        going.old.replay going.new.replay (D.is_begun folder.old) (D.is_begun folder.new))) }
+    ensures goes_on { IfOk result (λ gone. IfSome gone (λ altered. ReplayGoesOn asked.entry.script.now going.new.replay)) }
     ensures kept { AreKept (D.holds folder.old) (D.holds folder.new) }
     ensures steady { OnOk result (D.failure_count folder.new ≡ D.failure_count folder.old) }
     ensures refused { IfErr result
-        (λ refusal. IsBrokenOff (HasFailed (D.failure_count folder.old) (D.failure_count folder.new)) refusal.fault) }
+        (λ refusal. IsUnserved (HasFailed (D.failure_count folder.old) (D.failure_count folder.new)) refusal.fault) }
 {
-    let Some(mut reader) = open_reader(alloc, folder, asked.files.capture)? else {
-        return Ok(false);
+    let Some(mut reader) = open_reader(alloc, folder, asked.files.capture, asked.reading)? else {
+        return Ok(None);
     };
     let name = asked.files.capture;
     let mut taking = before_all(alloc, folder, name, asked.part, whole.script)?;
@@ -367,8 +367,13 @@ fn go_through<D: Folder, P: Progress>(
             going,
         ) {
             Ok(PieceStep::More) => distance.note(before, reader.count()),
-            Ok(PieceStep::Last) => return has_numbers(alloc, folder, name, taking, whole.numbers),
-            Ok(PieceStep::Changed) => return Ok(false),
+            Ok(PieceStep::Last) => {
+                if has_numbers(alloc, folder, name, taking, whole.numbers)? {
+                    return Ok(Some(altered_by(&reader)));
+                }
+                return Ok(None);
+            }
+            Ok(PieceStep::Changed) => return Ok(None),
             Err(refusal) => return Err(refusal),
         }
     }
@@ -444,41 +449,36 @@ fn left_in_pieces(
     Ok(LeftInPieces { journals, report })
 }
 
-/// Runs all that is taken of the capture, and what it leaves. None where the file is not that capture any more.
+/// Runs all that is taken of the capture, and what it leaves. None where `go_through` has none.
 fn left_by_pieces<D: Folder, P: Progress>(
     alloc: Global,
     folder: &mut D,
     asked: Asked<'_>,
     whole: WholeScript<'_>,
-    cut: u64,
     table: &Backends,
     mut going: Going,
     distance: Distance<'_, P>,
 ) -> Result<Option<LeftInPieces>, Refusal>
     requires failures { D.failure_count folder.old < 2 ^ 64 - 1 }
-    requires named { HasNamed table.now (backends_in asked.script.now) }
     requires script { asked.script.now ≡ script_at asked.part whole.numbers.now whole.script.now }
-    requires goes_on { ReplayGoesOn asked.script.now going.replay }
-    requires maps { going.replay.turns.all.maps ≡ asked.verified.now.maps }
+    requires ready { CanGoOn asked table.now going.replay }
     requires underway { IsUnderway (program_of asked.verified.now asked.options.shards) asked.script.now
         (recorded asked.recording asked.options) asked.updates.now [] [] [] going.replay }
     requires served { KeepsRows asked.options.journal }
     requires consistent { IsConsistent asked }
     ensures left { IfOk result (λ found. IfSome found (λ left. IsReplayLeft (D.holds folder.old) (D.is_begun folder.old) (D.is_begun folder.new)
-        asked.entry.files.now asked.entry.part whole.entry.script.now asked.entry.verified.now asked.entry.script.now
+        asked.entry.files.now asked.entry.reading asked.entry.part whole.entry.script.now asked.entry.verified.now asked.entry.script.now
         asked.entry.options asked.entry.recording asked.entry.ring asked.entry.updates.now left.report left.journals.bytes)) }
     ensures kept { AreKept (D.holds folder.old) (D.holds folder.new) }
     ensures steady { OnOk result (D.failure_count folder.new ≡ D.failure_count folder.old) }
     ensures refused { IfErr result
-        (λ refusal. IsBrokenOff (HasFailed (D.failure_count folder.old) (D.failure_count folder.new)) refusal.fault
+        (λ refusal. IsUnserved (HasFailed (D.failure_count folder.old) (D.failure_count folder.new)) refusal.fault
+        ⊎ HasNumbers (D.holds folder.old) asked.entry.reading asked.entry.files.now.capture.now asked.entry.part whole.entry.script.now
+        whole.entry.numbers.now × (refusal.fault ≡ Fault.Replay ReplayFault.Memory)
         ⊎ IsMadeInTurn (D.holds folder.old) asked.entry whole.entry.script.now × LacksRoom (text_of asked.entry.files.now.journals) refusal.fault) }
 {
-    if !go_through(alloc, folder, asked, whole, table, &mut going, distance)? {
+    let Some(altered) = go_through(alloc, folder, asked, whole, table, &mut going, distance)? else {
         return Ok(None);
-    }
-    let altered = Altered {
-        cut,
-        ..Altered::default()
     };
     let left = left_in_pieces(alloc, asked, altered, going)?;
     Ok(Some(left))
@@ -495,23 +495,18 @@ fn named_backends(alloc: Global, script: &Script) -> Result<Backends, Refusal>
     }
 }
 
-/// Makes the replay of a capture that was read once. None where the folder does not read or make the files in pieces, or where the file is not
-/// that capture any more: then no file is changed.
-fn replay_seen<D: Folder, P: Progress + Sync>(
+/// Makes the replay where the commands have these numbers. None where the folder does not read or make the files in pieces, where the file is
+/// no capture or one in which they have others, and where memory is refused to a piece: then no file is changed.
+fn replay_numbered<D: Folder, P: Progress + Sync>(
     alloc: Global,
     folder: &mut D,
     asked: Asked<'_>,
     whole: WholeScript<'_>,
-    records: u64,
-    cut: u64,
     progress: &P,
 ) -> Result<Option<Report>, Refusal>
     requires failures { D.failure_count folder.old < 2 ^ 64 - 1 }
-    requires exact { asked.exact ≡ true }
-    requires all { asked.reading ≡ unaltered }
-    requires apart { AreApartInPieces asked.files.now }
+    requires in_pieces { MayBeInPieces asked }
     requires consistent { IsConsistent asked }
-    requires numbered { HasNumbers (D.holds folder.old) asked.files.now.capture.now asked.part whole.script.now whole.numbers.now }
     requires script { asked.script.now ≡ script_at asked.part whole.numbers.now whole.script.now }
     ensures done { IfOk result (λ found. IfSome found
         (IsAnsweredBy (D.holds folder.old) (D.holds folder.new) asked.entry whole.entry.script.now)) }
@@ -521,17 +516,17 @@ fn replay_seen<D: Folder, P: Progress + Sync>(
     ensures refused { IfErr result (λ refusal. IsDeniedBy (D.holds folder.old) (D.holds folder.new)
         (HasFailed (D.failure_count folder.old) (D.failure_count folder.new)) asked.entry whole.entry.script.now refusal.fault) }
 {
-    let going = opened(alloc, asked)?;
+    let going = match opened(alloc, asked) {
+        Ok(going) => going,
+        Err(refusal) => return refused_where_numbered(alloc, folder, asked, whole, refusal),
+    };
     let table = named_backends(alloc, asked.script)?;
     if !begin_files(alloc, folder, asked.files)? {
         folder.give_up();
         return Ok(None);
     }
-    let distance = Distance {
-        progress,
-        all: records,
-    };
-    match left_by_pieces(alloc, folder, asked, whole, cut, &table, going, distance) {
+    let distance = Distance { progress };
+    match left_by_pieces(alloc, folder, asked, whole, &table, going, distance) {
         Ok(Some(left)) => {
             write_pieces(alloc, folder, asked.files, &left.journals)?;
             Ok(Some(left.report))
@@ -556,9 +551,7 @@ pub(crate) fn replay_in_pieces<D: Folder, P: Progress + Sync>(
     progress: &P,
 ) -> Result<Option<Report>, Refusal>
     requires failures { D.failure_count folder.old < 2 ^ 64 - 1 }
-    requires exact { asked.exact ≡ true }
-    requires all { asked.reading ≡ unaltered }
-    requires apart { AreApartInPieces asked.files.now }
+    requires in_pieces { MayBeInPieces asked }
     requires consistent { IsConsistent asked }
     ensures done { IfOk result (λ found. IfSome found (IsAnswered (D.holds folder.old) (D.holds folder.new) asked.entry)) }
     ensures none { IfOk result (λ found. IfNone found (AreKept (D.holds folder.old) (D.holds folder.new))) }
@@ -567,22 +560,19 @@ pub(crate) fn replay_in_pieces<D: Folder, P: Progress + Sync>(
     ensures refused { IfErr result (λ refusal. IsDenied (D.holds folder.old) (D.holds folder.new)
         (HasFailed (D.failure_count folder.old) (D.failure_count folder.new)) asked.entry refusal.fault) }
 {
-    let Some(seen) = look_through(alloc, folder, asked)? else {
+    let Some(taking) = pass_records(alloc, folder, asked, asked.script, false)? else {
         return Ok(None);
     };
-    let Seen {
-        records,
-        cut,
-        taking,
-    } = seen;
-    let numbered = taking.numbered(alloc, asked.script)?;
+    let Ok(numbered) = taking.numbered(alloc, asked.script) else {
+        return Ok(None);
+    };
     match numbered {
         None => {
             let whole = WholeScript {
                 script: asked.script,
                 numbers: &[],
             };
-            replay_seen(alloc, folder, asked, whole, records, cut, progress)
+            replay_numbered(alloc, folder, asked, whole, progress)
         }
         Some(of_part) => {
             let whole = WholeScript {
@@ -593,7 +583,7 @@ pub(crate) fn replay_in_pieces<D: Folder, P: Progress + Sync>(
                 script: &of_part.script,
                 ..asked
             };
-            replay_seen(alloc, folder, asked_of_part, whole, records, cut, progress)
+            replay_numbered(alloc, folder, asked_of_part, whole, progress)
         }
     }
 }

@@ -2,6 +2,7 @@
 //! audited.
 #![tactic(auto)]
 
+mod backends_up;
 mod captures;
 mod clashes;
 mod commands;

@@ -5,9 +5,9 @@ ghost use Rattle.std.specs.Prelude.{[], List, Option, IfErr, IfOk, IfSome, IfNon
 ghost use Rattle.wire.specs.CaptureFormat.{BeginsWithRecord};
 ghost use Rattle.wire.specs.declared.records.Sent.{Sent as Record};
 ghost use Rattle.fleet.specs.declared.part.Part.{Part as OnePart};
-ghost use Rattle.folders.specs.PieceReading.{IsAtFront, ReadsOn, ReadsToEnd, behind_record};
+ghost use Rattle.folders.specs.AlteredReading.{raw_of};
+ghost use Rattle.folders.specs.PieceReading.{HasRoom, IsAtFront, ReadsOn, ReadsToEnd, behind_record, most_to_come};
 ghost use Rattle.xlb_commands.specs.Files.{AreKept};
-ghost use Rattle.xlb_commands.specs.InPieces.{ReaderHasRoom};
 ghost use Rattle.xlb_commands.specs.Taking.{AreRecordsTaken, CanPass, GoesPast, IsAbreast};
 ghost use Rattle.xlb_commands.specs.Refused.{HasFailed, IsUnserved};
 
@@ -67,6 +67,7 @@ fn take_record<D: Folder>(
         × (taken : List Record) × AreRecordsTaken taking.old (sent ∷ []) taken × (buffer.new ≡ buffer.old ++ taken)) }
     ensures count { OnOk result (reader.new.count ≡ reader.old.count + 1) }
     ensures fewer { OnOk result (length reader.new.unread + 16 ≤ length reader.old.unread) }
+    ensures raw { OnOk result (length (raw_of reader.new.source) ≡ length (raw_of reader.old.source)) }
     ensures few { OnOk result (length buffer.new ≤ length buffer.old + 1) }
     ensures refused { IfErr result (λ refusal. refusal.fault ≡ Fault.Folder FolderFault.Memory) }
 {
@@ -92,7 +93,7 @@ pub(crate) fn fill_piece<D: Folder>(
     buffer: &mut RecordBuffer,
 ) -> Result<PieceStep, Refusal>
     requires failures { D.failure_count folder.old < 2 ^ 64 - 1 }
-    requires room { ReaderHasRoom (D.most_left folder.old) reader.old }
+    requires room { HasRoom (D.most_left folder.old) reader.old }
     requires abreast { (part : Option OnePart) × IsAbreast part taking.old reader.old }
     ensures more { IfOk result (λ step. step ≡ PieceStep.More → (records : List Record)
         × ReadsOn D.holds (D.is_left folder.old) (D.is_left folder.new) reader.old reader.new records
@@ -100,9 +101,9 @@ pub(crate) fn fill_piece<D: Folder>(
     ensures last { IfOk result (λ step. step ≡ PieceStep.Last → (records : List Record)
         × ReadsToEnd D.holds (D.is_left folder.old) reader.old records reader.new.cut
         × GoesPast taking.old taking.new records × AreRecordsTaken taking.old records buffer.new) }
-    ensures room { IfOk result (λ step. step ≢ PieceStep.Changed → ReaderHasRoom (D.most_left folder.new) reader.new) }
+    ensures room { IfOk result (λ step. step ≢ PieceStep.Changed → HasRoom (D.most_left folder.new) reader.new) }
     ensures fewer { IfOk result (λ step. step ≡ PieceStep.More →
-        length reader.new.unread + D.most_left folder.new < length reader.old.unread + D.most_left folder.old) }
+        most_to_come (D.most_left folder.new) reader.new < most_to_come (D.most_left folder.old) reader.old) }
     ensures kept { AreKept (D.holds folder.old) (D.holds folder.new) }
     ensures made { AreKept (D.is_begun folder.old) (D.is_begun folder.new) }
     ensures steady { OnOk result (D.failure_count folder.new ≡ D.failure_count folder.old) }

@@ -16,8 +16,9 @@ const RECORDS: u64 = 32_768;
 
 /// What a replay reports its progress to.
 pub trait Progress {
-    /// `frames` of `all` frames were handed to the workers; where a capture is read in pieces, so many of its frames were gone past.
-    fn handed(&self, frames: u64, all: u64);
+    /// `frames` frames were handed to the workers, of `all`, if it is known how many there are; where a capture is read in pieces, so many of
+    /// its frames were gone past.
+    fn handed(&self, frames: u64, all: Option<u64>);
 }
 
 /// Reports to nobody.
@@ -25,7 +26,7 @@ pub trait Progress {
 pub struct NoProgress;
 
 impl Progress for NoProgress {
-    fn handed(&self, _frames: u64, _all: u64) {}
+    fn handed(&self, _frames: u64, _all: Option<u64>) {}
 }
 
 /// Reports to a person at a terminal, on the standard error: how many frames, and how many a second.
@@ -49,7 +50,7 @@ impl<'a, R: Clock> TerminalProgress<'a, R> {
 }
 
 impl<R: Clock + Eprint> Progress for TerminalProgress<'_, R> {
-    fn handed(&self, frames: u64, all: u64) {
+    fn handed(&self, frames: u64, all: Option<u64>) {
         let Some(start) = self.start else {
             return;
         };
@@ -62,7 +63,10 @@ impl<R: Clock + Eprint> Progress for TerminalProgress<'_, R> {
         } else {
             frames as u128 * 1000 / millis
         };
-        let _ = eprintln!(self.rt; "  {frames} of {all} frames, {rate} a second");
+        let _ = match all {
+            Some(all) => eprintln!(self.rt; "  {frames} of {all} frames, {rate} a second"),
+            None => eprintln!(self.rt; "  {frames} frames, {rate} a second"),
+        };
     }
 }
 
@@ -70,8 +74,6 @@ impl<R: Clock + Eprint> Progress for TerminalProgress<'_, R> {
 #[derive(Clone, Copy)]
 pub(crate) struct Distance<'a, P> {
     pub progress: &'a P,
-    /// How many records the capture has.
-    pub all: u64,
 }
 
 impl<P: Progress> Distance<'_, P> {
@@ -79,7 +81,7 @@ impl<P: Progress> Distance<'_, P> {
     /// among the new ones.
     pub(crate) fn note(&self, before: u64, passed: u64) {
         if before / RECORDS < passed / RECORDS {
-            self.progress.handed(passed, self.all);
+            self.progress.handed(passed, None);
         }
     }
 }
@@ -126,8 +128,7 @@ impl<P: Progress> Rounds<'_, P> {
         }
         let rounds = nth / self.replies;
         if rounds % ROUNDS == 0 {
-            self.progress
-                .handed(rounds.saturating_mul(ROUND_EVERY as u64), self.frames);
+            self.progress.handed(rounds.saturating_mul(ROUND_EVERY as u64), Some(self.frames));
         }
     }
 }

@@ -1,16 +1,18 @@
 //! The report of a replay: a line for each record.
 
 ghost use Rattle.std.specs.Prelude.{◌≡◌, ◌+◌, ◌++◌, ◌-◌, ◌<◌, ◌^◌};
-ghost use Rattle.std.specs.Prelude.{ℕ, List, Some, IfOk, IfErr, OnOk, length, slice_get, string_bytes};
+ghost use Rattle.std.specs.Prelude.{ℕ, List, [], Some, IfOk, IfErr, OnOk, length, slice_get, string_bytes};
 ghost use Rattle.std.specs.Char.{to_ascii_lowercase};
 ghost use Rattle.command_line.specs.Reading.{text_of};
-ghost use Rattle.traffic.specs.Counting.{address_at};
+ghost use Rattle.traffic.specs.Holders.{holder_in, only_number};
 ghost use Rattle.text_lines.specs.Lines.{finishes};
-ghost use Rattle.xlb_commands.specs.RecordReports.{sent_address, backend_at, backends_in, case_in, form_by, form_of, is_tx, line_text};
+ghost use Rattle.xlb_commands.specs.BackendsUp.{number_at, up_before};
+ghost use Rattle.xlb_commands.specs.RecordReports.{sent_address, backend_at, backends_in, case_in, choice_in, first_of, form_by, form_of, is_tx, line_text};
 ghost use Rattle.xlb_commands.specs.RecordReports.{end_of, lines_until, named_in, report_text, steps_of_end, verdict_in, word_of_verdict, worker_in};
 ghost use Rattle.xlb_commands.specs.RecordReports.{HasNamed};
 ghost use Rattle.xlb_commands.specs.declared.fault.Fault.TheVariants.{Memory};
 
+use crate::backends_up::{UpBackend, address_number, carried_out, number_at};
 use crate::fault::Refusal;
 use actors::PieceOutcome;
 use control::{Action, Command, Script};
@@ -18,8 +20,10 @@ use replay::{Outcome, ToldEnd};
 use semantics::Verdict;
 use std::alloc::{AllocError, Global};
 use text_lines::finishes;
-use traffic::{Backends, FrameKind, LineVerdict, RecordLine, ReportForm, case_word, target_of};
-use wire::{Capture, Ipv4Address, Sent};
+use traffic::{
+    Backends, FrameKind, LineVerdict, RecordLine, ReportForm, case_word, choice_word, target_of,
+};
+use wire::{Capture, Sent};
 
 /// The form by a name in lower case.
 fn form_by(name: &str) -> ReportForm
@@ -105,6 +109,16 @@ fn case_in(is_shipped: bool, frame: &[u8], end: ToldEnd) -> &'static str
     }
 }
 
+/// How the backend was chosen, if the program is the shipped one.
+fn choice_in(is_shipped: bool, end: ToldEnd) -> &'static str
+    ensures { result.now ≡ choice_in is_shipped end }
+{
+    if !is_shipped {
+        return "";
+    }
+    choice_word(verdict_in(end), steps_in(end))
+}
+
 /// The address to which the frame of a record was sent, which is at this place among the sent ones.
 fn address_in(end: ToldEnd, sent: &[Sent], place: usize) -> Option<u32>
     ensures { result ≡ sent_address end (slice_get sent.now place) }
@@ -114,16 +128,6 @@ fn address_in(end: ToldEnd, sent: &[Sent], place: usize) -> Option<u32>
     } else {
         None
     }
-}
-
-/// An address as one number, the first byte highest.
-fn address_number(address: Ipv4Address) -> u32
-    ensures { result ≡ address_at 0 address.0 }
-{
-    let [first, second, third, last] = address.0;
-    let high = u32::from(first) * 256 + u32::from(second);
-    let low = u32::from(third) * 256 + u32::from(last);
-    high * 65536 + low
 }
 
 /// Notes the backend that a command names, if it names one with its address.
@@ -147,16 +151,34 @@ pub(crate) fn backends_in(alloc: Global, script: &[Command]) -> Result<Backends,
     Ok(table)
 }
 
-/// The number of the backend with this address.
-fn backend_at(table: &Backends, script: &Script, address: Option<u32>) -> Option<u64>
-    requires { HasNamed table.now (backends_in script.now) }
-    ensures { result ≡ backend_at (backends_in script.now) address }
+/// The number of the backend with this address: the only one with which the script names it, or the one that is up there.
+fn number_of(table: &Backends, up: &[UpBackend], address: u32) -> Option<u32>
+    ensures { result ≡ first_of (only_number (holder_in table.now address)) (number_at up.now address) }
 {
-    match address {
-        Some(address) => match table.number_of(address) {
-            Some(number) => Some(u64::from(number)),
-            None => None,
-        },
+    match table.number_of(address) {
+        Some(number) => Some(number),
+        None => number_at(up, address),
+    }
+}
+
+/// The number of the backend with this address, for the record of this number, when these backends are up.
+fn backend_at(
+    table: &Backends,
+    script: &Script,
+    number: usize,
+    up: &[UpBackend],
+    address: Option<u32>,
+) -> Option<u64>
+    requires named { HasNamed table.now (backends_in script.now) }
+    requires up { up.now ≡ up_before number [] script.now }
+    ensures { result ≡ backend_at script.now number address }
+{
+    let found = match address {
+        Some(address) => number_of(table, up, address),
+        None => None,
+    };
+    match found {
+        Some(backend) => Some(u64::from(backend)),
         None => None,
     }
 }
@@ -175,7 +197,8 @@ struct Lines<'a> {
 }
 
 impl Lines<'_> {
-    /// The line of a record, counted from 0, whose frame is at this place among those that were sent, if it was.
+    /// The line of a record, counted from 0, whose frame is at this place among those that were sent, if it was. These backends are up when
+    /// its turn comes.
     fn line(
         &self,
         alloc: Global,
@@ -183,11 +206,13 @@ impl Lines<'_> {
         captured: &Sent,
         end: ToldEnd,
         place: usize,
+        up: &[UpBackend],
     ) -> Result<String, AllocError>
         requires named { HasNamed self.now.table.now (backends_in self.now.script.now) }
+        requires up { up.now ≡ up_before number [] self.now.script.now }
         requires number { number < 2 ^ 64 - 1 }
         ensures { IfOk result
-            (λ text. string_bytes text ≡ line_text self.now.form self.now.is_shipped (backends_in self.now.script.now) number
+            (λ text. string_bytes text ≡ line_text self.now.form self.now.is_shipped self.now.script.now number
             captured.now end (slice_get self.now.sent.now place)) }
     {
         let address = address_in(end, self.sent, place);
@@ -198,8 +223,9 @@ impl Lines<'_> {
             verdict: verdict_in(end),
             steps: steps_in(end),
             case_of: case_in(self.is_shipped, &captured.bytes, end),
-            backend: backend_at(self.table, self.script, address),
+            backend: backend_at(self.table, self.script, number, up, address),
             address,
+            choice: choice_in(self.is_shipped, end),
         };
         self.form.line(alloc, &line, &captured.bytes)
     }
@@ -216,12 +242,15 @@ impl Lines<'_> {
         requires named { HasNamed self.now.table.now (backends_in self.now.script.now) }
         requires numbers { first + length records.now < 2 ^ 64 }
         ensures { OnOk result (string_bytes text.new ≡ string_bytes text.old ++ lines_until self.now.form self.now.is_shipped
-            (backends_in self.now.script.now) first records.now ends.now self.now.sent.now (length records.now)) }
+            self.now.script.now first records.now ends.now self.now.sent.now (length records.now)) }
     {
+        let mut up = Vec::new(alloc);
+        let mut later = self.script.commands();
         let mut place = 0;
         'records: for number in 0..records.len() {
+            later = carried_out(alloc, &mut up, later, first + number)?;
             let end = end_at(ends, number);
-            let line = self.line(alloc, first + number, &records[number], end, place)?;
+            let line = self.line(alloc, first + number, &records[number], end, place, &up)?;
             text.push_str(line.as_str())?;
             if is_tx(verdict_in(end)) {
                 place += 1;
@@ -254,7 +283,7 @@ pub(crate) fn piece_lines(
 ) -> Result<String, AllocError>
     requires named { HasNamed table.now (backends_in script.now) }
     requires numbers { first + length records.now < 2 ^ 64 }
-    ensures { IfOk result (λ text. string_bytes text ≡ lines_until (form_of name.now) is_shipped (backends_in script.now) first records.now
+    ensures { IfOk result (λ text. string_bytes text ≡ lines_until (form_of name.now) is_shipped script.now first records.now
         done.now.ends.items done.now.sent.items (length records.now)) }
 {
     let lines = Lines {

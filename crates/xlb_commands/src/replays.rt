@@ -37,12 +37,12 @@ ghost use Rattle.xlb_commands.specs.AskedReplays.{IsConsistent, HasBadOptions, I
 ghost use Rattle.xlb_commands.specs.AskedReplays.{IsAnsweredOf, IsDeniedOf, LacksMaps, LeavesAllOthers};
 ghost use Rattle.xlb_commands.specs.EndMaps.{AreMapsLines, lines_bytes};
 ghost use Rattle.xlb_commands.specs.Files.{AreKept, AreAllButFourKept, AreAllButKept};
-ghost use Rattle.xlb_commands.specs.InPieces.{AreApartInPieces};
+ghost use Rattle.xlb_commands.specs.InPieces.{MayBeInPieces};
 ghost use Rattle.xlb_commands.specs.Refused.{HasFailed, LacksRoom, AreUnfiled, IsReplayProgramRefusal, IsScriptFileRefusal};
 ghost use Rattle.xlb_commands.specs.Refused.{IsScriptRefusal};
 ghost use Rattle.xlb_commands.specs.Refused.{IsNoCapture, IsNoCaptureIn, IsCaptureRefusal, IsReplayRefused};
 ghost use Rattle.xlb_commands.specs.Replays.{LeavesNothingOut, capture_reading};
-ghost use Rattle.traffic.specs.Readings.{alters, unaltered};
+ghost use Rattle.capture_readings.specs.Readings.{alters};
 ghost use Rattle.xlb_commands.specs.Replays.{IsProgramOf, IsScriptOf, IsScriptFile, IsCaptureIn, IsCaptureOf, HasBytes};
 ghost use Rattle.xlb_commands.specs.Replays.{recording_of, counts_text, refusals_text, AreServedSizes, AreWritten};
 ghost use Rattle.xlb_commands.specs.RecordReports.{form_of, report_text, runs_shipped};
@@ -64,6 +64,7 @@ use crate::report::{Report, replayed};
 use crate::shipping::shipped_program;
 use crate::{hints, records};
 use actors::all_are_captured;
+use capture_readings::{Reading, altered_capture};
 use command_line::{ReplayFiles, ReplaySettings};
 use control::{Script, parse_script};
 use fleet::Part;
@@ -77,7 +78,6 @@ use std::alloc::{AllocError, Global};
 use std::sync::Wait;
 use std::thread::Threads;
 use steered_replays::laws::{flows_stay_in_replays, shipped_replays_are_steered};
-use traffic::{Reading, altered_capture};
 use verifier::Verified;
 use wire::{Capture, MOST_GIVEN, MemorySink, MemorySource, Sent, read_capture, write_capture};
 
@@ -291,10 +291,7 @@ pub(crate) fn capture_of<D: Folder>(
     ensures refused { IfErr result (λ refusal. IsCaptureRefusal (D.holds folder.old)
         (HasFailed (D.failure_count folder.old) (D.failure_count folder.new)) reading name.now refusal.fault) }
 {
-    if reading.alters() {
-        return capture_of_bytes(alloc, folder, name, reading, altered);
-    }
-    match kept_capture(alloc, folder, name, altered)? {
+    match kept_capture(alloc, folder, name, reading, altered)? {
         Some(capture) => Ok(capture),
         None => capture_of_bytes(alloc, folder, name, reading, altered),
     }
@@ -542,11 +539,11 @@ pub(crate) struct Asked<'a> {
 }
 
 impl Asked<'_> {
-    /// Whether the replay may be made in pieces: it is exact, the capture is read as it is, and the sent frames and the report have two names.
+    /// Whether the replay may be made in pieces: it is exact, and the sent frames and the report have two names.
     fn is_in_pieces(self) -> bool
-        ensures { IsTrue result → (self.entry.exact ≡ true) × (self.entry.reading ≡ unaltered) × AreApartInPieces self.entry.files.now }
+        ensures { IsTrue result → MayBeInPieces self.entry }
     {
-        self.exact && !self.reading.alters() && self.files.report != Some(self.files.sent)
+        self.exact && self.files.report != Some(self.files.sent)
     }
 }
 

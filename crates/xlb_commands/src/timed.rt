@@ -12,13 +12,13 @@ use crate::files::bytes_of;
 use crate::notes::Altered;
 use crate::replays::capture_of;
 use crate::report::Report;
+use capture_readings::Reading;
 use comparison::{parts_at, row_at};
 use control::ControlFault;
 use folders::Folder;
 use std::alloc::{AllocError, Global};
 use text_lines::text_or_line;
 use timed_scripts::{TimedScript, timed_script};
-use traffic::Reading;
 use wire::Sent;
 
 /// The most late lines that are named.

@@ -13,55 +13,55 @@ use test_support::files::SERVICE;
 
 /// Two frames that are sent, and one that passes.
 const THREE: &[u8] = b"\
-    number,moment,worker,verdict,steps,case,backend,address,source,source_port,destination,destination_port,protocol\n\
-    1,1.000002,0,TX,131,sent,7,192.0.2.1,198.51.100.7,40000,203.0.113.1,80,udp\n\
-    2,1.000003,,SHORT,,short,,,,,,,\n\
-    3,2.000000,1,TX,131,sent,5,192.0.2.2,198.51.100.8,40000,203.0.113.1,80,tcp\n";
+    number,moment,worker,verdict,steps,case,backend,address,source,source_port,destination,destination_port,protocol,choice\n\
+    1,1.000002,0,TX,131,sent,7,192.0.2.1,198.51.100.7,40000,203.0.113.1,80,udp,no-note\n\
+    2,1.000003,,SHORT,,short,,,,,,,,\n\
+    3,2.000000,1,TX,131,sent,5,192.0.2.2,198.51.100.8,40000,203.0.113.1,80,tcp,no-note\n";
 
-/// The same by other workers, in other steps.
+/// The same by other workers, in other steps, with backends that were chosen otherwise.
 const THREE_AGAIN: &[u8] = b"\
-    number,moment,worker,verdict,steps,case,backend,address,source,source_port,destination,destination_port,protocol\n\
-    1,1.000002,3,TX,9,sent,7,192.0.2.1,198.51.100.7,40000,203.0.113.1,80,udp\n\
-    2,1.000003,,SHORT,,short,,,,,,,\n\
-    3,2.000000,0,TX,8,sent,5,192.0.2.2,198.51.100.8,40000,203.0.113.1,80,tcp\n";
+    number,moment,worker,verdict,steps,case,backend,address,source,source_port,destination,destination_port,protocol,choice\n\
+    1,1.000002,3,TX,9,sent,7,192.0.2.1,198.51.100.7,40000,203.0.113.1,80,udp,noted\n\
+    2,1.000003,,SHORT,,short,,,,,,,,\n\
+    3,2.000000,0,TX,8,sent,5,192.0.2.2,198.51.100.8,40000,203.0.113.1,80,tcp,note-down\n";
 
 /// The first one goes elsewhere, and the third one is dropped.
 const MOVED: &[u8] = b"\
-    number,moment,worker,verdict,steps,case,backend,address,source,source_port,destination,destination_port,protocol\n\
-    1,1.000002,0,TX,131,sent,5,192.0.2.2,198.51.100.7,40000,203.0.113.1,80,udp\n\
-    2,1.000003,,SHORT,,short,,,,,,,\n\
-    3,2.000000,1,DROP,40,no-backend,,,198.51.100.8,40000,203.0.113.1,80,tcp\n";
+    number,moment,worker,verdict,steps,case,backend,address,source,source_port,destination,destination_port,protocol,choice\n\
+    1,1.000002,0,TX,131,sent,5,192.0.2.2,198.51.100.7,40000,203.0.113.1,80,udp,note-down\n\
+    2,1.000003,,SHORT,,short,,,,,,,,\n\
+    3,2.000000,1,DROP,40,no-backend,,,198.51.100.8,40000,203.0.113.1,80,tcp,\n";
 
 /// The same by another program: a report has no cases of it.
 const BY_PROGRAM: &[u8] = b"\
-    number,moment,worker,verdict,steps,case,backend,address,source,source_port,destination,destination_port,protocol\n\
-    1,1.000002,0,TX,50,,7,192.0.2.1,198.51.100.7,40000,203.0.113.1,80,udp\n\
-    2,1.000003,,SHORT,,,,,,,,,\n\
-    3,2.000000,1,DROP,40,,,,198.51.100.8,40000,203.0.113.1,80,tcp\n";
+    number,moment,worker,verdict,steps,case,backend,address,source,source_port,destination,destination_port,protocol,choice\n\
+    1,1.000002,0,TX,50,,7,192.0.2.1,198.51.100.7,40000,203.0.113.1,80,udp,\n\
+    2,1.000003,,SHORT,,,,,,,,,,\n\
+    3,2.000000,1,DROP,40,,,,198.51.100.8,40000,203.0.113.1,80,tcp,\n";
 
 /// The third one came later.
 const LATER: &[u8] = b"\
-    number,moment,worker,verdict,steps,case,backend,address,source,source_port,destination,destination_port,protocol\n\
-    1,1.000002,0,TX,131,sent,7,192.0.2.1,198.51.100.7,40000,203.0.113.1,80,udp\n\
-    2,1.000003,,SHORT,,short,,,,,,,\n\
-    3,2.000001,1,TX,131,sent,5,192.0.2.2,198.51.100.8,40000,203.0.113.1,80,tcp\n";
+    number,moment,worker,verdict,steps,case,backend,address,source,source_port,destination,destination_port,protocol,choice\n\
+    1,1.000002,0,TX,131,sent,7,192.0.2.1,198.51.100.7,40000,203.0.113.1,80,udp,no-note\n\
+    2,1.000003,,SHORT,,short,,,,,,,,\n\
+    3,2.000001,1,TX,131,sent,5,192.0.2.2,198.51.100.8,40000,203.0.113.1,80,tcp,no-note\n";
 
 /// No record.
 const HEAD: &[u8] =
-    b"number,moment,worker,verdict,steps,case,backend,address,source,source_port,destination,destination_port,protocol\n";
+    b"number,moment,worker,verdict,steps,case,backend,address,source,source_port,destination,destination_port,protocol,choice\n";
 
 /// A field is missing in the second line of a record.
 const CUT: &[u8] = b"\
-    number,moment,worker,verdict,steps,case,backend,address,source,source_port,destination,destination_port,protocol\n\
-    1,1.000002,0,TX,131,sent,7,192.0.2.1,198.51.100.7,40000,203.0.113.1,80,udp\n\
-    2,1.000003,,SHORT,,short,,,,,,\n\
-    3,2.000000,1,TX,131,sent,5,192.0.2.2,198.51.100.8,40000,203.0.113.1,80,tcp\n";
+    number,moment,worker,verdict,steps,case,backend,address,source,source_port,destination,destination_port,protocol,choice\n\
+    1,1.000002,0,TX,131,sent,7,192.0.2.1,198.51.100.7,40000,203.0.113.1,80,udp,no-note\n\
+    2,1.000003,,SHORT,,short,,,,,,,\n\
+    3,2.000000,1,TX,131,sent,5,192.0.2.2,198.51.100.8,40000,203.0.113.1,80,tcp,no-note\n";
 
 /// The destination of the second record is no address.
 const NO_ADDRESS: &[u8] = b"\
-    number,moment,worker,verdict,steps,case,backend,address,source,source_port,destination,destination_port,protocol\n\
-    1,1.000002,0,TX,131,sent,7,192.0.2.1,198.51.100.7,40000,203.0.113.1,80,udp\n\
-    2,1.000003,0,TX,131,sent,7,192.0.2.1,198.51.100.7,40000,here,80,udp\n";
+    number,moment,worker,verdict,steps,case,backend,address,source,source_port,destination,destination_port,protocol,choice\n\
+    1,1.000002,0,TX,131,sent,7,192.0.2.1,198.51.100.7,40000,203.0.113.1,80,udp,no-note\n\
+    2,1.000003,0,TX,131,sent,7,192.0.2.1,198.51.100.7,40000,here,80,udp,no-note\n";
 
 /// What a row shows, the two files, the status, and what is printed and of which mistake.
 type Row = (
@@ -76,7 +76,7 @@ type Row = (
 #[rattlefmt::skip]
 static ROWS: [Row; 16] = [
     ("a report and itself", THREE, THREE, 0, "3 records in both, 0 treated differently\n", ""),
-    ("other workers and steps", THREE, THREE_AGAIN, 0, "3 records in both, 0 treated differently\n", ""),
+    ("other workers, steps and choices", THREE, THREE_AGAIN, 0, "3 records in both, 0 treated differently\n", ""),
     ("no record", HEAD, HEAD, 0, "0 records in both, 0 treated differently\n", ""),
     ("two are treated differently", THREE, MOVED, 1,
         "3 records in both, 2 treated differently\n\

@@ -35,9 +35,9 @@ const ROWS: [Row; 16] = [
     ("xlb replay capture made --script script --ring 7 --journal 256 --journals more", 11, &["made", "more"]),
     ("xlb replay capture made --script script --ring 7 --journal 256 --journals more --report lines", 12, &["made", "more", "lines"]),
     ("xlb replay capture made --script script --ring 7 --journal 256 --maps more --report lines", 12, &["made", "lines", "more"]),
-    ("xlb replay capture made --script script --ring 7 --journal 256 --exact", 15, &["made"]),
-    ("xlb replay capture made --script script --ring 7 --journal 256 --exact --journals more", 16, &["made", "more"]),
-    ("xlb replay capture made --script script --ring 7 --journal 256 --exact --maps more", 16, &["made", "more"]),
+    ("xlb replay capture made --script script --ring 7 --journal 256 --exact", 13, &["made"]),
+    ("xlb replay capture made --script script --ring 7 --journal 256 --exact --journals more", 14, &["made", "more"]),
+    ("xlb replay capture made --script script --ring 7 --journal 256 --exact --maps more", 14, &["made", "more"]),
 ];
 
 /// The files that the commands read.

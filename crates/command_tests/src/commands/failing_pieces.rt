@@ -39,17 +39,18 @@ const SUMMED: &str = "  1025 frames of another Ethernet type\n  1025 frames sent
 
 const NO_READ: &str = "fault 7 Device\n  capture failed\n";
 
-/// The whole capture has room in the reader's buffer: it takes one call of `next`, and from record 957 on, where fewer than 2,064 bytes are
-/// unread, one more before each record and one at the end. So the first reading has 70 of these calls.
+/// The first reading finds the numbers that commands have in a part: where none is asked for, it takes one call of `next`, for the header. The
+/// second takes one, since the whole capture has room in the reader's buffer, and from record 957 on, where fewer than 2,064 bytes are unread,
+/// one more before each record and one at the end: 70 calls.
 #[rattlefmt::skip]
 const FAILING: [Failing; 29] = [
     ("the first reading is not opened",              "--exact", FolderCall::Open,   0,  1, NO_READ, None),
     ("the second one is not",                        "--exact", FolderCall::Open,   1,  1, NO_READ, None),
     ("there is no third one",                        "--exact", FolderCall::Open,   2,  0, "", ALL_SENT),
     ("the header is not read",                       "--exact", FolderCall::Next,   0,  1, NO_READ, None),
-    ("the end is not read the first time",           "--exact", FolderCall::Next,   69, 1, NO_READ, None),
-    ("the header is not read the second time",       "--exact", FolderCall::Next,   70, 1, NO_READ, None),
-    ("the end is not read the second time",          "--exact", FolderCall::Next,   139, 1, NO_READ, None),
+    ("the header is not read the second time",       "--exact", FolderCall::Next,   1,  1, NO_READ, None),
+    ("the end is not read",                          "--exact", FolderCall::Next,   70, 1, NO_READ, None),
+    ("nothing is read behind it",                    "--exact", FolderCall::Next,   71, 0, "", ALL_SENT),
     ("the sent frames are not begun",                "--exact", FolderCall::Begin,  0,  1, NO_SENT, None),
     ("their header is not added",                    "--exact", FolderCall::Add,    0,  1, NO_SENT, None),
     ("those of the first piece are not",             "--exact", FolderCall::Add,    1,  1, NO_SENT, None),
@@ -64,9 +65,9 @@ const FAILING: [Failing; 29] = [
     ("its head is not added",                        "--exact --report lines", FolderCall::Add, 1, 1, NO_LINES, None),
     ("its lines of the second piece are not",        "--exact --report lines", FolderCall::Add, 5, 1, NO_LINES, None),
     ("it is not finished, behind the sent frames",   "--exact --report lines", FolderCall::Finish, 1, 1, NO_LINES, ALL_SENT),
-    ("records that are skipped need it",             "--exact --skip-long", FolderCall::Read, 0, 1, NO_READ, None),
-    ("records that are padded need it",              "--exact --pad-cut", FolderCall::Read, 0, 1, NO_READ, None),
-    ("an end that may be cut needs it",              "--exact --allow-cut", FolderCall::Read, 0, 1, NO_READ, None),
+    ("records that are skipped do not need it",      "--exact --skip-long", FolderCall::Read, 0, 0, "", ALL_SENT),
+    ("records that are padded do not need it",       "--exact --pad-cut", FolderCall::Read, 0, 0, "", ALL_SENT),
+    ("an end that may be cut does not need it",      "--exact --allow-cut", FolderCall::Read, 0, 0, "", ALL_SENT),
     ("a replay with threads reads it in pieces",     "--workers 1", FolderCall::Read, 0, 0, "", ALL_SENT),
     ("a part is not read whole",                     "--exact --part 0/1", FolderCall::Read, 0, 0, "", ALL_SENT),
     ("its second reading is not opened",             "--exact --part 0/1", FolderCall::Open, 1, 1, NO_READ, None),

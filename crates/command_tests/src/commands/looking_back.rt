@@ -12,13 +12,19 @@ use std::thread::Threads;
 
 /// Two frames of a flow, the second of which is sent to another backend.
 const MOVED: &str = "\
-    number,moment,worker,verdict,steps,case,backend,address,source,source_port,destination,destination_port,protocol\n\
-    1,1.000002,0,TX,131,sent,0,192.0.2.1,198.51.100.7,40000,203.0.113.1,80,udp\n\
-    2,2.000000,0,TX,131,sent,1,192.0.2.2,198.51.100.7,40000,203.0.113.1,80,udp\n";
+    number,moment,worker,verdict,steps,case,backend,address,source,source_port,destination,destination_port,protocol,choice\n\
+    1,1.000002,0,TX,131,sent,0,192.0.2.1,198.51.100.7,40000,203.0.113.1,80,udp,no-note\n\
+    2,2.000000,0,TX,131,sent,1,192.0.2.2,198.51.100.7,40000,203.0.113.1,80,udp,no-note\n";
+
+/// The same, where the run found the flow's note, and its backend was not up.
+const NOTE_DOWN: &str = "\
+    number,moment,worker,verdict,steps,case,backend,address,source,source_port,destination,destination_port,protocol,choice\n\
+    1,1.000002,0,TX,131,sent,0,192.0.2.1,198.51.100.7,40000,203.0.113.1,80,udp,no-note\n\
+    2,2.000000,0,TX,131,sent,1,192.0.2.2,198.51.100.7,40000,203.0.113.1,80,udp,note-down\n";
 
 /// No record.
 const HEAD: &str =
-    "number,moment,worker,verdict,steps,case,backend,address,source,source_port,destination,destination_port,protocol\n";
+    "number,moment,worker,verdict,steps,case,backend,address,source,source_port,destination,destination_port,protocol,choice\n";
 
 /// The table of flows that is printed where the backend before was not up.
 const DOWN: &str = "\
@@ -46,13 +52,13 @@ const ONE_EVICTED: &str = "  1 flows with a sent frame, 1 of them moved, 0 of th
 
 /// A report without the row of record 1.
 const LEFT_OUT: &str = "\
-    number,moment,worker,verdict,steps,case,backend,address,source,source_port,destination,destination_port,protocol\n\
-    2,2.000000,0,TX,131,sent,1,192.0.2.2,198.51.100.7,40000,203.0.113.1,80,udp\n";
+    number,moment,worker,verdict,steps,case,backend,address,source,source_port,destination,destination_port,protocol,choice\n\
+    2,2.000000,0,TX,131,sent,1,192.0.2.2,198.51.100.7,40000,203.0.113.1,80,udp,no-note\n";
 
 /// A report with a moment that is none.
 const NO_MOMENT: &str = "\
-    number,moment,worker,verdict,steps,case,backend,address,source,source_port,destination,destination_port,protocol\n\
-    1,1.0\u{1b}[2J,0,TX,131,sent,1,192.0.2.2,198.51.100.7,40000,203.0.113.1,80,udp\n";
+    number,moment,worker,verdict,steps,case,backend,address,source,source_port,destination,destination_port,protocol,choice\n\
+    1,1.0\u{1b}[2J,0,TX,131,sent,1,192.0.2.2,198.51.100.7,40000,203.0.113.1,80,udp,no-note\n";
 
 /// The table of a flow whose backend goes down between its two frames, which a replay of one capture sends at one moment.
 const REPLAYED: &str = "\
@@ -74,9 +80,10 @@ type Row = (
 );
 
 #[rattlefmt::skip]
-static ROWS: [Row; 10] = [
+static ROWS: [Row; 11] = [
     ("a backend that went down",       "flows", MOVED, MOVES, 0, DOWN, ONE_DOWN),
     ("a note that was gone",           "flows", MOVED, STAY,  0, EVICTED, ONE_EVICTED),
+    ("a note whose backend was not up, whatever the script says", "flows", NOTE_DOWN, STAY, 0, DOWN, ONE_DOWN),
     ("flows of another file",          "flows", "a,b\n", STAY, 2, "", "error: report is no report of CSV: line 1\n"),
     ("flows of a report with a moment that is none", "flows", NO_MOMENT, STAY, 2, "", "error: report is no report of CSV: line 2, column moment\n"),
     ("a page of it",                   "page",  NO_MOMENT, STAY, 2, "", "error: report is no report of CSV: line 2, column moment\n"),

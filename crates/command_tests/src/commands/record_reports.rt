@@ -48,9 +48,31 @@ const FOUR: &str = "\
     01000000020000002a0000002a000000\
     02000000000102000000000208004500001c0001000040111494c6336407cb0071019c40005000080000";
 
+/// A capture of the datagram, five times.
+const FIVE_DATAGRAMS: &str = "\
+    d4c3b2a1020004000000000000000000ffff000001000000\
+    01000000020000002a0000002a000000\
+    02000000000102000000000208004500001c0001000040111494c6336407cb0071019c40005000080000\
+    01000000020000002a0000002a000000\
+    02000000000102000000000208004500001c0001000040111494c6336407cb0071019c40005000080000\
+    01000000020000002a0000002a000000\
+    02000000000102000000000208004500001c0001000040111494c6336407cb0071019c40005000080000\
+    01000000020000002a0000002a000000\
+    02000000000102000000000208004500001c0001000040111494c6336407cb0071019c40005000080000\
+    01000000020000002a0000002a000000\
+    02000000000102000000000208004500001c0001000040111494c6336407cb0071019c40005000080000";
+
+/// A capture of a packet of TCP between the same addresses and ports, twice.
+const TWO_OF_TCP: &str = "\
+    d4c3b2a1020004000000000000000000ffff000001000000\
+    01000000020000002a0000002a000000\
+    02000000000102000000000208004500001c000100004006149fc6336407cb0071019c40005000080000\
+    01000000020000002a0000002a000000\
+    02000000000102000000000208004500001c000100004006149fc6336407cb0071019c40005000080000";
+
 /// What a report in CSV begins with.
 const HEAD: &str =
-    "number,moment,worker,verdict,steps,case,backend,address,source,source_port,destination,destination_port,protocol\n";
+    "number,moment,worker,verdict,steps,case,backend,address,source,source_port,destination,destination_port,protocol,choice\n";
 
 /// The first backend goes down after three frames, and the second one is up from then on.
 const MOVED: &str =
@@ -60,9 +82,22 @@ const MOVED: &str =
 const TWO_NUMBERS: &str =
     "0 gateway 10.0.0.9 02:00:00:00:00:0a 02:00:00:00:00:0b\n0 vip 203.0.113.1 80 udp\n0 up 0 192.0.2.1\n0 down 0\n0 up 1 192.0.2.1\n";
 
+/// A backend that returns under another number.
+const RETURNED: &str =
+    "0 gateway 10.0.0.9 02:00:00:00:00:0a 02:00:00:00:00:0b\n0 vip 203.0.113.1 80 udp\n0 up 7 192.0.2.1\n3 down 7\n3 up 5 192.0.2.1\n";
+
+/// Behind the second frame the backend goes down, for which another one is up; behind the third the service is without tracking, and behind the
+/// fourth it is tracked again.
+const CHOSEN: &str =
+    "0 gateway 10.0.0.9 02:00:00:00:00:0a 02:00:00:00:00:0b\n0 vip 203.0.113.1 80 udp\n0 up 7 192.0.2.1\n2 up 5 192.0.2.2\n2 down 7\n\
+     3 vip 203.0.113.1 80 udp notrack\n4 vip 203.0.113.1 80 udp\n";
+
+/// A service of TCP with one backend.
+const OF_TCP: &str =
+    "0 gateway 10.0.0.9 02:00:00:00:00:0a 02:00:00:00:00:0b\n0 vip 203.0.113.1 80 tcp\n0 up 7 192.0.2.1\n";
+
 /// What a row shows; what a replay is given: the image's text (none: the shipped program), the script, the digits of the capture, and the
-/// words after its files; the name of the report, and its lines, each with `#` in place of the steps: how many the shipped program takes is
-/// no concern of these rows.
+/// words after its files; the name of the report, and its lines, with `#` in place of the steps where these are no concern of the row.
 type Row = (
     &'static str,
     &'static str,
@@ -74,38 +109,53 @@ type Row = (
 );
 
 #[rattlefmt::skip]
-static ROWS: [Row; 17] = [
-    ("13 bytes are short", SENDS, "", ZEROS_13, "--image image", "report.csv", &["1,1.000002,,SHORT,,#,,,,,,,\n"]),
-    ("the same for another program of steering", SENDS, "", ZEROS_13, "--program image", "report", &["1,1.000002,,SHORT,,#,,,,,,,\n"]),
+static ROWS: [Row; 20] = [
+    ("13 bytes are short", SENDS, "", ZEROS_13, "--image image", "report.csv", &["1,1.000002,,SHORT,,#,,,,,,,,\n"]),
+    ("the same for another program of steering", SENDS, "", ZEROS_13, "--program image", "report", &["1,1.000002,,SHORT,,#,,,,,,,,\n"]),
     ("the same in JSON", SENDS, "", ZEROS_13, "--image image", "report.JSON",
         &["{\"number\":1,\"moment\":\"1.000002\",\"worker\":null,\"verdict\":\"SHORT\",\"steps\":null,#\
            \"case\":null,\"backend\":null,\"address\":null,\"source\":null,\"source_port\":null,\"destination\":null,\
-           \"destination_port\":null,\"protocol\":null}\n"]),
-    ("a frame that is in no tunnel", SENDS, "", LAST_MOMENT, "--image image", "report.jsonx", &["1,4294967295.999999,0,TX,2,#,,,,,,,\n"]),
+           \"destination_port\":null,\"protocol\":null,\"choice\":null}\n"]),
+    ("a frame that is in no tunnel", SENDS, "", LAST_MOMENT, "--image image", "report.jsonx", &["1,4294967295.999999,0,TX,2,#,,,,,,,,\n"]),
     ("the same for another program of steering", SENDS, "", LAST_MOMENT, "--program image", "json",
-        &["1,4294967295.999999,0,TX,2,#,,,,,,,\n"]),
-    ("a datagram that is sent as it is", SENDS, "", DATAGRAM, "--image image", "report", &["1,1.000002,0,TX,2,#,,,198.51.100.7,40000,203.0.113.1,80,udp\n"]),
-    ("no verdict", ABORTS, "", LAST_MOMENT, "--program image", "report", &["1,4294967295.999999,0,ABORTED,2,#,,,,,,,\n"]),
+        &["1,4294967295.999999,0,TX,2,#,,,,,,,,\n"]),
+    ("a datagram that is sent as it is", SENDS, "", DATAGRAM, "--image image", "report", &["1,1.000002,0,TX,2,#,,,198.51.100.7,40000,203.0.113.1,80,udp,\n"]),
+    ("no verdict", ABORTS, "", LAST_MOMENT, "--program image", "report", &["1,4294967295.999999,0,ABORTED,2,#,,,,,,,,\n"]),
     ("a full journal stops the last run", READS_ONE, "", FIVE_ZEROS, "--image image --journal 16", "report",
-        &["1,1.000002,0,PASS,9,#,,,,,,,\n", "2,2.000002,0,PASS,9,#,,,,,,,\n", "3,3.000002,0,PASS,9,#,,,,,,,\n", "4,4.000002,0,PASS,9,#,,,,,,,\n",
-          "5,5.000002,0,STOPPED,,#,,,,,,,\n"]),
-    ("no backend", "", NO_BACKEND, DATAGRAM, "--script script", "report", &["1,1.000002,0,DROP,#,no-backend,,,198.51.100.7,40000,203.0.113.1,80,udp\n"]),
-    ("a time to live of 0", "", SERVICE, NOT_TO_LIVE, "--script script", "report", &["1,1.000002,0,DROP,#,expired,,,198.51.100.7,40000,203.0.113.1,80,udp\n"]),
-    ("no service", "", "", DATAGRAM, "--script script", "report", &["1,1.000002,0,PASS,#,no-service,,,198.51.100.7,40000,203.0.113.1,80,udp\n"]),
-    ("another Ethernet type", "", "", LAST_MOMENT, "--script script", "report", &["1,4294967295.999999,0,PASS,#,other-type,,,,,,,\n"]),
-    ("a backend", "", SERVICE, DATAGRAM, "--script script", "report", &["1,1.000002,0,TX,#,sent,0,192.0.2.1,198.51.100.7,40000,203.0.113.1,80,udp\n"]),
+        &["1,1.000002,0,PASS,9,#,,,,,,,,\n", "2,2.000002,0,PASS,9,#,,,,,,,,\n", "3,3.000002,0,PASS,9,#,,,,,,,,\n", "4,4.000002,0,PASS,9,#,,,,,,,,\n",
+          "5,5.000002,0,STOPPED,,#,,,,,,,,\n"]),
+    ("no backend", "", NO_BACKEND, DATAGRAM, "--script script", "report", &["1,1.000002,0,DROP,#,no-backend,,,198.51.100.7,40000,203.0.113.1,80,udp,\n"]),
+    ("a time to live of 0", "", SERVICE, NOT_TO_LIVE, "--script script", "report", &["1,1.000002,0,DROP,#,expired,,,198.51.100.7,40000,203.0.113.1,80,udp,\n"]),
+    ("no service", "", "", DATAGRAM, "--script script", "report", &["1,1.000002,0,PASS,#,no-service,,,198.51.100.7,40000,203.0.113.1,80,udp,\n"]),
+    ("another Ethernet type", "", "", LAST_MOMENT, "--script script", "report", &["1,4294967295.999999,0,PASS,#,other-type,,,,,,,,\n"]),
+    ("a backend", "", SERVICE, DATAGRAM, "--script script", "report", &["1,1.000002,0,TX,#,sent,0,192.0.2.1,198.51.100.7,40000,203.0.113.1,80,udp,no-note\n"]),
     ("a backend in JSON", "", SERVICE, DATAGRAM, "--script script", "report.jsonl",
         &["{\"number\":1,\"moment\":\"1.000002\",\"worker\":0,\"verdict\":\"TX\",\"steps\":#,\
            \"case\":\"sent\",\"backend\":0,\"address\":\"192.0.2.1\",\"source\":\"198.51.100.7\",\"source_port\":40000,\
-           \"destination\":\"203.0.113.1\",\"destination_port\":80,\"protocol\":\"udp\"}\n"]),
+           \"destination\":\"203.0.113.1\",\"destination_port\":80,\"protocol\":\"udp\",\"choice\":\"no-note\"}\n"]),
     ("an address of two numbers", "", TWO_NUMBERS, DATAGRAM, "--script script", "report",
-        &["1,1.000002,0,TX,#,sent,,192.0.2.1,198.51.100.7,40000,203.0.113.1,80,udp\n"]),
+        &["1,1.000002,0,TX,#,sent,1,192.0.2.1,198.51.100.7,40000,203.0.113.1,80,udp,no-note\n"]),
+    ("a backend that returns under another number", "", RETURNED, FOUR, "--script script --exact", "report",
+        &["1,1.000002,,SHORT,#,short,,,,,,,,\n",
+          "2,1.000002,0,TX,#,sent,7,192.0.2.1,198.51.100.7,40000,203.0.113.1,80,udp,no-note\n",
+          "3,1.000002,0,PASS,#,other-type,,,,,,,,\n",
+          "4,1.000002,0,TX,#,sent,5,192.0.2.1,198.51.100.7,40000,203.0.113.1,80,udp,note-down\n"]),
     ("no record", "", "", "d4c3b2a1020004000000000000000000ffff000001000000", "--script script", "report", &[]),
     ("a flow that goes to another backend", "", MOVED, FOUR, "--script script --exact", "report",
-        &["1,1.000002,,SHORT,#,short,,,,,,,\n",
-        "2,1.000002,0,TX,#,sent,7,192.0.2.1,198.51.100.7,40000,203.0.113.1,80,udp\n",
-        "3,1.000002,0,PASS,#,other-type,,,,,,,\n",
-          "4,1.000002,0,TX,#,sent,5,192.0.2.2,198.51.100.7,40000,203.0.113.1,80,udp\n"]),
+        &["1,1.000002,,SHORT,#,short,,,,,,,,\n",
+        "2,1.000002,0,TX,#,sent,7,192.0.2.1,198.51.100.7,40000,203.0.113.1,80,udp,no-note\n",
+        "3,1.000002,0,PASS,#,other-type,,,,,,,,\n",
+          "4,1.000002,0,TX,#,sent,5,192.0.2.2,198.51.100.7,40000,203.0.113.1,80,udp,note-down\n"]),
+    ("a flow without a note, with one, with a note of a backend that is down, of a service without tracking, and with its last note", "", CHOSEN,
+        FIVE_DATAGRAMS, "--script script --exact", "report",
+        &["1,1.000002,0,TX,195,sent,7,192.0.2.1,198.51.100.7,40000,203.0.113.1,80,udp,no-note\n",
+          "2,1.000002,0,TX,134,sent,7,192.0.2.1,198.51.100.7,40000,203.0.113.1,80,udp,noted\n",
+          "3,1.000002,0,TX,206,sent,5,192.0.2.2,198.51.100.7,40000,203.0.113.1,80,udp,note-down\n",
+          "4,1.000002,0,TX,183,sent,5,192.0.2.2,198.51.100.7,40000,203.0.113.1,80,udp,untracked\n",
+          "5,1.000002,0,TX,134,sent,5,192.0.2.2,198.51.100.7,40000,203.0.113.1,80,udp,noted\n"]),
+    ("a flow of TCP without a note, and with one", "", OF_TCP, TWO_OF_TCP, "--script script --exact", "report",
+        &["1,1.000002,0,TX,194,sent,7,192.0.2.1,198.51.100.7,40000,203.0.113.1,80,tcp,no-note\n",
+          "2,1.000002,0,TX,133,sent,7,192.0.2.1,198.51.100.7,40000,203.0.113.1,80,tcp,noted\n"]),
 ];
 
 /// The files of a replay: a script, a capture, and the image of a text where there is one.

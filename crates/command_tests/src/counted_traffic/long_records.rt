@@ -1,9 +1,9 @@
 //! Captures with records of more than 2048 bytes, and what is left of them.
 
 use crate::asserting::{holds_of, same_bytes_of};
+use capture_readings::{Reading, altered_capture};
 use std::alloc::Global;
 use std::process::Abort;
-use traffic::{Reading, altered_capture};
 use wire::{Capture, CaptureFault, MemorySource, read_capture};
 
 /// The header of a capture: pcap 2.4, low byte first, with a snap length of 262144 bytes.

@@ -2,9 +2,9 @@
 
 use super::long_records::read;
 use crate::asserting::{holds_of, same_bytes_of};
+use capture_readings::{Reading, altered_capture};
 use std::alloc::Global;
 use std::process::Abort;
-use traffic::{Reading, altered_capture};
 
 /// The header of a capture: pcap 2.4, low byte first.
 const HEADER: &str = "d4c3b2a1020004000000000000000000ffff000001000000";

@@ -15,4 +15,4 @@ abbrev pub invariant-filling : goal.invariant-filling
 invariant-filling g l = Filling g l
 
 abbrev pub decreases-filling : goal.decreases-filling
-decreases-filling g l = 2064 - l.all
+decreases-filling g l = l.least - l.all

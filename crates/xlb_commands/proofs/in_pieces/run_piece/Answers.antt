@@ -31,7 +31,7 @@ returns-in_ok-add_lines-in-Ok-clause-run g c = λ went.
           c.deref.ensures.value (c.in_ok-add_frames-in-Ok.ensures.added bytes begun));
       told = λ updates past past_sent past_ends under. (
         aligned_next _ _ _ updates past past_sent past_ends _ c.args.piece.now.records.items c.in-Ok.done.sent.items c.in-Ok.done.ends.items _
-            under c.requires.goes_on (c.in-Ok.ensures.underway (recorded asked.recording asked.options) updates past past_sent past_ends under)
+            under c.requires.ready.goes_on (c.in-Ok.ensures.underway (recorded asked.recording asked.options) updates past past_sent past_ends under)
             c.in-Ok.ensures.goes_on,
         λ apart.
             subst (λ (first : ℕ). AreTold (g.D.Folder.is_begun c.args.folder.now) (g.D.Folder.is_begun c.add_lines.new.folder) files
@@ -44,12 +44,13 @@ returns-in_ok-add_lines-in-Ok-clause-run g c = λ went.
       );
     }
 
-pub returns-in_ok-add_lines-in-Ok-clause-goes_on : goal.returns-in_ok-add_lines-in-Ok-clause-goes_on
-returns-in_ok-add_lines-in-Ok-clause-goes_on g c = λ went.
+pub returns-in_ok-add_lines-in-Ok-clause-ready : goal.returns-in_ok-add_lines-in-Ok-clause-ready
+returns-in_ok-add_lines-in-Ok-clause-ready g c = λ went.
     let script = c.args.asked.script.now in
-    c.give_back.ensures.goes_on script
-    (subst (λ (it : PieceReplay). ReplayGoesOn script it) (sym c.note.ensures) c.in-Ok.ensures.goes_on)
-
-pub returns-in_ok-add_lines-in-Ok-clause-maps : goal.returns-in_ok-add_lines-in-Ok-clause-maps
-returns-in_ok-add_lines-in-Ok-clause-maps g c = λ went.
-    c.give_back.ensures.maps ∙ ap (λ (it : PieceReplay). it.turns.all.maps) c.note.ensures ∙ c.in-Ok.ensures.maps ∙ c.requires.maps
+    record {
+      named = c.requires.ready.named;
+      goes_on = c.give_back.ensures.goes_on script
+          (subst (λ (it : PieceReplay). ReplayGoesOn script it) (sym c.note.ensures) c.in-Ok.ensures.goes_on);
+      maps = c.give_back.ensures.maps ∙ ap (λ (it : PieceReplay). it.turns.all.maps) c.note.ensures ∙ c.in-Ok.ensures.maps
+          ∙ c.requires.ready.maps;
+    }

@@ -30,8 +30,9 @@ returns-clause-more g c = λ is.
     let abreast = c.requires.abreast in
     let filled = c.in_ok-step.ensures.more is in (
       filled.0,
-      λ opened name records to.
-          read_still (g.D.Folder.holds opened name) _ _ (records ++ filled.0) _ c.run_piece.ensures.left (filled.1 opened name records to),
+      λ reading opened name records to.
+          read_still reading (g.D.Folder.holds opened name) _ _ (records ++ filled.0) _ c.run_piece.ensures.left
+          (filled.1 reading opened name records to),
       filled.2,
       subst (λ (them : List Sent). HaveRun (program_of c.args.asked.verified.now c.args.asked.options.shards) c.args.asked.script.now
           (recorded c.args.asked.recording c.args.asked.options) c.args.asked.files.now c.args.going.now.replay c.run_piece.new.going.replay

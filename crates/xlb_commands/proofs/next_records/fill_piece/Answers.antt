@@ -62,6 +62,7 @@ records-preserved g c =
     let room = so_far.room in
     let less = found.fewer in
     let fewer = took.fewer in
+    let raw = took.raw in
     let so_few = so_far.fewer in
     let few = took.few in
     record {
@@ -71,8 +72,8 @@ records-preserved g c =
       taken = subst (λ (them : List Sent). AreRecordsTaken c.args.taking.now (so_far.records ++ one.0 ∷ []) them) (sym one.6)
           (taken_of_both _ _ so_far.records (one.0 ∷ []) _ _ so_far.past so_far.taken one.5);
       counted = omega (arith, both, counted, found_count, count);
-      room = omega (arith, room, found_count, count, less, fewer);
-      fewer = omega (arith, so_few, less, fewer, few);
+      room = omega (arith, room, found_count, count, less, fewer, raw);
+      fewer = omega (arith, so_few, less, fewer, few, raw);
       kept = kept_twice _ _ _ so_far.kept c.find.ensures.kept;
       made = kept_twice _ _ _ so_far.made c.find.ensures.begun_kept;
       steady = search rules;

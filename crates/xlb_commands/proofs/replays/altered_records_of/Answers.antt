@@ -1,8 +1,7 @@
 use Rattle.std.proofs.Common.{◌≡◌, ℕ, Bool, true, List, subst, sym}
-use Rattle.traffic.specs.Readings.{IsAltered, alters}
-use Rattle.traffic.specs.declared.readings.AlteredCapture.{AlteredCapture}
-use Rattle.traffic.specs.declared.readings.Reading.{Reading}
-use Rattle.xlb_commands.specs.Replays.{AreCaptureBytes, AreLeft}
+use Rattle.capture_readings.specs.Readings.{AreAltered, AreCaptureBytes, AreLeft, IsAltered, alters}
+use Rattle.capture_readings.specs.declared.readings.AlteredCapture.{AlteredCapture}
+use Rattle.capture_readings.specs.declared.readings.Reading.{Reading}
 use Rattle.xlb_commands.specs.Refused.{IsNoCapture, left_refused}
 use Rattle.xlb_commands.proofs.replays.altered_records_of.Goals as goal
 
@@ -10,7 +9,8 @@ use Rattle.xlb_commands.proofs.replays.altered_records_of.Goals as goal
 left_as_read : (reading : Reading) (bytes read : List ℕ) (altered : AlteredCapture) → alters reading ≡ true → IsAltered reading bytes altered
     → read ≡ altered.bytes.items → AreCaptureBytes reading bytes read
 left_as_read reading bytes read altered some is same =
-    subst (λ (b : Bool). AreLeft b reading bytes read) (sym some) (record { altered = altered; is = is; left_are = sym same })
+    subst (λ (b : Bool). AreLeft b reading bytes read) (sym some)
+    (subst (λ (left : List ℕ). AreAltered reading bytes left) (sym same) is.are)
 
 pub returns-in-Ok-clause-records : goal.returns-in-Ok-clause-records
 returns-in-Ok-clause-records c = record {

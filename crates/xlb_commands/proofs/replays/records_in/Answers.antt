@@ -1,7 +1,6 @@
 use Rattle.std.proofs.Common.{◌≡◌, ◌∙◌, ℕ, Bool, false, List, refl, subst, sym}
-use Rattle.traffic.specs.Readings.{alters}
-use Rattle.traffic.specs.declared.readings.Reading.{Reading}
-use Rattle.xlb_commands.specs.Replays.{AreCaptureBytes, AreLeft}
+use Rattle.capture_readings.specs.Readings.{AreCaptureBytes, AreLeft, alters}
+use Rattle.capture_readings.specs.declared.readings.Reading.{Reading}
 use Rattle.xlb_commands.specs.Refused.{left_refused}
 use Rattle.xlb_commands.proofs.replays.records_in.Goals as goal
 

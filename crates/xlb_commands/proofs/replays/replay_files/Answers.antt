@@ -20,7 +20,7 @@ use Rattle.ebpf_decode.specs.ImageContents.{Contents}
 use Rattle.map_updates.specs.Misfits.{AreFitting}
 use Rattle.map_updates.specs.declared.update.MapUpdate.{MapUpdate}
 use Rattle.command_line.specs.Reading.{text_of}
-use Rattle.traffic.specs.declared.readings.Reading.{Reading}
+use Rattle.capture_readings.specs.declared.readings.Reading.{Reading}
 use Rattle.steer.specs.ShippedProgram.{sized_image}
 use Rattle.xlb_commands.specs.EndMaps.{lines_bytes}
 use Rattle.xlb_commands.specs.Files.{FileBytes}

@@ -1,11 +1,11 @@
 -- How the bytes of a file are read as a capture: as they are, or without the end that is cut within a record, with records that are padded
 -- to the length of their frames, without records of more bytes than a frame may have.
-use Rattle.std.specs.Prelude.{◌≡◌, ◌+◌, ◌-◌, ◌<◌, ◌≤◌, ◌⊎◌, ◌++◌, ◌&&◌, ◌||◌, nat_lt, nat_le, ℕ, Bool, false, List, [], length, take, drop}
+use Rattle.std.specs.Prelude.{◌≡◌, ◌+◌, ◌-◌, ◌<◌, ◌≤◌, ◌⊎◌, ◌++◌, ◌&&◌, ◌||◌, nat_lt, nat_le, ℕ, Bool, true, false, List, [], length, take, drop}
 use Rattle.std.specs.Prelude.{replicate, filter, flat_map, if◌then◌else◌}
 use Rattle.std.specs.List.{AllByRecursion, concat}
 use Rattle.wire.specs.CaptureFormat.{le32_at}
-use Rattle.traffic.specs.declared.readings.AlteredCapture.{AlteredCapture}
-use Rattle.traffic.specs.declared.readings.Reading.{Reading}
+use Rattle.capture_readings.specs.declared.readings.AlteredCapture.{AlteredCapture}
+use Rattle.capture_readings.specs.declared.readings.Reading.{Reading}
 
 -- whether anything but the bytes themselves may be read
 abbrev pub alters : Reading → Bool
@@ -93,15 +93,28 @@ abbrev pub filled_of : Reading → List (List ℕ) → ℕ
 filled_of reading records = length (filter (is_filled reading) records)
 
 -- The file consists of a header of 24 bytes (of all bytes, if there are fewer), of whole records, and of a rest that begins with no whole
--- record: nothing, or a record that is cut short. What is read are the header, of each record what is read of it, and of the rest what is
--- read of that; and it is counted what is not read as it stands in the file.
-pub record IsAltered (reading : Reading) (bytes : List ℕ) (altered : AlteredCapture) : Type 0 where
+-- record: nothing, or a record that is cut short. What is left are the header, of each record what is read of it, and of the rest what is
+-- read of that.
+pub record AreAltered (reading : Reading) (bytes left : List ℕ) : Type 0 where
   pub records : List (List ℕ)
   pub rest : List ℕ
   pub each : AllByRecursion IsRecord records
   pub ends : HasNoRecord rest
   pub parts : bytes ≡ take 24 bytes ++ (concat records ++ rest)
-  pub left : altered.bytes.items ≡ take 24 bytes ++ (read_records reading records ++ read_rest reading rest)
-  pub skipped_are : altered.skipped ≡ skipped_of reading records
-  pub filled_are : altered.padded ≡ filled_of reading records
-  pub left_over_are : altered.left_over ≡ left_over_of reading rest
+  pub left_are : left ≡ take 24 bytes ++ (read_records reading records ++ read_rest reading rest)
+
+-- and it is counted what is not read as it stands in the file
+pub record IsAltered (reading : Reading) (bytes : List ℕ) (altered : AlteredCapture) : Type 0 where
+  pub are : AreAltered reading bytes altered.bytes.items
+  pub skipped_are : altered.skipped ≡ skipped_of reading are.records
+  pub filled_are : altered.padded ≡ filled_of reading are.records
+  pub left_over_are : altered.left_over ≡ left_over_of reading are.rest
+
+-- what is left, by whether the reading alters anything: else all bytes
+abbrev pub AreLeft : Bool → Reading → List ℕ → List ℕ → Type 0
+AreLeft false reading bytes left = bytes ≡ left
+AreLeft true reading bytes left = AreAltered reading bytes left
+
+-- the bytes of the capture that is read of these bytes under this reading
+abbrev pub AreCaptureBytes : Reading → List ℕ → List ℕ → Type 0
+AreCaptureBytes reading bytes left = AreLeft (alters reading) reading bytes left

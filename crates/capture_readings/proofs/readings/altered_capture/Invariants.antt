@@ -1,6 +1,6 @@
 use Rattle.std.proofs.Common.{length}
-use Rattle.traffic.proofs.ReadingLemmas.{AreGoneOver}
-use Rattle.traffic.proofs.readings.altered_capture.Given as goal
+use Rattle.capture_readings.proofs.ReadingLemmas.{AreGoneOver}
+use Rattle.capture_readings.proofs.readings.altered_capture.Given as goal
 
 abbrev pub invariant-records : goal.invariant-records
 invariant-records l = AreGoneOver l.fn.reading l.bytes l.kept.items l.skipped l.filled l.rest

@@ -1,8 +1,8 @@
 //! The ways in which the bytes of a file are read as a capture.
 
 ghost use Rattle.std.specs.Prelude.{◌≡◌, ◌+◌, ◌≤◌, ◌++◌, [], ◌∷◌, false, length, take, drop, replicate, IfOk, OnOk, MatchOption};
-ghost use Rattle.traffic.specs.Readings.{HasNoRecord, IsAltered, alters, filled_of, frame_len, is_padded, is_skipped, kept_len};
-ghost use Rattle.traffic.specs.Readings.{left_over_of, padded_record, read_record, read_rest, skipped_of, unaltered, zeros_for};
+ghost use Rattle.capture_readings.specs.Readings.{HasNoRecord, IsAltered, alters, filled_of, frame_len, is_padded, is_skipped, kept_len};
+ghost use Rattle.capture_readings.specs.Readings.{left_over_of, padded_record, read_record, read_rest, skipped_of, unaltered, zeros_for};
 
 use byteorder::{ByteOrder, LittleEndian};
 use std::alloc::{AllocError, Global};
@@ -59,7 +59,7 @@ fn frame_in(bytes: &[u8]) -> u32
 }
 
 /// The length of the record at the front of the rest of a file, if the whole record is there.
-fn record_len(rest: &[u8]) -> Option<usize>
+pub fn record_len(rest: &[u8]) -> Option<usize>
     ensures { MatchOption result (HasNoRecord rest.now) (λ len. (len ≡ 16 + kept_len rest.now) × (len ≤ length rest.now)) }
 {
     if rest.len() < RECORD_HEAD_LEN {
@@ -91,7 +91,7 @@ fn skips(reading: Reading, one: &[u8]) -> bool
 }
 
 /// 1 for a record that is skipped, else 0.
-fn skipped_by(reading: Reading, one: &[u8]) -> u64
+pub fn skipped_by(reading: Reading, one: &[u8]) -> u64
     requires { 16 ≤ length one.now }
     ensures { result ≡ skipped_of reading (one.now ∷ []) }
 {
@@ -99,7 +99,7 @@ fn skipped_by(reading: Reading, one: &[u8]) -> u64
 }
 
 /// 1 for a record that gets zeros, else 0.
-fn filled_by(reading: Reading, one: &[u8]) -> u64
+pub fn filled_by(reading: Reading, one: &[u8]) -> u64
     requires { 16 ≤ length one.now }
     ensures { result ≡ filled_of reading (one.now ∷ []) }
 {
@@ -142,8 +142,8 @@ fn put_padded(kept: &mut Vec<u8>, one: &[u8]) -> Result<(), AllocError>
     put_zeros(kept, zeros_of(one))
 }
 
-/// Appends what is read of a whole record.
-fn put_record(reading: Reading, kept: &mut Vec<u8>, one: &[u8]) -> Result<(), AllocError>
+/// Appends what is read of a whole record. It can fail only for lack of memory.
+pub fn put_record(reading: Reading, kept: &mut Vec<u8>, one: &[u8]) -> Result<(), AllocError>
     requires { 16 ≤ length one.now }
     ensures { OnOk result (kept.new.items ≡ kept.old.items ++ read_record reading one.now) }
 {

@@ -1,6 +1,7 @@
-use Rattle.std.proofs.Common.{◌+◌, ap, ◌∙◌}
-use Rattle.traffic.proofs.ReadingLemmas.{none_yet, one_more, record_at_front, unaltered}
-use Rattle.traffic.proofs.readings.altered_capture.Goals as goal
+use Rattle.std.proofs.Common.{◌+◌, ◌++◌, List, ℕ, ap, ◌∙◌, append_assoc, rules, take}
+use Rattle.capture_readings.specs.Readings.{read_records, read_rest}
+use Rattle.capture_readings.proofs.ReadingLemmas.{none_yet, one_more, record_at_front, unaltered}
+use Rattle.capture_readings.proofs.readings.altered_capture.Goals as goal
 
 pub records-init : goal.records-init
 records-init c =
@@ -20,3 +21,24 @@ pub returns-clause-unaltered : goal.returns-clause-unaltered
 returns-clause-unaltered c =
     unaltered c.args.reading c.args.bytes.now c.records.kept.items _ c.records.skipped c.records.filled c.records.rest.now c.records.invariant
     c.in_ok-left_over.ensures.kept
+
+pub returns-clause-altered : goal.returns-clause-altered
+returns-clause-altered c =
+    let over = c.records.invariant in
+    let reading = c.args.reading in
+    let rest = c.records.rest.now in
+    record {
+      are = record {
+        records = over.records;
+        rest = rest;
+        each = over.each;
+        ends = search rules;
+        parts = over.parts;
+        left_are = c.in_ok-left_over.ensures.kept
+            ∙ (ap (λ (front : List ℕ). front ++ read_rest reading rest) over.kept_are
+            ∙ append_assoc (take 24 c.args.bytes.now) (read_records reading over.records) (read_rest reading rest));
+      };
+      skipped_are = over.skipped_are;
+      filled_are = over.filled_are;
+      left_over_are = c.in_ok-left_over.ensures.left;
+    }

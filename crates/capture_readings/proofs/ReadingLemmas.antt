@@ -8,8 +8,8 @@ use Rattle.std.proofs.lemmas.Grind.{flat_map-append}
 use Rattle.byteorder.specs.Endian.{little_number}
 use Rattle.byteorder.specs.Numbers.{little_from-take, little_from-append}
 use Rattle.wire.specs.CaptureFormat.{le32_at}
-use Rattle.traffic.specs.declared.readings.Reading.{Reading}
-use Rattle.traffic.specs.Readings.{IsRecord, alters, filled_of, frame_len, is_filled, is_skipped, kept_len, padded_record, read_record, read_records, read_rest, skipped_of, zeros_for}
+use Rattle.capture_readings.specs.declared.readings.Reading.{Reading}
+use Rattle.capture_readings.specs.Readings.{IsRecord, alters, filled_of, frame_len, is_filled, is_skipped, kept_len, padded_record, read_record, read_records, read_rest, skipped_of, zeros_for}
 
 -- the length that a record's head says, read from its front alone
 head_number : (len : ℕ) (rest : List ℕ) → 12 ≤ len → le32_at 8 (take len rest) ≡ le32_at 8 rest

@@ -1,0 +1,2 @@
+-- Lemmas for the answers of this crate.
+pub mod ReadingLemmas
