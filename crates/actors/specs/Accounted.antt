@@ -22,11 +22,12 @@ use Rattle.actors.specs.declared.outcome.Outcome.{Outcome}
 use Rattle.actors.specs.Parts.{IsScriptAccounted, AreRoundsAccounted, round_count, first_commands, first_deeds}
 use Rattle.actors.specs.Rounds.{EndsWithRound}
 use Rattle.actors.specs.RunsOverShards.{IsNewPass, IsRunIn}
+use Rattle.semantics.specs.Entries.{NewestFirst}
 
 -- a worker ran its records, in order, from a pass that had seen nothing; in each journal its entries are those of its runs, one after the
 -- other; and so are its deeds in the one order of all
 pub record IsWorkOf (IsRun : PassView → Ran → PassView → Type 0) (records : List ℕ) (worker : ℕ) (runs : List Ran) (count : ℕ)
-    (journals : JournalsView) (order : List Deed) : Type 0 where
+    (journals : JournalsView) (order : NewestFirst Deed) : Type 0 where
   pub after : PassView
   pub handled : HasHandled (IsNewPass worker) IsRun records runs after
   pub own : (number : ℕ) → number < count → own_at after number ≡ own_entries (Worker worker) (reverse (entries_at journals number))
@@ -48,7 +49,7 @@ runs_in_chain IsRun before (ran ∷ later) after chain =
 
 -- the runs that a worker made
 abbrev pub runs_in_work : {IsRun : PassView → Ran → PassView → Type 0} {records : List ℕ} {worker : ℕ} {runs : List Ran} {count : ℕ}
-    {journals : JournalsView} {order : List Deed} → IsWorkOf IsRun records worker runs count journals order → List (RunInPlace IsRun)
+    {journals : JournalsView} {order : NewestFirst Deed} → IsWorkOf IsRun records worker runs count journals order → List (RunInPlace IsRun)
 runs_in_work {IsRun} {records} {worker} {runs} {count} {journals} {order} work =
     runs_in_chain IsRun work.handled.before runs work.after work.handled.chain
 
@@ -56,8 +57,8 @@ runs_in_work {IsRun} {records} {worker} {runs} {count} {journals} {order} work =
 abbrev pub PlacedRun : (ℕ → ShardPlan) → ℕ → Program → ℕ → JournalsView → List Sent → Type 0
 PlacedRun plan count program worker journals records = RunInPlace (IsRunAt (IsRunIn plan count program worker journals) records)
 
--- one order of all deeds on N shards, newest first: shard by shard it is the journal, and each look at a full journal met one
-pub record IsOrderOfJournals (plan : ℕ → ShardPlan) (count : ℕ) (journals : JournalsView) (order : List Deed) : Type 0 where
+-- one order of all deeds on N shards: shard by shard it is the journal, and each look at a full journal met one
+pub record IsOrderOfJournals (plan : ℕ → ShardPlan) (count : ℕ) (journals : JournalsView) (order : NewestFirst Deed) : Type 0 where
   pub within : AreDeedsWithin count order
   pub journals_are : (number : ℕ) → number < count → entries_at journals number ≡ reverse (made_on number order)
   pub met : AreMet plan order
@@ -73,7 +74,7 @@ pub record IsAccounted (program : Program) (script : List Command) (options : Op
   pub plans : ArePlans program.maps options count plan
   pub legal : (number : ℕ) → number < count → IsLegalJournal (plan number) (entries_at outcome.journals number)
   -- what all callers did on all shards, in one order
-  pub order : List Deed
+  pub order : NewestFirst Deed
   pub ordered : IsOrderOfJournals plan count outcome.journals order
   -- the runs of each worker
   pub runs : List (List Ran)

@@ -27,6 +27,7 @@ use Rattle.actors.specs.Commands.{all_set, made_in, with_updates, made_deeds, co
 use Rattle.actors.specs.ActorJobs.{AreCommandsTaken, IsActorAccounted as IsControllersAccount}
 use Rattle.actors.specs.Rounds.{IsReclaimedBy, AreRoundsDone}
 use Rattle.actors.specs.Actors.{numbers_from, due_to}
+use Rattle.semantics.specs.Entries.{NewestFirst}
 
 -- ---- what the controller's thread hands back for its jobs
 
@@ -127,7 +128,7 @@ pub record AreOfScript (maps : List MapDef) (script : List Command) (refused : L
 -- one order of all deeds those of the controller are the first updates, then the updates of all commands, in order over all shards, each with
 -- its answer, and behind those of a command that a full journal stopped the look at that journal.
 pub record IsScriptAccounted (plan : ℕ → ShardPlan) (maps : List MapDef) (options : Options) (count : ℕ) (updates : List MapUpdate)
-    (script : List Command) (journals : JournalsView) (order : List Deed) (refused : List Applied) : Type 0 where
+    (script : List Command) (journals : JournalsView) (order : NewestFirst Deed) (refused : List Applied) : Type 0 where
   pub done : List CommandDone
   pub of_script : AreOfScript maps script refused done
   pub own : (number : ℕ) → number < count →
@@ -142,7 +143,7 @@ round_count records = records / 64 + 1
 -- The reclaimer's entries in each journal are those of N rounds, fewer only where the journal is full for another at its end. In the one
 -- order of all deeds those of the reclaimer are these rounds, one behind the other, each with one Reclaim of each hash and LRU shard, the
 -- lowest number first.
-pub record AreRoundsAccounted (plan : ℕ → ShardPlan) (count rounds : ℕ) (journals : JournalsView) (order : List Deed) : Type 0 where
+pub record AreRoundsAccounted (plan : ℕ → ShardPlan) (count rounds : ℕ) (journals : JournalsView) (order : NewestFirst Deed) : Type 0 where
   pub each : (number : ℕ) → number < count → IsReclaimedBy (plan number).definition.kind (plan number) number rounds
       (own_entries Reclaimer (reverse (entries_at journals number))) (reverse (entries_at journals number))
   pub did : AreRoundsDone plan count rounds (reverse (deeds_of (ByCaller Reclaimer) order))

@@ -20,19 +20,20 @@ use Rattle.shards.specs.declared.deeds.Deed.{Deed}
 use Rattle.shards.specs.declared.deeds.Deed.TheVariants.{Wrote, MetFull}
 use Rattle.shards.specs.Passes.{PassView, own_at, seen_at}
 use Rattle.shards.specs.Asked.{PassIsServed, PassIsRefused}
+use Rattle.semantics.specs.Entries.{NewestFirst, History}
 
 -- the entry of a Reclaim that freed some number of cells
 abbrev pub IsReclaim : ℕ → Entry → Type 0
 IsReclaim number entry = (freed : ℕ) × (entry ≡ record { who = Reclaimer; call = Reclaim number; reply = Freed freed })
 
 -- N rounds in one hash or LRU shard
-pub record IsReclaimed (plan : ShardPlan) (number rounds : ℕ) (own seen : List Entry) : Type 0 where
+pub record IsReclaimed (plan : ShardPlan) (number rounds : ℕ) (own seen : History) : Type 0 where
   pub each : AllByRecursion (IsReclaim number) own
   pub one_a_round : length own ≤ rounds
   pub fewer_if_full : length own < rounds → IsJournalFull plan seen (Reclaim number)
 
 -- an array retires no cell, and is not asked
-abbrev pub IsReclaimedBy : MapKind → ShardPlan → ℕ → ℕ → List Entry → List Entry → Type 0
+abbrev pub IsReclaimedBy : MapKind → ShardPlan → ℕ → ℕ → History → History → Type 0
 IsReclaimedBy Array plan number rounds own seen = own ≡ []
 IsReclaimedBy kind plan number rounds own seen = IsReclaimed plan number rounds own seen
 
@@ -74,15 +75,15 @@ AreRoundsDone plan count (suc rounds) deeds =
     AreRoundsDone plan count rounds later
 
 -- one round more: what was done, newest first, is its deeds on top of these
-pub record HasMadeRound (plan : ℕ → ShardPlan) (count : ℕ) (before after : List Deed) : Type 0 where
+pub record HasMadeRound (plan : ℕ → ShardPlan) (count : ℕ) (before after : NewestFirst Deed) : Type 0 where
   -- the oldest deed first
   pub made : List Deed
   pub round : IsRoundDone plan count made
   pub deeds_are : after ≡ reverse made ++ before
 
 -- the deeds of one round come behind all others
-pub record EndsWithRound (plan : ℕ → ShardPlan) (count : ℕ) (order : List Deed) : Type 0 where
-  pub others : List Deed
+pub record EndsWithRound (plan : ℕ → ShardPlan) (count : ℕ) (order : NewestFirst Deed) : Type 0 where
+  pub others : NewestFirst Deed
   pub last : HasMadeRound plan count others order
 
 -- N rounds: what they left in each of N shards, and all that the reclaimer did over them

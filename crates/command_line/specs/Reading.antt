@@ -1,7 +1,7 @@
 -- What the settings are of a command and what was found for its arguments.
 use Rattle.std.specs.Prelude.{◌≡◌, ◌<◌, ◌^◌, ◌*◌, ◌+◌, ◌/◌, ℕ, Bool, List, [], ◌∷◌, ◌++◌, length, true, false, ◌&&◌, Option, Some, None, option_map}
 use Rattle.std.specs.Prelude.{◌⊎◌, IfSome}
-use Rattle.std.specs.Prelude.{IsTrue, IsFalse, ◌||◌, codes, is_none, is_some, unwrap_or, slice_get, slice_index_or}
+use Rattle.std.specs.Prelude.{IsTrue, IsFalse, ◌||◌, not, codes, is_none, is_some, unwrap_or, slice_get, slice_index_or}
 use Rattle.std.specs.Borrow.{Bor}
 use Rattle.std.specs.Str.{bytes_eq}
 use Rattle.std.specs.Str.Parse.{IsNumeral, digits_value, without_leading_plus}
@@ -19,7 +19,7 @@ use Rattle.command_line.specs.declared.commands.Settings.{Settings}
 use Rattle.command_line.specs.declared.commands.Settings.TheVariants.{Check, Run, Disasm, Audit, Explain, Asm, Shipped, Replay, Table}
 use Rattle.command_line.specs.declared.commands.Settings.TheVariants.{Script, Compare, Flows, Page}
 use Rattle.command_line.specs.declared.words.WordsFault.{WordsFault}
-use Rattle.command_line.specs.declared.words.WordsFault.TheVariants.{Parser, UnknownFault, Both, TwoImages, UpdatesAlone, JournalsOfNone}
+use Rattle.command_line.specs.declared.words.WordsFault.TheVariants.{Parser, UnknownFault, Both, TwoImages, UpdatesAlone, OfCommands, JournalsOfNone}
 use Rattle.command_line.specs.declared.words.WordsFault.TheVariants.{Update, NoPart, LostAlone, NoLoss}
 use Rattle.command_line.specs.declared.words.AskedWords.{AskedWords}
 use Rattle.command_line.specs.declared.words.AskedWords.TheVariants as asks
@@ -30,6 +30,7 @@ use Rattle.map_updates.specs.UpdateWords.{IsWritten, AreMistakenWords}
 use Rattle.map_updates.specs.declared.reading.Mistake.{Mistake}
 use Rattle.map_updates.specs.declared.reading.Mistake.TheVariants.{Memory}
 use Rattle.map_updates.specs.declared.update.MapUpdate.{MapUpdate}
+use Rattle.command_line.specs.Commanded.{AreLeftByCommands, IsFirstOfCommands}
 
 -- the word of an option, where it is given
 abbrev pub text_of : Option (Bor (List ℕ)) → Option (List ℕ)
@@ -78,9 +79,13 @@ are_both_given one other rows = is_some (first_of one rows) && is_some (first_of
 abbrev pub has_updates : List Row → Bool
 has_updates rows = is_some (all_of (codes "update") rows)
 
--- there are updates, and no image
+-- a program over the maps of steering is named
+abbrev pub has_program : List Row → Bool
+has_program rows = is_some (first_of (codes "program") rows)
+
+-- there are updates, and neither an image nor such a program
 abbrev pub are_updates_alone : List Row → Bool
-are_updates_alone rows = has_updates rows && is_none (first_of (codes "image") rows)
+are_updates_alone rows = has_updates rows && (is_none (first_of (codes "image") rows) && not (has_program rows))
 
 -- a file is named for the journals
 abbrev pub has_journals : List Row → Bool
@@ -242,7 +247,7 @@ pub record AsksNoPart (asked : Option Text) (word : Text) : Type 0 where
   pub given : asked ≡ Some word
   pub none : IsNoPartWord word
 
--- a replay is asked for one program, and for updates only where that is an image
+-- a replay is asked for one program, and for updates only where that is not the shipped one
 abbrev pub IsOfOneProgram : List Row → Type 0
 IsOfOneProgram rows = IsFalse (are_both_given (codes "image") (codes "script") rows)
     × IsFalse (are_both_given (codes "image") (codes "program") rows)
@@ -259,10 +264,22 @@ abbrev pub IsOfUpdates : Text → List Row → Type 0
 IsOfUpdates name rows =
     is_named name (codes "run") ⊎ (is_named name (codes "replay") × IsOfOneProgram rows × NamesKeptRows rows)
 
--- no update is malformed
+-- the updates of a replay: commands of a script, which a program over the maps of steering may have, set other maps
+pub record AreReplayUpdates (rows : List Row) (updates : List MapUpdate) : Type 0 where
+  pub said : AreUpdates (words_of (codes "update") rows) updates
+  pub left : IsTrue (has_program rows) → AreLeftByCommands updates
+
+-- no update is malformed, or of a map that commands set
 pub record AreSomeUpdates (rows : List Row) : Type 0 where
   pub updates : List MapUpdate
-  pub are : AreUpdates (words_of (codes "update") rows) updates
+  pub are : AreReplayUpdates rows updates
+
+-- no update is malformed, and the first one of a map that commands set is at this place, from 0
+pub record IsUpdateOfCommands (rows : List Row) (place : ℕ) : Type 0 where
+  pub updates : List MapUpdate
+  pub said : AreUpdates (words_of (codes "update") rows) updates
+  pub program : IsTrue (has_program rows)
+  pub first : IsFirstOfCommands updates place
 
 -- the settings are those of the command of this name, with what was found for its arguments
 abbrev pub IsReadFrom : Text → List Row → Settings → Type 0
@@ -323,10 +340,11 @@ IsReadFrom name rows (Replay asked) = is_named name (codes "replay")
     × IsSwitchOf (codes "no-clobber") rows asked.no_clobber
     × IsOfOneProgram rows
     × IsFalse (asked.no_journals && has_journals rows)
-    × AreUpdates (words_of (codes "update") rows) asked.updates.items
+    × AreReplayUpdates rows asked.updates.items
 
 -- what was asked for: a command, what a word means that is no fault, a replay of both an image and a script or of two images, one with
--- updates and without an image, one with a file for journals that keep no rows, a malformed update, or a replay of no part
+-- updates of the shipped program, one with a file for journals that keep no rows, a malformed update, an update of what commands set, or a
+-- replay of no part
 abbrev pub IsAsked : Text → List Row → AskedWords → Type 0
 IsAsked name rows (Command settings) = IsReadFrom name rows settings
 IsAsked name rows (NoSuchFault word) = is_named name (codes "explain")
@@ -345,6 +363,10 @@ IsAsked name rows asks.JournalsOfNone = is_named name (codes "replay")
     × IsSwitchOf (codes "no-journals") rows true
     × IsTrue (has_journals rows)
 IsAsked name rows (NoUpdate place mistake) = IsOfUpdates name rows × IsBadUpdate (words_of (codes "update") rows) place mistake
+IsAsked name rows (asks.OfCommands place) = is_named name (codes "replay")
+    × IsOfOneProgram rows
+    × NamesKeptRows rows
+    × IsUpdateOfCommands rows place
 IsAsked name rows (asks.NoPart word) = is_named name (codes "replay")
     × IsOfOneProgram rows
     × NamesKeptRows rows
@@ -362,8 +384,8 @@ IsAsked name rows (asks.NoLoss word) = is_named name (codes "replay")
     × AsksNoLoss (first_of (codes "part") rows) (first_of (codes "lost") rows) word.now
 
 -- the words ask for what there is not: what a word means that is no fault, a replay of both an image and a script or of two images, one
--- with updates and without an image, one with a file for journals that keep no rows, a malformed update, a replay of no part, one with a loss
--- and no part, or one with no loss of a part
+-- with updates of the shipped program, one with a file for journals that keep no rows, a malformed update, an update of what commands set, a
+-- replay of no part, one with a loss and no part, or one with no loss of a part
 abbrev pub AsksInVain : Text → List Row → WordsFault → Type 0
 AsksInVain name rows (UnknownFault word) = IsAsked name rows (NoSuchFault word)
 AsksInVain name rows Both = IsAsked name rows ImageAndScript
@@ -371,6 +393,7 @@ AsksInVain name rows TwoImages = IsAsked name rows ImageAndProgram
 AsksInVain name rows UpdatesAlone = IsAsked name rows asks.UpdatesAlone
 AsksInVain name rows JournalsOfNone = IsAsked name rows asks.JournalsOfNone
 AsksInVain name rows (Update place mistake) = IsAsked name rows (NoUpdate place mistake)
+AsksInVain name rows (OfCommands place) = IsAsked name rows (asks.OfCommands place)
 AsksInVain name rows (NoPart word) = IsAsked name rows (asks.NoPart word)
 AsksInVain name rows LostAlone = IsAsked name rows asks.LostAlone
 AsksInVain name rows (NoLoss word) = IsAsked name rows (asks.NoLoss word)
@@ -389,6 +412,7 @@ kind_of_fault TwoImages = ArgumentConflict
 kind_of_fault UpdatesAlone = ArgumentConflict
 kind_of_fault JournalsOfNone = ArgumentConflict
 kind_of_fault (Update place mistake) = kind_of_mistake mistake
+kind_of_fault (OfCommands place) = ArgumentConflict
 kind_of_fault (NoPart word) = ValueValidation
 kind_of_fault LostAlone = ArgumentConflict
 kind_of_fault (NoLoss word) = ValueValidation

@@ -477,7 +477,7 @@ fn with_shards<'a>(alloc: Global, command: Command<'a>) -> Result<Command<'a>, A
 {
     let updates = update(
         alloc,
-        "Sets a value before the first frame; with --image only",
+        "Sets a value before the first frame; with --image or --program",
     );
     let workers = count(alloc, WORKERS, "1", "How many workers, 1 to 8");
     let shards = count(

@@ -113,7 +113,8 @@ in which case the status is 1. A frame is handled by the worker of its flow,
 so that a flow's frames stay in order. --image replays any program, without a
 script; --update, as of run, sets a value in its maps before the first frame.
 --program replays one over the maps of the shipped program, with any size of the
-lookup table and of the flow table, and with a script. The shipped program notes
+lookup table and of the flow table, and with a script; --update then sets the
+maps 1 and 5 alone, of flows and counts, which no command sets. The shipped program notes
 the backends of --flows flows; to note one more it forgets one. The controller
 works beside the workers: a command may take effect up to some 64 frames for
 each worker too early, because a worker's queue holds 64 frames, or later. With
@@ -121,9 +122,9 @@ each worker too early, because a worker's queue holds 64 frames, or later. With
 one is begun. With --summary
 lines on the standard error give the number of frames of each kind in the
 capture, the number sent to each address, how many of these were sent to
-another address than the frame of their flow before, how many are for each
-service of the script, why others were not sent, how many slots of the lookup
-table each backend has at the end, and the first ten records that went to
+another address than the frame of their flow before and why, how many are for
+each service of the script, why others were not sent, how many slots of the
+lookup table each backend has at the end, and the first ten records that went to
 another address; of --image and --program, whose reasons are their own, how many
 frames the program passed, dropped, aborted and sent. A frame that was cut within
 its packet when it was captured is passed, as malformed (tcpdump -s 0 keeps

@@ -1,6 +1,7 @@
 //! The program's command line: its commands with their words and help, and what a user's words say.
 #![tactic(auto)]
 
+mod commanded;
 mod commands;
 mod grammar;
 mod help;

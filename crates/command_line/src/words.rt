@@ -10,13 +10,14 @@ ghost use Rattle.clap.specs.Walk.{first_of, texts};
 ghost use Rattle.map_updates.specs.UpdateWords.{IsWritten, AreMistakenWords};
 ghost use Rattle.clap.specs.Words.{Row, Text, fault_of, found_of, rows_of, subcommand_of};
 ghost use Rattle.command_line.specs.CommandLine.{program};
-ghost use Rattle.command_line.specs.Reading.{IsReadFrom, IsAsked, IsBadUpdate, IsCommand, IsSwitchOf, AreRunFiles, AreUpdates};
+ghost use Rattle.command_line.specs.Reading.{IsReadFrom, IsAsked, IsBadUpdate, IsCommand, IsSwitchOf, AreReplayUpdates, AreRunFiles, AreUpdates};
 ghost use Rattle.command_line.specs.Reading.{IsFirstName, IsName, SaysFault, SaysNone, Writes};
 ghost use Rattle.command_line.specs.Reading.{AreReplayFiles, AreReplayOptions, AsksInVain, IsNumberOf, IsOfOneProgram, IsReadingOf};
-ghost use Rattle.command_line.specs.Reading.{are_both_given, are_updates_alone, first_given, has_journals, has_updates, kind_of_fault, text_of, word_at};
+ghost use Rattle.command_line.specs.Reading.{are_both_given, are_updates_alone, first_given, has_journals, has_program, has_updates, kind_of_fault, text_of, word_at};
 ghost use Rattle.command_line.specs.Reading.{argument_word, words_of, AsksNoPart, IsLossAsked, IsPartAsked};
 ghost use Rattle.clap.specs.declared.error.kind.ErrorKind.TheVariants.{DisplayHelp, DisplayVersion, OutOfMemory};
 
+use crate::commanded::first_of_commands;
 use crate::commands::{
     DEFAULT_FLOWS, DEFAULT_RING, Reading, ReplayFiles, ReplaySettings, RunFiles, Settings,
 };
@@ -45,8 +46,12 @@ const TWO_IMAGES: &str = "error: the options --image and --program cannot be use
 /// What is printed for a replay with a file for journals that keep no rows.
 const NO_ROWS: &str = "error: the options --journals and --no-journals cannot be used together";
 
-/// What is printed for a replay with updates that has no `--image`.
-const NO_IMAGE: &str = "error: the option --update cannot be used without --image";
+/// What is printed for a replay of the shipped program with updates.
+const NO_IMAGE: &str = "error: the option --update cannot be used without --image or --program";
+
+/// What is printed of an update of a map that commands set, behind its number.
+const COMMANDED: &str =
+    "with --program only the maps 1 and 5 can be set, since commands of a script set the others";
 
 /// What is printed for a replay with a loss that is of no part.
 const NO_PART: &str = "error: the option --lost cannot be used without --part";
@@ -66,8 +71,10 @@ pub enum WordsFault<'a> {
     Both,
     /// A replay has two images, of `--image` and of `--program`.
     TwoImages,
-    /// A replay has updates and no `--image`.
+    /// A replay has updates, and neither `--image` nor `--program`.
     UpdatesAlone,
+    /// A replay with `--program` has an update, at this place among its updates, from 0, of a map that commands of a script set.
+    OfCommands { place: usize },
     /// A replay has a file for journals that keep no rows.
     JournalsOfNone,
     /// An update of a run or a replay, at this place among its updates, from 0, is malformed; or memory was refused for it.
@@ -91,8 +98,10 @@ enum AskedWords<'a> {
     ImageAndScript,
     /// A replay of both `--image` and `--program`.
     ImageAndProgram,
-    /// A replay with updates and without `--image`.
+    /// A replay of the shipped program with updates.
     UpdatesAlone,
+    /// A replay with `--program` and an update of a map that commands of a script set.
+    OfCommands { place: usize },
     /// A replay of both `--journals` and `--no-journals`.
     JournalsOfNone,
     /// A run or a replay with a malformed update.
@@ -117,6 +126,7 @@ impl WordsFault<'_> {
             WordsFault::Both => 2,
             WordsFault::TwoImages => 2,
             WordsFault::UpdatesAlone => 2,
+            WordsFault::OfCommands { .. } => 2,
             WordsFault::JournalsOfNone => 2,
             WordsFault::Update { .. } => 2,
             WordsFault::NoPart(_) => 2,
@@ -142,6 +152,10 @@ impl fmt::Display for WordsFault<'_> {
             WordsFault::Both => write!(f, "{TOGETHER}"),
             WordsFault::TwoImages => write!(f, "{TWO_IMAGES}"),
             WordsFault::UpdatesAlone => write!(f, "{NO_IMAGE}"),
+            WordsFault::OfCommands { place } => {
+                let number = place.saturating_add(1);
+                write!(f, "error: update {number}: {COMMANDED}")
+            }
             WordsFault::JournalsOfNone => write!(f, "{NO_ROWS}"),
             WordsFault::Update { place, mistake } => {
                 let number = place.saturating_add(1);
@@ -181,6 +195,7 @@ pub fn settings<'a, S: AsStr>(alloc: Global, words: &'a [S]) -> Result<Settings<
         Ok(AskedWords::ImageAndScript) => Err(WordsFault::Both),
         Ok(AskedWords::ImageAndProgram) => Err(WordsFault::TwoImages),
         Ok(AskedWords::UpdatesAlone) => Err(WordsFault::UpdatesAlone),
+        Ok(AskedWords::OfCommands { place }) => Err(WordsFault::OfCommands { place }),
         Ok(AskedWords::JournalsOfNone) => Err(WordsFault::JournalsOfNone),
         Ok(AskedWords::NoUpdate { place, mistake }) => Err(WordsFault::Update { place, mistake }),
         Ok(AskedWords::NoPart(word)) => Err(WordsFault::NoPart(word)),
@@ -318,9 +333,29 @@ fn replay_of<'a>(alloc: Global, found: &ArgMatches<'a>) -> AskedWords<'a>
         return AskedWords::JournalsOfNone;
     }
     match updates_found(alloc, found) {
-        Ok(updates) => replay_of_part(found, no_journals, updates),
+        Ok(updates) => replay_of_updates(found, no_journals, updates),
         Err((place, mistake)) => AskedWords::NoUpdate { place, mistake },
     }
+}
+
+/// What is asked of a replay with these updates, with rows of journals or without, before it is looked whether commands set their maps.
+fn replay_of_updates<'a>(
+    found: &ArgMatches<'a>,
+    no_journals: bool,
+    updates: Vec<MapUpdate>,
+) -> AskedWords<'a>
+    requires program { IsOfOneProgram (rows_of (found_of found.now)) }
+    requires journals { IsSwitchOf (codes "no-journals") (rows_of (found_of found.now)) no_journals }
+    requires rows { IsFalse (no_journals && has_journals (rows_of (found_of found.now))) }
+    requires updates { AreUpdates (words_of (codes "update") (rows_of (found_of found.now))) updates.items }
+    ensures { IsAsked (codes "replay") (rows_of (found_of found.now)) result }
+{
+    if has_program(found)
+        && let Some(place) = first_of_commands(&updates)
+    {
+        return AskedWords::OfCommands { place };
+    }
+    replay_of_part(found, no_journals, updates)
 }
 
 /// What is asked of a replay with these updates, with rows of journals or without.
@@ -332,7 +367,7 @@ fn replay_of_part<'a>(
     requires program { IsOfOneProgram (rows_of (found_of found.now)) }
     requires journals { IsSwitchOf (codes "no-journals") (rows_of (found_of found.now)) no_journals }
     requires rows { IsFalse (no_journals && has_journals (rows_of (found_of found.now))) }
-    requires updates { AreUpdates (words_of (codes "update") (rows_of (found_of found.now))) updates.items }
+    requires updates { AreReplayUpdates (rows_of (found_of found.now)) updates.items }
     ensures { IsAsked (codes "replay") (rows_of (found_of found.now)) result }
 {
     match part_found(found) {
@@ -351,7 +386,7 @@ fn replay_of_loss<'a>(
     requires program { IsOfOneProgram (rows_of (found_of found.now)) }
     requires journals { IsSwitchOf (codes "no-journals") (rows_of (found_of found.now)) no_journals }
     requires rows { IsFalse (no_journals && has_journals (rows_of (found_of found.now))) }
-    requires updates { AreUpdates (words_of (codes "update") (rows_of (found_of found.now))) updates.items }
+    requires updates { AreReplayUpdates (rows_of (found_of found.now)) updates.items }
     requires part { IsPartAsked (first_of (codes "part") (rows_of (found_of found.now))) part }
     requires whole { IfSome part (λ whole. whole.lost ≡ None) }
     ensures { IsAsked (codes "replay") (rows_of (found_of found.now)) result }
@@ -376,7 +411,7 @@ fn replay_losing<'a>(
     requires program { IsOfOneProgram (rows_of (found_of found.now)) }
     requires journals { IsSwitchOf (codes "no-journals") (rows_of (found_of found.now)) no_journals }
     requires rows { IsFalse (no_journals && has_journals (rows_of (found_of found.now))) }
-    requires updates { AreUpdates (words_of (codes "update") (rows_of (found_of found.now))) updates.items }
+    requires updates { AreReplayUpdates (rows_of (found_of found.now)) updates.items }
     requires part { IsPartAsked (first_of (codes "part") (rows_of (found_of found.now))) (Some part) }
     requires lost { first_of (codes "lost") (rows_of (found_of found.now)) ≡ Some word.now }
     ensures { IsAsked (codes "replay") (rows_of (found_of found.now)) result }
@@ -414,7 +449,7 @@ fn replay_with<'a>(
     requires program { IsOfOneProgram (rows_of (found_of found.now)) }
     requires journals { IsSwitchOf (codes "no-journals") (rows_of (found_of found.now)) no_journals }
     requires rows { IsFalse (no_journals && has_journals (rows_of (found_of found.now))) }
-    requires updates { AreUpdates (words_of (codes "update") (rows_of (found_of found.now))) updates.items }
+    requires updates { AreReplayUpdates (rows_of (found_of found.now)) updates.items }
     requires part { IsPartAsked (first_of (codes "part") (rows_of (found_of found.now))) part }
     requires lost { IsLossAsked (first_of (codes "lost") (rows_of (found_of found.now))) part }
     ensures { IsReadFrom (codes "replay") (rows_of (found_of found.now)) result }
@@ -453,11 +488,18 @@ fn has_journals(found: &ArgMatches<'_>) -> bool
     option(found, JOURNALS_OUT).is_some()
 }
 
-/// Whether there are updates, and no image.
+/// Whether a program over the maps of steering is named.
+fn has_program(found: &ArgMatches<'_>) -> bool
+    ensures { result ≡ has_program (rows_of (found_of found.now)) }
+{
+    option(found, PROGRAM).is_some()
+}
+
+/// Whether there are updates, and neither an image nor such a program.
 fn are_updates_alone(found: &ArgMatches<'_>) -> bool
     ensures { result ≡ are_updates_alone (rows_of (found_of found.now)) }
 {
-    has_updates(found) && option(found, REPLAY_IMAGE).is_none()
+    has_updates(found) && option(found, REPLAY_IMAGE).is_none() && !has_program(found)
 }
 
 /// Whether there are updates.

@@ -72,9 +72,11 @@ before_point text = before_first (λ b. b == 46) text
 abbrev pub after_point : List ℕ → List ℕ
 after_point text = after_first (λ b. b == 46) text
 
--- seconds, a point, and six digits
+-- seconds of 12 digits at most, a point, and six digits
 abbrev pub is_moment : List ℕ → Bool
-is_moment text = is_number (before_point text) && (length (after_point text) == 6 && is_number (after_point text))
+is_moment text =
+    nat_le (length (before_point text)) 12
+    && (is_number (before_point text) && (length (after_point text) == 6 && is_number (after_point text)))
 
 -- a word of capital letters
 abbrev pub is_verdict : List ℕ → Bool

@@ -83,12 +83,13 @@ fn after_point(text: &str) -> &str
     }
 }
 
-/// Whether a text is seconds, a point, and six digits.
+/// Whether a text is seconds of 12 digits at most, a point, and six digits.
 fn is_moment(text: &str) -> bool
     ensures { result ≡ is_moment text.now }
 {
+    let seconds = before_point(text);
     let micros = after_point(text);
-    is_number(before_point(text)) && (micros.len() == 6 && is_number(micros))
+    seconds.len() <= 12 && (is_number(seconds) && (micros.len() == 6 && is_number(micros)))
 }
 
 /// Whether a text is a word of capital letters.

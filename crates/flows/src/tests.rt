@@ -221,21 +221,24 @@ static ROWS: [Row; 21] = [
 type Refusal = (&'static str, &'static [u8], NoFlows);
 
 #[rattlefmt::skip]
-static REFUSED: [Refusal; 8] = [
+static REFUSED: [Refusal; 3] = [
     ("JSON lines", b"{\"number\":1}\n", NoFlows::JsonLines),
     ("no bytes", b"", NoFlows::NoReport { line: 1 }),
     ("bytes that are no text", b"number\n\xff\n", NoFlows::NoReport { line: 2 }),
-    ("a row with twelve commas", b"number,moment,worker,verdict,steps,case,backend,address,source,source_port,destination,destination_port,protocol,choice\n\
-         1,1.000000,,SHORT,,short,,,,,,,\n", NoFlows::NoReport { line: 2 }),
-    ("a row that is not ended", b"number,moment,worker,verdict,steps,case,backend,address,source,source_port,destination,destination_port,protocol,choice\n\
-         1,1.000000,,SHORT,,short,,,,,,,,", NoFlows::NoReport { line: 2 }),
-    ("the second record first", b"number,moment,worker,verdict,steps,case,backend,address,source,source_port,destination,destination_port,protocol,choice\n\
-         2,1.000000,,SHORT,,short,,,,,,,,\n", NoFlows::LeftOut { line: 2 }),
-    ("no second record", b"number,moment,worker,verdict,steps,case,backend,address,source,source_port,destination,destination_port,protocol,choice\n\
-         1,1.000000,,SHORT,,short,,,,,,,,\n\
-         3,1.000000,,SHORT,,short,,,,,,,,\n", NoFlows::LeftOut { line: 3 }),
-    ("a number with a zero in front", b"number,moment,worker,verdict,steps,case,backend,address,source,source_port,destination,destination_port,protocol,choice\n\
-         01,1.000000,,SHORT,,short,,,,,,,,\n", NoFlows::LeftOut { line: 2 }),
+];
+
+/// What a row shows, what stands behind the head, and the refusal.
+type RefusedRows = (&'static str, &'static str, NoFlows);
+
+#[rattlefmt::skip]
+static REFUSED_ROWS: [RefusedRows; 6] = [
+    ("a row with twelve commas",       "1,1.000000,,SHORT,,short,,,,,,,\n",    NoFlows::NoReport { line: 2 }),
+    ("a row that is not ended",        "1,1.000000,,SHORT,,short,,,,,,,,",     NoFlows::NoReport { line: 2 }),
+    ("a moment with 13 digits before its point", "1,123456789012.000000,,SHORT,,short,,,,,,,,\n2,1234567890123.000000,,SHORT,,short,,,,,,,,\n",
+        NoFlows::WrongField { line: 3, column: 1 }),
+    ("the second record first",        "2,1.000000,,SHORT,,short,,,,,,,,\n",   NoFlows::LeftOut { line: 2 }),
+    ("no second record",               "1,1.000000,,SHORT,,short,,,,,,,,\n3,1.000000,,SHORT,,short,,,,,,,,\n", NoFlows::LeftOut { line: 3 }),
+    ("a number with a zero in front",  "01,1.000000,,SHORT,,short,,,,,,,,\n",  NoFlows::LeftOut { line: 2 }),
 ];
 
 /// Holds the texts of a row against what is wanted.
@@ -250,11 +253,17 @@ fn compare_row(rt: &impl Abort, alloc: Global, row: &Row) {
 }
 
 /// Holds the refusal of a row against what is wanted.
-fn compare_refusal(rt: &impl Abort, alloc: Global, row: &Refusal) {
-    let (name, bytes, wanted) = *row;
+fn compare_refusal(rt: &impl Abort, alloc: Global, name: &str, bytes: &[u8], wanted: NoFlows) {
     let script = parse_script(alloc, b"").expect(rt, name);
     let refusal = flows_in(alloc, bytes, &script).err();
     assert_eq!(rt; refusal, Some(wanted), "{name}");
+}
+
+/// The same of a report with these rows.
+fn compare_refused_rows(rt: &impl Abort, alloc: Global, row: &RefusedRows) {
+    let (name, rows, wanted) = *row;
+    let report = format!(in alloc; "{REPORT_HEAD}{rows}").expect(rt, name);
+    compare_refusal(rt, alloc, name, report.as_bytes(), wanted);
 }
 
 #[test]
@@ -267,7 +276,15 @@ fn flows_are_told(rt: HostRuntime) {
 #[test]
 fn other_files_are_refused(rt: HostRuntime) {
     for row in &REFUSED {
-        compare_refusal(&rt, rt.alloc(), row);
+        let (name, bytes, wanted) = *row;
+        compare_refusal(&rt, rt.alloc(), name, bytes, wanted);
+    }
+}
+
+#[test]
+fn other_rows_are_refused(rt: HostRuntime) {
+    for row in &REFUSED_ROWS {
+        compare_refused_rows(&rt, rt.alloc(), row);
     }
 }
 

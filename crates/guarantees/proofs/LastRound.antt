@@ -3,11 +3,11 @@ use Rattle.std.proofs.Common.{◌≡◌, ℕ, List, [], ◌∷◌, ◌++◌, rev
 use Rattle.std.proofs.lemmas.List.{reverse-append, reverse-reverse}
 use Rattle.semantics.specs.declared.call.Entry.{Entry}
 use Rattle.semantics.specs.declared.plan.ShardPlan.{ShardPlan}
-use Rattle.semantics.specs.System.{Setting, SystemEvent, SystemState, after_event, opening_system}
+use Rattle.semantics.specs.System.{Setting, SystemEvent, SystemState, after_event, opening_system, after_all}
 use Rattle.shards.specs.declared.deeds.Deed.{Deed}
 use Rattle.shards.specs.Deeds.{entries_made}
 use Rattle.actors.specs.Rounds.{EndsWithRound}
-use Rattle.guarantees.specs.LastRound.{after_all, EndWithRound}
+use Rattle.guarantees.specs.LastRound.{EndWithRound}
 use Rattle.guarantees.specs.Merging.{AreWrittenInOrder}
 use Rattle.actors.proofs.shared.DeedLemmas.{entries_append}
 

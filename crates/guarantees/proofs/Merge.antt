@@ -33,7 +33,7 @@ use Rattle.guarantees.proofs.AnswerLemmas.{then_ended, then_answered, then_contr
 use Rattle.guarantees.proofs.LegalEntries.{entry_is_legal}
 use Rattle.guarantees.proofs.MoveLemmas.{numbered}
 use Rattle.actors.proofs.shared.DeedLemmas.{is_deed_by, made_append, met_at}
-use Rattle.guarantees.proofs.MergeEvents.{HappenFrom, then_happen, then_written, entries_are, IsListed, listed, AreOwn, own_stay, own_go, Advance, advance, RunsOut, runs_out}
+use Rattle.guarantees.proofs.MergeEvents.{HappenFrom, then_happen, then_written, entries_are, lead, AreOwn, own_stay, own_go, Advance, advance, RunsOut, runs_out}
 use Rattle.guarantees.proofs.MergeCalls.{IsAtPlace, worker_at, answers_at, controller_changes_keys, reclaimer_reclaims, served, may_call, answer_served, IsLookAt, may_look, turned_away, no_answer}
 use Rattle.guarantees.proofs.AfterDeeds.{put, put_there, put_other, HaveHistories, after_entry, after_look, asked_shards}
 use Rattle.guarantees.proofs.Heard.{is_heard, heard, answer_of_deed, heard_more, heard_less}
@@ -710,9 +710,7 @@ abbrev with_ends_of : (setting : Setting) (plan : ℕ → ShardPlan) (count : �
     (ends : ℕ → List Ending) (deeds : List Deed) → IsOrderOfMoves setting plan count journal moves deeds →
     IsMergedWhole setting plan count moves ends deeds → IsListWithEnds setting plan count journal moves ends deeds
 with_ends_of setting plan count journal moves ends deeds order merged =
-    let all = listed setting [] merged.events merged.last tt merged.happen in
-    let same : reverse merged.events ++ [] ≡ reverse merged.events = append-nil (reverse merged.events) in
-    let whole = subst (λ (list : List SystemEvent). IsListed setting list merged.last) same all in
+    let whole = lead setting (opening_system setting) merged.events merged.last merged.happen in
     record {
       list = record {
         events = merged.events;

@@ -5,7 +5,7 @@ use Rattle.std.specs.List.{AllByRecursion}
 use Rattle.std.proofs.lemmas.Bool.{ne_eqb, eqb-true}
 use Rattle.std.proofs.lemmas.List.{reverse-append, length-set}
 use Rattle.semantics.specs.declared.call.Caller.TheVariants.{Worker}
-use Rattle.semantics.specs.System.{Setting, SystemState, SystemEvent, BeginsRun, DoesInstruction, CallsShard, LeavesShard, Controls, Reclaims, WorkerState, Idle, worker_state, with_worker, CanHappen, after_event, system_after, CanAllHappen}
+use Rattle.semantics.specs.System.{Setting, SystemState, SystemEvent, BeginsRun, DoesInstruction, CallsShard, LeavesShard, Controls, Reclaims, WorkerState, Idle, worker_state, with_worker, CanHappen, after_event, after_all, CanAllFollow}
 use Rattle.semantics.proofs.shared.SystemSteps.{state_there, state_elsewhere}
 use Rattle.shards.specs.declared.deeds.Deed.{Deed}
 use Rattle.shards.specs.declared.deeds.Deed.TheVariants.{Wrote, MetFull}
@@ -31,16 +31,16 @@ then_happen setting one two three [] second happen more = subst (λ here. Happen
 then_happen setting one two three (event ∷ first) second happen more =
     (happen.0, then_happen setting (after_event setting one event) two three first second happen.1 more)
 
-abbrev pub IsListed : Setting → List SystemEvent → SystemState → Type 0
-IsListed setting events last = CanAllHappen setting events × (system_after setting events ≡ last)
+-- they can all happen, and lead there
+abbrev pub LeadTo : Setting → SystemState → List SystemEvent → SystemState → Type 0
+LeadTo setting before events last = CanAllFollow setting before events × (after_all setting before events ≡ last)
 
-pub listed : (setting : Setting) (earlier events : List SystemEvent) (last : SystemState) → CanAllHappen setting earlier →
-    HappenFrom setting (system_after setting earlier) events last → IsListed setting (reverse events ++ earlier) last
-listed setting earlier [] last can happen = (can, happen)
-listed setting earlier (event ∷ events) last can happen =
-    let same : reverse events ++ (event ∷ earlier) ≡ reverse (event ∷ events) ++ earlier =
-    sym (ap (λ (list : List SystemEvent). list ++ earlier) (reverse-append (event ∷ []) events) ∙ append_assoc (reverse events) (event ∷ []) earlier) in
-    subst (λ (list : List SystemEvent). IsListed setting list last) same (listed setting (event ∷ earlier) events last (happen.0, can) happen.1)
+pub lead : (setting : Setting) (before : SystemState) (events : List SystemEvent) (last : SystemState) → HappenFrom setting before events last →
+    LeadTo setting before events last
+lead setting before [] last happen = (tt, happen)
+lead setting before (event ∷ later) last happen =
+    let onward : LeadTo setting (after_event setting before event) later last = lead setting (after_event setting before event) later last happen.1
+    in ((happen.0, onward.0), onward.1)
 
 -- ---- what events write
 

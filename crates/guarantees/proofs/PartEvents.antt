@@ -14,7 +14,7 @@ use Rattle.semantics.specs.declared.call.Reply.{Reply}
 use Rattle.semantics.specs.declared.plan.ShardPlan.{ShardPlan}
 use Rattle.semantics.specs.ShardPlan.{plan_at}
 use Rattle.semantics.specs.History.{shard_of_call, meets, IsJournalFull, IsLegalJournal, IsLegalStep}
-use Rattle.semantics.specs.System.{Setting, SystemState, SystemEvent, Controls, Reclaims, WorkerState, Idle, worker_state, history_of, with_worker, with_entry, after_call, MayCall, CanHappen, after_event, opening_system, system_after, CanAllHappen}
+use Rattle.semantics.specs.System.{Setting, SystemState, SystemEvent, Controls, Reclaims, WorkerState, Idle, worker_state, history_of, with_worker, with_entry, after_call, MayCall, CanHappen, after_event, opening_system}
 use Rattle.semantics.specs.Events.{Ending, answers_of_event, answered, ended_by}
 use Rattle.semantics.proofs.shared.SystemSteps.{state_there, state_elsewhere, same_everywhere}
 use Rattle.shards.specs.declared.deeds.Deed.{Deed}
@@ -31,7 +31,7 @@ use Rattle.guarantees.proofs.LegalEntries.{entry_is_legal}
 use Rattle.guarantees.proofs.AfterDeeds.{HaveHistories, after_entry, after_look, asked_shards}
 use Rattle.guarantees.proofs.Heard.{answer_of_deed}
 use Rattle.guarantees.proofs.MergeCalls.{IsAtPlace, answers_at, controller_changes_keys, reclaimer_reclaims, served, may_call, answer_served, IsLookAt, may_look, turned_away, no_answer}
-use Rattle.guarantees.proofs.MergeEvents.{HappenFrom, then_happen, then_written, listed, IsListed, asked_written, entries_are, asked_workers, AreOwn}
+use Rattle.guarantees.proofs.MergeEvents.{HappenFrom, then_happen, then_written, lead, asked_written, entries_are, asked_workers, AreOwn}
 use Rattle.guarantees.proofs.MoveLemmas.{numbered, steps_are_moves}
 
 -- ---- where the order has come to
@@ -113,14 +113,6 @@ no_answers [] = refl
 no_answers (deed ∷ own) = no_answers own
 
 -- ---- from the opening on
-
-abbrev pub IsReached : Setting → List SystemEvent → SystemState → Type 0
-IsReached setting events last = CanAllHappen setting (reverse events) × (system_after setting (reverse events) ≡ last)
-
-pub reached : (setting : Setting) (events : List SystemEvent) (last : SystemState) → HappenFrom setting (opening_system setting) events last →
-    IsReached setting events last
-reached setting events last happen =
-    subst (λ (list : List SystemEvent). IsListed setting list last) (append-nil (reverse events)) (listed setting [] events last tt happen)
 
 module _ (setting : Setting) (plan : ℕ → ShardPlan) (count : ℕ) (deeds : List Deed) (order : IsSoundOrder setting plan count deeds) where
   abbrev At : List Deed → List Deed → SystemState → Type 0
@@ -479,7 +471,7 @@ module _ (setting : Setting) (plan : ℕ → ShardPlan) (count : ℕ) (deeds : L
         here = subst (λ (list : List Deed). At list [] rest.after) (append_assoc earlier (deeds_of_part part) (deeds_in_parts parts)) rest.here;
         idle = rest.idle;
         between = (
-          λ worker. ap (λ (there : SystemState). worker_state there worker) (reached setting (before ++ own) one.after came_on).1 ∙ one.idle worker,
+          λ worker. ap (λ (there : SystemState). worker_state there worker) (lead setting (opening_system setting) (before ++ own) one.after came_on).1 ∙ one.idle worker,
           rest.between,
         );
         ended = λ worker. then_ended setting worker system one.after own (events_in_parts parts) one.happen
@@ -524,7 +516,7 @@ module _ (setting : Setting) (plan : ℕ → ShardPlan) (count : ℕ) (journal :
 
   pub list_in_parts : IsListInParts setting count journal parts
   list_in_parts =
-      let all = reached setting (events_in_parts parts) played.after played.happen in
+      let all = lead setting (opening_system setting) (events_in_parts parts) played.after played.happen in
       record {
         can = all.0;
         idle = played.between;

@@ -18,7 +18,7 @@ use Rattle.actors.specs.RunJobs.{records_of}
 use Rattle.actors.specs.Shares.{frames_of, frame_at, is_short, worker_of_frame, is_handed, share, captured_of}
 use Rattle.actors.proofs.shared.AccountLemmas.{handed_own}
 use Rattle.semantics.specs.Events.{Ending, Exited, Stopped}
-use Rattle.semantics.specs.Replay.{Captured, RecordEnd, Short, Ran, Totals, runner_of, is_run_by, ran_by, ends_by, was_short, ending_passes, was_stopped, verdict_passes, aborts, drops, passes, sends, how_many, totals_of, sent_for, frames_sent}
+use Rattle.semantics.specs.Replay.{Captured, RecordEnd, Short, Ran, Totals, runner_of, is_run_by, ran_by, ends_by, with_end, with_ends, totals_of, sent_for, frames_sent}
 use Rattle.guarantees.specs.ReplayOf.{totals_in, told_of}
 use Rattle.guarantees.proofs.AnswerLemmas.{one_behind}
 use Rattle.actors.proofs.shared.ShareOrder.{fate_is, share_at}
@@ -86,51 +86,27 @@ IsEndOf sent worker (Some fate) end = (ending : Ending) × (end ≡ Ran worker e
 
 -- ---- one record more
 
--- one more of those that pass
-more_of : (test : RecordEnd → Bool) (ends : List RecordEnd) (end : RecordEnd) (number : ℕ) → number ≡ how_many test ends →
-    (if test end then number + 1 else number) ≡ how_many test (ends ++ end ∷ [])
-more_of test ends end number is =
-    by_test (test end) ∙ ap (λ (n : ℕ). n + length (filter test (end ∷ []))) is
-    ∙ sym (ap length (filter-append test ends (end ∷ [])) ∙ length-append (filter test ends) (filter test (end ∷ [])))
-  where
-    by_test : (passes : Bool) → (if passes then number + 1 else number) ≡ number + length (if passes then end ∷ [] else [])
-    by_test true = refl
-    by_test false = let none : number ≡ number + 0 = omega arith in none
-
-abbrev with_end : RecordEnd → Counts → Totals
-with_end end counts = record {
-  short = if was_short end then counts.short + 1 else counts.short;
-  stopped = if ending_passes was_stopped end then counts.stopped + 1 else counts.stopped;
-  aborted = if ending_passes (verdict_passes aborts) end then counts.aborted + 1 else counts.aborted;
-  drop = if ending_passes (verdict_passes drops) end then counts.drop + 1 else counts.drop;
-  pass = if ending_passes (verdict_passes passes) end then counts.pass + 1 else counts.pass;
-  tx = if ending_passes (verdict_passes sends) end then counts.tx + 1 else counts.tx;
-}
+counted_more : (totals : Totals) (ends : List RecordEnd) (end : RecordEnd) → with_ends totals (ends ++ end ∷ []) ≡ with_end (with_ends totals ends) end
+counted_more totals [] end = refl
+counted_more totals (one ∷ later) end = counted_more (with_end totals one) later end
 
 all_more : (ends : List RecordEnd) (end : RecordEnd) (counts : Counts) → totals_in counts ≡ totals_of ends →
-    with_end end counts ≡ totals_of (ends ++ end ∷ [])
-all_more ends end counts so = λ i. record {
-  short = more_of was_short ends end counts.short (ap (λ (totals : Totals). totals.short) so) i;
-  stopped = more_of (ending_passes was_stopped) ends end counts.stopped (ap (λ (totals : Totals). totals.stopped) so) i;
-  aborted = more_of (ending_passes (verdict_passes aborts)) ends end counts.aborted (ap (λ (totals : Totals). totals.aborted) so) i;
-  drop = more_of (ending_passes (verdict_passes drops)) ends end counts.drop (ap (λ (totals : Totals). totals.drop) so) i;
-  pass = more_of (ending_passes (verdict_passes passes)) ends end counts.pass (ap (λ (totals : Totals). totals.pass) so) i;
-  tx = more_of (ending_passes (verdict_passes sends)) ends end counts.tx (ap (λ (totals : Totals). totals.tx) so) i;
-}
+    with_end (totals_in counts) end ≡ totals_of (ends ++ end ∷ [])
+all_more ends end counts so = ap (λ (totals : Totals). with_end totals end) so ∙ sym (counted_more (totals_of []) ends end)
 
 totals_more : (ends : List RecordEnd) (counts : Counts) (sent : Sent) (worker : ℕ) (fate : Option RunEnd) (end : RecordEnd) →
     totals_in counts ≡ totals_of ends → IsEndOf sent worker fate end → totals_in (counted counts fate) ≡ totals_of (ends ++ end ∷ [])
-totals_more ends counts sent worker None end so is = ap (λ (one : RecordEnd). with_end one counts) (sym is) ∙ all_more ends end counts so
+totals_more ends counts sent worker None end so is = ap (with_end (totals_in counts)) (sym is) ∙ all_more ends end counts so
 totals_more ends counts sent worker (Some WasStopped) end so is =
-    ap (λ (one : RecordEnd). with_end one counts) (sym (is.1 ∙ ap (Ran worker) is.2.1)) ∙ all_more ends end counts so
+    ap (with_end (totals_in counts)) (sym (is.1 ∙ ap (Ran worker) is.2.1)) ∙ all_more ends end counts so
 totals_more ends counts sent worker (Some (HasExited steps Aborted)) end so is =
-    ap (λ (one : RecordEnd). with_end one counts) (sym (is.1 ∙ ap (Ran worker) is.2.1)) ∙ all_more ends end counts so
+    ap (with_end (totals_in counts)) (sym (is.1 ∙ ap (Ran worker) is.2.1)) ∙ all_more ends end counts so
 totals_more ends counts sent worker (Some (HasExited steps Dropped)) end so is =
-    ap (λ (one : RecordEnd). with_end one counts) (sym (is.1 ∙ ap (Ran worker) is.2.1)) ∙ all_more ends end counts so
+    ap (with_end (totals_in counts)) (sym (is.1 ∙ ap (Ran worker) is.2.1)) ∙ all_more ends end counts so
 totals_more ends counts sent worker (Some (HasExited steps Passed)) end so is =
-    ap (λ (one : RecordEnd). with_end one counts) (sym (is.1 ∙ ap (Ran worker) is.2.1)) ∙ all_more ends end counts so
+    ap (with_end (totals_in counts)) (sym (is.1 ∙ ap (Ran worker) is.2.1)) ∙ all_more ends end counts so
 totals_more ends counts sent worker (Some (HasExited steps (IsSent out))) end so is =
-    ap (λ (one : RecordEnd). with_end one counts) (sym (is.1 ∙ ap (Ran worker) is.2.1)) ∙ all_more ends end counts so
+    ap (with_end (totals_in counts)) (sym (is.1 ∙ ap (Ran worker) is.2.1)) ∙ all_more ends end counts so
 
 sent_more : (sent : Sent) (worker : ℕ) (fate : Option RunEnd) (end : RecordEnd) → IsEndOf sent worker fate end →
     sent_for (captured_of sent) end ≡ sent_by fate

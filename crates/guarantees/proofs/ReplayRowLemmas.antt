@@ -38,7 +38,7 @@ unfolding slot_count
 held_ended zero = refl
 held_ended (suc worker) = rw (another worker) refl
 
-held_left : (shard : ℕ) → shard < 1 → reverse (history_of (system_after replay_setting (reverse (held_events))) shard) ≡ (held_result held_ending).journals shard
+held_left : (shard : ℕ) → shard < 1 → reverse (history_of (system_after replay_setting held_events) shard) ≡ (held_result held_ending).journals shard
 unfolding slot_count
 held_left zero below = refl
 held_left (suc shard) below = absurd (omega (arith, below))
@@ -46,7 +46,7 @@ held_left (suc shard) below = absurd (omega (arith, below))
 held_is : IsReplay replay_setting held_asked (held_result held_ending) (held_events)
 unfolding slot_count
 held_is = record {
-  can = (refl, (refl, (refl, (refl, (refl, (refl, ((refl, refl), ((refl, refl), (refl, (refl, (refl, (refl, (refl, (refl, ((omega arith, refl, frame_zero, omega arith, omega arith), ((refl, refl), tt))))))))))))))));
+  can = ((refl, refl), ((omega arith, refl, frame_zero, omega arith, omega arith), (refl, (refl, (refl, (refl, (refl, (refl, ((refl, refl), ((refl, refl), (refl, (refl, (refl, (refl, (refl, (refl, tt))))))))))))))));
   begun = held_begun;
   called = refl;
   later = held_run ++ held_command ++ held_end ++ Reclaims 0 ∷ [];
@@ -59,7 +59,7 @@ held_is = record {
   answers = refl;
   of_calls = record { first = refl; each = refl };
   left = held_left;
-  idle = λ worker. all_idle (system_after replay_setting (reverse (held_events))) worker refl;
+  idle = λ worker. all_idle (system_after replay_setting held_events) worker refl;
 }
 
 full_begun : (worker : ℕ) → begun_by worker (full_events (Reclaims 0 ∷ [])) ≡ inputs_of full_asked worker
@@ -71,7 +71,7 @@ unfolding slot_count
 full_ended zero = refl
 full_ended (suc worker) = rw (another worker) refl
 
-full_left : (shard : ℕ) → shard < 1 → reverse (history_of (system_after replay_setting (reverse (full_events (Reclaims 0 ∷ [])))) shard) ≡ (full_result).journals shard
+full_left : (shard : ℕ) → shard < 1 → reverse (history_of (system_after replay_setting (full_events (Reclaims 0 ∷ []))) shard) ≡ (full_result).journals shard
 unfolding slot_count
 full_left zero below = refl
 full_left (suc shard) below = absurd (omega (arith, below))
@@ -79,7 +79,7 @@ full_left (suc shard) below = absurd (omega (arith, below))
 full_is : IsReplay replay_setting full_asked (full_result) (full_events (Reclaims 0 ∷ []))
 unfolding slot_count
 full_is = record {
-  can = (refl, (refl, (refl, ((refl, refl), ((refl, refl), ((refl, refl), ((refl, refl), ((refl, refl), ((refl, refl), ((refl, refl), ((refl, refl), ((refl, refl), ((refl, refl), ((refl, refl), ((refl, refl), ((refl, refl), ((refl, refl), ((refl, refl), (refl, (refl, (refl, (refl, (refl, ((omega arith, refl, frame_zero, omega arith, omega arith), tt))))))))))))))))))))))));
+  can = ((omega arith, refl, frame_zero, omega arith, omega arith), (refl, (refl, (refl, (refl, (refl, ((refl, refl), ((refl, refl), ((refl, refl), ((refl, refl), ((refl, refl), ((refl, refl), ((refl, refl), ((refl, refl), ((refl, refl), ((refl, refl), ((refl, refl), ((refl, refl), ((refl, refl), ((refl, refl), ((refl, refl), (refl, (refl, (refl, tt))))))))))))))))))))))));
   begun = full_begun;
   called = refl;
   later = full_events (Reclaims 0 ∷ []);
@@ -92,7 +92,7 @@ full_is = record {
   answers = refl;
   of_calls = record { first = refl; each = refl };
   left = full_left;
-  idle = λ worker. all_idle (system_after replay_setting (reverse (full_events (Reclaims 0 ∷ [])))) worker refl;
+  idle = λ worker. all_idle (system_after replay_setting (full_events (Reclaims 0 ∷ []))) worker refl;
 }
 
 first_begun : (worker : ℕ) → begun_by worker (first_events) ≡ inputs_of first_asked worker
@@ -104,7 +104,7 @@ unfolding slot_count
 first_ended zero = refl
 first_ended (suc worker) = rw (another worker) refl
 
-first_left : (shard : ℕ) → shard < 1 → reverse (history_of (system_after replay_setting (reverse (first_events))) shard) ≡ (first_result).journals shard
+first_left : (shard : ℕ) → shard < 1 → reverse (history_of (system_after replay_setting first_events) shard) ≡ (first_result).journals shard
 unfolding slot_count
 first_left zero below = refl
 first_left (suc shard) below = absurd (omega (arith, below))
@@ -112,7 +112,7 @@ first_left (suc shard) below = absurd (omega (arith, below))
 first_is : IsReplay replay_setting first_asked (first_result) (first_events)
 unfolding slot_count
 first_is = record {
-  can = (refl, (refl, (refl, (refl, (refl, (refl, (refl, (refl, (refl, (refl, (refl, (refl, ((omega arith, refl, frame_zero, omega arith, omega arith), ((refl, refl), ((refl, refl), tt)))))))))))))));
+  can = ((refl, refl), ((refl, refl), ((omega arith, refl, frame_zero, omega arith, omega arith), (refl, (refl, (refl, (refl, (refl, (refl, (refl, (refl, (refl, (refl, (refl, (refl, tt)))))))))))))));
   begun = first_begun;
   called = refl;
   later = held_run ++ held_end ++ Reclaims 0 ∷ [];
@@ -125,16 +125,16 @@ first_is = record {
   answers = refl;
   of_calls = record { first = refl; each = refl };
   left = first_left;
-  idle = λ worker. all_idle (system_after replay_setting (reverse (first_events))) worker refl;
+  idle = λ worker. all_idle (system_after replay_setting first_events) worker refl;
 }
 
 -- ---- turn by turn
 
 abbrev still : List SystemEvent → Type 0
-still events = (system_after replay_setting (reverse events)).workers ≡ replicate 8 Idle
+still events = (system_after replay_setting events).workers ≡ replicate 8 Idle
 
 idle_after : (events : List SystemEvent) → still events → AreAllIdle replay_setting events
-idle_after events are worker = all_idle (system_after replay_setting (reverse events)) worker are
+idle_after events are worker = all_idle (system_after replay_setting events) worker are
 
 first_in_turns : IsTurnByTurn replay_setting first_asked first_turns first_events
 unfolding slot_count

@@ -52,7 +52,8 @@ use Rattle.guarantees.proofs.Heard.{heard, answer_of_deed}
 use Rattle.guarantees.proofs.OneReplay as whole
 use Rattle.guarantees.proofs.OneReplay.{map_both, ends_if, ends}
 use Rattle.actors.proofs.shared.ShareOrder.{record_of}
-use Rattle.guarantees.proofs.PartEvents.{ends_in_parts, played, list_in_parts, reached}
+use Rattle.guarantees.proofs.MergeEvents.{lead}
+use Rattle.guarantees.proofs.PartEvents.{ends_in_parts, played, list_in_parts}
 use Rattle.guarantees.proofs.PartLists.{moves_by, filtered, are_heard}
 use Rattle.guarantees.proofs.PlacedRuns.{OneRun, moves_in, ends_among, IsRunOn, AreTaken, runs_of, moves_are, ends_are, runs_are, taken_are}
 use Rattle.guarantees.proofs.SizedUpdates.{IsAskable, commands_may_look}
@@ -504,7 +505,7 @@ module _ (ran : RunsAreOfTheSystem) (stopped : StoppedRunsAreOfTheSystem) (verif
             of_each = λ worker. filtered plan setting count worker parts in_parts.are_parts
                 ∙ ap events_of (all_placed.moves_are_by worker ∙ moves_agree worker);
             histories = list.histories;
-            idle = λ worker. ap (λ (system : SystemState). worker_state system worker) (reached setting events all.after all.happen).1 ∙ all.idle worker;
+            idle = λ worker. ap (λ (system : SystemState). worker_state system worker) (lead setting (opening_system setting) events all.after all.happen).1 ∙ all.idle worker;
           };
           ended = λ worker. all.ended worker ∙ all_placed.ends_are_by worker ∙ ends_agree worker;
           called = are.called ∙ ap (λ (deeds : List Deed). map call_of_deed (heard plan Controller deeds)) deeds_whole;

@@ -9,7 +9,7 @@ use Rattle.semantics.specs.declared.call.Entry.{Entry}
 use Rattle.semantics.specs.declared.plan.ShardPlan.{ShardPlan}
 use Rattle.semantics.specs.ShardPlan.{plan_at, AreOptions}
 use Rattle.semantics.specs.History.{shard_of_call, meets, IsLegalJournal}
-use Rattle.semantics.specs.System.{Setting, SystemEvent, Controls, Reclaims, Idle, worker_state, history_of, system_after, CanAllHappen}
+use Rattle.semantics.specs.System.{Setting, SystemEvent, Controls, Reclaims, Idle, worker_state, journal_of, system_after, CanAllHappen}
 use Rattle.shards.specs.declared.deeds.Deed.{Deed}
 use Rattle.shards.specs.declared.deeds.Deed.TheVariants.{Wrote, MetFull}
 use Rattle.shards.specs.Deeds.{shard_of_deed, made_on, AreMet, AreDeedsWithin}
@@ -74,7 +74,7 @@ pub record IsOrderInParts (setting : Setting) (plan : ℕ → ShardPlan) (count 
   pub are_parts : AreParts setting plan count parts
 
 abbrev pub AreAllIdle : Setting → List SystemEvent → Type 0
-AreAllIdle setting events = (worker : ℕ) → worker_state (system_after setting (reverse events)) worker ≡ Idle
+AreAllIdle setting events = (worker : ℕ) → worker_state (system_after setting events) worker ≡ Idle
 
 -- behind each part every worker is idle; these events come before the parts
 abbrev pub AreIdleBetween : Setting → List SystemEvent → List Part → Type 0
@@ -85,10 +85,10 @@ AreIdleBetween setting earlier (part ∷ parts) =
 -- the events of the parts, one part behind the other, can all happen; behind each part every worker is idle; at the end the histories are
 -- the journals
 pub record IsListInParts (setting : Setting) (count : ℕ) (journal : ℕ → List Entry) (parts : List Part) : Type 0 where
-  pub can : CanAllHappen setting (reverse (events_in_parts parts))
+  pub can : CanAllHappen setting (events_in_parts parts)
   pub idle : AreIdleBetween setting [] parts
   pub histories :
-      (number : ℕ) → number < count → reverse (history_of (system_after setting (reverse (events_in_parts parts))) number) ≡ journal number
+      (number : ℕ) → number < count → journal_of (system_after setting (events_in_parts parts)) number ≡ journal number
 
 -- the law
 abbrev pub OrdersInPartsAreListsInParts : Type 0

@@ -1,20 +1,16 @@
 -- The end of a replay's list of events: the entries of the reclaimer's last round, behind which nothing is written.
 use Rattle.std.specs.Prelude.{◌≡◌, ℕ, List, [], ◌∷◌, ◌++◌, reverse}
 use Rattle.semantics.specs.declared.plan.ShardPlan.{ShardPlan}
-use Rattle.semantics.specs.System.{Setting, SystemEvent, SystemState, after_event, opening_system}
+use Rattle.semantics.specs.System.{Setting, SystemEvent, opening_system, after_all}
 use Rattle.shards.specs.declared.deeds.Deed.{Deed}
 use Rattle.shards.specs.Deeds.{entries_made}
 use Rattle.actors.specs.Rounds.{EndsWithRound}
 use Rattle.guarantees.specs.Merging.{AreWrittenInOrder}
+use Rattle.semantics.specs.Entries.{NewestFirst}
 
--- the state behind these events
-abbrev pub after_all : Setting → SystemState → List SystemEvent → SystemState
-after_all setting before [] = before
-after_all setting before (event ∷ later) = after_all setting (after_event setting before event) later
-
--- the one order of all deeds, newest first, ends with a round; the events are some that write the entries of all other deeds, in this order,
+-- the one order of all deeds ends with a round; the events are some that write the entries of all other deeds, in this order,
 -- and behind them those that write the entries of the round and no others
-pub record EndWithRound (setting : Setting) (plan : ℕ → ShardPlan) (count : ℕ) (order : List Deed) (events : List SystemEvent) : Type 0 where
+pub record EndWithRound (setting : Setting) (plan : ℕ → ShardPlan) (count : ℕ) (order : NewestFirst Deed) (events : List SystemEvent) : Type 0 where
   pub ends : EndsWithRound plan count order
   pub earlier : List SystemEvent
   pub later : List SystemEvent

@@ -8,7 +8,7 @@ use Rattle.semantics.specs.declared.plan.ShardPlan.{ShardPlan}
 use Rattle.semantics.specs.ShardPlan.{plan_at, AreOptions}
 use Rattle.semantics.specs.History.{shard_of_call, IsLegalJournal}
 use Rattle.semantics.specs.System.{Setting, SystemEvent, SystemState, Idle}
-use Rattle.semantics.specs.System.{worker_state, history_of, with_entry, after_event, opening_system, system_after, CanAllHappen}
+use Rattle.semantics.specs.System.{worker_state, journal_of, with_entry, after_event, opening_system, system_after, CanAllHappen}
 use Rattle.shards.specs.declared.deeds.Deed.{Deed}
 use Rattle.shards.specs.declared.deeds.OrderPart.TheVariants.{ByCaller}
 use Rattle.shards.specs.Deeds.{deeds_of, is_of_shard, entries_made, made_on, AreMet, AreDeedsWithin}
@@ -56,11 +56,11 @@ AreWrittenInOrder setting before (event ∷ later) entries =
 pub record IsOneList (setting : Setting) (count : ℕ) (journal : ℕ → List Entry) (moves : ℕ → List Move)
     (entries : List Entry) : Type 0 where
   pub events : List SystemEvent
-  pub can : CanAllHappen setting (reverse events)
+  pub can : CanAllHappen setting events
   pub written : AreWrittenInOrder setting (opening_system setting) events entries
   pub of_each : (worker : ℕ) → filter (is_event_of worker) events ≡ events_of (moves worker)
-  pub histories : (number : ℕ) → number < count → reverse (history_of (system_after setting (reverse events)) number) ≡ journal number
-  pub idle : (worker : ℕ) → worker_state (system_after setting (reverse events)) worker ≡ Idle
+  pub histories : (number : ℕ) → number < count → journal_of (system_after setting events) number ≡ journal number
+  pub idle : (worker : ℕ) → worker_state (system_after setting events) worker ≡ Idle
 
 -- the law
 abbrev pub OneOrderIsOneList : Type 0

@@ -1,6 +1,6 @@
 -- A run alone as one list of events of the system: what the controller sets, and then one run by one worker. It is no `IsReplay`: no round of
 -- the reclaimer follows it, and it is at any nanosecond, where a record has microseconds.
-use Rattle.std.specs.Prelude.{◌≡◌, ℕ, ◌<◌, ◌==◌, ◌^◌, List, [], ◌∷◌, ◌++◌, map, reverse, Option, Some, if◌then◌else◌}
+use Rattle.std.specs.Prelude.{◌≡◌, ℕ, ◌<◌, ◌==◌, ◌^◌, List, [], ◌∷◌, ◌++◌, map, Option, Some, if◌then◌else◌}
 use Rattle.wire.specs.FrameView.{FrameView}
 use Rattle.map_updates.specs.Misfits.{AreFitting}
 use Rattle.map_updates.specs.declared.update.MapUpdate.{MapUpdate}
@@ -15,7 +15,7 @@ use Rattle.semantics.specs.MachineState.{initial_state}
 use Rattle.semantics.specs.Replay.{shard_count}
 use Rattle.semantics.specs.ShardPlan.{AreOptions}
 use Rattle.semantics.specs.System.{Setting, program_of_setting, IsInputFrame, input_frame, SystemEvent, Controls, Idle}
-use Rattle.semantics.specs.System.{worker_state, history_of, opening_system, system_after, CanAllHappen}
+use Rattle.semantics.specs.System.{worker_state, journal_of, opening_system, system_after, CanAllHappen}
 use Rattle.journals.specs.JournalsView.{JournalsView, entries_at}
 use Rattle.machine.specs.declared.exit.Stop.{Stop}
 use Rattle.machine.specs.declared.exit.Stop.TheVariants.{JournalFull}
@@ -27,7 +27,7 @@ use Rattle.runs.specs.Updates.{served_by, call_of_update}
 pub record IsOneRun (setting : Setting) (worker : ℕ) (input : Input) (calls : List Call) (ending : Ending) (answers : List (Option Reply))
     (journals : ℕ → List Entry) (events : List SystemEvent) : Type 0 where
   -- they can all happen, one after the other, from the opening on
-  pub can : CanAllHappen setting (reverse events)
+  pub can : CanAllHappen setting events
   -- the calls come before all else
   pub run : List SystemEvent
   pub calls_first : events ≡ map (λ (call : Call). Controls call) calls ++ run
@@ -41,8 +41,8 @@ pub record IsOneRun (setting : Setting) (worker : ℕ) (input : Input) (calls : 
   -- after them each shard's history is its journal, and every worker is idle
   pub left :
       (shard : ℕ) → shard < shard_count setting →
-      reverse (history_of (system_after setting (reverse events)) shard) ≡ journals shard
-  pub idle : (one : ℕ) → worker_state (system_after setting (reverse events)) one ≡ Idle
+      journal_of (system_after setting events) shard ≡ journals shard
+  pub idle : (one : ℕ) → worker_state (system_after setting events) one ≡ Idle
 
 -- ---- of `run_alone`
 

@@ -9,9 +9,9 @@
 //!
 //! | Definition | Files | Definitions | Lines |
 //! |---|---|---|---|
-//! | `IsReplay` | 31 | 328 | 1,303 |
-//! | `Headline` | 54 | 441 | 1,713 |
-//! | `HeadlineOf` | 81 | 619 | 2,456 |
+//! | `IsReplay` | 32 | 327 | 1,292 |
+//! | `Headline` | 55 | 440 | 1,702 |
+//! | `HeadlineOf` | 82 | 617 | 2,442 |
 //!
 //! The laws of `step_laws` show that the definitions are not empty, those of `place_laws` that a worker is inside and holds a cell by places
 //! in the history alone. `one_caller` speaks of runs one after the other without locks, `readers` of programs that only read.

@@ -7,6 +7,7 @@ use Rattle.ebpf_decode.specs.ImageContents.{IsAllowedMap}
 use Rattle.semantics.specs.declared.call.Entry.{Entry}
 use Rattle.semantics.specs.declared.options.Options.{Options}
 use Rattle.semantics.specs.ShardPlan.{AreOptions}
+use Rattle.semantics.specs.Entries.{Journal}
 
 pub record JournalsView : Type 0 where
   pub maps : List MapDef
@@ -26,5 +27,5 @@ pub record AreJournals (maps : List MapDef) (options : Options) (count : ℕ) : 
   pub one_each : count ≡ length maps * options.shards
 
 -- the entries of the shard of this number
-abbrev pub entries_at : JournalsView → ℕ → List Entry
+abbrev pub entries_at : JournalsView → ℕ → Journal
 entries_at journals number = slice_index_or journals.shards number []

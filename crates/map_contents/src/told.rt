@@ -31,8 +31,8 @@ pub(crate) fn entries_of(
     Ok(entries)
 }
 
-/// The words of the lookup table, by its entries.
-fn words_of(alloc: Global, slots: &[(Key, Value)]) -> Result<Vec<u32>, AllocError>
+/// The numbers with which the values of entries begin: of the lookup table its words.
+pub(crate) fn words_of(alloc: Global, slots: &[(Key, Value)]) -> Result<Vec<u32>, AllocError>
     ensures { IfOk result (λ words. words.items ≡ map (λ entry. slot_word entry.1) slots.now) }
 {
     slots

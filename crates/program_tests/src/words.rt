@@ -270,7 +270,7 @@ fn reads_commands(rt: HostRuntime) {
 
 /// A command line, the status, and what its text begins with.
 #[rattlefmt::skip]
-const REFUSED: [(&str, u8, &str); 76] = [
+const REFUSED: [(&str, u8, &str); 78] = [
     ("xlb",                                     2, "error: 'xlb' requires a subcommand but one was not provided"),
     ("xlb play a b",                            2, "error: unrecognized subcommand 'play'"),
     ("xlb replay a",                            2, "error: the following required arguments were not provided:\n  <SENT>"),
@@ -278,9 +278,13 @@ const REFUSED: [(&str, u8, &str); 76] = [
     ("xlb replay a b --image i --program p",    2, "error: the options --image and --program cannot be used together"),
     ("xlb replay a b --program p --image i --script s", 2, "error: the options --image and --script cannot be used together"),
     ("xlb replay a b --no-journals --journals j", 2, "error: the options --journals and --no-journals cannot be used together"),
-    ("xlb replay a b --update 0 07 02",        2, "error: the option --update cannot be used without --image"),
-    ("xlb replay a b --update x 0 0 --program p --script s", 2, "error: the option --update cannot be used without --image"),
-    ("xlb replay a b --update 0 07 02 --script s", 2, "error: the option --update cannot be used without --image"),
+    ("xlb replay a b --update 0 07 02",        2, "error: the option --update cannot be used without --image or --program"),
+    ("xlb replay a b --update 0 07 02 --script s", 2, "error: the option --update cannot be used without --image or --program"),
+    ("xlb replay a b --update x 0 0 --program p --script s", 2, "error: update 1: "),
+    ("xlb replay a b --program p --update 1 07 02 --update 5 07 02 --update 4 07 02", 2,
+        "error: update 3: with --program only the maps 1 and 5 can be set, since commands of a script set the others"),
+    ("xlb replay a b --program p --update 0 07 02 --update 3 07 02 --part 2/1", 2,
+        "error: update 1: with --program only the maps 1 and 5 can be set, since commands of a script set the others"),
     ("xlb replay a b --image i --update 0 07 02 --update 0 7 02", 2,
         "error: update 2: its key has not two hexadecimal digits for each of at most 32 bytes"),
     ("xlb replay a b --image i --update 0 07",  2, "error: 3 values required for '--update <MAP> <KEY> <VALUE>' but 2 were provided"),

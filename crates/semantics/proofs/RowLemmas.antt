@@ -34,64 +34,7 @@ pub run_over_an_array : RunOverAnArray
 unfolding slot_count
 run_over_an_array = record {
   options = row_options Array;
-  can = (
-    refl,
-    (
-      refl,
-      (
-        refl,
-        (
-          refl,
-          (
-            refl,
-            (
-              refl,
-              (
-                refl,
-                (
-                  refl,
-                  (
-                    refl,
-                    (
-                      refl,
-                      (
-                        refl,
-                        (
-                          refl,
-                          (
-                            refl,
-                            (
-                              refl,
-                              (
-                                refl,
-                                (
-                                  refl,
-                                  (
-                                    refl,
-                                    (
-                                      refl,
-                                      (
-                                        refl,
-                                        ((omega arith, refl, frame_three, omega arith, omega arith), tt),
-                                      ),
-                                    ),
-                                  ),
-                                ),
-                              ),
-                            ),
-                          ),
-                        ),
-                      ),
-                    ),
-                  ),
-                ),
-              ),
-            ),
-          ),
-        ),
-      ),
-    ),
-  );
+  can = ((omega arith, refl, frame_three, omega arith, omega arith), (refl, (refl, (refl, (refl, (refl, (refl, (refl, (refl, (refl, (refl, (refl, (refl, (refl, (refl, (refl, (refl, (refl, (refl, (refl, tt))))))))))))))))))));
   journaled = refl;
   over = refl;
 }
@@ -100,67 +43,7 @@ pub run_over_a_hash_map : RunOverAHashMap
 unfolding slot_count
 run_over_a_hash_map = record {
   options = row_options Hash;
-  can = (
-    refl,
-    (
-      refl,
-      (
-        refl,
-        (
-          refl,
-          (
-            refl,
-            (
-              refl,
-              (
-                refl,
-                (
-                  refl,
-                  (
-                    refl,
-                    (
-                      refl,
-                      (
-                        refl,
-                        (
-                          refl,
-                          (
-                            refl,
-                            (
-                              refl,
-                              (
-                                refl,
-                                (
-                                  refl,
-                                  (
-                                    refl,
-                                    (
-                                      refl,
-                                      (
-                                        refl,
-                                        (
-                                          refl,
-                                          ((omega arith, refl, frame_zero, omega arith, omega arith), tt),
-                                        ),
-                                      ),
-                                    ),
-                                  ),
-                                ),
-                              ),
-                            ),
-                          ),
-                        ),
-                      ),
-                    ),
-                  ),
-                ),
-              ),
-            ),
-          ),
-        ),
-      ),
-    ),
-  );
+  can = ((omega arith, refl, frame_zero, omega arith, omega arith), (refl, (refl, (refl, (refl, (refl, (refl, (refl, (refl, (refl, (refl, (refl, (refl, (refl, (refl, (refl, (refl, (refl, (refl, (refl, (refl, tt)))))))))))))))))))));
   journaled = refl;
   over = refl;
 }
@@ -169,52 +52,7 @@ pub held_cell_outlives : HeldCellOutlivesItsKey
 unfolding slot_count
 held_cell_outlives = record {
   options = row_options Hash;
-  can = (
-    refl,
-    (
-      refl,
-      (
-        refl,
-        (
-          refl,
-          (
-            refl,
-            (
-              refl,
-              (
-                (refl, refl),
-                (
-                  refl,
-                  (
-                    (refl, refl),
-                    (
-                      refl,
-                      (
-                        refl,
-                        (
-                          refl,
-                          (
-                            refl,
-                            (
-                              refl,
-                              (
-                                refl,
-                                ((omega arith, refl, frame_zero, omega arith, omega arith), ((refl, refl), tt)),
-                              ),
-                            ),
-                          ),
-                        ),
-                      ),
-                    ),
-                  ),
-                ),
-              ),
-            ),
-          ),
-        ),
-      ),
-    ),
-  );
+  can = ((refl, refl), ((omega arith, refl, frame_zero, omega arith, omega arith), (refl, (refl, (refl, (refl, (refl, (refl, ((refl, refl), (refl, ((refl, refl), (refl, (refl, (refl, (refl, (refl, (refl, tt)))))))))))))))));
   journaled = refl;
   over = refl;
 }
@@ -223,55 +61,7 @@ pub full_journal : FullJournalHasRoomForLeave
 unfolding slot_count
 full_journal = record {
   options = row_options Hash;
-  can = (
-    refl,
-    (
-      refl,
-      (
-        (refl, refl),
-        (
-          (refl, refl),
-          (
-            (refl, refl),
-            (
-              (refl, refl),
-              (
-                (refl, refl),
-                (
-                  (refl, refl),
-                  (
-                    (refl, refl),
-                    (
-                      (refl, refl),
-                      (
-                        (refl, refl),
-                        (
-                          (refl, refl),
-                          (
-                            (refl, refl),
-                            (
-                              (refl, refl),
-                              (
-                                (refl, refl),
-                                (
-                                  (refl, refl),
-                                  (refl, (refl, (refl, (refl, (refl, ((omega arith, refl, frame_zero, omega arith, omega arith), tt)))))),
-                                ),
-                              ),
-                            ),
-                          ),
-                        ),
-                      ),
-                    ),
-                  ),
-                ),
-              ),
-            ),
-          ),
-        ),
-      ),
-    ),
-  );
+  can = ((omega arith, refl, frame_zero, omega arith, omega arith), (refl, (refl, (refl, (refl, (refl, ((refl, refl), ((refl, refl), ((refl, refl), ((refl, refl), ((refl, refl), ((refl, refl), ((refl, refl), ((refl, refl), ((refl, refl), ((refl, refl), ((refl, refl), ((refl, refl), ((refl, refl), ((refl, refl), (refl, (refl, tt))))))))))))))))))))));
   journaled = refl;
   over = refl;
 }
@@ -280,5 +70,5 @@ pub unsafe_is_refused : UnsafeProgramIsRefused
 unfolding slot_count
 unsafe_is_refused safe =
     (safe one_worker (row_options Hash)
-    (CallsShard 0 ∷ CallsShard 0 ∷ (instructions 4 ++ BeginsRun 0 (frame_of 0) 0 0 ∷ []))
-    (refl, (refl, (refl, (refl, (refl, (refl, ((omega arith, refl, frame_zero, omega arith, omega arith), tt))))))) 0).goes_on
+    (BeginsRun 0 (frame_of 0) 0 0 ∷ (instructions 4 ++ CallsShard 0 ∷ CallsShard 0 ∷ []))
+    ((omega arith, refl, frame_zero, omega arith, omega arith), (refl, (refl, (refl, (refl, (refl, (refl, tt))))))) 0).goes_on

@@ -1,5 +1,5 @@
 -- Events around a safe image keep every history legal, and a run inside the shards that it has entered.
-use Rattle.std.proofs.Common.{◌≡◌, ◌≢◌, ℕ, ◌*◌, ◌/◌, ◌%◌, ◌<◌, ◌≤◌, ◌==◌, ◌&&◌, ◌||◌, Bool, true, false, not, nat_lt, List, [], ◌∷◌, length, Option, Some, None, refl, sym, ap, subst, ◌∙◌, ⊎_elim, div-lt_iff_lt-mul, arith}
+use Rattle.std.proofs.Common.{◌≡◌, ◌≢◌, ℕ, ◌*◌, ◌/◌, ◌%◌, ◌<◌, ◌≤◌, ◌==◌, ◌&&◌, ◌||◌, Bool, true, false, not, nat_lt, List, [], ◌∷◌, ◌++◌, length, Option, Some, None, refl, sym, ap, subst, ◌∙◌, ⊎_elim, div-lt_iff_lt-mul, arith}
 use Rattle.std.specs.Prelude.{IsTrue, MatchBool, slice_get, if◌then◌else◌}
 use Rattle.std.proofs.lemmas.Bool.{cases_eq, ne_eqb, eqb-true}
 use Rattle.std.proofs.lemmas.Bool.Decides.{nat_tests}
@@ -23,7 +23,7 @@ use Rattle.semantics.specs.Semantics.{next_step}
 use Rattle.semantics.specs.Reclamation.{is_worker, is_inside}
 use Rattle.semantics.specs.ShardPlan.{ShardPlan, plan_for_map, plan_at, AreOptions}
 use Rattle.semantics.specs.History.{shard_of_call, Meets, journal_is_full, IsLegalStep, IsLegalHistory}
-use Rattle.semantics.specs.System.{Setting, program_of_setting, SystemState, SystemEvent, BeginsRun, DoesInstruction, CallsShard, LeavesShard, Controls, Reclaims, WorkerState, Idle, Runs, Leaves, worker_state, history_of, with_worker, with_entry, is_entered, entry_for, input_frame, opening_system, run_over, without_shard, is_local, DoesNext, MayLeave, MayCall, CanHappen, CanAllHappen, after_local, after_instruction, after_call, after_run_call, after_asking, after_shard_call, after_leaving, after_event, system_after}
+use Rattle.semantics.specs.System.{Setting, program_of_setting, SystemState, SystemEvent, BeginsRun, DoesInstruction, CallsShard, LeavesShard, Controls, Reclaims, WorkerState, Idle, Runs, Leaves, worker_state, history_of, with_worker, with_entry, is_entered, entry_for, input_frame, opening_system, run_over, without_shard, is_local, DoesNext, MayLeave, MayCall, CanHappen, CanAllFollow, CanAllHappen, after_all, after_local, after_instruction, after_call, after_run_call, after_asking, after_shard_call, after_leaving, after_event, system_after}
 use Rattle.semantics.proofs.QuietLemmas.{IsQuiet, run_is_quiet}
 use Rattle.semantics.specs.Safety.{IsServedAt, after_enter, IsServedCall, DoesNotTrap, IsSafeWorker, IsSafeImage}
 use Rattle.semantics.proofs.shared.SystemSteps.{state_there, state_elsewhere, history_there, history_elsewhere, gone, same_everywhere}
@@ -410,14 +410,38 @@ opening_orderly setting =
       legal = λ number plan is. rw (empty number) tt;
     }
 
-orderly_after : (maps : List MapDef) (code : List Insn) (options : Options) (events : List SystemEvent) → IsSafeImage maps code → AreOptions maps options →
-    (let setting : Setting = record { maps = maps; code = code; options = options } in CanAllHappen setting events → IsOrderly setting (system_after setting events))
-orderly_after maps code options [] safe fits can = opening_orderly (record { maps = maps; code = code; options = options })
-orderly_after maps code options (event ∷ earlier) safe fits can =
-    event_orderly (record { maps = maps; code = code; options = options }) (system_after (record { maps = maps; code = code; options = options }) earlier) event (record { options = fits }) can.0
-    (λ worker. safe options fits earlier can.1 worker) (orderly_after maps code options earlier safe fits can.1)
+-- one event more
+abbrev opened : List MapDef → List Insn → Options → Setting
+opened maps code options = record { maps = maps; code = code; options = options }
+
+after_one_more : (setting : Setting) (before : SystemState) (events : List SystemEvent) (event : SystemEvent) →
+    after_all setting before (events ++ event ∷ []) ≡ after_event setting (after_all setting before events) event
+after_one_more setting before [] event = refl
+after_one_more setting before (one ∷ later) event = after_one_more setting (after_event setting before one) later event
+
+follow_one_more : (setting : Setting) (before : SystemState) (events : List SystemEvent) (event : SystemEvent) → CanAllFollow setting before events →
+    CanHappen setting (after_all setting before events) event → CanAllFollow setting before (events ++ event ∷ [])
+follow_one_more setting before [] event can next = (next, tt)
+follow_one_more setting before (one ∷ later) event can next = (can.0, follow_one_more setting (after_event setting before one) later event can.1 next)
+
+orderly_on : (maps : List MapDef) (code : List Insn) (options : Options) (earlier later : List SystemEvent) → IsSafeImage maps code → AreOptions maps options →
+    CanAllHappen (opened maps code options) earlier → CanAllFollow (opened maps code options) (system_after (opened maps code options) earlier) later →
+    IsOrderly (opened maps code options) (system_after (opened maps code options) earlier) →
+    IsOrderly (opened maps code options) (after_all (opened maps code options) (system_after (opened maps code options) earlier) later)
+orderly_on maps code options earlier [] safe fits could can orderly = orderly
+orderly_on maps code options earlier (event ∷ later) safe fits could can orderly =
+    let same : system_after (opened maps code options) (earlier ++ event ∷ []) ≡ after_event (opened maps code options) (system_after (opened maps code options) earlier) event =
+    after_one_more (opened maps code options) (opening_system (opened maps code options)) earlier event
+    in subst (λ (system : SystemState). IsOrderly (opened maps code options) (after_all (opened maps code options) system later)) same
+    (orderly_on maps code options (earlier ++ event ∷ []) later safe fits
+    (follow_one_more (opened maps code options) (opening_system (opened maps code options)) earlier event could can.0)
+    (subst (λ (system : SystemState). CanAllFollow (opened maps code options) system later) (sym same) can.1)
+    (subst (IsOrderly (opened maps code options)) (sym same)
+    (event_orderly (opened maps code options) (system_after (opened maps code options) earlier) event (record { options = fits }) can.0
+    (λ worker. safe options fits earlier could worker) orderly)))
 
 pub histories_are_legal : (maps : List MapDef) (code : List Insn) (options : Options) (events : List SystemEvent) → IsSafeImage maps code → AreOptions maps options →
     (let setting : Setting = record { maps = maps; code = code; options = options } in
     CanAllHappen setting events → (number : ℕ) (plan : ShardPlan) → plan_at maps options number ≡ Some plan → IsLegalHistory plan (history_of (system_after setting events) number))
-histories_are_legal maps code options events safe fits can number plan is = (orderly_after maps code options events safe fits can).legal number plan is
+histories_are_legal maps code options events safe fits can number plan is =
+    (orderly_on maps code options [] events safe fits tt can (opening_orderly (opened maps code options))).legal number plan is

@@ -7,6 +7,7 @@ use Rattle.semantics.specs.declared.call.Entry.{Entry}
 use Rattle.semantics.specs.Reclamation.{is_worker}
 use Rattle.semantics.specs.ShardPlan.{ShardPlan}
 use Rattle.semantics.specs.History.{is_reclaimer, meets}
+use Rattle.semantics.specs.Entries.{History}
 
 abbrev pub is_controller : Caller → Bool
 is_controller Controller = true
@@ -19,11 +20,11 @@ is_caller Controller other = is_controller other
 is_caller Reclaimer other = is_reclaimer other
 
 -- the entries that a caller made
-abbrev pub own_entries : Caller → List Entry → List Entry
+abbrev pub own_entries : Caller → History → History
 own_entries who history = filter (λ (entry : Entry). is_caller who entry.who) history
 
 -- whether a call meets its condition depends on its caller's own entries alone
 abbrev pub ConditionIsOwn : Type 0
 ConditionIsOwn =
-    (plan : ShardPlan) (history : List Entry) (who : Caller) (call : Call) →
+    (plan : ShardPlan) (history : History) (who : Caller) (call : Call) →
     meets plan history who call ≡ meets plan (own_entries who history) who call

@@ -18,6 +18,7 @@ use Rattle.semantics.specs.ShardPlan.{ShardPlan}
 use Rattle.semantics.specs.Reclamation.{is_inside, holds, inside_count}
 use Rattle.isa.specs.InstructionCodes.{atomic_code, atomic_op_of}
 use Rattle.semantics.specs.SequentialShard.{reply_of, shard_after}
+use Rattle.semantics.specs.Entries.{History, Journal}
 
 abbrev pub entry_of : Caller → Call → Reply → Entry
 entry_of who call reply = record { who = who; call = call; reply = reply }
@@ -37,22 +38,22 @@ shard_of_call (Delete shard key) = shard
 shard_of_call (Reclaim shard) = shard
 
 -- a worker of the plan that is not inside
-abbrev pub is_outside_worker : ShardPlan → List Entry → Caller → Bool
+abbrev pub is_outside_worker : ShardPlan → History → Caller → Bool
 is_outside_worker plan history (Worker number) = nat_lt number plan.workers && (if is_inside number history then false else true)
 is_outside_worker plan history who = false
 
 -- a worker of the plan that is inside
-abbrev pub is_inside_worker : ShardPlan → List Entry → Caller → Bool
+abbrev pub is_inside_worker : ShardPlan → History → Caller → Bool
 is_inside_worker plan history (Worker number) = nat_lt number plan.workers && is_inside number history
 is_inside_worker plan history who = false
 
 -- a worker of the plan that holds the cell
-abbrev pub is_holder : ShardPlan → List Entry → Caller → ℕ → Bool
+abbrev pub is_holder : ShardPlan → History → Caller → ℕ → Bool
 is_holder plan history (Worker number) cell = nat_lt number plan.workers && holds number cell history
 is_holder plan history who cell = false
 
 -- who may change keys: a worker inside, and the controller always
-abbrev pub may_change_keys : ShardPlan → List Entry → Caller → Bool
+abbrev pub may_change_keys : ShardPlan → History → Caller → Bool
 may_change_keys plan history Controller = true
 may_change_keys plan history who = is_inside_worker plan history who
 
@@ -98,7 +99,7 @@ fits_size value size = nat_lt value (256 ^ size)
 abbrev pub is_expected : ℕ → ℕ → Bool
 is_expected op expected = expected == 0 || op == atomic_code CompareExchange
 
-abbrev pub meets_part : ShardPlan → List Entry → Caller → Call → Bool
+abbrev pub meets_part : ShardPlan → History → Caller → Call → Bool
 meets_part plan history who (Enter shard) = is_outside_worker plan history who
 meets_part plan history who (Leave shard) = is_inside_worker plan history who
 meets_part plan history who (Lookup shard key) = is_inside_worker plan history who && is_own_key plan key
@@ -115,7 +116,7 @@ meets_part plan history who (Delete shard key) = may_change_keys plan history wh
 meets_part plan history who (Reclaim shard) = is_reclaimer who
 
 -- the caller may make this call on this shard now
-abbrev pub meets : ShardPlan → List Entry → Caller → Call → Bool
+abbrev pub meets : ShardPlan → History → Caller → Call → Bool
 meets plan history who call = shard_of_call call == plan.number && meets_part plan history who call
 
 -- ---- the journal's room
@@ -126,7 +127,7 @@ room_for_leave Begins = 1
 room_for_leave change = 0
 
 -- the entries, one more for each run inside, counting one that would enter, and one for the call itself
-abbrev pub room_needed : List Entry → Call → ℕ
+abbrev pub room_needed : History → Call → ℕ
 room_needed history call = length history + inside_count history + room_for_leave (section_change call) + 1
 
 -- a Leave always has room, which its Enter left
@@ -134,31 +135,31 @@ abbrev pub lacks_room : SectionChange → ShardPlan → ℕ → Bool
 lacks_room Ends plan needed = false
 lacks_room change plan needed = nat_lt plan.reserve needed
 
-abbrev pub journal_is_full : ShardPlan → List Entry → Call → Bool
+abbrev pub journal_is_full : ShardPlan → History → Call → Bool
 journal_is_full plan history call = lacks_room (section_change call) plan (room_needed history call)
 
 -- ---- legal histories
 
 -- the entry is one step of the one-thread shard: a call that its caller may make, with the reply
-pub record IsSequentialStep (plan : ShardPlan) (history : List Entry) (entry : Entry) : Type 0 where
+pub record IsSequentialStep (plan : ShardPlan) (history : History) (entry : Entry) : Type 0 where
   pub met : IsTrue (meets plan history entry.who entry.call)
   pub replied : entry.reply ≡ reply_of plan history (shard_after plan history) entry.call
 
-pub record IsLegalStep (plan : ShardPlan) (history : List Entry) (entry : Entry) : Type 0 where
+pub record IsLegalStep (plan : ShardPlan) (history : History) (entry : Entry) : Type 0 where
   pub step : IsSequentialStep plan history entry
   pub room : IsFalse (journal_is_full plan history entry.call)
 
 -- each entry is a step from what the older ones lead to, and none came past a full journal
-abbrev pub IsLegalHistory : ShardPlan → List Entry → Type 0
+abbrev pub IsLegalHistory : ShardPlan → History → Type 0
 IsLegalHistory plan [] = Unit {0}
 IsLegalHistory plan (entry ∷ older) = IsLegalStep plan older entry × IsLegalHistory plan older
 
 -- a journal, whose oldest entry is first
-abbrev pub IsLegalJournal : ShardPlan → List Entry → Type 0
+abbrev pub IsLegalJournal : ShardPlan → Journal → Type 0
 IsLegalJournal plan journal = IsLegalHistory plan (reverse journal)
 
-abbrev pub Meets : ShardPlan → List Entry → Caller → Call → Type 0
+abbrev pub Meets : ShardPlan → History → Caller → Call → Type 0
 Meets plan history who call = IsTrue (meets plan history who call)
 
-abbrev pub IsJournalFull : ShardPlan → List Entry → Call → Type 0
+abbrev pub IsJournalFull : ShardPlan → History → Call → Type 0
 IsJournalFull plan history call = IsTrue (journal_is_full plan history call)

@@ -8,6 +8,7 @@ use Rattle.semantics.specs.declared.call.Reply.{Reply}
 use Rattle.semantics.specs.declared.call.Reply.TheVariants.{Answer}
 use Rattle.semantics.specs.declared.call.Entry.{Entry}
 use Rattle.semantics.specs.Cells.{cell_of_reply}
+use Rattle.semantics.specs.Entries.{History}
 pub use Rattle.semantics.specs.declared.plan.PresentKey.{PresentKey}
 
 abbrev pub is_zero : ℤ → Bool
@@ -31,15 +32,15 @@ abbrev pub uses : List ℕ → Entry → Bool
 uses key entry = call_uses key entry.call entry.reply
 
 -- one more than the place of the key's last use; 0 where there is none
-abbrev pub last_use : List ℕ → List Entry → ℕ
+abbrev pub last_use : List ℕ → History → ℕ
 last_use key [] = 0
 last_use key (entry ∷ older) = if uses key entry then suc (length older) else last_use key older
 
 -- no present key was last used earlier
-abbrev pub is_least_recently_used : List Entry → List PresentKey → PresentKey → Bool
+abbrev pub is_least_recently_used : History → List PresentKey → PresentKey → Bool
 is_least_recently_used history present candidate =
     list_all (λ (other : PresentKey). nat_le (last_use candidate.key history) (last_use other.key history)) present
 
 -- the present key whose last use is earliest
-abbrev pub least_recently_used : List Entry → List PresentKey → Option PresentKey
+abbrev pub least_recently_used : History → List PresentKey → Option PresentKey
 least_recently_used history present = find (is_least_recently_used history present) present

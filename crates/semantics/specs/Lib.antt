@@ -19,6 +19,7 @@ pub mod Cells
 pub mod ShardPlan
 pub mod PlanLimits
 pub mod ByteCells
+pub mod Entries
 pub mod Reclamation
 pub mod LeastRecentlyUsed
 pub mod SequentialShard

@@ -15,7 +15,7 @@ use Rattle.semantics.specs.declared.call.HeldChange.{HeldChange}
 use Rattle.semantics.specs.declared.call.HeldChange.TheVariants.{LetsGo, Finds, Stays}
 use Rattle.semantics.specs.Sections.{section_change}
 use Rattle.semantics.specs.Cells.{cell_of_reply}
-use Rattle.semantics.specs.declared.call.Entry.{Entry}
+use Rattle.semantics.specs.Entries.{History}
 pub use Rattle.semantics.specs.declared.plan.RetiredCell.{RetiredCell}
 
 -- the caller is the worker of this number
@@ -32,13 +32,13 @@ entered_where section.Stays place before = before
 abbrev pub entered_by : Call → ℕ → Option ℕ → Option ℕ
 entered_by call place before = entered_where (section_change call) place before
 
-abbrev pub entered_at : ℕ → List Entry → Option ℕ
+abbrev pub entered_at : ℕ → History → Option ℕ
 entered_at worker [] = None
 entered_at worker (entry ∷ older) =
     if is_worker worker entry.who then entered_by entry.call (length older) (entered_at worker older) else entered_at worker older
 
 -- the worker has an Enter with no later Leave
-abbrev pub is_inside : ℕ → List Entry → Bool
+abbrev pub is_inside : ℕ → History → Bool
 is_inside worker history = is_some (entered_at worker history)
 
 -- what a Lookup that is answered so makes of the cells that its worker holds
@@ -65,7 +65,7 @@ abbrev pub held_by : Call → Reply → ℕ → Bool → Bool
 held_by call reply cell before = held_where (held_change call reply) cell before
 
 -- in a legal history: since its last Enter, which no Leave follows, the worker has a Lookup answered with the cell
-abbrev pub holds : ℕ → ℕ → List Entry → Bool
+abbrev pub holds : ℕ → ℕ → History → Bool
 holds worker cell [] = false
 holds worker cell (entry ∷ older) =
     if is_worker worker entry.who then held_by entry.call entry.reply cell (holds worker cell older) else holds worker cell older
@@ -75,7 +75,7 @@ abbrev pub worker_numbers : List ℕ
 worker_numbers = 0 ∷ 1 ∷ 2 ∷ 3 ∷ 4 ∷ 5 ∷ 6 ∷ 7 ∷ []
 
 -- how many workers are inside
-abbrev pub inside_count : List Entry → ℕ
+abbrev pub inside_count : History → ℕ
 inside_count history = count_by (λ worker. is_inside worker history) worker_numbers
 
 -- the section began after the cell was retired, or there is none
@@ -84,14 +84,14 @@ began_after since (Some entered) = nat_lt since entered
 began_after since None = true
 
 -- every worker inside has its Enter after the retirement
-abbrev pub is_reclaimable : List Entry → RetiredCell → Bool
+abbrev pub is_reclaimable : History → RetiredCell → Bool
 is_reclaimable history retired = list_all (λ worker. began_after retired.since (entered_at worker history)) worker_numbers
 
-abbrev pub IsInside : ℕ → List Entry → Type 0
+abbrev pub IsInside : ℕ → History → Type 0
 IsInside worker history = IsTrue (is_inside worker history)
 
-abbrev pub Holds : ℕ → ℕ → List Entry → Type 0
+abbrev pub Holds : ℕ → ℕ → History → Type 0
 Holds worker cell history = IsTrue (holds worker cell history)
 
-abbrev pub IsReclaimable : List Entry → RetiredCell → Type 0
+abbrev pub IsReclaimable : History → RetiredCell → Type 0
 IsReclaimable history retired = IsTrue (is_reclaimable history retired)

@@ -1,19 +1,18 @@
 -- A replay is one list of events of the system. What is begun, called and gone over in it is what the capture, the script and the rounds
 -- say, and nothing else; each record's end, the report's numbers, what is sent, the answers and the journals are what comes of it.
 use Rattle.std.specs.Prelude.{◌≡◌, ℕ, zero, suc, ◌+◌, ◌*◌, ◌/◌, ◌<◌, ◌==◌, Bool, true, false, not, ◌&&◌, nat_lt, List, [], ◌∷◌, ◌++◌}
-use Rattle.std.specs.Prelude.{length, map, reverse, filter, take, Option, Some, None, if◌then◌else◌}
+use Rattle.std.specs.Prelude.{length, map, filter, take, Option, Some, None, if◌then◌else◌}
 use Rattle.std.specs.List.{flat_map}
 use Rattle.ebpf_decode.specs.declared.map.MapKind.{MapKind}
 use Rattle.ebpf_decode.specs.declared.map.MapKind.TheVariants.{Array}
 use Rattle.semantics.specs.declared.call.Call.{Call}
-use Rattle.semantics.specs.declared.call.Entry.{Entry}
 use Rattle.semantics.specs.declared.call.Reply.{Reply}
 use Rattle.semantics.specs.declared.plan.ShardPlan.{ShardPlan}
-use Rattle.semantics.specs.declared.verdict.Verdict.{Verdict}
 use Rattle.semantics.specs.declared.verdict.Verdict.TheVariants as verdicts
 use Rattle.semantics.specs.ShardPlan.{plan_at}
-use Rattle.semantics.specs.System.{Setting, SystemEvent, Controls, Idle, worker_state, history_of, opening_system, system_after, CanAllHappen}
+use Rattle.semantics.specs.System.{Setting, SystemEvent, Controls, Idle, worker_state, journal_of, opening_system, system_after, CanAllHappen}
 use Rattle.semantics.specs.Events.{Input, Ending, Exited, Stopped, begun_by, controlled, reclaimed, answered, ended_by}
+use Rattle.semantics.specs.Entries.{Journal}
 
 -- ---- what is asked of a replay
 
@@ -116,7 +115,7 @@ pub record Result : Type 0 where
   pub first_answers : List (Option Reply)
   pub answers : List (List (Option Reply))
   -- the journal of each shard, the oldest entry first
-  pub journals : ℕ → List Entry
+  pub journals : ℕ → Journal
 
 -- who ran a record
 abbrev pub ran_by : RecordEnd → Option ℕ
@@ -129,57 +128,26 @@ ends_by worker [] = []
 ends_by worker (Short ∷ later) = ends_by worker later
 ends_by worker (Ran one ending ∷ later) = if one == worker then ending ∷ ends_by worker later else ends_by worker later
 
--- tests of an end
-abbrev pub was_short : RecordEnd → Bool
-was_short Short = true
-was_short (Ran worker ending) = false
+-- one end more is counted
+abbrev pub with_end : Totals → RecordEnd → Totals
+with_end totals Short = record totals { short = totals.short + 1 }
+with_end totals (Ran worker (Stopped shard)) = record totals { stopped = totals.stopped + 1 }
+with_end totals (Ran worker (Exited verdicts.Aborted frame steps)) = record totals { aborted = totals.aborted + 1 }
+with_end totals (Ran worker (Exited verdicts.Drop frame steps)) = record totals { drop = totals.drop + 1 }
+with_end totals (Ran worker (Exited verdicts.Pass frame steps)) = record totals { pass = totals.pass + 1 }
+with_end totals (Ran worker (Exited verdicts.Tx frame steps)) = record totals { tx = totals.tx + 1 }
 
-abbrev pub ending_passes : (Ending → Bool) → RecordEnd → Bool
-ending_passes test Short = false
-ending_passes test (Ran worker ending) = test ending
-
-abbrev pub was_stopped : Ending → Bool
-was_stopped (Stopped shard) = true
-was_stopped (Exited verdict frame steps) = false
-
-abbrev pub verdict_passes : (Verdict → Bool) → Ending → Bool
-verdict_passes test (Stopped shard) = false
-verdict_passes test (Exited verdict frame steps) = test verdict
-
-abbrev pub aborts : Verdict → Bool
-aborts verdicts.Aborted = true
-aborts verdict = false
-
-abbrev pub drops : Verdict → Bool
-drops verdicts.Drop = true
-drops verdict = false
-
-abbrev pub passes : Verdict → Bool
-passes verdicts.Pass = true
-passes verdict = false
-
-abbrev pub sends : Verdict → Bool
-sends verdicts.Tx = true
-sends verdict = false
-
-abbrev pub how_many : (RecordEnd → Bool) → List RecordEnd → ℕ
-how_many test ends = length (filter test ends)
+abbrev pub with_ends : Totals → List RecordEnd → Totals
+with_ends totals [] = totals
+with_ends totals (end ∷ later) = with_ends (with_end totals end) later
 
 abbrev pub totals_of : List RecordEnd → Totals
-totals_of ends = record {
-  short = how_many was_short ends;
-  stopped = how_many (ending_passes was_stopped) ends;
-  aborted = how_many (ending_passes (verdict_passes aborts)) ends;
-  drop = how_many (ending_passes (verdict_passes drops)) ends;
-  pass = how_many (ending_passes (verdict_passes passes)) ends;
-  tx = how_many (ending_passes (verdict_passes sends)) ends;
-}
+totals_of ends = with_ends (record { short = 0; stopped = 0; aborted = 0; drop = 0; pass = 0; tx = 0 }) ends
 
 -- the frame as the run left it, at its record's moment, where the verdict sends it
 abbrev pub sent_at : Captured → Ending → List Captured
-sent_at one (Stopped shard) = []
-sent_at one (Exited verdict frame steps) =
-    if sends verdict then record { seconds = one.seconds; micros = one.micros; bytes = frame } ∷ [] else []
+sent_at one (Exited verdicts.Tx frame steps) = record { seconds = one.seconds; micros = one.micros; bytes = frame } ∷ []
+sent_at one ending = []
 
 abbrev pub sent_for : Captured → RecordEnd → List Captured
 sent_for one Short = []
@@ -205,7 +173,7 @@ pub record AreAnswersOf (asked : Asked) (result : Result) : Type 0 where
 -- These events, the oldest first, are a replay of what was asked, with this result.
 pub record IsReplay (setting : Setting) (asked : Asked) (result : Result) (events : List SystemEvent) : Type 0 where
   -- they can all happen, one after the other, from the opening on
-  pub can : CanAllHappen setting (reverse events)
+  pub can : CanAllHappen setting events
   -- each worker runs its share of the records, one after the other; the controller makes first the updates and then the
   -- calls of the commands, in the script's order over all shards; the reclaimer makes its rounds; and nothing else happens
   pub begun : (worker : ℕ) → begun_by worker events ≡ inputs_of asked worker
@@ -226,5 +194,5 @@ pub record IsReplay (setting : Setting) (asked : Asked) (result : Result) (event
   -- after them each shard's history is its journal, and every worker is idle
   pub left :
       (shard : ℕ) → shard < shard_count setting →
-      reverse (history_of (system_after setting (reverse events)) shard) ≡ result.journals shard
-  pub idle : (worker : ℕ) → worker_state (system_after setting (reverse events)) worker ≡ Idle
+      journal_of (system_after setting events) shard ≡ result.journals shard
+  pub idle : (worker : ℕ) → worker_state (system_after setting events) worker ≡ Idle

@@ -8,7 +8,6 @@ use Rattle.semantics.specs.declared.call.Caller.TheVariants.{Worker}
 use Rattle.semantics.specs.declared.call.Call.{Call}
 use Rattle.semantics.specs.declared.call.Call.TheVariants.{Enter, Load, Store, Atomic}
 use Rattle.semantics.specs.declared.call.Reply.TheVariants.{Entered}
-use Rattle.semantics.specs.declared.call.Entry.{Entry}
 use Rattle.semantics.specs.MachineState.{MachineState}
 use Rattle.ebpf_decode.specs.InstructionEncoding.{total_slots}
 use Rattle.semantics.specs.Step.{Step, CallsMap, Traps}
@@ -18,20 +17,21 @@ use Rattle.semantics.specs.SequentialShard.{is_kept, shard_after}
 use Rattle.semantics.specs.History.{shard_of_call, Meets}
 use Rattle.semantics.specs.System.{Setting, program_of_setting, SystemState, WorkerState, Runs, worker_state, history_of, is_entered}
 use Rattle.semantics.specs.System.{SystemEvent, CanAllHappen, system_after}
+use Rattle.semantics.specs.Entries.{History}
 
 -- a call on a cell that is not freed
-abbrev pub IsOnKeptCell : ShardPlan → List Entry → Call → Type 0
+abbrev pub IsOnKeptCell : ShardPlan → History → Call → Type 0
 IsOnKeptCell plan history (Load cell offset size) = IsTrue (is_kept plan (shard_after plan history) cell.id)
 IsOnKeptCell plan history (Store cell offset size value) = IsTrue (is_kept plan (shard_after plan history) cell.id)
 IsOnKeptCell plan history (Atomic cell offset size op value expected) = IsTrue (is_kept plan (shard_after plan history) cell.id)
 IsOnKeptCell plan history call = Unit {0}
 
 -- the caller may make the call, on a cell that is not freed
-abbrev pub IsServedAt : ShardPlan → List Entry → ℕ → Call → Type 0
+abbrev pub IsServedAt : ShardPlan → History → ℕ → Call → Type 0
 IsServedAt plan history worker call = Meets plan history (Worker worker) call × IsOnKeptCell plan history call
 
 -- the history after the worker's Enter
-abbrev pub after_enter : ShardPlan → List Entry → ℕ → List Entry
+abbrev pub after_enter : ShardPlan → History → ℕ → History
 after_enter plan history worker = (record { who = Worker worker; call = Enter plan.number; reply = Entered }) ∷ history
 
 -- the shard exists, and the worker may make the call; where it has not entered the shard yet, it may enter, and then make the call

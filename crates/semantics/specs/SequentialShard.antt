@@ -14,7 +14,6 @@ use Rattle.semantics.specs.declared.call.Call.{Call}
 use Rattle.semantics.specs.declared.call.Call.TheVariants.{Enter, Leave, Lookup, Load, Store, Atomic, Update, Delete, Reclaim}
 use Rattle.semantics.specs.declared.call.Reply.{Reply}
 use Rattle.semantics.specs.declared.call.Reply.TheVariants.{Entered, Left, Cell, Null, Word, Done, Answer, Freed}
-use Rattle.semantics.specs.declared.call.Entry.{Entry}
 use Rattle.semantics.specs.declared.linux.Errno.TheVariants.{NoEntry, TooBig, NoMemory, Exists, Invalid}
 use Rattle.semantics.specs.declared.linux.UpdateFlags.{UpdateFlags}
 use Rattle.semantics.specs.declared.linux.UpdateFlags.TheVariants.{Any, NoExist, Exist}
@@ -23,6 +22,7 @@ use Rattle.semantics.specs.LittleEndian.{number_of_bytes, bytes_of_number}
 use Rattle.semantics.specs.ShardPlan.{ShardPlan, capacity}
 use Rattle.semantics.specs.Reclamation.{RetiredCell, is_reclaimable}
 use Rattle.semantics.specs.LeastRecentlyUsed.{PresentKey, least_recently_used}
+use Rattle.semantics.specs.Entries.{History}
 
 pub record SequentialShard : Type 0 where
   -- the keys that are there; of an array none, since all its indices are
@@ -141,7 +141,7 @@ without_found shard place (Some gone) = without_key shard place gone
 without_found shard place None = shard
 
 -- a full LRU shard evicts the key that was used longest ago
-abbrev pub after_eviction : ShardPlan → List Entry → SequentialShard → SequentialShard
+abbrev pub after_eviction : ShardPlan → History → SequentialShard → SequentialShard
 after_eviction plan history shard =
     if is_full_of_keys plan shard then without_found shard (length history) (least_recently_used history shard.present) else shard
 
@@ -153,7 +153,7 @@ with_new_key shard key value = record {
   retired = shard.retired;
 }
 
-abbrev pub with_value : ShardPlan → List Entry → SequentialShard → List ℕ → List ℕ → Option ℕ → SequentialShard
+abbrev pub with_value : ShardPlan → History → SequentialShard → List ℕ → List ℕ → Option ℕ → SequentialShard
 with_value plan history shard key value (Some cell) = with_cell shard cell value
 with_value plan history shard key value None = with_new_key (after_eviction plan history shard) key value
 
@@ -175,7 +175,7 @@ present_key shard key = find (λ (one : PresentKey). bytes_eq one.key key) shard
 
 -- ---- Reclaim
 
-abbrev pub reclaimable_cells : List Entry → SequentialShard → List RetiredCell
+abbrev pub reclaimable_cells : History → SequentialShard → List RetiredCell
 reclaimable_cells history shard = filter (is_reclaimable history) shard.retired
 
 -- ---- kept cells
@@ -196,7 +196,7 @@ lookup_reply plan (Some cell) = Cell (record { shard = plan.number; id = cell })
 lookup_reply plan None = Null
 
 -- what the call replies
-abbrev pub reply_of : ShardPlan → List Entry → SequentialShard → Call → Reply
+abbrev pub reply_of : ShardPlan → History → SequentialShard → Call → Reply
 reply_of plan history shard (Enter number) = Entered
 reply_of plan history shard (Leave number) = Left
 reply_of plan history shard (Lookup number key) = lookup_reply plan (cell_of_key plan shard key)
@@ -208,7 +208,7 @@ reply_of plan history shard (Delete number key) = Answer (delete_answer plan sha
 reply_of plan history shard (Reclaim number) = Freed (length (reclaimable_cells history shard))
 
 -- what the call leaves
-abbrev pub shard_after_call : ShardPlan → List Entry → SequentialShard → Call → SequentialShard
+abbrev pub shard_after_call : ShardPlan → History → SequentialShard → Call → SequentialShard
 shard_after_call plan history shard (Store cell offset size value) = with_number_in_cell shard cell.id offset size value
 shard_after_call plan history shard (Atomic cell offset size op value expected) =
     with_number_in_cell shard cell.id offset size
@@ -222,6 +222,6 @@ shard_after_call plan history shard (Reclaim number) =
 shard_after_call plan history shard call = shard
 
 -- the state that a history leads to
-abbrev pub shard_after : ShardPlan → List Entry → SequentialShard
+abbrev pub shard_after : ShardPlan → History → SequentialShard
 shard_after plan [] = opening_shard plan
 shard_after plan (entry ∷ older) = shard_after_call plan older (shard_after plan older) entry.call

@@ -1,6 +1,6 @@
 -- All runs and all shards together: what may happen next, and what it leads to. The shared steps of workers, controller and
 -- reclaimer interleave in any way.
-use Rattle.std.specs.Prelude.{◌≡◌, ℕ, ◌*◌, ◌^◌, ◌<◌, ◌≤◌, ◌==◌, Bool, true, false, not, List, [], ◌∷◌, length, replicate, filter, All}
+use Rattle.std.specs.Prelude.{◌≡◌, ℕ, ◌*◌, ◌^◌, ◌<◌, ◌≤◌, ◌==◌, Bool, true, false, not, List, [], ◌∷◌, length, replicate, reverse, filter, All}
 use Rattle.std.specs.Prelude.{Option, Some, None, slice_index_or, slice_set, if◌then◌else◌, IsTrue}
 use Rattle.std.specs.List.{list_any}
 use Rattle.ebpf_decode.specs.declared.insn.Insn.{Insn}
@@ -20,6 +20,7 @@ use Rattle.semantics.specs.Semantics.{next_step}
 use Rattle.semantics.specs.ShardPlan.{ShardPlan, plan_at}
 use Rattle.semantics.specs.SequentialShard.{reply_of, shard_after}
 use Rattle.semantics.specs.History.{shard_of_call, meets, journal_is_full}
+use Rattle.semantics.specs.Entries.{History, Journal}
 
 -- an image, and the options with which its shards were opened
 pub record Setting : Type 0 where
@@ -40,8 +41,8 @@ pub data WorkerState : Type 0 where
 pub record SystemState : Type 0 where
   -- the state of each worker, by its number
   pub workers : List WorkerState
-  -- the history of each shard, by its number, the newest entry first
-  pub histories : List (List Entry)
+  -- the history of each shard, by its number
+  pub histories : List History
 
 -- eight workers that do nothing, and shards in which nothing has happened
 abbrev pub opening_system : Setting → SystemState
@@ -53,8 +54,11 @@ opening_system setting = record {
 abbrev pub worker_state : SystemState → ℕ → WorkerState
 worker_state system worker = slice_index_or system.workers worker Idle
 
-abbrev pub history_of : SystemState → ℕ → List Entry
+abbrev pub history_of : SystemState → ℕ → History
 history_of system shard = slice_index_or system.histories shard []
+
+abbrev pub journal_of : SystemState → ℕ → Journal
+journal_of system shard = reverse (history_of system shard)
 
 abbrev pub with_worker : SystemState → ℕ → WorkerState → SystemState
 with_worker system worker state = record system { workers = slice_set system.workers worker state }
@@ -207,12 +211,21 @@ after_event setting system (Controls call) =
 after_event setting system (Reclaims shard) =
     after_call (plan_at setting.maps setting.options shard) system Reclaimer (Reclaim shard)
 
--- ---- reachable states, by the list of events, the newest first
+-- ---- what events lead to, the oldest first, one after the other
 
+-- from this state on
+abbrev pub after_all : Setting → SystemState → List SystemEvent → SystemState
+after_all setting before [] = before
+after_all setting before (event ∷ later) = after_all setting (after_event setting before event) later
+
+abbrev pub CanAllFollow : Setting → SystemState → List SystemEvent → Type 0
+CanAllFollow setting before [] = Unit {0}
+CanAllFollow setting before (event ∷ later) =
+    CanHappen setting before event × CanAllFollow setting (after_event setting before event) later
+
+-- and from the opening on
 abbrev pub system_after : Setting → List SystemEvent → SystemState
-system_after setting [] = opening_system setting
-system_after setting (event ∷ earlier) = after_event setting (system_after setting earlier) event
+system_after setting events = after_all setting (opening_system setting) events
 
 abbrev pub CanAllHappen : Setting → List SystemEvent → Type 0
-CanAllHappen setting [] = Unit {0}
-CanAllHappen setting (event ∷ earlier) = CanHappen setting (system_after setting earlier) event × CanAllHappen setting earlier
+CanAllHappen setting events = CanAllFollow setting (opening_system setting) events

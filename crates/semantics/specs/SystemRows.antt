@@ -1,6 +1,6 @@
 -- Events that happen, by computation: so neither what an event needs nor what a safe image is, is empty. Each row is a program,
 -- the events in order, and the history that a shard then has. Rows are listed in order, the oldest first.
-use Rattle.std.specs.Prelude.{◌≡◌, ℕ, pos, negsuc, List, [], ◌∷◌, ◌++◌, reverse, replicate}
+use Rattle.std.specs.Prelude.{◌≡◌, ℕ, pos, negsuc, List, [], ◌∷◌, ◌++◌, replicate}
 use Rattle.isa.specs.declared.operation.Width.TheVariants.{Bits64}
 use Rattle.isa.specs.declared.operation.Size.TheVariants.{U8, U32, U64}
 use Rattle.isa.specs.declared.operation.SourceOperand.TheVariants.{Imm, Reg}
@@ -23,8 +23,9 @@ use Rattle.semantics.specs.declared.call.Reply.TheVariants.{Entered, Left, Cell,
 use Rattle.semantics.specs.declared.call.Entry.{Entry}
 use Rattle.semantics.specs.ShardPlan.{AreOptions}
 use Rattle.semantics.specs.System.{Setting, SystemEvent, BeginsRun, DoesInstruction, CallsShard, LeavesShard, Controls, Reclaims, Idle}
-use Rattle.semantics.specs.System.{worker_state, history_of, system_after, CanAllHappen}
+use Rattle.semantics.specs.System.{worker_state, journal_of, system_after, CanAllHappen}
 use Rattle.semantics.specs.Safety.{IsSafeImage}
+use Rattle.semantics.specs.Entries.{Journal}
 
 -- ---- how rows are listed
 
@@ -40,11 +41,11 @@ abbrev pub setting_over : MapKind → List Insn → Setting
 setting_over kind code = record { maps = one_map kind; code = code; options = one_worker }
 
 -- the row's events can happen, one after the other; then shard 0 has this history, and the worker does nothing
-pub record Happens (setting : Setting) (events : List SystemEvent) (journal : List Entry) : Type 0 where
+pub record Happens (setting : Setting) (events : List SystemEvent) (journal : Journal) : Type 0 where
   pub options : AreOptions setting.maps setting.options
-  pub can : CanAllHappen setting (reverse events)
-  pub journaled : reverse (history_of (system_after setting (reverse events)) 0) ≡ journal
-  pub over : worker_state (system_after setting (reverse events)) 0 ≡ Idle
+  pub can : CanAllHappen setting events
+  pub journaled : journal_of (system_after setting events) 0 ≡ journal
+  pub over : worker_state (system_after setting events) 0 ≡ Idle
 
 abbrev pub by_worker : Call → Reply → Entry
 by_worker call reply = record { who = Worker 0; call = call; reply = reply }

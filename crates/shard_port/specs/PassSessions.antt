@@ -16,9 +16,10 @@ use Rattle.shard_port.specs.Asking.{enter_by, leave_by}
 use Rattle.shard_port.specs.Sessions.{exchange_entries, session}
 use Rattle.shard_port.specs.PassDeeds.{run_deeds, deeds_to_call, deeds_to_enter}
 use Rattle.shard_port.specs.PassPorts.{PassPort, PassGives, PassRefuses, IsFinishedBy}
+use Rattle.semantics.specs.Entries.{Journal}
 
 -- the entries of a worker's session with the shard of a number: none where none of the exchanges is with it
-abbrev pub session_at : ℕ → ℕ → List Exchange → List Entry
+abbrev pub session_at : ℕ → ℕ → List Exchange → Journal
 session_at worker number exchanges = session worker number (exchange_entries worker number exchanges)
 
 -- the worker is outside the shard of a number, by its own entries

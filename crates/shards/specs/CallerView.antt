@@ -1,4 +1,4 @@
--- What a caller knows of a shard. Histories have the newest entry first.
+-- What a caller knows of a shard.
 use Rattle.std.specs.Prelude.{◌≡◌, List, [], ◌∷◌, ◌++◌, reverse}
 use Rattle.semantics.specs.declared.call.Caller.{Caller}
 use Rattle.semantics.specs.declared.call.Entry.{Entry}
@@ -6,16 +6,17 @@ use Rattle.semantics.specs.declared.plan.ShardPlan.{ShardPlan}
 use Rattle.semantics.specs.CallerLaws.{own_entries}
 use Rattle.semantics.specs.History.{IsLegalHistory, IsJournalFull}
 use Rattle.semantics.specs.declared.call.Call.{Call}
+use Rattle.semantics.specs.Entries.{History}
 
 pub record CallerView : Type 0 where
   -- a beginning of the shard's history
-  pub seen : List Entry
+  pub seen : History
   -- all entries that the caller made, which are in what was seen
-  pub own : List Entry
+  pub own : History
 
 -- a history begins with an earlier one: newest first, so that one is left where the later entries are gone
-abbrev pub BeginsWith : List Entry → List Entry → Type 0
-BeginsWith history earlier = (later : List Entry) × (history ≡ later ++ earlier)
+abbrev pub BeginsWith : History → History → Type 0
+BeginsWith history earlier = (later : History) × (history ≡ later ++ earlier)
 
 abbrev pub nothing_seen : CallerView
 nothing_seen = record { seen = []; own = [] }

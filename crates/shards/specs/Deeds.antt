@@ -17,6 +17,7 @@ use Rattle.shards.specs.declared.deeds.Deed.{Deed}
 use Rattle.shards.specs.declared.deeds.Deed.TheVariants.{Wrote, MetFull}
 use Rattle.shards.specs.declared.deeds.OrderPart.{OrderPart}
 use Rattle.shards.specs.declared.deeds.OrderPart.TheVariants.{OnShard, ByCaller, AtFirst}
+use Rattle.semantics.specs.Entries.{NewestFirst}
 
 abbrev pub shard_of_deed : Deed → ℕ
 shard_of_deed (Wrote entry) = shard_of_call entry.call
@@ -53,13 +54,13 @@ IsMetBehind plan (Wrote entry) history = Unit {0}
 IsMetBehind plan (MetFull who call) history = IsJournalFull (plan (shard_of_call call)) history call
 
 -- each deed that met a full journal met one: behind the entries that were made there earlier
-abbrev pub AreMet : (ℕ → ShardPlan) → List Deed → Type 0
+abbrev pub AreMet : (ℕ → ShardPlan) → NewestFirst Deed → Type 0
 AreMet plan [] = Unit {0}
 AreMet plan (deed ∷ earlier) = IsMetBehind plan deed (made_on (shard_of_deed deed) earlier) × AreMet plan earlier
 
 -- the order begins with these deeds: newest first, so that these are left where all later ones are gone
-abbrev pub AreFirst : List Deed → List Deed → Type 0
-AreFirst first all = (later : List Deed) × (all ≡ later ++ first)
+abbrev pub AreFirst : NewestFirst Deed → NewestFirst Deed → Type 0
+AreFirst first all = (later : NewestFirst Deed) × (all ≡ later ++ first)
 
 -- each is a deed on one of N shards
 abbrev pub AreDeedsWithin : ℕ → List Deed → Type 0

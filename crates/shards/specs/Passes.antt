@@ -17,23 +17,24 @@ use Rattle.shards.specs.GuardedView.{KeyedPlan}
 use Rattle.shards.specs.CallerView.{CallerView, nothing_seen, IsSettled}
 use Rattle.shards.specs.LockRule.{no_key, no_table}
 use Rattle.shards.specs.ShardPasses.{ShardPassView}
+use Rattle.semantics.specs.Entries.{NewestFirst, History}
 
 pub record PassView : Type 0 where
   pub who : Caller
   -- by the shards' numbers
   pub views : List CallerView
-  -- what the caller did, over all shards: the newest deed first
-  pub deeds : List Deed
+  -- what the caller did, over all shards
+  pub deeds : NewestFirst Deed
 
 -- what the pass knows of the shard of this number
 abbrev pub view_at : PassView → ℕ → CallerView
 view_at pass number = slice_index_or pass.views number nothing_seen
 
 -- the caller's own entries on that shard
-abbrev pub own_at : PassView → ℕ → List Entry
+abbrev pub own_at : PassView → ℕ → History
 own_at pass number = (view_at pass number).own
 
-abbrev pub seen_at : PassView → ℕ → List Entry
+abbrev pub seen_at : PassView → ℕ → History
 seen_at pass number = (view_at pass number).seen
 
 -- on the shard of this number the caller's own entries are all of its entries in what it has seen there
@@ -88,7 +89,7 @@ no_part = record { table = no_table; key = no_key; who = Reclaimer; has_it = fal
 abbrev pub shard_pass_at : List ShardPassView → ℕ → ShardPassView
 shard_pass_at parts number = slice_index_or parts number no_part
 
-abbrev pub pass_view : Caller → List ShardPassView → List Deed → PassView
+abbrev pub pass_view : Caller → List ShardPassView → NewestFirst Deed → PassView
 pass_view who parts deeds = record { who = who; views = map (λ (part : ShardPassView). part.view) parts; deeds = deeds }
 
 -- this caller's, for the shard of this word, plan and order, which it does not have

@@ -39,6 +39,7 @@ use Rattle.actors.specs.Accounts.{fate_of}
 use Rattle.actors.specs.RunsOverShards.{StopsFor, IsRunIn}
 use Rattle.actors.specs.Shares.{frames_of, is_short, worker_of_frame, share}
 use Rattle.actors.specs.Captured.{IsCaptured}
+use Rattle.semantics.specs.Entries.{History}
 
 -- ---- runs
 
@@ -108,7 +109,7 @@ pub record IsSteeredReplay (size : ℕ) (program : Program) (script : List Comma
 
 -- of a worker's own entries in a shard's journal, newest first: some newer ones, those of this run's session there, and those that the worker
 -- had there when the run began
-pub record StandsAmong (worker number : ℕ) (exchanges : List Exchange) (older own : List Entry) : Type 0 where
+pub record StandsAmong (worker number : ℕ) (exchanges : List Exchange) (older own : History) : Type 0 where
   pub newer : List Entry
   pub own_are : own ≡ newer ++ (reverse (session_at worker number exchanges) ++ older)
 

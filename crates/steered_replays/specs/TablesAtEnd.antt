@@ -34,6 +34,7 @@ use Rattle.actors.specs.declared.outcome.Outcome.{Outcome}
 use Rattle.actors.specs.Accounted.{IsAccounted}
 use Rattle.actors.specs.Captured.{IsCaptured}
 use Rattle.actors.specs.Commands.{made_in, with_updates}
+use Rattle.semantics.specs.Entries.{History}
 
 -- ---- the value of a key
 
@@ -59,7 +60,7 @@ value_at now map key =
     (plan_at now.journals.maps now.journals.options (shard_of_key (map_place map) (map_kind map) now.journals.options.shards key)) key
 
 -- the histories to which the journals lead
-abbrev pub last_histories : JournalsView → ℕ → List Entry
+abbrev pub last_histories : JournalsView → ℕ → History
 last_histories journals number = reverse (entries_at journals number)
 
 -- the maps at the end of a replay

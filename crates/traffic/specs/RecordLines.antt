@@ -6,6 +6,8 @@ use Rattle.wire.specs.BigEndian.{be_word_at}
 use Rattle.comparison.specs.Rows.{head_line}
 use Rattle.traffic.specs.Counting.{address_at}
 use Rattle.traffic.specs.Kinds.{is_of_flow_kind, frame_kind_of}
+use Rattle.traffic.specs.declared.choice.Choice.{Choice}
+use Rattle.traffic.specs.declared.choice.Choice.TheVariants.{Noted, Untracked, NoNote, NoteDown}
 use Rattle.traffic.specs.declared.kind.FrameKind.{FrameKind}
 use Rattle.traffic.specs.declared.kind.FrameKind.TheVariants as kinds
 use Rattle.traffic.specs.declared.record_line.ReportForm.{ReportForm}
@@ -93,24 +95,38 @@ case_word kind verdicts.Aborted = []
 -- The shipped program sends a frame of TCP in so many steps, and one of UDP in one more: the backend that is noted for its flow is up; the
 -- service is without tracking; the flow has no note; the record of the noted backend was never set, or says that it is not up. In all cases
 -- but the first the lookup table chose.
-abbrev pub choice_of_steps : ℕ → List ℕ
+abbrev pub choice_of_steps : ℕ → Option Choice
 choice_of_steps steps =
-    if steps == 133 || steps == 134 then codes "noted" else (if steps == 182 || steps == 183 then codes "untracked" else
-    (if steps == 194 || steps == 195 then codes "no-note" else
-    (if steps == 201 || (steps == 202 || (steps == 205 || steps == 206)) then codes "note-down" else [])))
+    if steps == 133 || steps == 134 then Some Noted else (if steps == 182 || steps == 183 then Some Untracked else
+    (if steps == 194 || steps == 195 then Some NoNote else
+    (if steps == 201 || (steps == 202 || (steps == 205 || steps == 206)) then Some NoteDown else None)))
 
-abbrev pub choice_of_known : Option ℕ → List ℕ
-choice_of_known None = []
+abbrev pub choice_of_known : Option ℕ → Option Choice
+choice_of_known None = None
 choice_of_known (Some steps) = choice_of_steps steps
 
--- how the shipped program chose the backend of a frame with this verdict, by the steps of its run; empty for one that was not sent
+-- how the shipped program chose the backend of a frame with this verdict, by the steps of its run; none for one that was not sent
+abbrev pub choice_of : LineVerdict → Option ℕ → Option Choice
+choice_of verdicts.Tx steps = choice_of_known steps
+choice_of verdicts.Short steps = None
+choice_of verdicts.Stopped steps = None
+choice_of verdicts.Aborted steps = None
+choice_of verdicts.Drop steps = None
+choice_of verdicts.Pass steps = None
+
+abbrev pub word_of_choice : Choice → List ℕ
+word_of_choice Noted = codes "noted"
+word_of_choice Untracked = codes "untracked"
+word_of_choice NoNote = codes "no-note"
+word_of_choice NoteDown = codes "note-down"
+
+abbrev pub choice_text : Option Choice → List ℕ
+choice_text None = []
+choice_text (Some choice) = word_of_choice choice
+
+-- and in a word
 abbrev pub choice_word : LineVerdict → Option ℕ → List ℕ
-choice_word verdicts.Tx steps = choice_of_known steps
-choice_word verdicts.Short steps = []
-choice_word verdicts.Stopped steps = []
-choice_word verdicts.Aborted steps = []
-choice_word verdicts.Drop steps = []
-choice_word verdicts.Pass steps = []
+choice_word verdict steps = choice_text (choice_of verdict steps)
 
 -- ---- lines
 

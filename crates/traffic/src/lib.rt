@@ -3,6 +3,7 @@
 
 mod applying;
 mod backends;
+mod choice;
 mod counts;
 mod flow_columns;
 mod frame_tally;
@@ -21,11 +22,12 @@ mod written_maps;
 
 pub use applying::words_after;
 pub use backends::Backends;
+pub use choice::{Choice, choice_word};
 pub use frame_tally::{FrameTally, summary};
 pub use kind::FrameKind;
 pub use moves::moved_places;
 pub use not_sent::{NotSent, is_for};
-pub use record_line::{LineVerdict, RecordLine, ReportForm, case_word, choice_word};
+pub use record_line::{LineVerdict, RecordLine, ReportForm, case_word};
 pub use record_tally::{RecordTally, by_program, services};
 pub use share_lines::last_shares;
 pub use shares::{least_moves, moved_slots, share_of, shares_of};

@@ -2,7 +2,7 @@
 
 ghost use Rattle.std.specs.Prelude.{◌≡◌, IfOk, decimal, string_bytes};
 ghost use Rattle.traffic.specs.RecordLines.{case_word, csv_front, csv_run, front_text, json_front, json_run, report_head, run_text};
-ghost use Rattle.traffic.specs.RecordLines.{choice_of_steps, choice_word, csv_end, end_text, json_end, kind_word, missing, moment_text};
+ghost use Rattle.traffic.specs.RecordLines.{csv_end, end_text, json_end, kind_word, missing, moment_text};
 ghost use Rattle.traffic.specs.RecordLines.{number_text, quoted, record_line, six_digits, target_text, verdict_word, report_word};
 
 use crate::flow_columns::flow_text;
@@ -183,34 +183,6 @@ pub fn case_word(kind: FrameKind, verdict: LineVerdict) -> &'static str
         },
         LineVerdict::Short => "short",
         LineVerdict::Stopped | LineVerdict::Aborted => "",
-    }
-}
-
-/// How the shipped program chose the backend of a frame that it sent in so many steps, if it sends one in so many.
-fn choice_of_steps(steps: u64) -> &'static str
-    ensures { result.now ≡ choice_of_steps steps }
-{
-    match steps {
-        133 | 134 => "noted",
-        182 | 183 => "untracked",
-        194 | 195 => "no-note",
-        201 | 202 | 205 | 206 => "note-down",
-        _ => "",
-    }
-}
-
-/// How the shipped program chose the backend of a frame with this verdict, by the steps of its run: it was noted for the flow, and is up; or
-/// the lookup table chose it, as the service is without tracking, the flow has no note, or the noted backend is not up. Empty for a frame
-/// that was not sent, and for a number of steps in which that program sends none.
-pub fn choice_word(verdict: LineVerdict, steps: Option<u64>) -> &'static str
-    ensures { result.now ≡ choice_word verdict steps }
-{
-    match verdict {
-        LineVerdict::Tx => match steps {
-            Some(steps) => choice_of_steps(steps),
-            None => "",
-        },
-        _ => "",
     }
 }
 

@@ -1,8 +1,10 @@
 //! Lines for people below the report of a replay.
 
+ghost use Rattle.journals.specs.LegalJournals.{AreLegal};
+
 use crate::last_table::put_shares;
 use crate::replays::Asked;
-use crate::summing::{Moved, Summing, Sums};
+use crate::summing::{Moved, MovedBy, Summing, Sums};
 use command_line::{DEFAULT_FLOWS, DEFAULT_RING};
 use control::{Action, ControlFault, Script};
 use journals::Journals;
@@ -78,7 +80,9 @@ impl Notes<'_> {
         capture: &Capture,
         script: &Script,
         outcome: &Outcome,
-    ) -> Result<String, AllocError> {
+    ) -> Result<String, AllocError>
+        requires { AreLegal outcome.now.journals }
+    {
         let mut summing = Summing::new(alloc, self.summary, script);
         summing.note(
             alloc,
@@ -100,7 +104,9 @@ impl Notes<'_> {
         outcome: &Outcome,
         stopped: Option<usize>,
         summing: &Summing,
-    ) -> Result<String, AllocError> {
+    ) -> Result<String, AllocError>
+        requires { AreLegal outcome.now.journals }
+    {
         let mut text = self.lines(alloc, script, outcome, stopped)?;
         match summing {
             Summing::Unasked => {}
@@ -147,8 +153,13 @@ impl Notes<'_> {
         sums: &Sums,
         script: &Script,
         journals: &Journals,
-    ) -> Result<(), AllocError> {
+    ) -> Result<(), AllocError>
+        requires { AreLegal journals.now }
+    {
         text.push_str(&sums.frames.text(alloc)?)?;
+        if self.image.is_none() {
+            put_moved_by(alloc, text, &sums.moved.by)?;
+        }
         let lines = match self.image {
             None => sums.records.services(alloc, script)?,
             Some(_) => sums.records.by_program(alloc, script)?,
@@ -469,6 +480,37 @@ fn put_shard(
     let map = number.checked_div(shards).unwrap_or(0);
     let line = format!(in alloc; "the journal of shard {number} is full, of map {map}\n")?;
     text.push_str(line.as_str())
+}
+
+/// Of the frames that went elsewhere than the frame of their flow before, how many did so by which choice of the shipped program.
+fn put_moved_by(alloc: Global, text: &mut String, by: &MovedBy) -> Result<(), AllocError> {
+    put_of_these(
+        alloc,
+        text,
+        by.note_down,
+        "because the noted backend is not up",
+    )?;
+    put_of_these(alloc, text, by.no_note, "because the flow has no note")?;
+    put_of_these(
+        alloc,
+        text,
+        by.untracked,
+        "because the service is without tracking",
+    )?;
+    put_of_these(alloc, text, by.noted, "by the flow's note")
+}
+
+/// A line for so many of the frames that the line before counts, if there are any.
+fn put_of_these(
+    alloc: Global,
+    text: &mut String,
+    count: usize,
+    why: &str,
+) -> Result<(), AllocError> {
+    if count == 0 {
+        return Ok(());
+    }
+    text.push_str(&format!(in alloc; "{count} of these {why}\n")?)
 }
 
 /// The records whose frames went elsewhere than the frame of their flow before: the first ten.

@@ -79,7 +79,7 @@ pub(crate) fn verdict_in(end: ToldEnd) -> LineVerdict
 }
 
 /// In how many steps the run of a record ended.
-fn steps_in(end: ToldEnd) -> Option<u64>
+pub(crate) fn steps_in(end: ToldEnd) -> Option<u64>
     ensures { result ≡ steps_of_end end }
 {
     match end {

@@ -1,10 +1,10 @@
 //! What the summary of a replay counts, while its records come.
 
-use crate::record_report::{is_tx, verdict_in};
+use crate::record_report::{is_tx, steps_in, verdict_in};
 use control::Script;
 use replay::ToldEnd;
 use std::alloc::{AllocError, Global};
-use traffic::{FrameTally, LineVerdict, RecordTally};
+use traffic::{Choice, FrameTally, LineVerdict, RecordTally};
 use wire::Sent;
 
 /// The most records that went elsewhere and have lines of their own.
@@ -25,10 +25,24 @@ pub(crate) struct Moved {
     pub first: Vec<usize>,
     /// How many there are behind them.
     pub more: usize,
+    pub by: MovedBy,
     /// How many records were noted.
     passed: usize,
     /// How many of their frames were sent.
     sent: usize,
+}
+
+/// How many frames went elsewhere by each choice of their backend, of the shipped program.
+#[derive(Drop)]
+pub(crate) struct MovedBy {
+    /// The backend that is noted for the flow was not up.
+    pub note_down: usize,
+    /// The flow had no note.
+    pub no_note: usize,
+    /// The service was without tracking.
+    pub untracked: usize,
+    /// The backend that is noted for the flow.
+    pub noted: usize,
 }
 
 /// The summary of a replay whose records come in pieces.
@@ -46,19 +60,40 @@ fn verdicts_of(alloc: Global, ends: &[ToldEnd]) -> Result<Vec<LineVerdict>, Allo
     ends.iter().map(|end| verdict_in(*end)).collect(alloc)
 }
 
+impl MovedBy {
+    /// One frame more went elsewhere, by this choice.
+    fn add(&mut self, choice: Choice) {
+        match choice {
+            Choice::NoteDown => self.note_down = self.note_down.saturating_add(1),
+            Choice::NoNote => self.no_note = self.no_note.saturating_add(1),
+            Choice::Untracked => self.untracked = self.untracked.saturating_add(1),
+            Choice::Noted => self.noted = self.noted.saturating_add(1),
+        }
+    }
+}
+
 impl Moved {
     /// No record was noted.
     fn none(alloc: Global) -> Moved {
         Moved {
             first: Vec::new(alloc),
             more: 0,
+            by: MovedBy {
+                note_down: 0,
+                no_note: 0,
+                untracked: 0,
+                noted: 0,
+            },
             passed: 0,
             sent: 0,
         }
     }
 
-    /// One record more went elsewhere.
-    fn put(&mut self, record: usize) -> Result<(), AllocError> {
+    /// One record more went elsewhere, whose run ended so.
+    fn put(&mut self, record: usize, end: ToldEnd) -> Result<(), AllocError> {
+        if let Some(choice) = Choice::of(verdict_in(end), steps_in(end)) {
+            self.by.add(choice);
+        }
         if self.first.len() < MOST_MOVED {
             self.first.push(record)?;
         } else {
@@ -74,7 +109,7 @@ impl Moved {
             if is_tx(verdict_in(*end)) {
                 if places.get(next).copied() == Some(self.sent) {
                     next = next.saturating_add(1);
-                    self.put(self.passed)?;
+                    self.put(self.passed, *end)?;
                 }
                 self.sent = self.sent.saturating_add(1);
             }

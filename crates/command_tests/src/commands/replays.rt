@@ -121,13 +121,60 @@ const IN_BOTH_TUNNELS: &str = "\
 pub(super) const MOVES: &str =
     "0 gateway 10.0.0.9 02:00:00:00:00:0a 02:00:00:00:00:0b\n0 vip 203.0.113.1 80 udp\n0 up 0 192.0.2.1\n1 down 0\n1 up 1 192.0.2.2\n";
 
-/// A flow that moves, in a summary.
+/// A flow that moves, in a summary: its note is of the backend that went down.
 const MOVED: &str = "  2 frames of TCP or UDP that fit into a tunnel
   1 frame sent to 192.0.2.1
   1 frame sent to 192.0.2.2
   1 frame sent to another address than the frame of their flow before
+  1 of these because the noted backend is not up
   2 frames for 203.0.113.1 port 80 udp
   251 of 251 slots of the lookup table for backend 1, 192.0.2.2, at the end
+  record 2 went to another address than the frame of its flow before
+";
+
+/// The same of a service without tracking.
+const UNTRACKED_MOVES: &str =
+    "0 gateway 10.0.0.9 02:00:00:00:00:0a 02:00:00:00:00:0b\n0 vip 203.0.113.1 80 udp notrack\n0 up 0 192.0.2.1\n\
+    1 down 0\n1 up 1 192.0.2.2\n";
+
+const WITHOUT_TRACKING: &str = "  2 frames of TCP or UDP that fit into a tunnel
+  1 frame sent to 192.0.2.1
+  1 frame sent to 192.0.2.2
+  1 frame sent to another address than the frame of their flow before
+  1 of these because the service is without tracking
+  2 frames for 203.0.113.1 port 80 udp
+  251 of 251 slots of the lookup table for backend 1, 192.0.2.2, at the end
+  record 2 went to another address than the frame of its flow before
+";
+
+/// The same, where the service is tracked from the second frame on, so that the first one left no note.
+const LATER_TRACKED_MOVES: &str =
+    "0 gateway 10.0.0.9 02:00:00:00:00:0a 02:00:00:00:00:0b\n0 vip 203.0.113.1 80 udp notrack\n0 up 0 192.0.2.1\n\
+    1 vip 203.0.113.1 80 udp\n1 down 0\n1 up 1 192.0.2.2\n";
+
+const WITHOUT_NOTE: &str = "  2 frames of TCP or UDP that fit into a tunnel
+  1 frame sent to 192.0.2.1
+  1 frame sent to 192.0.2.2
+  1 frame sent to another address than the frame of their flow before
+  1 of these because the flow has no note
+  2 frames for 203.0.113.1 port 80 udp
+  2 frames for 203.0.113.1 port 80 udp
+  251 of 251 slots of the lookup table for backend 1, 192.0.2.2, at the end
+  record 2 went to another address than the frame of its flow before
+";
+
+/// The noted backend gets another address.
+const OTHER_ADDRESS: &str =
+    "0 gateway 10.0.0.9 02:00:00:00:00:0a 02:00:00:00:00:0b\n0 vip 203.0.113.1 80 udp\n0 up 0 192.0.2.1\n\
+    1 down 0\n1 up 0 192.0.2.2\n";
+
+const BY_ITS_NOTE: &str = "  2 frames of TCP or UDP that fit into a tunnel
+  1 frame sent to 192.0.2.1
+  1 frame sent to 192.0.2.2
+  1 frame sent to another address than the frame of their flow before
+  1 of these by the flow's note
+  2 frames for 203.0.113.1 port 80 udp
+  251 of 251 slots of the lookup table for backend 0, 192.0.2.2, at the end
   record 2 went to another address than the frame of its flow before
 ";
 
@@ -246,12 +293,18 @@ const ROWS: [Row; 20] = [
 
 /// Frames that the shipped program steers.
 #[rattlefmt::skip]
-const STEERED: [Row; 8] = [
+const STEERED: [Row; 11] = [
     ("no backend",               "", NO_BACKEND, DATAGRAM, "--script script --ring 7", 0, ONE_DROP, "", HEAD),
     ("a summary of one frame", "", SERVICE, DATAGRAM, "--script script --summary", 0, ONE_TX,
         "  1 frame of TCP or UDP that fit into a tunnel\n  1 frame sent to 192.0.2.1\n  1 frame for 203.0.113.1 port 80 udp\n  \
          251 of 251 slots of the lookup table for backend 0, 192.0.2.1, at the end\n", IN_A_TUNNEL),
     ("a summary of a flow that moves", "", MOVES, TWO_DATAGRAMS, "--script script --exact --summary", 0, TWO_TX, MOVED, IN_BOTH_TUNNELS),
+    ("a summary of one without tracking", "", UNTRACKED_MOVES, TWO_DATAGRAMS, "--script script --exact --summary", 0, TWO_TX, WITHOUT_TRACKING,
+        IN_BOTH_TUNNELS),
+    ("a summary of one without a note", "", LATER_TRACKED_MOVES, TWO_DATAGRAMS, "--script script --exact --summary", 0, TWO_TX, WITHOUT_NOTE,
+        IN_BOTH_TUNNELS),
+    ("a summary of a backend with another address", "", OTHER_ADDRESS, TWO_DATAGRAMS, "--script script --exact --summary", 0, TWO_TX,
+        BY_ITS_NOTE, IN_BOTH_TUNNELS),
     ("a summary of one that has expired", "", SERVICE, NOT_TO_LIVE, "--script script --summary", 0, ONE_DROP,
         "  1 frame of TCP or UDP with a time to live of 0\n  1 frame for 203.0.113.1 port 80 udp\n  1 frame dropped, with a time to live of 0\n  \
          251 of 251 slots of the lookup table for backend 0, 192.0.2.1, at the end\n", HEAD),

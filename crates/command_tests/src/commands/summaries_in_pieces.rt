@@ -28,6 +28,9 @@ const ALL: &str = "--script script --ring 7";
 
 const PART: &str = "--script script --ring 7 --part 1/3";
 
+/// The lookup table's slots are read from its map, which has one place more.
+const WITHOUT_ROWS: &str = "--script script --ring 7 --no-journals";
+
 /// The sources of twelve flows.
 const TWELVE: &[u8] = &[1, 2, 3, 4, 5, 6, 7, 8, 9, 10, 11, 12];
 
@@ -40,6 +43,7 @@ const ONE_MOVED: &str = "  1030 frames of TCP or UDP that fit into a tunnel
   1024 frames sent to 192.0.2.1
   6 frames sent to 192.0.2.2
   1 frame sent to another address than the frame of their flow before
+  1 of these because the noted backend is not up
   1030 frames for 203.0.113.1 port 80 udp
   7 of 7 slots of the lookup table for backend 1, 192.0.2.2, at the end
   record 1025 went to another address than the frame of its flow before
@@ -54,6 +58,7 @@ const TWELVE_MOVED: &str = "  2100 frames of TCP or UDP that fit into a tunnel
   2052 frames sent to 192.0.2.1
   48 frames sent to 192.0.2.2
   12 frames sent to another address than the frame of their flow before
+  12 of these because the noted backend is not up
   2100 frames for 203.0.113.1 port 80 udp
   7 of 7 slots of the lookup table for backend 1, 192.0.2.2, at the end
   record 2053 went to another address than the frame of its flow before
@@ -97,14 +102,17 @@ const PART_MOVED: &str = "  1025 frames of TCP or UDP that fit into a tunnel
   512 frames sent to 192.0.2.1
   513 frames sent to 192.0.2.2
   1 frame sent to another address than the frame of their flow before
+  1 of these because the noted backend is not up
   1025 frames for 203.0.113.1 port 80 udp
   7 of 7 slots of the lookup table for backend 1, 192.0.2.2, at the end
   record 513 went to another address than the frame of its flow before
 ";
 
 #[rattlefmt::skip]
-static SUMMED: [Summed; 5] = [
+static SUMMED: [Summed; 6] = [
     ("a flow moves between two pieces", MOVES_AT_1024, ALL, &[(&[1], 1030)],
+        "frames 1030\nshort 0\nstopped 0\naborted 0\ndrop 0\npass 0\ntx 1030\n", ONE_MOVED, &[(&[1], 1024)], &[(&[1], 6)]),
+    ("the same, without rows of journals", MOVES_AT_1024, WITHOUT_ROWS, &[(&[1], 1030)],
         "frames 1030\nshort 0\nstopped 0\naborted 0\ndrop 0\npass 0\ntx 1030\n", ONE_MOVED, &[(&[1], 1024)], &[(&[1], 6)]),
     ("more than ten move in the third piece", MOVES_AT_2052, ALL, &[(TWELVE, 175)],
         "frames 2100\nshort 0\nstopped 0\naborted 0\ndrop 0\npass 0\ntx 2100\n", TWELVE_MOVED, &[(TWELVE, 171)], &[(TWELVE, 4)]),

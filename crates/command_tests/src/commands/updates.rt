@@ -3,10 +3,10 @@
 ghost use Rattle.std.specs.Prelude.{◌≡◌};
 
 use super::long_records::TWO_ZEROS;
-use super::replays::TWO_TX;
+use super::replays::{TWO_DATAGRAMS, TWO_TX};
 use super::{
-    Wanted, ZEROS, assembled, compare_begins, compare_file, done, lacks, left_by, over_text,
-    put_digits, with_image,
+    Wanted, ZEROS, assembled, compare_begins, compare_digits, compare_file, done, lacks, left_by,
+    over_text, put, put_digits, with_image,
 };
 use folders::MemoryFolder;
 use std::alloc::Global;
@@ -99,6 +99,60 @@ fn journals_have_the_updates_first(rt: HostRuntime) {
     let folder = assembled(&rt, alloc, "updates", ANSWERS_KEY_7, ("frame", ZEROS));
     let folder = done(&rt, alloc, "updates", folder, JOURNALED);
     compare_file(&rt, alloc, "updates", folder, "j", JOURNALS.as_bytes());
+}
+
+/// Two backends are up.
+const TWO_UP: &[u8] = b"0 gateway 10.0.0.9 02:00:00:00:00:0a 02:00:00:00:00:0b\n\
+    0 vip 203.0.113.1 80 udp\n0 up 0 192.0.2.1\n0 up 1 192.0.2.2\n";
+
+/// Both datagrams in a tunnel to the first one.
+const TO_THE_FIRST: &str = "\
+    d4c3b2a1020004000000000000000000ffff000001000000\
+    01000000020000003e0000003e000000\
+    02000000000b02000000000a0800450000300000400040046ec00a000009c00002014500001c0001000040111494c6336407cb0071019c40005000080000\
+    01000000020000003e0000003e000000\
+    02000000000b02000000000a0800450000300000400040046ec00a000009c00002014500001c0001000040111494c6336407cb0071019c40005000080000";
+
+/// And to the second one.
+const TO_THE_SECOND: &str = "\
+    d4c3b2a1020004000000000000000000ffff000001000000\
+    01000000020000003e0000003e000000\
+    02000000000b02000000000a0800450000300000400040046ebf0a000009c00002024500001c0001000040111494c6336407cb0071019c40005000080000\
+    01000000020000003e0000003e000000\
+    02000000000b02000000000a0800450000300000400040046ebf0a000009c00002024500001c0001000040111494c6336407cb0071019c40005000080000";
+
+/// The backend's number that is noted for the datagrams' flow, and the capture of what is sent.
+type Noted = (&'static str, &'static str);
+
+const NOTED: [Noted; 2] = [
+    ("0000000000000000", TO_THE_FIRST),
+    ("0100000000000000", TO_THE_SECOND),
+];
+
+/// Compares where a flow goes whose note is set before the shipped program is replayed, as a program of its own.
+fn compare_noted<R: Abort + Threads + Wait + Sync>(rt: &R, alloc: Global, row: &Noted) {
+    let (value, sent) = *row;
+    let folder = put_digits(
+        rt,
+        alloc,
+        MemoryFolder::new(alloc),
+        "capture",
+        TWO_DATAGRAMS,
+    );
+    let folder = put(rt, alloc, folder, "script", TWO_UP);
+    let folder = done(rt, alloc, value, folder, "xlb shipped program");
+    let line = format!(in alloc;
+        "xlb replay capture sent --program program --script script --exact --update 1 c6336407cb0071019c40005011000000 {value}"
+    ).expect(rt, "a line");
+    let folder = done(rt, alloc, value, folder, &line);
+    compare_digits(rt, alloc, value, folder, "sent", sent);
+}
+
+#[test]
+fn updates_come_before_a_replay_of_a_program(rt: HostRuntime) {
+    for row in &NOTED {
+        compare_noted(&rt, rt.alloc(), row);
+    }
 }
 
 /// A run after this many updates of key 7; the last one sets 3.

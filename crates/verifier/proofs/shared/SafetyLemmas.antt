@@ -25,7 +25,7 @@ use Rattle.semantics.specs.RunTrace.{IsReplyTo}
 use Rattle.semantics.specs.SequentialShard.{shard_after}
 use Rattle.semantics.specs.History.{shard_of_call, Meets}
 use Rattle.semantics.specs.Safety.{IsServedAt, after_enter, IsServedCall, IsSafeImage}
-use Rattle.semantics.specs.System.{Setting, program_of_setting, SystemState, SystemEvent, BeginsRun, DoesInstruction, CallsShard, LeavesShard, Controls, Reclaims, WorkerState, Idle, Runs, Leaves, worker_state, history_of, with_worker, is_entered, entry_for, input_frame, opening_system, is_local, DoesNext, MayLeave, CanHappen, CanAllHappen, after_local, after_instruction, after_run_call, after_asking, after_shard_call, after_leaving, after_event, system_after}
+use Rattle.semantics.specs.System.{Setting, program_of_setting, SystemState, SystemEvent, BeginsRun, DoesInstruction, CallsShard, LeavesShard, Controls, Reclaims, WorkerState, Idle, Runs, Leaves, worker_state, history_of, with_worker, is_entered, entry_for, input_frame, opening_system, is_local, DoesNext, MayLeave, CanHappen, CanAllFollow, CanAllHappen, after_all, after_local, after_instruction, after_run_call, after_asking, after_shard_call, after_leaving, after_event, system_after}
 use Rattle.abstract_state.specs.declared.flow.Flow.{Flow}
 use Rattle.abstract_state.specs.declared.flow.Flow.TheVariants.{Ends, Falls, Jumps, Splits}
 use Rattle.abstract_state.specs.declared.state.State.{State}
@@ -219,11 +219,15 @@ opening_is_sound setting states good =
       each_shard = λ number plan planned. subst (IsSoundShard plan) (sym (empty number)) (sound_at_start plan);
     }
 
+sound_on : (setting : Setting) (states : List (Option State)) (before : SystemState) (events : List SystemEvent) → IsSetting setting states →
+    CanAllFollow setting before events → IsSoundSystem setting states before → IsSoundSystem setting states (after_all setting before events)
+sound_on setting states before [] good can sound = sound
+sound_on setting states before (event ∷ later) good can sound =
+    sound_on setting states (after_event setting before event) later good can.1 (event_sound setting states before event good can.0 sound)
+
 system_sound : (setting : Setting) (states : List (Option State)) (events : List SystemEvent) → IsSetting setting states → CanAllHappen setting events →
     IsSoundSystem setting states (system_after setting events)
-system_sound setting states [] good can = opening_is_sound setting states good
-system_sound setting states (event ∷ earlier) good can =
-    event_sound setting states (system_after setting earlier) event good can.0 (system_sound setting states earlier good can.1)
+system_sound setting states events good can = sound_on setting states (opening_system setting) events good can (opening_is_sound setting states good)
 
 -- ---- an accepted image
 

@@ -51,6 +51,15 @@ maps_lines-requires c =
     let replayed = c.in_ok-outcome.ensures.replayed program options going.records going.sent going.ends going.underway in
     subst AreLegal replayed.is_whole.journals (are_legal program asked.script.now options going.records replayed.whole replayed.exact.accounted)
 
+pub text_of_pieces-requires : goal.text_of_pieces-requires
+text_of_pieces-requires c =
+    let asked = c.args.asked in
+    let options : Options = recorded asked.recording asked.options in
+    let program = program_of asked.verified.now asked.options.shards in
+    let going = c.requires.underway in
+    let replayed = c.in_ok-outcome.ensures.replayed program options going.records going.sent going.ends going.underway in
+    subst AreLegal replayed.is_whole.journals (are_legal program asked.script.now options going.records replayed.whole replayed.exact.accounted)
+
 pub replayed-requires : goal.replayed-requires
 replayed-requires c =
     let asked = c.args.asked in

@@ -48,6 +48,12 @@ left_of-requires-clause-rows g c = λ file is.
     subst (λ (o : Options). KeepsRows o.journal) (sym c.in-Ok.ensures.made.made.accounted.options_are)
     (subst (λ (r : Recording). KeepsRows (room_for r c.args.asked.options.journal)) (sym (c.requires.consistent.rows file is)) c.in-Ok.ensures.served)
 
+pub text-requires : goal.text-requires
+text-requires g c =
+    let asked = c.args.asked in
+    are_legal (program_of asked.verified.now asked.options.shards) asked.script.now (recorded asked.recording asked.options)
+    c.args.capture.now.records.items c.in-Ok.outcome c.in-Ok.ensures.made.made.accounted
+
 pub left_of-requires-clause-legal : goal.left_of-requires-clause-legal
 left_of-requires-clause-legal g c =
     let asked = c.args.asked in
